@@ -1,0 +1,13 @@
+//! What every layer of the node stands on: lists that contracts compare, the traits of the outside with their counts
+//! of faults, and the pages and images of a database.
+#![tactic(auto)]
+
+mod faults;
+mod items;
+mod sink;
+mod source;
+
+pub use faults::Failed;
+pub use items::{Bytes, Items};
+pub use sink::Sink;
+pub use source::Source;
