@@ -1,5 +1,5 @@
 -- Items of a body: the one spelling of each value, and which bytes spell it. Each fills whole words of eight bytes.
-use Rattle.std.specs.Prelude.{◌≡◌, ◌<◌, ◌^◌, ◌+◌, ◌-◌, ◌*◌, ◌/◌, ◌%◌, ◌==◌, ℕ, Bool, false, List, [], ◌∷◌, ◌++◌, length, replicate, IsUtf8}
+use Rattle.std.specs.Prelude.{◌≡◌, ◌<◌, ◌^◌, ◌+◌, ◌-◌, ◌*◌, ◌/◌, ◌%◌, ◌==◌, ℕ, Bool, false, List, [], ◌∷◌, ◌++◌, length, replicate, slice_index, IsUtf8}
 use Rattle.std.specs.List.{list_any}
 use Rattle.byteorder.specs.Endian.{little_bytes}
 
@@ -26,6 +26,10 @@ text t = (t ++ 0 ∷ []) ++ zeros_after (length t + 1)
 -- the bytes, and zeros to a whole word
 abbrev pub raw : List ℕ → List ℕ
 raw bytes = bytes ++ zeros_after (length bytes)
+
+-- each is a byte
+abbrev pub AreBytes : List ℕ → Type 0
+AreBytes bytes = (i : ℕ) → slice_index bytes i < 256
 
 abbrev pub is_zero : ℕ → Bool
 is_zero b = b == 0

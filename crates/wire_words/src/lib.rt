@@ -3,12 +3,14 @@
 #![tactic(auto)]
 
 mod fault;
+mod laws;
 mod message;
 mod text;
 mod words;
 mod writer;
 
 pub use fault::WordFault;
+pub use laws::words_read_back;
 pub use message::{Header, Message};
 pub use text::WireText;
 pub use words::Words;
