@@ -5,7 +5,7 @@ use Rattle.wire_msgs.specs.declared.response.Response.TheVariants.{Server}
 use Rattle.wire_msgs.specs.Fields.{Line, Word, Text, body_bytes, line_bytes, HaveSpellings}
 
 abbrev pub response_line : Response → Line
-response_line (Server s) = record { kind = 1; schema = 0; fields = Word s.id ∷ Text s.address ∷ [] }
+response_line (Server id address) = record { kind = 1; schema = 0; fields = Word id ∷ Text address ∷ [] }
 
 -- the one spelling of a response
 abbrev pub response_bytes : Response → List ℕ

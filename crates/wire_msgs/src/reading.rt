@@ -23,16 +23,16 @@ fn request(_alloc: Global, kind: RequestKind, words: &mut Words<'_>) -> Result<R
 }
 
 #[tactic(auto, unfolding(crate::specs::Reading::request_of))]
-fn whole_request(alloc: Global, message: &Message) -> Result<Request, MsgFault>
-    ensures { Gives (request_of message.now) result }
+fn whole_request(alloc: Global, number: u8, schema: u8, body: &[u8]) -> Result<Request, MsgFault>
+    ensures { Gives (request_of (record { kind = number; schema = schema; body = body.now })) result }
 {
-    let Some(kind) = RequestKind::of(message.kind) else {
-        return Err(MsgFault::Kind(message.kind));
+    let Some(kind) = RequestKind::of(number) else {
+        return Err(MsgFault::Kind(number));
     };
-    if message.schema != 0 {
-        return Err(MsgFault::Schema(message.kind, message.schema));
+    if schema != 0 {
+        return Err(MsgFault::Schema(number, schema));
     }
-    let mut words = Words::new(message.body.as_slice());
+    let mut words = Words::new(body);
     let request = request(alloc, kind, &mut words)?;
     let left = words.left();
     if left != 0 {
@@ -51,5 +51,6 @@ pub fn read_request(alloc: Global, message: &Message) -> Result<Request, MsgFaul
     // Which fault it is.
     ensures exact { Gives (request_of message.now) result }
 {
-    whole_request(alloc, message)
+    let body = message.body.as_slice();
+    whole_request(alloc, message.kind, message.schema, body)
 }

@@ -7,7 +7,7 @@ use Rattle.byteorder.specs.Numbers.{little_from-lt, little_number-reads_back, le
 use Rattle.wire_words.specs.declared.fault.WordFault.{WordFault}
 use Rattle.wire_words.specs.declared.fault.WordFault.TheVariants.{Short}
 use Rattle.wire_words.specs.Items.{AreBytes, IsWord}
-use Rattle.wire_words.specs.Reading.{Unread, past, word_at, Took}
+use Rattle.wire_words.specs.Reading.{◌>>=◌, Unread, past, word_at, Took}
 use Rattle.wire_words.proofs.Numbers.{bytes_of_number_8}
 
 -- a test that did not fail
@@ -59,3 +59,8 @@ word_again old new n t =
     let long : ltb (length old.bytes) 8 ≡ false = le-ltb _ _ (omega (arith, ap length parts, length-append (little_bytes 8 n) new.bytes)) in
     let number : little_number 8 old.bytes ≡ n = ap (little_number 8) parts ∙ little_number-reads_back 8 n new.bytes t.spelled.fits in
     rw (long, number, past_is old new (little_bytes 8 n) parts place) refl
+
+-- the value of a step that did not fail
+pub bind_ok : {A B E : Type 0} (r : Result A E) (f : A → Result B E) (y : B) → (r >>= f) ≡ Ok y → (x : A) × (r ≡ Ok x) × (f x ≡ Ok y)
+bind_ok (Ok x) f y e = (x, refl, e)
+bind_ok (Err d) f y e = absurd cc

@@ -6,5 +6,4 @@ ghost use Rattle.wire_words.specs.Reading.{Unread, Took, word_at};
 pub fn words_read_back()
     ensures spelled { (old new : Unread) (n : ℕ) → AreBytes old.bytes → word_at old ≡ Ok (n, new) → Took (IsWord n) old new }
     ensures read { (old new : Unread) (n : ℕ) → Took (IsWord n) old new → word_at old ≡ Ok (n, new) }
-{
-}
+{}
