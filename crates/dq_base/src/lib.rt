@@ -2,12 +2,16 @@
 //! of faults, and the pages and images of a database.
 #![tactic(auto)]
 
+mod calls;
 mod faults;
 mod items;
+mod memory;
 mod sink;
 mod source;
 
+pub use calls::Calls;
 pub use faults::Failed;
 pub use items::{Bytes, Items};
+pub use memory::{MemSink, MemSource};
 pub use sink::Sink;
 pub use source::Source;
