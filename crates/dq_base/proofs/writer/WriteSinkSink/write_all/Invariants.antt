@@ -1,0 +1,10 @@
+use Rattle.std.proofs.Common.{◌≤◌, length}
+use Rattle.dq_base.proofs.writer.WriteSinkSink.write_all.Given as goal
+
+-- the count of faults did not fall so far
+abbrev pub invariant-pieces : goal.invariant-pieces
+invariant-pieces g l = l.initial.self ≤ l.self
+
+-- the bytes that are still to be written
+abbrev pub decreases-pieces : goal.decreases-pieces
+decreases-pieces g l = length l.rest

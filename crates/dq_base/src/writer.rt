@@ -1,0 +1,96 @@
+ghost use Rattle.std.specs.Prelude.{◌≡◌, ◌≤◌, ◌<◌, length, None, IfOk, OnErr};
+ghost use Rattle.dq_base.specs.Faults.{Rose, HasCause};
+
+use crate::faults::Failed;
+use crate::sink::Sink;
+use crate::tries::{RETRIES, Trouble};
+use std::io::Write;
+use std::marker::Model;
+
+/// A sink over any writer of std, as a file or a stream. Clauses see it as its count of faults.
+///
+/// It tells nothing of content, and flushes nothing. An interrupted write is tried again, up to 1,000 times in a row;
+/// at any other error, or one interruption more, the write has failed, and so it has where the writer takes nothing of
+/// a piece that is not empty. Its count rises at each of these, so also at an interruption that did no harm, and stays
+/// at 18,446,744,073,709,551,615. No method takes memory.
+#[derive(Debug, Drop)]
+pub struct WriteSink<W> {
+    writer: W,
+    faults: u64,
+}
+
+impl<W> Model for WriteSink<W> {
+    ghost use Rattle.std.specs.Prelude.{ℕ};
+
+    ghost Value = { ℕ };
+
+    ghost view = { λ a. a.faults };
+}
+
+impl<W> WriteSink<W> {
+    /// A sink over this writer, which has not failed so far.
+    pub fn new(writer: W) -> WriteSink<W>
+        ensures { result ≡ 0 }
+    {
+        WriteSink { writer, faults: 0 }
+    }
+
+    /// How often the writer answered an error, or took nothing of a piece that was not empty.
+    pub fn faults(&self) -> u64
+        ensures { result ≡ self.now }
+    {
+        self.faults
+    }
+}
+
+impl<W: Write> WriteSink<W> {
+    /// One write of the writer, which takes some bytes.
+    fn write_once(&mut self, bytes: &[u8]) -> Result<usize, Trouble>
+        ensures some { IfOk result (λ n. 0 < n) }
+        ensures fits { IfOk result (λ n. n ≤ length bytes.now) }
+        ensures never_falls { self.old ≤ self.new }
+        ensures rose { OnErr result (Rose self.old self.new) }
+    {
+        let trouble = match self.writer.write(bytes) {
+            Ok(0) => Trouble::Lasting,
+            Ok(count) => return Ok(count),
+            Err(error) => Trouble::of(&error),
+        };
+        self.faults = self.faults.saturating_add(1);
+        Err(trouble)
+    }
+
+    /// Writes a front of the bytes that is not empty.
+    fn write_some(&mut self, bytes: &[u8]) -> Result<usize, Failed>
+        ensures some { IfOk result (λ n. 0 < n) }
+        ensures fits { IfOk result (λ n. n ≤ length bytes.now) }
+        ensures cause { HasCause self.old self.new result }
+    {
+        'tries: for _ in 0..RETRIES {
+            match self.write_once(bytes) {
+                Ok(count) => return Ok(count),
+                Err(Trouble::Interrupted) => {}
+                Err(Trouble::Lasting) => return Err(Failed),
+            }
+        }
+        match self.write_once(bytes) {
+            Ok(count) => Ok(count),
+            Err(_) => Err(Failed),
+        }
+    }
+}
+
+impl<W: Write> Sink for WriteSink<W> {
+    ghost written = { λ _. None };
+
+    ghost faults = { λ sink. sink };
+
+    fn write_all(&mut self, bytes: &[u8]) -> Result<(), Failed> {
+        let mut rest = bytes;
+        'pieces: while !rest.is_empty() {
+            let count = self.write_some(rest)?;
+            rest = &rest[count..];
+        }
+        Ok(())
+    }
+}
