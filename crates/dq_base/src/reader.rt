@@ -78,3 +78,68 @@ impl<R: Read> Source for ReadSource<R> {
         }
     }
 }
+
+#[cfg(test)]
+mod tests {
+    use super::*;
+    use std::io;
+
+    /// What a reader does at one read.
+    enum Turn {
+        Interrupted,
+        Breaks,
+        Gives(&'static [u8]),
+    }
+
+    /// A reader that does this in turn, and is interrupted forever after.
+    #[derive(Drop)]
+    struct Scripted {
+        turns: &'static [Turn],
+    }
+
+    impl Read for Scripted {
+        fn read(&mut self, into: &mut [u8]) -> io::Result<usize> {
+            let Some((turn, later)) = self.turns.split_first() else {
+                return Err(io::ErrorKind::Interrupted.into());
+            };
+            self.turns = later;
+            match turn {
+                Turn::Interrupted => Err(io::ErrorKind::Interrupted.into()),
+                Turn::Breaks => Err(io::ErrorKind::ConnectionReset.into()),
+                Turn::Gives(bytes) => {
+                    let count = bytes.len().min(into.len());
+                    into[..count].copy_from_slice(&bytes[..count]);
+                    Ok(count)
+                }
+            }
+        }
+    }
+
+    #[test]
+    fn reads_go_on_after_interruptions_and_failures(rt: HostRuntime) {
+        let mut source = ReadSource::new(Scripted {
+            turns: &[
+                Turn::Interrupted,
+                Turn::Gives(b"ab"),
+                Turn::Gives(b"cdef"),
+                Turn::Breaks,
+                Turn::Gives(b""),
+            ],
+        });
+        let mut into = [0u8; 4];
+        // What each read answers, what stands in the buffer then, and the count of faults.
+        let wanted = [
+            (Ok(2), *b"ab\0\0", 1),
+            (Ok(4), *b"cdef", 1),
+            (Err(Failed), *b"cdef", 2),
+            (Ok(0), *b"cdef", 2),
+            // One try and a thousand more.
+            (Err(Failed), *b"cdef", 1_003),
+        ];
+        for (answer, buffer, faults) in wanted {
+            assert_eq!(rt; source.read(&mut into), answer);
+            assert_eq!(rt; into, buffer);
+            assert_eq!(rt; source.faults(), faults);
+        }
+    }
+}

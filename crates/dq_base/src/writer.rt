@@ -94,3 +94,78 @@ impl<W: Write> Sink for WriteSink<W> {
         Ok(())
     }
 }
+
+#[cfg(test)]
+mod tests {
+    use super::*;
+    use std::io;
+    use std::test::Fail;
+
+    /// What a writer does at one write.
+    enum Turn {
+        Interrupted,
+        Breaks,
+        Takes(usize),
+    }
+
+    /// A writer that does this in turn, and is interrupted forever after.
+    #[derive(Drop)]
+    struct Scripted {
+        turns: &'static [Turn],
+        taken: Vec<u8>,
+    }
+
+    impl Write for Scripted {
+        fn write(&mut self, bytes: &[u8]) -> io::Result<usize> {
+            let Some((turn, later)) = self.turns.split_first() else {
+                return Err(io::ErrorKind::Interrupted.into());
+            };
+            self.turns = later;
+            match turn {
+                Turn::Interrupted => Err(io::ErrorKind::Interrupted.into()),
+                Turn::Breaks => Err(io::ErrorKind::BrokenPipe.into()),
+                Turn::Takes(most) => {
+                    let count = bytes.len().min(*most);
+                    self.taken.extend_from_slice(&bytes[..count])?;
+                    Ok(count)
+                }
+            }
+        }
+
+        fn flush(&mut self) -> io::Result<()> {
+            Ok(())
+        }
+    }
+
+    #[test]
+    fn writes_go_on_after_interruptions_and_failures(rt: HostRuntime) -> Result<(), Fail> {
+        let mut sink = WriteSink::new(Scripted {
+            turns: &[
+                Turn::Takes(2),
+                Turn::Interrupted,
+                Turn::Takes(9),
+                Turn::Takes(1),
+                Turn::Breaks,
+                Turn::Takes(0),
+                Turn::Takes(9),
+            ],
+            taken: Vec::new(rt.alloc()),
+        });
+        // What is written, what is answered, what the writer has taken then, and the count of faults.
+        let wanted = [
+            (&b"abcd"[..], Ok(()), &b"abcd"[..], 1),
+            (&b"efg"[..], Err(Failed), &b"abcde"[..], 2),
+            (&b"hi"[..], Err(Failed), &b"abcde"[..], 3),
+            (&b"jk"[..], Ok(()), &b"abcdejk"[..], 3),
+            (&b""[..], Ok(()), &b"abcdejk"[..], 3),
+            // One try and a thousand more.
+            (&b"l"[..], Err(Failed), &b"abcdejk"[..], 1_004),
+        ];
+        for (bytes, answer, taken, faults) in wanted {
+            assert_eq!(rt; sink.write_all(bytes), answer);
+            assert_eq!(rt; sink.writer.taken.as_slice(), taken);
+            assert_eq!(rt; sink.faults(), faults);
+        }
+        Ok(())
+    }
+}
