@@ -1,10 +1,11 @@
 -- Laws of bytes that are read and written, where they are told: what two calls do together.
 use Rattle.std.proofs.Common.{◌≡◌, ℕ, ◌+◌, min, List, [], ◌++◌, length, take, drop, None, Some, refl, sym, ap, ◌∙◌, append_assoc, append-nil, arith}
-use Rattle.std.specs.Prelude.{Option}
-use Rattle.std.specs.Io.KnownBytes.{Appends, Consumes, Keeps}
+use Rattle.std.specs.Prelude.{Option, IfSome, Result, Ok, Err}
+use Rattle.std.specs.Io.KnownBytes.{Appends, Consumes, Keeps, IsAtEnd}
 use Rattle.std.proofs.lemmas.List.{take-append-drop, drop-drop, length-take, length-drop, length-append, take_at, nil_from_length}
+use Rattle.dq_base.specs.declared.faults.Failed.{Failed}
 use Rattle.dq_base.specs.Source.{Moves}
-use Rattle.dq_base.specs.Sink.{AppendsFront}
+use Rattle.dq_base.specs.Sink.{AppendsFront, WriteAppends}
 
 -- ---- what a sink holds
 
@@ -38,6 +39,15 @@ pub AppendsFront-then : (a b c : Option (List ℕ)) (x y : List ℕ) → Appends
 AppendsFront-then a b c x y first part =
     (x ++ part.0, part.1, append_assoc x part.0 part.1 ∙ ap (λ (all : List ℕ). x ++ all) part.2, Appends-then a b c x part.0 first part.3)
 
+-- after a whole piece, what the write of the next answers is what a write of both would
+pub WriteAppends-then : (a b c : Option (List ℕ)) (x y : List ℕ) (result : Result Unit Failed) → Appends a b x → WriteAppends b c y result → WriteAppends a c (x ++ y) result
+WriteAppends-then a b c x y (Ok done) first second = Appends-then a b c x y first second
+WriteAppends-then a b c x y (Err failed) first second = AppendsFront-then a b c x y first second
+
+-- a write that failed is one of these bytes and any others behind, of which nothing was written either
+pub WriteAppends-stopped : (a b : Option (List ℕ)) (x y : List ℕ) (failed : Failed) → WriteAppends a b x (Err failed) → WriteAppends a b (x ++ y) (Err failed)
+WriteAppends-stopped a b x y failed part = AppendsFront-longer a b x y part
+
 -- ---- what a source has left
 
 -- a call that reads nothing consumes nothing
@@ -52,12 +62,32 @@ Consumes-then (Some a) None c x y first second = absurd first
 Consumes-then (Some a) (Some b) None x y first second = absurd second
 Consumes-then (Some a) (Some b) (Some c) x y first second = first ∙ ap (λ (left : List ℕ). x ++ left) second ∙ sym (append_assoc x y c)
 
--- a call that leaves the bytes as they are, after a read
+-- a source that kept its bytes twice kept them
+pub Keeps-then : (a b c : Option (List ℕ)) → Keeps a b → Keeps b c → Keeps a c
+Keeps-then None b c first second = tt
+Keeps-then (Some a) None c first second = absurd first
+Keeps-then (Some a) (Some b) None first second = absurd second
+Keeps-then (Some a) (Some b) (Some c) first second = second ∙ first
+
+-- a read before a call that failed
 pub Consumes-kept : (a b c : Option (List ℕ)) (x : List ℕ) → Consumes a b x → Keeps b c → Consumes a c x
 Consumes-kept None b c x first kept = tt
 Consumes-kept (Some a) None c x first kept = absurd first
 Consumes-kept (Some a) (Some b) None x first kept = absurd kept
 Consumes-kept (Some a) (Some b) (Some c) x first kept = first ∙ ap (λ (left : List ℕ). x ++ left) (sym kept)
+
+-- a read after a call that failed
+pub kept-Consumes : (a b c : Option (List ℕ)) (x : List ℕ) → Keeps a b → Consumes b c x → Consumes a c x
+kept-Consumes None b c x kept second = tt
+kept-Consumes (Some a) None c x kept second = absurd kept
+kept-Consumes (Some a) (Some b) None x kept second = absurd second
+kept-Consumes (Some a) (Some b) (Some c) x kept second = sym kept ∙ second
+
+-- what was consumed when the end came is all that there was
+pub Consumes-all : (a b : Option (List ℕ)) (x : List ℕ) → Consumes a b x → IsAtEnd b → IfSome a (λ all. all ≡ x)
+Consumes-all None b x read end = tt
+Consumes-all (Some a) None x read end = absurd read
+Consumes-all (Some a) (Some b) x read end = read ∙ ap (λ (left : List ℕ). x ++ left) end ∙ append-nil x
 
 -- ---- one read
 
@@ -74,3 +104,17 @@ Moves-copied bytes rest buffer front at n left count copied =
       moved = sym left ∙ sym (take-append-drop n rest) ∙ rw (taken, after) refl;
       ended = λ none room. nil_from_length (drop (at + n) bytes) (sym (ap length after) ∙ omega (arith, length-drop n rest));
     }
+
+-- ---- a write in pieces
+
+-- the bytes were appended up to this rest of them
+abbrev pub AppendsUpTo : Option (List ℕ) → Option (List ℕ) → List ℕ → List ℕ → Type 0
+AppendsUpTo old new bytes rest = (front : List ℕ) × (front ++ rest ≡ bytes) × Appends old new front
+
+-- one more piece, which the rest begins with
+pub AppendsUpTo-piece : (a b c : Option (List ℕ)) (bytes rest after : List ℕ) (n : ℕ) → AppendsUpTo a b bytes rest → Appends b c (take n rest) → after ≡ drop n rest → AppendsUpTo a c bytes after
+AppendsUpTo-piece a b c bytes rest after n so_far piece left =
+    let front = so_far.0 in
+    let split : take n rest ++ after ≡ rest = ap (λ (end : List ℕ). take n rest ++ end) left ∙ take-append-drop n rest in
+    let whole : (front ++ take n rest) ++ after ≡ bytes = append_assoc front (take n rest) after ∙ ap (λ (end : List ℕ). front ++ end) split ∙ so_far.1 in
+    (front ++ take n rest, whole, Appends-then a b c front (take n rest) so_far.2 piece)

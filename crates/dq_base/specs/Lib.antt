@@ -3,3 +3,4 @@ pub mod Source
 pub mod Sink
 pub mod Calls
 pub mod Memory
+pub mod Edge

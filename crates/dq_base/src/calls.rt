@@ -36,9 +36,9 @@ impl Calls {
         }
     }
 
-    /// Counts the next call. It answers `Failed`, and counts a fault too, exactly where the call is one that is to
-    /// fail.
-    pub fn count(&mut self) -> Result<(), Failed>
+    /// Starts the next call, and counts it. It answers `Failed`, and counts a fault too, exactly where the call is one
+    /// that is to fail.
+    pub fn start(&mut self) -> Result<(), Failed>
         ensures failing { IsErr result ↔ IsTrue (next_fails self.old) }
         ensures ok { OnOk result (self.new ≡ after_call self.old) }
         ensures err { OnErr result (self.new ≡ after_fault self.old) }
@@ -52,7 +52,7 @@ impl Calls {
         Ok(())
     }
 
-    /// Counts a fault of the call that was counted last, for a call that fails by another cause.
+    /// Counts a fault of the call that was started last, where it fails for another reason.
     pub fn fail(&mut self) -> Failed
         ensures count { self.new ≡ record self.old { faults = one_more self.old.faults } }
         ensures never_falls { self.old.faults ≤ self.new.faults }

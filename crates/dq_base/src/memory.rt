@@ -67,7 +67,7 @@ impl Source for MemSource {
         ensures err { OnErr result (self.new ≡ after_failure self.old) }
         ensures kept { OnErr result (into.new ≡ into.old) }
     {
-        self.calls.count()?;
+        self.calls.start()?;
         let rest = &self.bytes[self.at..];
         let count = rest.len().min(into.len());
         into[..count].copy_from_slice(&rest[..count]);
@@ -124,7 +124,7 @@ impl Sink for MemSink {
         ensures ok { OnOk result (self.new ≡ after_write self.old bytes.now) }
         ensures err { OnErr result (self.new ≡ after_failure self.old) }
     {
-        self.calls.count()?;
+        self.calls.start()?;
         match self.bytes.extend_from_slice(bytes) {
             Ok(()) => Ok(()),
             Err(_) => Err(self.calls.fail()),

@@ -1,5 +1,7 @@
-ghost use Rattle.std.specs.Prelude.{◌≡◌, ◌≤◌, length, None, IfOk, OnErr};
-ghost use Rattle.dq_base.specs.Faults.{Rose, HasCause};
+ghost use Rattle.std.specs.Prelude.{◌≡◌, ◌≤◌, IfOk, OnErr};
+ghost use Rattle.std.specs.Io.KnownBytes.{Keeps};
+ghost use Rattle.dq_base.specs.Faults.{Rose};
+ghost use Rattle.dq_base.specs.Source.{Moves};
 
 use crate::faults::Failed;
 use crate::source::Source;
@@ -7,47 +9,46 @@ use crate::tries::{RETRIES, Trouble};
 use std::io::Read;
 use std::marker::Model;
 
-/// A source over any reader of std, as a file or a stream. Clauses see it as its count of faults.
+/// A source over any reader of std.
 ///
-/// It tells nothing of content. An interrupted read is tried again, up to 1,000 times in a row; at any other error, or
+/// It tells of content what its reader tells, which is nothing where that is a file or a stream. An interrupted read is tried again, up to 1,000 times in a row; at any other error, or
 /// one interruption more, the read has failed. Its count rises at each error of the reader, so also at an interruption
 /// that did no harm, and stays at 18,446,744,073,709,551,615. No method takes memory.
 #[derive(Debug, Drop)]
-pub struct ReadSource<R> {
+pub struct ReadSource<R: Read> {
     reader: R,
     faults: u64,
 }
 
-impl<R> Model for ReadSource<R> {
-    ghost use Rattle.std.specs.Prelude.{ℕ};
+impl<R: Read> Model for ReadSource<R> {
+    ghost use Rattle.dq_base.specs.Edge.{Edge};
 
-    ghost Value = { ℕ };
+    ghost Value = { Edge };
 
-    ghost view = { λ a. a.faults };
+    ghost view = { λ a. record { bytes = R.remaining a.reader; faults = a.faults } };
 }
 
-impl<R> ReadSource<R> {
+impl<R: Read> ReadSource<R> {
     /// A source over this reader, which has not failed so far.
     pub fn new(reader: R) -> ReadSource<R>
-        ensures { result ≡ 0 }
+        ensures { result ≡ record { bytes = R.remaining reader; faults = 0 } }
     {
         ReadSource { reader, faults: 0 }
     }
 
     /// How many errors the reader has answered.
     pub fn faults(&self) -> u64
-        ensures { result ≡ self.now }
+        ensures { result ≡ self.now.faults }
     {
         self.faults
     }
-}
 
-impl<R: Read> ReadSource<R> {
     /// One read of the reader.
     fn read_once(&mut self, into: &mut [u8]) -> Result<usize, Trouble>
-        ensures fits { IfOk result (λ n. n ≤ length into.new) }
-        ensures never_falls { self.old ≤ self.new }
-        ensures rose { OnErr result (Rose self.old self.new) }
+        ensures ok { IfOk result (Moves self.old.bytes self.new.bytes into.new) }
+        ensures err { OnErr result (Keeps self.old.bytes self.new.bytes) }
+        ensures never_falls { self.old.faults ≤ self.new.faults }
+        ensures rose { OnErr result (Rose self.old.faults self.new.faults) }
     {
         match self.reader.read(into) {
             Ok(count) => Ok(count),
@@ -60,9 +61,9 @@ impl<R: Read> ReadSource<R> {
 }
 
 impl<R: Read> Source for ReadSource<R> {
-    ghost left = { λ _. None };
+    ghost left = { λ source. source.bytes };
 
-    ghost faults = { λ source. source };
+    ghost faults = { λ source. source.faults };
 
     fn read(&mut self, into: &mut [u8]) -> Result<usize, Failed> {
         'tries: for _ in 0..RETRIES {
