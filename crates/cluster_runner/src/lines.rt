@@ -128,7 +128,7 @@ impl LineReader {
 
     /// Reads a piece where nothing is held, and says whether something is held then: nothing is only at the end of the
     /// input.
-    fn fill<S: Source>(&mut self, source: &mut S) -> Result<bool, Failed>
+    pub fn fill<S: Source>(&mut self, source: &mut S) -> Result<bool, Failed>
         ensures line { self.new.line ≡ self.old.line }
         ensures same { Keeps (to_come self.old (S.left source.old)) (to_come self.new (S.left source.new)) }
         ensures some { IfOk result (λ some. some ≡ true → 0 < length self.new.ahead) }
