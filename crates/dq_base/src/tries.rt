@@ -19,8 +19,10 @@ pub(crate) enum Trouble {
 impl Trouble {
     /// The trouble that an error of std tells of.
     pub(crate) fn of(error: &io::Error) -> Trouble
-        ensures interrupted { error_kind error.now ≡ ErrorKind.Interrupted → result ≡ Trouble.Interrupted }
-        ensures lasting { error_kind error.now ≢ ErrorKind.Interrupted → result ≡ Trouble.Lasting }
+        ensures interrupted { error_kind error.now ≡ ErrorKind.Interrupted
+            → result ≡ Trouble.Interrupted }
+        ensures lasting { error_kind error.now ≢ ErrorKind.Interrupted
+            → result ≡ Trouble.Lasting }
     {
         if error.kind() == ErrorKind::Interrupted {
             Trouble::Interrupted
