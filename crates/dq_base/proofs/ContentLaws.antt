@@ -77,11 +77,11 @@ Consumes-kept (Some a) (Some b) None x first kept = absurd kept
 Consumes-kept (Some a) (Some b) (Some c) x first kept = first ∙ ap (λ (left : List ℕ). x ++ left) (sym kept)
 
 -- a read after a call that failed
-pub kept-Consumes : (a b c : Option (List ℕ)) (x : List ℕ) → Keeps a b → Consumes b c x → Consumes a c x
-kept-Consumes None b c x kept second = tt
-kept-Consumes (Some a) None c x kept second = absurd kept
-kept-Consumes (Some a) (Some b) None x kept second = absurd second
-kept-Consumes (Some a) (Some b) (Some c) x kept second = sym kept ∙ second
+pub Consumes-after_kept : (a b c : Option (List ℕ)) (x : List ℕ) → Keeps a b → Consumes b c x → Consumes a c x
+Consumes-after_kept None b c x kept second = tt
+Consumes-after_kept (Some a) None c x kept second = absurd kept
+Consumes-after_kept (Some a) (Some b) None x kept second = absurd second
+Consumes-after_kept (Some a) (Some b) (Some c) x kept second = sym kept ∙ second
 
 -- what was consumed when the end came is all that there was
 pub Consumes-all : (a b : Option (List ℕ)) (x : List ℕ) → Consumes a b x → IsAtEnd b → IfSome a (λ all. all ≡ x)

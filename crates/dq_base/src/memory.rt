@@ -50,6 +50,13 @@ impl MemSource {
     {
         &self.bytes[self.at..]
     }
+
+    /// How many reads failed.
+    pub fn faults(&self) -> u64
+        ensures { result ≡ self.now.calls.faults }
+    {
+        self.calls.faults()
+    }
 }
 
 impl Source for MemSource {
@@ -57,6 +64,8 @@ impl Source for MemSource {
 
     ghost faults = { λ source. source.calls.faults };
 
+    /// Moves as many bytes as are left and fit. It fails exactly where the call is one that is to fail, and leaves
+    /// the bytes and the buffer as they were.
     fn read(&mut self, into: &mut [u8]) -> Result<usize, Failed>
         ensures bytes { ReadMoves (Some self.old.bytes) (Some self.new.bytes) into.new result }
         ensures cause { HasCause self.old.calls.faults self.new.calls.faults result }
@@ -110,6 +119,13 @@ impl MemSink {
     {
         self.bytes.as_slice()
     }
+
+    /// How many writes failed.
+    pub fn faults(&self) -> u64
+        ensures { result ≡ self.now.calls.faults }
+    {
+        self.calls.faults()
+    }
 }
 
 impl Sink for MemSink {
@@ -117,6 +133,8 @@ impl Sink for MemSink {
 
     ghost faults = { λ sink. sink.calls.faults };
 
+    /// Appends the bytes. It fails where the call is one that is to fail, and where memory runs out, and then appends
+    /// nothing.
     fn write_all(&mut self, bytes: &[u8]) -> Result<(), Failed>
         ensures bytes { WriteAppends (Some self.old.bytes) (Some self.new.bytes) bytes.now result }
         ensures cause { HasCause self.old.calls.faults self.new.calls.faults result }
@@ -142,19 +160,20 @@ mod tests {
         let bytes = vec![in rt.alloc(); 1, 2, 3, 4, 5, 6, 7, 8]?;
         let mut source = MemSource::new(bytes, vec![in rt.alloc(); 1, 4]?);
         let mut into = [0u8; 3];
-        // What each read of three bytes answers, what stands in the buffer then, and how many bytes are left.
+        // What each read of three bytes answers, and then the buffer, how many bytes are left, and the faults.
         let wanted = [
-            (Err(Failed), [0, 0, 0], 8),
-            (Ok(3), [1, 2, 3], 5),
-            (Ok(3), [4, 5, 6], 2),
-            (Err(Failed), [4, 5, 6], 2),
-            (Ok(2), [7, 8, 6], 0),
-            (Ok(0), [7, 8, 6], 0),
+            (Err(Failed), [0, 0, 0], 8, 1),
+            (Ok(3), [1, 2, 3], 5, 1),
+            (Ok(3), [4, 5, 6], 2, 1),
+            (Err(Failed), [4, 5, 6], 2, 2),
+            (Ok(2), [7, 8, 6], 0, 2),
+            (Ok(0), [7, 8, 6], 0, 2),
         ];
-        for (answer, buffer, left) in wanted {
+        for (answer, buffer, left, faults) in wanted {
             assert_eq!(rt; source.read(&mut into), answer);
             assert_eq!(rt; into, buffer);
             assert_eq!(rt; source.left().len(), left);
+            assert_eq!(rt; source.faults(), faults);
         }
         Ok(())
     }
@@ -167,6 +186,7 @@ mod tests {
         assert_eq!(rt; sink.bytes(), b"one".as_slice());
         assert_eq!(rt; sink.write_all(b"three"), Ok(()));
         assert_eq!(rt; sink.bytes(), b"onethree".as_slice());
+        assert_eq!(rt; sink.faults(), 1);
         Ok(())
     }
 }

@@ -11,10 +11,10 @@ use std::marker::Model;
 /// A sink over any writer of std.
 ///
 /// It tells of content what its writer tells, which is nothing where that is a file or a stream. It flushes nothing.
-/// An interrupted write is tried again, up to 1,000 times in a row;
-/// at any other error, or one interruption more, the write has failed, and so it has where the writer takes nothing of
-/// a piece that is not empty. Its count rises at each of these, so also at an interruption that did no harm, and stays
-/// at 18,446,744,073,709,551,615. No method takes memory.
+/// An interrupted write is tried again, up to 1,000 times in a row; at any other error, or one interruption more, the
+/// write has failed, and so it has where the writer takes nothing of a piece that is not empty. Its count rises at each
+/// of these, so also at an interruption that did no harm, and stays at 18,446,744,073,709,551,615. No method takes
+/// memory.
 #[derive(Debug, Drop)]
 pub struct WriteSink<W: Write> {
     writer: W,
