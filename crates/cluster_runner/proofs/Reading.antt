@@ -2,24 +2,13 @@
 use Rattle.std.proofs.Common.{◌≡◌, ℕ, List, [], ◌∷◌, ◌++◌, Option, Some, None, refl, sym, ap, ◌∙◌, append_assoc}
 use Rattle.std.proofs.lemmas.List.{append-nil}
 use Rattle.std.specs.Io.KnownBytes.{Consumes, Keeps, IsAtEnd}
+use Rattle.dq_base.proofs.ContentLaws.{Consumes-then, Consumes-kept}
 use Rattle.cluster_runner.specs.Lines.{HasNoFeed, Cursor, to_come, TakesPart, TakesLine}
-
-pub Consumes-chain : (a b c : Option (List ℕ)) (x y : List ℕ) → Consumes a b x → Consumes b c y → Consumes a c (x ++ y)
-Consumes-chain None b c x y p q = tt
-Consumes-chain (Some s) None c x y p q = absurd p
-Consumes-chain (Some s) (Some t) None x y p q = absurd q
-Consumes-chain (Some s) (Some t) (Some u) x y p q = p ∙ ap (λ (bytes : List ℕ). x ++ bytes) q ∙ sym (append_assoc x y u)
 
 pub Consumes-none : (a b : Option (List ℕ)) → Keeps a b → Consumes a b []
 Consumes-none None b p = tt
 Consumes-none (Some s) None p = absurd p
 Consumes-none (Some s) (Some t) p = sym p
-
-pub Consumes-kept : (a b c : Option (List ℕ)) (x : List ℕ) → Consumes a b x → Keeps b c → Consumes a c x
-Consumes-kept None b c x p q = tt
-Consumes-kept (Some s) None c x p q = absurd p
-Consumes-kept (Some s) (Some t) None x p q = absurd q
-Consumes-kept (Some s) (Some t) (Some u) x p q = p ∙ ap (λ (bytes : List ℕ). x ++ bytes) (sym q)
 
 pub HasNoFeed-append : (a b : List ℕ) → HasNoFeed a → HasNoFeed b → HasNoFeed (a ++ b)
 HasNoFeed-append [] b p q = q
@@ -36,7 +25,7 @@ pub line_grows : (first before : Option (List ℕ)) (left : Option (List ℕ)) (
     → TakesLine first before old.line [] → Keeps before (to_come old left) → TakesPart old new part separator → TakesLine first (to_come new left) new.line separator
 line_grows first before left old new part separator line kept t =
     let so_far : Consumes first (to_come old left) (old.line ++ []) = Consumes-kept first before (to_come old left) (old.line ++ []) line.taken kept in
-    let all : Consumes first (to_come new left) ((old.line ++ []) ++ (part ++ separator)) = Consumes-chain first (to_come old left) (to_come new left) (old.line ++ []) (part ++ separator) so_far (part_taken old new left part separator t) in
+    let all : Consumes first (to_come new left) ((old.line ++ []) ++ (part ++ separator)) = Consumes-then first (to_come old left) (to_come new left) (old.line ++ []) (part ++ separator) so_far (part_taken old new left part separator t) in
     let bytes : (old.line ++ []) ++ (part ++ separator) ≡ new.line ++ separator = ap (λ (line : List ℕ). line ++ (part ++ separator)) (append-nil old.line) ∙ sym (append_assoc old.line part separator) ∙ ap (λ (line : List ℕ). line ++ separator) (sym t.longer) in
     record {
       taken = rw bytes at all;

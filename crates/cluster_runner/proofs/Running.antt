@@ -2,10 +2,10 @@
 use Rattle.std.proofs.Common.{◌≡◌, ◌≢◌, ℕ, zero, suc, ◌+◌, ◌<◌, ◌≤◌, Bool, true, false, cond, ◌&&◌, eqb, List, [], ◌∷◌, ◌++◌, Option, Some, None, length, refl, sym, ap, subst, ◌∙◌, append_assoc, arith, inl, inr}
 use Rattle.std.specs.Prelude.{nat_le, unwrap_or}
 use Rattle.std.specs.Option.{option_map_or}
-use Rattle.std.specs.Io.KnownBytes.{Appends, Consumes, IsAtEnd}
+use Rattle.std.specs.Io.KnownBytes.{Appends, Consumes, Keeps, IsAtEnd}
 use Rattle.std.proofs.lemmas.List.{append-nil, length-append, nil_from_length}
 use Rattle.dq_base.specs.Sink.{AppendsFront}
-use Rattle.dq_base.proofs.ContentLaws.{Appends-nothing, Appends-then, AppendsFront-whole, AppendsFront-nothing, AppendsFront-longer, AppendsFront-then, Consumes-all}
+use Rattle.dq_base.proofs.ContentLaws.{Consumes-nothing, Consumes-then, Consumes-kept, Appends-nothing, Appends-then, AppendsFront-whole, AppendsFront-nothing, AppendsFront-longer, AppendsFront-then, Consumes-all}
 use Rattle.cluster_runner.specs.declared.lines.TheConstants.{LINE_LIMIT, LINE_COUNT_LIMIT}
 use Rattle.cluster_runner.specs.declared.cluster.Say.{Say}
 use Rattle.cluster_runner.specs.declared.lines.LineFault.{LineFault}
@@ -17,7 +17,7 @@ use Rattle.cluster_runner.specs.Lines.{with_byte, lines_of, HasNoFeed, Cursor, t
 use Rattle.cluster_runner.specs.Grammar.{◌>>=◌, line_of}
 use Rattle.cluster_runner.specs.Run.{Place, Opening, line_step, step, step_text, Run, said_before, run_from, run, text_of, printed}
 use Rattle.cluster_runner.specs.Outcome.{IsInput, Completes, Refuses, StopsShort, Reached, Stopped}
-use Rattle.cluster_runner.proofs.Reading.{Consumes-chain, Consumes-none}
+use Rattle.cluster_runner.proofs.Reading.{Consumes-none}
 use Rattle.cluster_runner.proofs.Printed.{text_of-append}
 use Rattle.std.proofs.lemmas.Bool.{lt-leb}
 use Rattle.std.proofs.lemmas.Bool.Decides.{eqb_tells}
@@ -102,7 +102,7 @@ pub reached_line : (first now later written printed_now printed_later : Option (
 reached_line first now later written printed_now printed_later place next number line said r t e a = record {
     read = r.read ++ (line ++ 10 ∷ []);
     said = r.said ++ said;
-    taken = Consumes-chain first now later r.read (line ++ 10 ∷ []) r.taken t.taken;
+    taken = Consumes-then first now later r.read (line ++ 10 ∷ []) r.taken t.taken;
     told = rw (text_of-append r.said said) (Appends-then written printed_now printed_later (text_of r.said) (text_of said) r.told a);
     goes_on = λ more.
       ap run (append_assoc r.read (line ++ 10 ∷ []) more ∙ ap (λ (bytes : List ℕ). r.read ++ bytes) (append_assoc line (10 ∷ []) more))
@@ -192,7 +192,7 @@ module _ (first now written printed_now : Option (List ℕ)) (place : Place) (nu
       let w = ends_so printed_now line [] None (ap (λ (l : List ℕ). run_from place number (lines_of l)) nil) (Appends-nothing printed_now) in
       record {
         script = r.read ++ line;
-        input = Consumes-all first (to_come cursor left) (r.read ++ line) (Consumes-chain first now (to_come cursor left) r.read line r.taken (without_separator now (to_come cursor left) line t)) end;
+        input = Consumes-all first (to_come cursor left) (r.read ++ line) (Consumes-then first now (to_come cursor left) r.read line r.taken (without_separator now (to_come cursor left) line t)) end;
         read = end_left cursor left end;
         sound = w.0;
         text = w.1;
@@ -207,7 +207,7 @@ module _ (first now written printed_now : Option (List ℕ)) (place : Place) (nu
       let w = ends_so later (b ∷ line) said None lines a in
       record {
         script = r.read ++ b ∷ line;
-        input = Consumes-all first (to_come cursor left) (r.read ++ b ∷ line) (Consumes-chain first now (to_come cursor left) r.read (b ∷ line) r.taken (without_separator now (to_come cursor left) (b ∷ line) t)) end;
+        input = Consumes-all first (to_come cursor left) (r.read ++ b ∷ line) (Consumes-then first now (to_come cursor left) r.read (b ∷ line) r.taken (without_separator now (to_come cursor left) (b ∷ line) t)) end;
         read = end_left cursor left end;
         sound = w.0;
         text = w.1;
@@ -220,7 +220,7 @@ module _ (first now written printed_now : Option (List ℕ)) (place : Place) (nu
       let w = ends_so printed_later tail [] (Some number) (ap (run_from place number) lines ∙ run_fault place number line others e) a in
       record {
         script = r.read ++ tail;
-        input = rw (append_assoc r.read bytes (unwrap_or later [])) at (input_is first later (r.read ++ bytes) (Consumes-chain first now later r.read bytes r.taken taken));
+        input = rw (append_assoc r.read bytes (unwrap_or later [])) at (input_is first later (r.read ++ bytes) (Consumes-then first now later r.read bytes r.taken taken));
         fault = w.0;
         text = w.1;
       }
@@ -257,17 +257,21 @@ module _ (first now written printed_now : Option (List ℕ)) (place : Place) (nu
         text = rw text (AppendsFront-then written printed_now printed_later (text_of r.said) (text_of said) r.told front);
       }
 
+  -- Nothing is left behind the last line that a script may have.
+  pub completes_past : (cursor : Cursor) (left : Option (List ℕ)) → Keeps now (to_come cursor left) → IsAtEnd (to_come cursor left) → Completes first left written printed_now
+  completes_past cursor left kept end = completes_none cursor left [] (record { taken = Consumes-none now (to_come cursor left) kept; no_feed = tt }) end refl
+
   -- Nothing more was printed.
   pub short_reading : (cursor : Cursor) (left : Option (List ℕ)) (line : List ℕ) → TakesLine now (to_come cursor left) line [] → StopsShort first left written printed_now
   short_reading cursor left line t =
-      let taken = held first cursor left (r.read ++ line) (Consumes-chain first now (to_come cursor left) r.read line r.taken (without_separator now (to_come cursor left) line t)) in
+      let taken = held first cursor left (r.read ++ line) (Consumes-then first now (to_come cursor left) r.read line r.taken (without_separator now (to_come cursor left) line t)) in
       stops_short left printed_now (line ++ cursor.ahead) (rw (append_assoc r.read line cursor.ahead) at taken) (AppendsFront-nothing printed_now _)
 
   -- A line that ends with LF printed a front of its text.
   pub short_feed : (printed_later : Option (List ℕ)) (cursor : Cursor) (left : Option (List ℕ)) (line : List ℕ) → TakesLine now (to_come cursor left) line (10 ∷ []) → AppendsFront printed_now printed_later (step_text place number line)
       → StopsShort first left written printed_later
   short_feed printed_later cursor left line t front =
-      let taken = held first cursor left (r.read ++ (line ++ 10 ∷ [])) (Consumes-chain first now (to_come cursor left) r.read (line ++ 10 ∷ []) r.taken t.taken) in
+      let taken = held first cursor left (r.read ++ (line ++ 10 ∷ [])) (Consumes-then first now (to_come cursor left) r.read (line ++ 10 ∷ []) r.taken t.taken) in
       let lines : lines_of ((line ++ 10 ∷ []) ++ cursor.ahead) ≡ line ∷ lines_of cursor.ahead = ap lines_of (append_assoc line (10 ∷ []) cursor.ahead) ∙ lines_feed line cursor.ahead t.no_feed in
       stops_short left printed_later ((line ++ 10 ∷ []) ++ cursor.ahead) (rw (append_assoc r.read (line ++ 10 ∷ []) cursor.ahead) at taken)
       (subst (λ (l : List (List ℕ)). AppendsFront printed_now printed_later (text_of (run_from place number l).said)) (sym lines) (step_front printed_now printed_later place number line (lines_of cursor.ahead) front))
@@ -277,16 +281,21 @@ module _ (first now written printed_now : Option (List ℕ)) (place : Place) (nu
       → AppendsFront printed_now printed_later (step_text place number line) → StopsShort first left written printed_later
   short_last printed_later cursor left [] t end some front = absurd (omega arith)
   short_last printed_later cursor left (b ∷ line) t end some front =
-      let taken = held_end first cursor left (r.read ++ b ∷ line) (Consumes-chain first now (to_come cursor left) r.read (b ∷ line) r.taken (without_separator now (to_come cursor left) (b ∷ line) t)) end in
+      let taken = held_end first cursor left (r.read ++ b ∷ line) (Consumes-then first now (to_come cursor left) r.read (b ∷ line) r.taken (without_separator now (to_come cursor left) (b ∷ line) t)) end in
       stops_short left printed_later (b ∷ line) taken
       (subst (λ (l : List (List ℕ)). AppendsFront printed_now printed_later (text_of (run_from place number l).said)) (sym (lines_last b line t.no_feed)) (step_front printed_now printed_later place number (b ∷ line) [] front))
 
   -- There is a line past the last that a script may have.
-  pub refuses_past : (cursor : Cursor) (left : Option (List ℕ)) → Consumes now (to_come cursor left) [] → 0 < length cursor.ahead → LINE_COUNT_LIMIT < number → Refuses number first written printed_now
-  refuses_past cursor left taken some past =
-      let all = held now cursor left [] taken in
+  pub refuses_past : (cursor : Cursor) (left : Option (List ℕ)) → Keeps now (to_come cursor left) → 0 < length cursor.ahead → LINE_COUNT_LIMIT < number → Refuses number first written printed_now
+  refuses_past cursor left kept some past =
+      let all = held now cursor left [] (Consumes-none now (to_come cursor left) kept) in
       let w = some_line cursor.ahead (unwrap_or left []) some in
       refuses left printed_now cursor.ahead w.0 w.1 all w.2 (step_past place number w.0 past) (Appends-nothing printed_now)
+
+  pub short_past : (cursor : Cursor) (left : Option (List ℕ)) → Keeps now (to_come cursor left) → StopsShort first left written printed_now
+  short_past cursor left kept =
+      let taken = held first cursor left (r.read ++ []) (rw (append-nil r.read) (Consumes-kept first now (to_come cursor left) r.read r.taken kept)) in
+      stops_short left printed_now cursor.ahead (rw (append-nil r.read) at taken) (AppendsFront-nothing printed_now _)
 
   -- A line that ends with LF stopped the script.
   pub stopped_feed : (printed_later : Option (List ℕ)) (cursor : Cursor) (left : Option (List ℕ)) (line : List ℕ) (stop : Stop) → TakesLine now (to_come cursor left) line (10 ∷ []) → AppendsFront printed_now printed_later (step_text place number line)
@@ -318,3 +327,7 @@ stopped_reading line.NoMemory left left' written written' short = short
 pub some_bytes : (n : ℕ) → eqb n 0 ≡ false → 0 < n
 some_bytes zero e = absurd cc
 some_bytes (suc n) e = omega arith
+
+-- A script that was not begun.
+pub short_start : (left written : Option (List ℕ)) → StopsShort left left written written
+short_start left written = record { read = []; taken = Consumes-nothing left; text = AppendsFront-nothing written _ }

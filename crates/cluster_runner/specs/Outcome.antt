@@ -3,6 +3,8 @@ use Rattle.std.specs.Prelude.{◌≡◌, ◌++◌, ℕ, suc, List, Option, Some,
 use Rattle.std.specs.Io.KnownBytes.{Appends, Consumes, IsAtEnd}
 use Rattle.dq_base.specs.Sink.{AppendsFront}
 use Rattle.cluster_runner.specs.declared.cluster.Say.{Say}
+use Rattle.cluster_runner.specs.declared.run.Outcome.{Outcome}
+use Rattle.cluster_runner.specs.declared.run.Outcome.TheVariants as outcome
 use Rattle.cluster_runner.specs.declared.run.Stop.{Stop}
 use Rattle.cluster_runner.specs.declared.run.Stop.TheVariants.{Script, ReadFault, WriteFault, NoMemory}
 use Rattle.cluster_runner.specs.Lines.{lines_of}
@@ -47,3 +49,11 @@ Stopped (Script line) left left' written written' = Refuses line left written wr
 Stopped ReadFault left left' written written' = StopsShort left left' written written'
 Stopped WriteFault left left' written written' = StopsShort left left' written written'
 Stopped NoMemory left left' written written' = StopsShort left left' written written'
+
+-- what running a script to this outcome did
+abbrev pub Ended : Outcome → Option (List ℕ) → Option (List ℕ) → Option (List ℕ) → Option (List ℕ) → Type 0
+Ended outcome.Done left left' written written' = Completes left left' written written'
+Ended (outcome.Script line) left left' written written' = Refuses line left written written'
+Ended outcome.ReadFault left left' written written' = StopsShort left left' written written'
+Ended outcome.WriteFault left left' written written' = StopsShort left left' written written'
+Ended outcome.NoMemory left left' written written' = StopsShort left left' written written'

@@ -10,4 +10,4 @@ mod stage;
 
 pub use cluster::Say;
 pub use grammar::{Event, ScriptLine};
-pub use run::Outcome;
+pub use run::{Outcome, run_script};
