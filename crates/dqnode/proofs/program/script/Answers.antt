@@ -1,0 +1,20 @@
+use Rattle.dqnode.proofs.Endings.{breaks_off, refused}
+use Rattle.dqnode.proofs.program.script.Goals as goal
+
+pub returns-in-Script-clause-ended : goal.returns-in-Script-clause-ended
+returns-in-Script-clause-ended g c =
+    let left = g.S.Source.left in
+    let written = g.K.Sink.written in
+    refused (left c.args.input.now) (written c.args.output.now) (written c.run_script.new.sink) (written c.refuse_line.new.output) c.in-Script.line c.in-Script.ensures.ended (left c.run_script.new.source) c.refuse_line.result c.refuse_line.ensures.script c.refuse_line.ensures.broken c.refuse_line.ensures.others
+
+pub returns-in-ReadFault-clause-ended : goal.returns-in-ReadFault-clause-ended
+returns-in-ReadFault-clause-ended g c =
+    breaks_off (g.S.Source.left c.args.input.now) (g.S.Source.left c.run_script.new.source) (g.K.Sink.written c.args.output.now) (g.K.Sink.written c.run_script.new.sink) c.in-ReadFault.ensures.ended
+
+pub returns-in-WriteFault-clause-ended : goal.returns-in-WriteFault-clause-ended
+returns-in-WriteFault-clause-ended g c =
+    breaks_off (g.S.Source.left c.args.input.now) (g.S.Source.left c.run_script.new.source) (g.K.Sink.written c.args.output.now) (g.K.Sink.written c.run_script.new.sink) c.in-WriteFault.ensures.ended
+
+pub returns-in-NoMemory-clause-ended : goal.returns-in-NoMemory-clause-ended
+returns-in-NoMemory-clause-ended g c =
+    breaks_off (g.S.Source.left c.args.input.now) (g.S.Source.left c.run_script.new.source) (g.K.Sink.written c.args.output.now) (g.K.Sink.written c.run_script.new.sink) c.in-NoMemory.ensures.ended

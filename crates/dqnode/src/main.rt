@@ -1,0 +1,22 @@
+//! `dqnode`: a node of dqlite, SQLite replicated over a Raft cluster, and a runner of whole clusters from scripts.
+#![tactic(auto)]
+
+mod program;
+mod status;
+mod words;
+
+pub use program::dqnode;
+pub use status::Status;
+
+use dq_base::{ReadSource, WriteSink};
+use std::io;
+use std::process::ExitCode;
+
+fn main(rt: HostRuntime) -> ExitCode {
+    let Ok(words) = words::given(&rt) else {
+        return ExitCode::from(Status::NoMemory.code());
+    };
+    let mut input = ReadSource::new(rt.stdin());
+    let mut output = WriteSink::new(io::writer(&rt));
+    ExitCode::from(dqnode(rt.alloc(), words.as_slice(), &mut input, &mut output))
+}

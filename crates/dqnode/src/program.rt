@@ -1,0 +1,110 @@
+//! All that the program does.
+
+ghost use Rattle.std.specs.Prelude.{◌≡◌, ◌≢◌, ◌≤◌, ◌↔◌, ◌⊎◌, ℕ, IsTrue};
+ghost use Rattle.std.specs.Io.KnownBytes.{Appends};
+ghost use Rattle.dq_base.specs.Faults.{Rose};
+ghost use Rattle.cluster_runner.specs.Outcome.{Completes};
+ghost use Rattle.dq_base.specs.Sink.{AppendsFront};
+ghost use Rattle.dqnode.specs.Program.{IsScript, words_error, line_error, Faults, BreaksOff};
+ghost use Rattle.dqnode.specs.Status.{IsStatus, IsBroken, ScriptEnds};
+
+use crate::status::Status;
+use cluster_runner::{Outcome, run_script};
+use dq_base::{Sink, Source};
+use std::alloc::Global;
+
+/// Whether the words ask for a script to be run.
+fn asks_script(words: &[String]) -> bool
+    ensures { IsTrue result ↔ IsScript words.now }
+{
+    match words {
+        [word] => word.as_str() == "script",
+        _ => false,
+    }
+}
+
+/// Writes the error line of a script whose first fault is at this line.
+fn refuse_line<K: Sink>(alloc: Global, line: u64, output: &mut K) -> Status
+    ensures script { result ≡ Status.Script → Appends (K.written output.old) (K.written output.new) (line_error line) }
+    ensures write_fault { result ≡ Status.WriteFault → Rose (K.faults output.old) (K.faults output.new) }
+    ensures broken { result ≢ Status.Script → AppendsFront (K.written output.old) (K.written output.new) (line_error line) }
+    ensures others { (result ≡ Status.Script) ⊎ ((result ≡ Status.WriteFault) ⊎ (result ≡ Status.NoMemory)) }
+    ensures count { K.faults output.old ≤ K.faults output.new }
+{
+    let Ok(text) = format!(in alloc; "error line {line}\n") else {
+        return Status::NoMemory;
+    };
+    match output.write_all(text.as_bytes()) {
+        Ok(()) => Status::Script,
+        Err(_) => Status::WriteFault,
+    }
+}
+
+/// Runs the script that the input gives.
+fn script<S: Source, K: Sink>(alloc: Global, input: &mut S, output: &mut K) -> Status
+    ensures ended { ScriptEnds result (S.left input.old) (S.left input.new) (K.written output.old) (K.written output.new) }
+    ensures read_fault { result ≡ Status.ReadFault → Rose (S.faults input.old) (S.faults input.new) }
+    ensures write_fault { result ≡ Status.WriteFault → Rose (K.faults output.old) (K.faults output.new) }
+    ensures input_count { S.faults input.old ≤ S.faults input.new }
+    ensures output_count { K.faults output.old ≤ K.faults output.new }
+{
+    match run_script(alloc, input, output) {
+        Outcome::Done => Status::Done,
+        Outcome::Script(line) => refuse_line(alloc, line, output),
+        Outcome::ReadFault => Status::ReadFault,
+        Outcome::WriteFault => Status::WriteFault,
+        Outcome::NoMemory => Status::NoMemory,
+    }
+}
+
+/// Refuses the words.
+fn refuse_words<K: Sink>(output: &mut K) -> Status
+    ensures words { result ≡ Status.Words → Appends (K.written output.old) (K.written output.new) words_error }
+    ensures write_fault { result ≡ Status.WriteFault → Rose (K.faults output.old) (K.faults output.new) × AppendsFront (K.written output.old) (K.written output.new) words_error }
+    ensures others { (result ≡ Status.Words) ⊎ (result ≡ Status.WriteFault) }
+    ensures count { K.faults output.old ≤ K.faults output.new }
+{
+    match output.write_all(b"error words\n") {
+        Ok(()) => Status::Words,
+        Err(_) => Status::WriteFault,
+    }
+}
+
+/// All that the program does: runs what the words behind the program's name ask for, and answers the status that the
+/// process ends with.
+///
+/// The words are exactly `script`: the input is a script, whose text goes to the output. Other words give status 1 and
+/// the line `error words`. A line that isn't in the grammar, the first in the script, gives status 2, behind the text
+/// of the lines before it, and `error line` with its number. 3 is a fault of the input and 4 one of the output, an
+/// error line that could not be written included; 7 is want of memory.
+pub fn dqnode<S: Source, K: Sink>(
+    alloc: Global,
+    words: &[String],
+    input: &mut S,
+    output: &mut K,
+) -> u8
+    // The script was read to its end, each line of it is in the grammar, and its text was written.
+    ensures done { result ≡ 0 → IsScript words.now × Completes (S.left input.old) (S.left input.new) (K.written output.old) (K.written output.new) }
+    // The words are refused exactly where they are not `script`, unless their line can't be written.
+    ensures words { result ≡ 1 → ¬ (IsScript words.now) × Appends (K.written output.old) (K.written output.new) words_error }
+    ensures only_words { ¬ (IsScript words.now) → (result ≡ 1) ⊎ (result ≡ 4) }
+    // The script has a first line that isn't in the grammar, and it is named.
+    ensures script { result ≡ 2 → IsScript words.now × Faults (S.left input.old) (K.written output.old) (K.written output.new) }
+    // The input, the output failed in this call.
+    ensures read_fault { result ≡ 3 → IsScript words.now × Rose (S.faults input.old) (S.faults input.new) }
+    ensures write_fault { result ≡ 4 → Rose (K.faults output.old) (K.faults output.new) }
+    // After a fault of the outside and want of memory a front was written of what a front of the script gives.
+    ensures broken { IsScript words.now → IsBroken result → BreaksOff (S.left input.old) (K.written output.old) (K.written output.new) }
+    ensures words_broken { ¬ (IsScript words.now) → result ≡ 4 → AppendsFront (K.written output.old) (K.written output.new) words_error }
+    // There is no other status.
+    ensures known { IsStatus result }
+    ensures input_count { S.faults input.old ≤ S.faults input.new }
+    ensures output_count { K.faults output.old ≤ K.faults output.new }
+{
+    let status = if asks_script(words) {
+        script(alloc, input, output)
+    } else {
+        refuse_words(output)
+    };
+    status.code()
+}
