@@ -1,2 +1,3 @@
 pub mod Numbers
 pub mod ReadBack
+pub mod Utf8

@@ -1,5 +1,6 @@
 ghost use Rattle.std.specs.Prelude.{◌≡◌, ◌<◌, ◌≤◌, ◌↔◌, ◌∷◌, ◌++◌, ℕ, List, [], length, IfOk, IsErr};
-ghost use Rattle.wire_words.specs.Items.{word, text, HasNoNul, gap};
+ghost use Rattle.byteorder.specs.Endian.{little_bytes};
+ghost use Rattle.wire_words.specs.Items.{word, pair, text, raw, HasNoNul, gap};
 ghost use Rattle.wire_words.specs.Message.{header, message, counted, words_after_header};
 ghost use Rattle.wire_words.specs.Writing.{AppendsOrKeeps};
 
@@ -26,11 +27,19 @@ impl Model for Writer {
 const ZEROS: [u8; 8] = [0; 8];
 
 // How many bytes fill this many up to a whole word.
-fn filling(len: usize) -> usize
+pub(crate) fn filling(len: usize) -> usize
     ensures { result ≡ gap len }
 {
     let over = len % 8;
     if over == 0 { 0 } else { 8 - over }
+}
+
+fn little(value: u32) -> [u8; 4]
+    ensures { result ≡ little_bytes 4 value }
+{
+    let mut bytes = [0; 4];
+    LittleEndian::write_u32(&mut bytes, value);
+    bytes
 }
 
 impl Writer {
@@ -50,6 +59,13 @@ impl Writer {
         let mut bytes = [0; 8];
         LittleEndian::write_u64(&mut bytes, value);
         self.out.extend_from_slice(&bytes)
+    }
+
+    /// Writes two numbers of 32 bits, which share a word.
+    pub fn pair(&mut self, first: u32, second: u32) -> Result<(), AllocError>
+        ensures { AppendsOrKeeps self.old self.new (pair first second) result }
+    {
+        self.both(&little(first), &little(second))
     }
 
     // Appends all of both, or nothing.
@@ -73,6 +89,14 @@ impl Writer {
         let bytes = content.as_bytes();
         let over = bytes.len() % 8;
         self.both(bytes, &ZEROS[over..])
+    }
+
+    /// Writes the bytes, and zeros to a whole word.
+    pub fn raw(&mut self, bytes: &[u8]) -> Result<(), AllocError>
+        ensures { AppendsOrKeeps self.old self.new (raw bytes.now) result }
+    {
+        let padding = filling(bytes.len());
+        self.both(bytes, &ZEROS[..padding])
     }
 
     /// Writes the header of a message whose count of words is still 0; `finish_message` writes that count.
