@@ -1,4 +1,4 @@
-ghost use Rattle.std.specs.Prelude.{◌≡◌, ◌<◌, ◌≤◌, ◌↔◌, ◌∷◌, ◌++◌, ℕ, List, [], length, IfOk, IsErr};
+ghost use Rattle.std.specs.Prelude.{◌≡◌, ◌<◌, ◌≤◌, ◌+◌, ◌%◌, ◌↔◌, ◌∷◌, ◌++◌, ℕ, List, [], length, IfOk, IsErr};
 ghost use Rattle.byteorder.specs.Endian.{little_bytes};
 ghost use Rattle.wire_words.specs.Items.{word, pair, text, raw, HasNoNul, gap};
 ghost use Rattle.wire_words.specs.Message.{header, message, counted, words_after_header};
@@ -17,11 +17,14 @@ pub struct Writer {
 }
 
 impl Model for Writer {
-    ghost use Rattle.std.specs.Prelude.{ℕ, List};
+    ghost use Rattle.std.specs.Prelude.{◌≡◌, ◌%◌, ℕ, List, length};
 
     ghost Value = { List ℕ };
 
     ghost view = { λ w. w.out.items };
+
+    // Whole words were written.
+    ghost invariant = { λ w. length w.out.items % 8 ≡ 0 };
 }
 
 const ZEROS: [u8; 8] = [0; 8];
@@ -70,6 +73,7 @@ impl Writer {
 
     // Appends all of both, or nothing.
     fn both(&mut self, front: &[u8], back: &[u8]) -> Result<(), AllocError>
+        requires { (length front.now + length back.now) % 8 ≡ 0 }
         ensures { AppendsOrKeeps self.old self.new (front.now ++ back.now) result }
     {
         let start = self.out.len();
@@ -107,9 +111,10 @@ impl Writer {
             .extend_from_slice(&[0, 0, 0, 0, kind, schema, 0, 0])
     }
 
-    /// What was written. Takes no memory.
+    /// What was written, which is whole words. Takes no memory.
     pub fn finish(self) -> WireBytes
-        ensures { result ≡ self }
+        ensures bytes { result ≡ self }
+        ensures whole { length result % 8 ≡ 0 }
     {
         WireBytes::new(self.out)
     }
@@ -121,6 +126,7 @@ impl Writer {
         ensures counted { IfOk result (λ bytes. bytes ≡ counted self) }
         ensures message { (kind schema : ℕ) (body : List ℕ) → self ≡ header 0 kind schema ++ body →
             IfOk result (λ bytes. bytes ≡ message kind schema body) }
+        ensures whole { IfOk result (λ bytes. length bytes % 8 ≡ 0) }
         ensures many { IsErr result ↔ (4294967295 < words_after_header self) }
     {
         let words = (self.out.len() - 8) / 8;
