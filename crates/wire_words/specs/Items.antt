@@ -19,13 +19,13 @@ word n = little_bytes 8 n
 abbrev pub pair : ℕ → ℕ → List ℕ
 pair first second = little_bytes 4 first ++ little_bytes 4 second
 
--- the text, one NUL, and zeros to a whole word
-abbrev pub text : List ℕ → List ℕ
-text t = (t ++ 0 ∷ []) ++ zeros_after (length t + 1)
-
 -- the bytes, and zeros to a whole word
 abbrev pub raw : List ℕ → List ℕ
 raw bytes = bytes ++ zeros_after (length bytes)
+
+-- the text, one NUL, and zeros to a whole word
+abbrev pub text : List ℕ → List ℕ
+text t = raw (t ++ 0 ∷ [])
 
 -- each is a byte
 abbrev pub AreBytes : List ℕ → Type 0
@@ -56,12 +56,12 @@ pub record IsPair (first second : ℕ) (bytes : List ℕ) : Type 0 where
   pub second_fits : second < 2 ^ 32
   pub parts : bytes ≡ little_bytes 4 first ++ little_bytes 4 second
 
+-- these bytes spell the bytes: they themselves, and zeros
+abbrev pub IsRaw : List ℕ → List ℕ → Type 0
+IsRaw content bytes = IsPadded content bytes
+
 -- these bytes spell the text: UTF-8 without a NUL, one NUL, and zeros
 pub record IsText (t bytes : List ℕ) : Type 0 where
   pub utf8 : IsUtf8 t
   pub no_nul : HasNoNul t
   pub padded : IsPadded (t ++ 0 ∷ []) bytes
-
--- these bytes spell the bytes: they themselves, and zeros
-abbrev pub IsRaw : List ℕ → List ℕ → Type 0
-IsRaw content bytes = IsPadded content bytes
