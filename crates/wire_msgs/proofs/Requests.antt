@@ -13,7 +13,7 @@ use Rattle.wire_msgs.specs.declared.request.Request.{Request}
 use Rattle.wire_msgs.specs.declared.request.Request.TheVariants.{Leader}
 use Rattle.wire_msgs.specs.declared.request.RequestKind.{RequestKind}
 use Rattle.wire_msgs.specs.declared.request.RequestKind.TheVariants as kinds
-use Rattle.wire_msgs.specs.Fields.{AnyWord, IsField, IsLine}
+use Rattle.wire_msgs.specs.Fields.{AnyWord, IsRead}
 use Rattle.wire_msgs.specs.Requests.{request_line, Reads}
 use Rattle.std.specs.Prelude.{IfOk}
 use Rattle.wire_msgs.specs.Reading.{Gives, in_message, ended, words_in, request_kind, request_at, request_in, request_of}
@@ -61,7 +61,7 @@ leader_took old new request fits e =
     let any = bind_ok (word_at old) (λ any. Ok (Leader, any.1)) (request, new) e in
     let made : Request × Unread = (Leader, any.0.1) in
     let is : made ≡ (request, new) = cc in
-    let took : Took (IsField AnyWord) old any.0.1 =
+    let took : Took (IsRead AnyWord) old any.0.1 =
     let t = word_took old any.0.1 any.0.0 fits any.1 in record { item = t.item; spelled = (any.0.0, t.spelled); parts = t.parts; place = t.place } in
     (sym (ap (λ (x : Request × Unread). x.0) is), (any.0.1, took, ap (λ (x : Request × Unread). x.1) is))
 
@@ -85,7 +85,7 @@ found_at : (kind : RequestKind) (m : Message) (request : Request) (left : Unread
     → request_at kind (unread m.body) ≡ Ok (request, left) → left.bytes ≡ [] → Reads m request
 found_at kinds.Leader m request left fits known schema fields end =
     let took = leader_took (unread m.body) left request fits fields in
-    subst (λ (x : Request). Reads m x) (sym took.0) (record { kind = kind_is m.kind known; schema = schema; body = fields_took (request_line Leader).fields (unread m.body) left took.1 end })
+    subst (λ (x : Request). Reads m x) (sym took.0) (record { kind = kind_is m.kind known; schema = schema; fields = fields_took (request_line Leader).fields (unread m.body) left took.1 end })
 
 pub request_found : (m : Message) (request : Request) → AreBytes m.body → request_of m ≡ Ok request → Reads m request
 unfolding request_of
@@ -96,7 +96,7 @@ request_found m request fits e =
 pub request_read : (m : Message) (request : Request) → Reads m request → request_of m ≡ Ok request
 unfolding request_of
 request_read m Leader r =
-    let stood = fields_stand (request_line Leader).fields (unread m.body) r.body in
+    let stood = fields_stand (request_line Leader).fields (unread m.body) r.fields in
     let known : request_kind m.kind ≡ Some kinds.Leader = rw r.kind refl in
     read_again (request_kind m.kind) m Leader (record { kind = kinds.Leader; is_known = known; schema = r.schema; left = stood.0; fields = leader_again (unread m.body) stood.0 stood.1; end = stood.2 })
 

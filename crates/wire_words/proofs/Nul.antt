@@ -96,7 +96,7 @@ text_again old new t r =
     let size : length (t ++ 0 ∷ []) ≡ length t + 1 = length-append t (0 ∷ []) in
     let f : IsFilled (length t + 1) old new (t ++ 0 ∷ []) = subst (λ (n : ℕ). IsFilled n old new (t ++ 0 ∷ [])) size (filled_again old new (t ++ 0 ∷ []) whole) in
     let parts : old.bytes ≡ t ++ 0 ∷ drop (length t + 1) old.bytes =
-        sym (take-append-drop (length t + 1) old.bytes) ∙ ap (λ (x : List ℕ). x ++ drop (length t + 1) old.bytes) f.value ∙ append_assoc t (0 ∷ []) (drop (length t + 1) old.bytes) in
+    sym (take-append-drop (length t + 1) old.bytes) ∙ ap (λ (x : List ℕ). x ++ drop (length t + 1) old.bytes) f.value ∙ append_assoc t (0 ∷ []) (drop (length t + 1) old.bytes) in
     let found : position is_zero old.bytes ≡ Some (length t) = ap (position is_zero) parts ∙ position_of_nul t (drop (length t + 1) old.bytes) r.spelled.no_nul in
     let value : take (length t) old.bytes ≡ t = ap (take (length t)) parts ∙ take_at t (0 ∷ drop (length t + 1) old.bytes) (length t) refl in
     let utf8 : is_utf8 t ≡ true = is_utf8-from_IsUtf8 t r.spelled.utf8 in

@@ -54,9 +54,9 @@ filled_took size old new bytes f =
     let len : length bytes ≡ size = ap length (sym f.value) ∙ length-take-le size old.bytes (omega arith) in
     let many : length (take (gap size) (drop size old.bytes)) ≡ gap size = length-take-le (gap size) (drop size old.bytes) (omega (arith, length-drop size old.bytes)) in
     let zeros : take (gap size) (drop size old.bytes) ≡ replicate (gap (length bytes)) 0 =
-        zeros_are (take (gap size) (drop size old.bytes)) f.zeros ∙ ap (λ (n : ℕ). replicate n 0) (many ∙ ap gap (sym len)) in
+    zeros_are (take (gap size) (drop size old.bytes)) f.zeros ∙ ap (λ (n : ℕ). replicate n 0) (many ∙ ap gap (sym len)) in
     let front : take (size + gap size) old.bytes ≡ raw bytes =
-        take_parts size (gap size) old.bytes ∙ ap (λ (x : List ℕ). x ++ take (gap size) (drop size old.bytes)) f.value ∙ ap (λ (x : List ℕ). bytes ++ x) zeros in
+    take_parts size (gap size) old.bytes ∙ ap (λ (x : List ℕ). x ++ take (gap size) (drop size old.bytes)) f.value ∙ ap (λ (x : List ℕ). bytes ++ x) zeros in
     let all : length (raw bytes) ≡ size + gap size = ap length (sym front) ∙ length-take-le (size + gap size) old.bytes long in
     let place : new.at ≡ old.at + length (raw bytes) = ap (λ (left : Unread). left.at) (sym f.after) ∙ ap (λ (n : ℕ). old.at + n) (sym all) in
     (len, record { item = raw bytes; spelled = raw_is_padded bytes; parts = parts_are old new (size + gap size) (raw bytes) front f.after; place = place })
@@ -71,7 +71,7 @@ filled_again old new bytes t =
     let all : length (raw bytes) ≡ length bytes + gap (length bytes) = length-append bytes zeros ∙ ap (λ (n : ℕ). length bytes + n) (length-replicate (gap (length bytes)) 0) in
     let long : length bytes + gap (length bytes) ≤ length old.bytes = omega (arith, all, ap length parts, length-append (raw bytes) new.bytes) in
     let behind : take (gap (length bytes)) (drop (length bytes) old.bytes) ≡ zeros =
-        ap (λ (b : List ℕ). take (gap (length bytes)) (drop (length bytes) b)) split ∙ ap (take (gap (length bytes))) (drop_at bytes (zeros ++ new.bytes) (length bytes) refl) ∙ take_at zeros new.bytes (gap (length bytes)) (length-replicate (gap (length bytes)) 0) in
+    ap (λ (b : List ℕ). take (gap (length bytes)) (drop (length bytes) b)) split ∙ ap (take (gap (length bytes))) (drop_at bytes (zeros ++ new.bytes) (length bytes) refl) ∙ take_at zeros new.bytes (gap (length bytes)) (length-replicate (gap (length bytes)) 0) in
     record {
       room = le-ltb _ _ long;
       zeros = ap (list_all is_zero) behind ∙ all_zeros (gap (length bytes));

@@ -98,9 +98,9 @@ pair_took old new first second fits e =
     let behind = AreBytes-drop 4 old.bytes fits in
     let low : take 4 old.bytes ≡ little_bytes 4 first = sym (bytes_of_number_4 old.bytes (omega arith) fits) ∙ ap (little_bytes 4) one in
     let high : take 4 (drop 4 old.bytes) ≡ little_bytes 4 second =
-        sym (bytes_of_number_4 (drop 4 old.bytes) (omega (arith, length-drop 4 old.bytes)) behind) ∙ ap (little_bytes 4) two in
+    sym (bytes_of_number_4 (drop 4 old.bytes) (omega (arith, length-drop 4 old.bytes)) behind) ∙ ap (little_bytes 4) two in
     let front : take 8 old.bytes ≡ little_bytes 4 first ++ little_bytes 4 second =
-        take_parts 4 4 old.bytes ∙ ap (λ (x : List ℕ). x ++ take 4 (drop 4 old.bytes)) low ∙ ap (λ (x : List ℕ). little_bytes 4 first ++ x) high in
+    take_parts 4 4 old.bytes ∙ ap (λ (x : List ℕ). x ++ take 4 (drop 4 old.bytes)) low ∙ ap (λ (x : List ℕ). little_bytes 4 first ++ x) high in
     let first_fits : first < 2 ^ 32 = rw (← one) (little_from-lt 0 4 old.bytes fits) in
     let second_fits : second < 2 ^ 32 = rw (← two) (little_from-lt 0 4 (drop 4 old.bytes) behind) in
     let place : new.at ≡ old.at + 8 = rw (← after) refl in

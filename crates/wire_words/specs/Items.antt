@@ -34,9 +34,13 @@ AreBytes bytes = (i : ℕ) → slice_index bytes i < 256
 abbrev pub is_zero : ℕ → Bool
 is_zero b = b == 0
 
+-- whether some byte is NUL
+abbrev pub has_nul : List ℕ → Bool
+has_nul bytes = list_any is_zero bytes
+
 -- no byte is NUL
 abbrev pub HasNoNul : List ℕ → Type 0
-HasNoNul bytes = list_any is_zero bytes ≡ false
+HasNoNul bytes = has_nul bytes ≡ false
 
 -- the bytes and then fewer than eight zeros, in all a whole number of words
 pub record IsPadded (bytes padded : List ℕ) : Type 0 where

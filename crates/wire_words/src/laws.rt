@@ -7,8 +7,7 @@ ghost use Rattle.wire_words.specs.Reading.{Unread, Took, word_at, pair_at, text_
 pub fn words_read_back()
     ensures spelled { (old new : Unread) (n : ℕ) → AreBytes old.bytes → word_at old ≡ Ok (n, new) → Took (IsWord n) old new }
     ensures read { (old new : Unread) (n : ℕ) → Took (IsWord n) old new → word_at old ≡ Ok (n, new) }
-{
-}
+{}
 
 /// Two numbers in one word are read exactly where their spelling stands.
 pub fn pairs_read_back()
@@ -16,23 +15,20 @@ pub fn pairs_read_back()
         Took (IsPair first second) old new }
     ensures read { (old new : Unread) (first second : ℕ) → Took (IsPair first second) old new →
         pair_at old ≡ Ok ((first, second), new) }
-{
-}
+{}
 
 /// A text is read exactly where its spelling stands.
 pub fn texts_read_back()
     ensures spelled { (old new : Unread) (t : List ℕ) → text_at old ≡ Ok (t, new) → Took (IsText t) old new }
     ensures read { (old new : Unread) (t : List ℕ) → Took (IsText t) old new → text_at old ≡ Ok (t, new) }
-{
-}
+{}
 
 /// Bytes of a known number are read exactly where their spelling stands.
 pub fn raw_reads_back()
     ensures size { (size : ℕ) (old new : Unread) (bytes : List ℕ) → raw_at size old ≡ Ok (bytes, new) → length bytes ≡ size }
     ensures spelled { (size : ℕ) (old new : Unread) (bytes : List ℕ) → raw_at size old ≡ Ok (bytes, new) → Took (IsRaw bytes) old new }
     ensures read { (old new : Unread) (bytes : List ℕ) → Took (IsRaw bytes) old new → raw_at (length bytes) old ≡ Ok (bytes, new) }
-{
-}
+{}
 
 /// Each value has one spelling, which the writers write.
 pub fn one_spelling()
@@ -44,8 +40,7 @@ pub fn one_spelling()
     ensures only_text { (t bytes : List ℕ) → IsText t bytes → bytes ≡ text t }
     ensures raw { (content : List ℕ) → IsRaw content (raw content) }
     ensures only_raw { (content bytes : List ℕ) → IsRaw content bytes → bytes ≡ raw content }
-{
-}
+{}
 
 /// Messages stand apart: where two stand at the front of the same bytes, they are one and the same bytes follow. So no
 /// message is a proper front of another.
@@ -55,5 +50,4 @@ pub fn messages_stand_apart()
         (kind ≡ other) × (schema ≡ other_schema) × (body ≡ other_body) × (rest ≡ other_rest) }
     ensures prefix { (kind other schema other_schema : ℕ) (body other_body rest : List ℕ) → IsBody body → IsBody other_body →
         message kind schema body ++ rest ≡ message other other_schema other_body → rest ≡ [] }
-{
-}
+{}

@@ -131,7 +131,7 @@ impl<'a> Words<'a> {
     /// all there, and else `Pad` where a byte in place of a zero isn't one.
     #[tactic(auto, unfolding(crate::specs::Reading::raw_at))]
     pub fn raw(&mut self, alloc: Global, size: u64) -> Result<WireBytes, WordFault>
-        ensures { Gives (λ bytes. bytes) (raw_at size) self.old self.new result }
+        ensures exact { Gives (λ bytes. bytes) (raw_at size) self.old self.new result }
     {
         let at = self.place as u64;
         let left = &self.body[self.place..];
@@ -151,7 +151,7 @@ impl<'a> Words<'a> {
     /// else `Short` where the zeros aren't all there, `NotUtf8`, and `Pad` where a byte in place of a zero isn't one.
     #[tactic(auto, unfolding(crate::specs::Reading::text_at, crate::specs::Reading::text_of))]
     pub fn text(&mut self, alloc: Global) -> Result<WireText, WordFault>
-        ensures { Gives (λ text. text) text_at self.old self.new result }
+        ensures exact { Gives (λ text. text) text_at self.old self.new result }
     {
         let at = self.place as u64;
         let left = &self.body[self.place..];
