@@ -1,5 +1,5 @@
 -- A text is read exactly where its spelling stands.
-use Rattle.std.proofs.Common.{◌≡◌, ℕ, zero, suc, ◌+◌, ◌<◌, ◌≤◌, Bool, true, false, not, cond, ltb, eqb, ◌||◌, List, [], ◌∷◌, ◌++◌, length, take, drop, get_or, Option, Some, None, Result, Ok, Err, refl, sym, ap, subst, ◌∙◌, append_assoc, arith}
+use Rattle.std.proofs.Common.{◌≡◌, ℕ, suc, ◌+◌, ◌<◌, Bool, true, false, not, cond, ltb, ◌||◌, List, [], ◌∷◌, ◌++◌, length, take, drop, get_or, Option, Some, None, Ok, Err, refl, sym, ap, subst, ◌∙◌, append_assoc, arith}
 use Rattle.std.specs.Prelude.{IsUtf8}
 use Rattle.std.specs.List.{list_any, position, prefix_len}
 use Rattle.std.specs.Str.{is_utf8}
@@ -7,8 +7,7 @@ use Rattle.std.proofs.lemmas.Bool.{lt-ltb, eqb-true}
 use Rattle.std.proofs.lemmas.List.{length-append, length-take-le, get_or-take, take_more, take_at, take-append-drop}
 use Rattle.std.proofs.lemmas.List.Quantifiers.{position-Some}
 use Rattle.std.proofs.lemmas.Str.{IsUtf8-from_is_utf8, is_utf8-from_IsUtf8}
-use Rattle.wire_words.specs.declared.fault.WordFault.{WordFault}
-use Rattle.wire_words.specs.declared.fault.WordFault.TheVariants.{Short, NoNul, NotUtf8, Pad}
+use Rattle.wire_words.specs.declared.fault.WordFault.TheVariants.{Short, NotUtf8, Pad}
 use Rattle.wire_words.specs.Items.{gap, text, is_zero, HasNoNul, IsRaw, IsText}
 use Rattle.wire_words.specs.Reading.{Unread, past, are_zeros, text_of, text_to, text_at, Took}
 use Rattle.wire_words.proofs.ReadBack.{refused_not, passed, ok_is, firsts, seconds}

@@ -1,9 +1,9 @@
 -- Two messages at the front of the same bytes are one.
-use Rattle.std.proofs.Common.{◌≡◌, ℕ, ◌+◌, ◌*◌, ◌/◌, ◌%◌, ◌^◌, ◌<◌, List, [], ◌∷◌, ◌++◌, length, take, drop, get_or, refl, sym, ap, ◌∙◌, append_assoc, arith}
-use Rattle.std.proofs.lemmas.List.{take_at, drop_at, append-nil, append_cancel_left}
-use Rattle.byteorder.specs.Endian.{little_bytes, little_number}
+use Rattle.std.proofs.Common.{◌≡◌, ℕ, ◌/◌, ◌%◌, ◌^◌, ◌<◌, List, [], ◌∷◌, ◌++◌, length, take, drop, get_or, refl, sym, ap, ◌∙◌, arith}
+use Rattle.std.proofs.lemmas.List.{take_at, drop_at, append-nil}
+use Rattle.byteorder.specs.Endian.{little_number}
 use Rattle.byteorder.specs.Numbers.{little_number-reads_back}
-use Rattle.wire_words.specs.Message.{header, message, IsBody}
+use Rattle.wire_words.specs.Message.{message, IsBody}
 
 -- whole words are as many bytes as eight times their number
 same_length : (m n : ℕ) → m % 8 ≡ 0 → n % 8 ≡ 0 → m / 8 ≡ n / 8 → m ≡ n

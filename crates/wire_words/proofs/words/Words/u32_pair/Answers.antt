@@ -1,4 +1,4 @@
-use Rattle.std.proofs.Common.{◌≡◌, ◌≤◌, ltb, false, length, drop, refl, arith}
+use Rattle.std.proofs.Common.{◌≡◌, ◌≤◌, ltb, false, length, drop, refl}
 use Rattle.std.proofs.lemmas.List.{take_rest, drop-drop}
 use Rattle.std.proofs.lemmas.Bool.{le-ltb}
 use Rattle.wire_words.specs.Reading.{pair_at}
