@@ -9,8 +9,8 @@ use byteorder::{ByteOrder, LittleEndian};
 use std::alloc::{AllocError, Global};
 use std::marker::Model;
 
-/// Writes the items of a body, or of a whole message, one after the other. Clauses see the bytes written so far. A call
-/// that finds no memory leaves them as they were.
+/// Writes the items of a body, or of a whole message, one after the other. Clauses see the bytes written so far, which
+/// are whole words. A call that finds no memory leaves them as they were.
 #[derive(Debug, Drop)]
 pub struct Writer {
     out: Vec<u8>,
