@@ -1,19 +1,19 @@
 -- A request is read exactly where the message stands for it.
-use Rattle.std.proofs.Common.{◌≡◌, ℕ, Bool, true, false, cond, eqb, List, [], length, Option, Some, None, Result, Ok, Err, refl, sym, ap, subst, ◌∙◌}
+use Rattle.std.proofs.Common.{◌≡◌, ℕ, Bool, true, false, cond, eqb, ◌⊎◌, inl, inr, [], length, Option, Some, None, Result, Ok, Err, refl, sym, ap, subst, ◌∙◌}
 use Rattle.std.proofs.lemmas.Bool.{eqb-true}
 use Rattle.std.proofs.lemmas.List.{nil_from_length}
 use Rattle.wire_words.specs.declared.fault.WordFault.{WordFault}
 use Rattle.wire_words.specs.declared.message.Message.{Message}
 use Rattle.wire_words.specs.Items.{AreBytes, IsWord}
 use Rattle.wire_words.specs.Reading.{◌>>=◌, Unread, unread, word_at, Took}
-use Rattle.wire_words.proofs.ReadBack.{bind_ok, word_took, word_again}
+use Rattle.wire_words.proofs.ReadBack.{bind_ok, ok_is, word_took, word_again}
 use Rattle.wire_msgs.specs.declared.fault.MsgFault.{MsgFault}
 use Rattle.wire_msgs.specs.declared.fault.MsgFault.TheVariants.{Schema, Tail}
 use Rattle.wire_msgs.specs.declared.request.Request.{Request}
 use Rattle.wire_msgs.specs.declared.request.Request.TheVariants.{Leader}
 use Rattle.wire_msgs.specs.declared.request.RequestKind.{RequestKind}
 use Rattle.wire_msgs.specs.declared.request.RequestKind.TheVariants as kinds
-use Rattle.wire_msgs.specs.Fields.{AnyWord, IsField, IsLine}
+use Rattle.wire_msgs.specs.Fields.{AnyWord, IsRead}
 use Rattle.wire_msgs.specs.Requests.{request_line, Reads}
 use Rattle.std.specs.Prelude.{IfOk}
 use Rattle.wire_msgs.specs.Reading.{Gives, in_message, ended, words_in, request_kind, request_at, request_in, request_of}
@@ -52,18 +52,56 @@ read_again known m request w =
     let nothing : length w.left.bytes ≡ 0 = ap length w.end in
     rw (w.is_known, w.schema, w.fields, nothing) refl
 
--- ---- the lines of the table
+-- ---- the lines of the table: each has a case in the four proofs below
 
-leader_took : (old new : Unread) (request : Request) → AreBytes old.bytes → request_at kinds.Leader old ≡ Ok (request, new)
-    → (request ≡ Leader) × AllTook (request_line Leader).fields old new
-unfolding request_at
-leader_took old new request fits e =
+some_is : {A : Type 0} (x y : A) → Some x ≡ Some y → x ≡ y
+some_is x y e = cc
+
+-- one test of a choice among several
+one_of : {A : Type 0} (b : Bool) (x : A) (others : Option A) (y : A) → cond b (Some x) others ≡ Some y → ((b ≡ true) × (x ≡ y)) ⊎ (others ≡ Some y)
+one_of true x others y e = inl (refl, some_is x y e)
+one_of false x others y e = inr e
+
+none_of : {A : Type 0} (x : A) (P : Type 0) → None ≡ Some x → P
+none_of x P e = absurd cc
+
+-- the number of a type
+kind_number : RequestKind → ℕ
+kind_number kinds.Leader = 0
+
+number_is : (n number : ℕ) (one kind : RequestKind) → (eqb n number ≡ true) × (one ≡ kind) → kind_number one ≡ number → n ≡ kind_number kind
+number_is n number one kind e is = eqb-true _ _ e.0 ∙ sym is ∙ ap kind_number e.1
+
+known_number : (n : ℕ) (kind : RequestKind) → request_kind n ≡ Some kind → n ≡ kind_number kind
+unfolding kind_number
+known_number n kind e =
+    elim (one_of (eqb n 0) kinds.Leader _ kind e) [
+      | inl is ↦ number_is n 0 kinds.Leader kind is refl
+      | inr e ↦ none_of kind _ e
+    ]
+
+-- the fields of a request of this type stood between two states of a reader
+record TookRequest (kind : RequestKind) (request : Request) (old new : Unread) : Type 0 where
+  pub number : kind_number kind ≡ (request_line request).kind
+  pub schema : 0 ≡ (request_line request).schema
+  pub fields : AllTook (request_line request).fields old new
+
+request_took : (kind : RequestKind) (old new : Unread) (request : Request) → AreBytes old.bytes → request_at kind old ≡ Ok (request, new) → TookRequest kind request old new
+unfolding request_at kind_number
+request_took kinds.Leader old new request fits e =
     let any = bind_ok (word_at old) (λ any. Ok (Leader, any.1)) (request, new) e in
     let made : Request × Unread = (Leader, any.0.1) in
-    let is : made ≡ (request, new) = cc in
-    let took : Took (IsField AnyWord) old any.0.1 =
+    let is : made ≡ (request, new) = ok_is made (request, new) any.2 in
+    let took : Took (IsRead AnyWord) old any.0.1 =
     let t = word_took old any.0.1 any.0.0 fits any.1 in record { item = t.item; spelled = (any.0.0, t.spelled); parts = t.parts; place = t.place } in
-    (sym (ap (λ (x : Request × Unread). x.0) is), (any.0.1, took, ap (λ (x : Request × Unread). x.1) is))
+    subst (λ (x : Request × Unread). TookRequest kinds.Leader x.0 old x.1) is (record { number = refl; schema = refl; fields = (any.0.1, took, refl) })
+
+-- how the message of a request is read
+record IsRequest (request : Request) : Type 0 where
+  pub kind : RequestKind
+  pub is_known : request_kind (request_line request).kind ≡ Some kind
+  pub schema : (request_line request).schema ≡ 0
+  pub again : (old new : Unread) → AllTook (request_line request).fields old new → request_at kind old ≡ Ok (request, new)
 
 leader_again : (old new : Unread) → AllTook (request_line Leader).fields old new → request_at kinds.Leader old ≡ Ok (Leader, new)
 unfolding request_at
@@ -72,33 +110,35 @@ leader_again old new took =
     let word : Took (IsWord t.spelled.0) old took.0 = record { item = t.item; spelled = t.spelled.1; parts = t.parts; place = t.place } in
     rw (word_again old took.0 t.spelled.0 word, took.2) refl
 
+is_request : (request : Request) → IsRequest request
+is_request Leader = record { kind = kinds.Leader; is_known = refl; schema = refl; again = leader_again }
+
 -- ---- all of them
-
-some_when : {A : Type 0} (b : Bool) (x y : A) → cond b (Some x) None ≡ Some y → b ≡ true
-some_when true x y e = refl
-some_when false x y e = absurd cc
-
-kind_is : (kind : ℕ) → request_kind kind ≡ Some kinds.Leader → kind ≡ 0
-kind_is kind e = eqb-true _ _ (some_when (eqb kind 0) kinds.Leader kinds.Leader e)
-
-found_at : (kind : RequestKind) (m : Message) (request : Request) (left : Unread) → AreBytes m.body → request_kind m.kind ≡ Some kind → m.schema ≡ 0
-    → request_at kind (unread m.body) ≡ Ok (request, left) → left.bytes ≡ [] → Reads m request
-found_at kinds.Leader m request left fits known schema fields end =
-    let took = leader_took (unread m.body) left request fits fields in
-    subst (λ (x : Request). Reads m x) (sym took.0) (record { kind = kind_is m.kind known; schema = schema; body = fields_took (request_line Leader).fields (unread m.body) left took.1 end })
 
 pub request_found : (m : Message) (request : Request) → AreBytes m.body → request_of m ≡ Ok request → Reads m request
 unfolding request_of
 request_found m request fits e =
     let w = was_read (request_kind m.kind) m request e in
-    found_at w.kind m request w.left fits w.is_known w.schema w.fields w.end
+    let took = request_took w.kind (unread m.body) w.left request fits w.fields in
+    record {
+      kind = known_number m.kind w.kind w.is_known ∙ took.number;
+      schema = w.schema ∙ took.schema;
+      fields = fields_took (request_line request).fields (unread m.body) w.left took.fields w.end;
+    }
 
 pub request_read : (m : Message) (request : Request) → Reads m request → request_of m ≡ Ok request
 unfolding request_of
-request_read m Leader r =
-    let stood = fields_stand (request_line Leader).fields (unread m.body) r.body in
-    let known : request_kind m.kind ≡ Some kinds.Leader = rw r.kind refl in
-    read_again (request_kind m.kind) m Leader (record { kind = kinds.Leader; is_known = known; schema = r.schema; left = stood.0; fields = leader_again (unread m.body) stood.0 stood.1; end = stood.2 })
+request_read m request r =
+    let is = is_request request in
+    let stood = fields_stand (request_line request).fields (unread m.body) r.fields in
+    read_again (request_kind m.kind) m request (record {
+      kind = is.kind;
+      is_known = ap request_kind r.kind ∙ is.is_known;
+      schema = r.schema ∙ is.schema;
+      left = stood.0;
+      fields = is.again (unread m.body) stood.0 stood.1;
+      end = stood.2;
+    })
 
 pub is_found : (m : Message) (result : Result Request MsgFault) → AreBytes m.body → Gives (request_of m) result → IfOk result (Reads m)
 is_found m (Ok request) fits given = request_found m request fits given

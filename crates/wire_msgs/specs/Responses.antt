@@ -2,7 +2,7 @@
 use Rattle.std.specs.Prelude.{ℕ, List, [], ◌∷◌, length, ◌/◌}
 use Rattle.wire_msgs.specs.declared.response.Response.{Response}
 use Rattle.wire_msgs.specs.declared.response.Response.TheVariants.{Server}
-use Rattle.wire_msgs.specs.Fields.{Line, Word, Text, body_bytes, line_bytes, HaveSpellings}
+use Rattle.wire_msgs.specs.Fields.{Line, Word, Text, body_bytes, line_bytes, WritesLine, HaveSpellings}
 
 abbrev pub response_line : Response → Line
 response_line (Server id address) = record { kind = 1; schema = 0; fields = Word id ∷ Text address ∷ [] }
@@ -10,6 +10,10 @@ response_line (Server id address) = record { kind = 1; schema = 0; fields = Word
 -- the one spelling of a response
 abbrev pub response_bytes : Response → List ℕ
 response_bytes response = line_bytes (response_line response)
+
+-- The bytes are a message that stands for the response.
+abbrev pub Writes : Response → List ℕ → Type 0
+Writes response bytes = WritesLine (response_line response) bytes
 
 -- how many words its body has
 abbrev pub response_words : Response → ℕ

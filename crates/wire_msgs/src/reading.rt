@@ -1,5 +1,5 @@
 ghost use Rattle.std.specs.Prelude.{◌≡◌, IfOk, Ok};
-ghost use Rattle.wire_words.specs.Reading.{Gives as GivesItem};
+ghost use Rattle.wire_words.specs.Reading.{Finds};
 ghost use Rattle.wire_msgs.specs.declared.request.Request.{Request};
 ghost use Rattle.wire_msgs.specs.Requests.{Reads};
 ghost use Rattle.wire_msgs.specs.Reading.{Gives, request_at, request_of};
@@ -12,7 +12,7 @@ use wire_words::{Message, WordFault, Words};
 // The fields of a request of this type.
 #[tactic(auto, unfolding(crate::specs::Reading::request_at))]
 fn request(_alloc: Global, kind: RequestKind, words: &mut Words<'_>) -> Result<Request, WordFault>
-    ensures { GivesItem (λ x. x) (request_at kind) words.old words.new result }
+    ensures { Finds (λ x. x) (request_at kind) words.old words.new result }
 {
     match kind {
         RequestKind::Leader => {

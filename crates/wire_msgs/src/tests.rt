@@ -1,3 +1,7 @@
+ghost use Rattle.std.specs.Prelude.{IfOk};
+ghost use Rattle.wire_words.specs.Items.{HasNoNul};
+ghost use Rattle.wire_msgs.specs.Responses.{IsWritable};
+
 use super::*;
 use std::alloc::{AllocError, Global};
 use std::test::*;
@@ -8,7 +12,10 @@ fn message(alloc: Global, kind: u8, schema: u8, body: &[u8]) -> Result<Message, 
     Ok(Message { kind, schema, body })
 }
 
-fn server(alloc: Global, id: u64, address: &str) -> Result<Response, AllocError> {
+fn server(alloc: Global, id: u64, address: &str) -> Result<Response, AllocError>
+    requires { HasNoNul address.now }
+    ensures { IfOk result IsWritable }
+{
     let address = WireText::new(String::from_str(alloc, address)?);
     Ok(Response::Server { id, address })
 }

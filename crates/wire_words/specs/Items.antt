@@ -19,13 +19,13 @@ word n = little_bytes 8 n
 abbrev pub pair : ℕ → ℕ → List ℕ
 pair first second = little_bytes 4 first ++ little_bytes 4 second
 
--- the text, one NUL, and zeros to a whole word
-abbrev pub text : List ℕ → List ℕ
-text t = (t ++ 0 ∷ []) ++ zeros_after (length t + 1)
-
 -- the bytes, and zeros to a whole word
 abbrev pub raw : List ℕ → List ℕ
 raw bytes = bytes ++ zeros_after (length bytes)
+
+-- the text, one NUL, and zeros to a whole word
+abbrev pub text : List ℕ → List ℕ
+text t = raw (t ++ 0 ∷ [])
 
 -- each is a byte
 abbrev pub AreBytes : List ℕ → Type 0
@@ -34,9 +34,13 @@ AreBytes bytes = (i : ℕ) → slice_index bytes i < 256
 abbrev pub is_zero : ℕ → Bool
 is_zero b = b == 0
 
+-- whether some byte is NUL
+abbrev pub has_nul : List ℕ → Bool
+has_nul bytes = list_any is_zero bytes
+
 -- no byte is NUL
 abbrev pub HasNoNul : List ℕ → Type 0
-HasNoNul bytes = list_any is_zero bytes ≡ false
+HasNoNul bytes = has_nul bytes ≡ false
 
 -- the bytes and then fewer than eight zeros, in all a whole number of words
 pub record IsPadded (bytes padded : List ℕ) : Type 0 where
@@ -56,12 +60,12 @@ pub record IsPair (first second : ℕ) (bytes : List ℕ) : Type 0 where
   pub second_fits : second < 2 ^ 32
   pub parts : bytes ≡ little_bytes 4 first ++ little_bytes 4 second
 
+-- these bytes spell the bytes: they themselves, and zeros
+abbrev pub IsRaw : List ℕ → List ℕ → Type 0
+IsRaw content bytes = IsPadded content bytes
+
 -- these bytes spell the text: UTF-8 without a NUL, one NUL, and zeros
 pub record IsText (t bytes : List ℕ) : Type 0 where
   pub utf8 : IsUtf8 t
   pub no_nul : HasNoNul t
   pub padded : IsPadded (t ++ 0 ∷ []) bytes
-
--- these bytes spell the bytes: they themselves, and zeros
-abbrev pub IsRaw : List ℕ → List ℕ → Type 0
-IsRaw content bytes = IsPadded content bytes

@@ -1,5 +1,5 @@
 -- Messages: a header of eight bytes, and a body of whole words.
-use Rattle.std.specs.Prelude.{ℕ, ◌-◌, ◌/◌, List, [], ◌∷◌, ◌++◌, length, drop, slice_index}
+use Rattle.std.specs.Prelude.{◌≡◌, ◌<◌, ℕ, ◌-◌, ◌/◌, ◌%◌, ◌^◌, List, [], ◌∷◌, ◌++◌, length, drop, slice_index}
 use Rattle.byteorder.specs.Endian.{little_bytes, little_number}
 use Rattle.wire_words.specs.declared.message.Header.{Header}
 
@@ -22,3 +22,7 @@ words_after_header bytes = (length bytes - 8) / 8
 -- the same bytes with that count in the first four
 abbrev pub counted : List ℕ → List ℕ
 counted bytes = little_bytes 4 (words_after_header bytes) ++ drop 4 bytes
+
+-- what can be the body of a message: whole words, of which 32 bits can hold the count
+abbrev pub IsBody : List ℕ → Type 0
+IsBody body = (length body % 8 ≡ 0) × (length body / 8 < 2 ^ 32)

@@ -76,6 +76,10 @@ abbrev pub Gives : {X Y : Type 0} → (X → Y) → (Unread → Result (Y × Unr
 Gives view read old new result =
     MatchResult result (λ x. read old ≡ Ok (view x, new)) (λ e. (new ≡ old) × Fails e (read old))
 
+-- The same of several items, one after the other, where nothing is said of where a fault leaves the reader.
+abbrev pub Finds : {X Y : Type 0} → (X → Y) → (Unread → Result (Y × Unread) WordFault) → Unread → Unread → Result X WordFault → Type 0
+Finds view read old new result = MatchResult result (λ x. read old ≡ Ok (view x, new)) (λ e. Fails e (read old))
+
 -- What stood between two states of a reader is an item.
 pub record Took (IsItem : List ℕ → Type 0) (old new : Unread) : Type 0 where
   pub item : List ℕ

@@ -10,7 +10,10 @@ mod words;
 mod writer;
 
 pub use fault::WordFault;
-pub use laws::words_read_back;
+pub use laws::{
+    messages_stand_apart, one_spelling, pairs_read_back, raw_reads_back, texts_read_back,
+    words_read_back,
+};
 pub use message::{Header, Message};
 pub use text::WireText;
 pub use words::Words;
@@ -18,3 +21,6 @@ pub use writer::Writer;
 
 /// Bytes of the wire.
 pub type WireBytes = dq_base::Items<u8>;
+
+#[cfg(test)]
+mod tests;

@@ -1,14 +1,18 @@
 ghost use Rattle.std.specs.Prelude.{◌≡◌};
 ghost use Rattle.wire_words.specs.Message.{header_of};
 
+use crate::WireBytes;
 use byteorder::{ByteOrder, LittleEndian};
 
-/// A message: its kind, the schema of its body, and the body.
+/// A message. On the wire it is a header of eight bytes and the body.
 #[derive(Debug, Drop)]
 pub struct Message {
+    /// The number of its type.
     pub kind: u8,
+    /// Which form the body has, of those that its type has had.
     pub schema: u8,
-    pub body: crate::WireBytes,
+    /// What follows the header, in bytes: whole words where it came from the wire.
+    pub body: WireBytes,
 }
 
 /// What the first eight bytes of a message say.
@@ -16,7 +20,9 @@ pub struct Message {
 pub struct Header {
     /// How many words of eight bytes the body has.
     pub words: u32,
+    /// The number of the message's type.
     pub kind: u8,
+    /// Which form the body has, of those that its type has had.
     pub schema: u8,
 }
 

@@ -1,4 +1,5 @@
 ghost use Rattle.std.specs.Prelude.{◌≡◌, IsUtf8, string_bytes};
+ghost use Rattle.wire_words.specs.Items.{has_nul};
 
 use std::marker::Model;
 
@@ -31,6 +32,13 @@ impl WireText {
         ensures utf8 { IsUtf8 self.now }
     {
         self.inner.as_str()
+    }
+
+    /// Whether the text holds a NUL. Takes no memory.
+    pub fn has_nul(&self) -> bool
+        ensures { result ≡ has_nul self.now }
+    {
+        self.inner.as_bytes().iter().any(|b| *b == 0)
     }
 
     /// Gives the string back. Takes no memory.

@@ -1,8 +1,16 @@
-ghost use Rattle.std.specs.Prelude.{◌≡◌, length, IsErrOf};
-ghost use Rattle.wire_words.specs.Reading.{Gives, unread, word_at};
+ghost use Rattle.std.specs.Prelude.{◌≡◌, ◌+◌, ◌≤◌, drop, true, false, nat_lt, if◌then◌else◌, length, IsErrOf, MatchOption};
+ghost use Rattle.std.specs.List.{list_all, position};
+ghost use Rattle.std.specs.Str.{is_utf8};
+ghost use Rattle.byteorder.specs.Endian.{little_number};
+ghost use Rattle.wire_words.specs.Items.{gap, is_zero};
+ghost use Rattle.wire_words.specs.Reading.{Gives, unread, word_at, pair_at, raw_at, text_at};
 
+use crate::WireBytes;
 use crate::fault::WordFault;
+use crate::text::WireText;
+use crate::writer::filling;
 use byteorder::{ByteOrder, LittleEndian};
+use std::alloc::Global;
 use std::marker::Model;
 
 /// Reads the items of a body from left to right. Clauses see what it has left: its place in the body and the bytes from
@@ -22,6 +30,55 @@ impl<'a> Model for Words<'a> {
     ghost view = { λ w. record { at = w.place; bytes = drop w.place w.body.now } };
 
     ghost invariant = { λ w. w.place ≤ length w.body.now };
+}
+
+// How long an item of this size is with its zeros, where it fits into the room.
+fn filled(room: usize, size: u64) -> Option<usize>
+    ensures { result ≡ (if nat_lt room (size + gap size) then None else Some (size + gap size)) }
+{
+    if (room as u64) < size {
+        return None;
+    }
+    let size = size as usize;
+    let padding = filling(size);
+    if room - size < padding {
+        None
+    } else {
+        Some(size + padding)
+    }
+}
+
+// The numbers of 32 bits in the first word.
+fn two_numbers(bytes: &[u8]) -> (u32, u32)
+    requires { 8 ≤ length bytes.now }
+    ensures { result ≡ (little_number 4 bytes.now, little_number 4 (drop 4 bytes.now)) }
+{
+    let (first, rest) = bytes.split_at(4);
+    (LittleEndian::read_u32(first), LittleEndian::read_u32(rest))
+}
+
+fn are_zero(bytes: &[u8]) -> bool
+    ensures { result ≡ list_all is_zero bytes.now }
+{
+    bytes.iter().all(|b| *b == 0)
+}
+
+// The place of the first NUL.
+fn nul_place(bytes: &[u8]) -> Option<usize>
+    ensures { result ≡ position is_zero bytes.now }
+{
+    bytes.iter().position(|b| *b == 0)
+}
+
+// The bytes as a text, where they are UTF-8.
+#[tactic(auto, using(crate::proofs::Utf8::not_utf8, crate::proofs::Utf8::are_utf8))]
+fn as_text(bytes: &[u8]) -> Option<&str>
+    ensures { MatchOption result (is_utf8 bytes.now ≡ false) (λ text. (text.now ≡ bytes.now) × (is_utf8 bytes.now ≡ true)) }
+{
+    match str::from_utf8(bytes) {
+        Ok(text) => Some(text),
+        Err(_) => None,
+    }
 }
 
 impl<'a> Words<'a> {
@@ -52,5 +109,66 @@ impl<'a> Words<'a> {
         let value = LittleEndian::read_u64(left);
         self.place += 8;
         Ok(value)
+    }
+
+    /// Reads two numbers of 32 bits, little-endian, which share a word. `Short` exactly where fewer than eight bytes are
+    /// left. Takes no memory.
+    #[tactic(auto, unfolding(crate::specs::Reading::pair_at))]
+    pub fn u32_pair(&mut self) -> Result<(u32, u32), WordFault>
+        ensures exact { Gives (λ pair. pair) pair_at self.old self.new result }
+        ensures memory { IsErrOf result WordFault.NoMemory → ⊥ }
+    {
+        let left = &self.body[self.place..];
+        if left.len() < 8 {
+            return Err(WordFault::Short(self.place as u64));
+        }
+        let numbers = two_numbers(left);
+        self.place += 8;
+        Ok(numbers)
+    }
+
+    /// Reads that many bytes, and zeros that fill them up to a whole word. `Short` where the bytes and the zeros aren't
+    /// all there, and else `Pad` where a byte in place of a zero isn't one.
+    #[tactic(auto, unfolding(crate::specs::Reading::raw_at))]
+    pub fn raw(&mut self, alloc: Global, size: u64) -> Result<WireBytes, WordFault>
+        ensures exact { Gives (λ bytes. bytes) (raw_at size) self.old self.new result }
+    {
+        let at = self.place as u64;
+        let left = &self.body[self.place..];
+        let Some(len) = filled(left.len(), size) else {
+            return Err(WordFault::Short(at));
+        };
+        let size = size as usize;
+        if !are_zero(&left[size..len]) {
+            return Err(WordFault::Pad(at));
+        }
+        let bytes = Vec::from_slice(alloc, &left[..size])?;
+        self.place += len;
+        Ok(WireBytes::new(bytes))
+    }
+
+    /// Reads a text: UTF-8 up to the first NUL, that NUL, and zeros up to a whole word. `NoNul` where no NUL is left, and
+    /// else `Short` where the zeros aren't all there, `NotUtf8`, and `Pad` where a byte in place of a zero isn't one.
+    #[tactic(auto, unfolding(crate::specs::Reading::text_at, crate::specs::Reading::text_of))]
+    pub fn text(&mut self, alloc: Global) -> Result<WireText, WordFault>
+        ensures exact { Gives (λ text. text) text_at self.old self.new result }
+    {
+        let at = self.place as u64;
+        let left = &self.body[self.place..];
+        let Some(size) = nul_place(left) else {
+            return Err(WordFault::NoNul(at));
+        };
+        let Some(len) = filled(left.len(), size as u64 + 1) else {
+            return Err(WordFault::Short(at));
+        };
+        let Some(text) = as_text(&left[..size]) else {
+            return Err(WordFault::NotUtf8(at));
+        };
+        if !are_zero(&left[size + 1..len]) {
+            return Err(WordFault::Pad(at));
+        }
+        let text = String::from_str(alloc, text)?;
+        self.place += len;
+        Ok(WireText::new(text))
     }
 }

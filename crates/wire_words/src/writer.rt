@@ -1,5 +1,6 @@
-ghost use Rattle.std.specs.Prelude.{◌≡◌, ◌<◌, ◌≤◌, ◌↔◌, ◌∷◌, ◌++◌, ℕ, List, [], length, IfOk, IsErr};
-ghost use Rattle.wire_words.specs.Items.{word, text, HasNoNul, gap};
+ghost use Rattle.std.specs.Prelude.{◌≡◌, ◌<◌, ◌≤◌, ◌+◌, ◌%◌, ◌↔◌, ◌∷◌, ◌++◌, ℕ, List, [], length, IfOk, IsErr};
+ghost use Rattle.byteorder.specs.Endian.{little_bytes};
+ghost use Rattle.wire_words.specs.Items.{word, pair, text, raw, HasNoNul, gap};
 ghost use Rattle.wire_words.specs.Message.{header, message, counted, words_after_header};
 ghost use Rattle.wire_words.specs.Writing.{AppendsOrKeeps};
 
@@ -8,29 +9,40 @@ use byteorder::{ByteOrder, LittleEndian};
 use std::alloc::{AllocError, Global};
 use std::marker::Model;
 
-/// Writes the items of a body, or of a whole message, one after the other. Clauses see the bytes written so far. A call
-/// that finds no memory leaves them as they were.
+/// Writes the items of a body, or of a whole message, one after the other. Clauses see the bytes written so far, which
+/// are whole words. A call that finds no memory leaves them as they were.
 #[derive(Debug, Drop)]
 pub struct Writer {
     out: Vec<u8>,
 }
 
 impl Model for Writer {
-    ghost use Rattle.std.specs.Prelude.{ℕ, List};
+    ghost use Rattle.std.specs.Prelude.{◌≡◌, ◌%◌, ℕ, List, length};
 
     ghost Value = { List ℕ };
 
     ghost view = { λ w. w.out.items };
+
+    // Whole words were written.
+    ghost invariant = { λ w. length w.out.items % 8 ≡ 0 };
 }
 
 const ZEROS: [u8; 8] = [0; 8];
 
 // How many bytes fill this many up to a whole word.
-fn filling(len: usize) -> usize
+pub(crate) fn filling(len: usize) -> usize
     ensures { result ≡ gap len }
 {
     let over = len % 8;
     if over == 0 { 0 } else { 8 - over }
+}
+
+fn little(value: u32) -> [u8; 4]
+    ensures { result ≡ little_bytes 4 value }
+{
+    let mut bytes = [0; 4];
+    LittleEndian::write_u32(&mut bytes, value);
+    bytes
 }
 
 impl Writer {
@@ -52,8 +64,16 @@ impl Writer {
         self.out.extend_from_slice(&bytes)
     }
 
+    /// Writes two numbers of 32 bits, which share a word.
+    pub fn pair(&mut self, first: u32, second: u32) -> Result<(), AllocError>
+        ensures { AppendsOrKeeps self.old self.new (pair first second) result }
+    {
+        self.both(&little(first), &little(second))
+    }
+
     // Appends all of both, or nothing.
     fn both(&mut self, front: &[u8], back: &[u8]) -> Result<(), AllocError>
+        requires { (length front.now + length back.now) % 8 ≡ 0 }
         ensures { AppendsOrKeeps self.old self.new (front.now ++ back.now) result }
     {
         let start = self.out.len();
@@ -75,6 +95,14 @@ impl Writer {
         self.both(bytes, &ZEROS[over..])
     }
 
+    /// Writes the bytes, and zeros to a whole word.
+    pub fn raw(&mut self, bytes: &[u8]) -> Result<(), AllocError>
+        ensures { AppendsOrKeeps self.old self.new (raw bytes.now) result }
+    {
+        let padding = filling(bytes.len());
+        self.both(bytes, &ZEROS[..padding])
+    }
+
     /// Writes the header of a message whose count of words is still 0; `finish_message` writes that count.
     pub fn header(&mut self, kind: u8, schema: u8) -> Result<(), AllocError>
         ensures { AppendsOrKeeps self.old self.new (header 0 kind schema) result }
@@ -83,9 +111,10 @@ impl Writer {
             .extend_from_slice(&[0, 0, 0, 0, kind, schema, 0, 0])
     }
 
-    /// What was written. Takes no memory.
+    /// What was written, which is whole words. Takes no memory.
     pub fn finish(self) -> WireBytes
-        ensures { result ≡ self }
+        ensures bytes { result ≡ self }
+        ensures whole { length result % 8 ≡ 0 }
     {
         WireBytes::new(self.out)
     }
@@ -97,6 +126,7 @@ impl Writer {
         ensures counted { IfOk result (λ bytes. bytes ≡ counted self) }
         ensures message { (kind schema : ℕ) (body : List ℕ) → self ≡ header 0 kind schema ++ body →
             IfOk result (λ bytes. bytes ≡ message kind schema body) }
+        ensures whole { IfOk result (λ bytes. length bytes % 8 ≡ 0) }
         ensures many { IsErr result ↔ (4294967295 < words_after_header self) }
     {
         let words = (self.out.len() - 8) / 8;
