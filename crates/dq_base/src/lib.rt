@@ -3,11 +3,15 @@
 #![tactic(auto)]
 
 mod faults;
+mod images;
 mod items;
+mod pages;
 mod sink;
 mod source;
 
 pub use faults::Failed;
+pub use images::Image;
 pub use items::{Bytes, Items};
+pub use pages::{NumberedPage, PAGE_SIZE, Page, PageSet};
 pub use sink::Sink;
 pub use source::Source;
