@@ -1,3 +1,6 @@
 pub mod Faults
 pub mod Source
 pub mod Sink
+pub mod Images
+pub mod Changes
+pub mod Applying

@@ -5,6 +5,7 @@
 mod faults;
 mod images;
 mod items;
+mod page_fault;
 mod pages;
 mod sink;
 mod source;
@@ -12,6 +13,7 @@ mod source;
 pub use faults::Failed;
 pub use images::Image;
 pub use items::{Bytes, Items};
+pub use page_fault::PageFault;
 pub use pages::{NumberedPage, PAGE_SIZE, Page, PageSet};
 pub use sink::Sink;
 pub use source::Source;
