@@ -3,9 +3,13 @@ use Rattle.std.specs.Prelude.{ℕ, ◌+◌, ◌-◌, ◌*◌, ◌/◌, ◌%◌, 
 use Rattle.byteorder.specs.Endian.{little_bytes}
 use Rattle.dq_base.specs.declared.images.Image.{Image}
 
+-- so many zeros
+unfoldable pub zeros : ℕ → List ℕ
+zeros n = replicate n 0
+
 -- a file cut at n bytes, or grown to them with zeros
 unfoldable pub resized : ℕ → List ℕ → List ℕ
-resized n file = take n file ++ replicate (n - length file) 0
+resized n file = take n file ++ zeros (n - length file)
 
 -- the 4,096 bytes of a file from a place on, with zeros past the file's end
 unfoldable pub page_from : List ℕ → ℕ → List ℕ
@@ -13,7 +17,7 @@ page_from file start = resized 4096 (drop start file)
 
 -- the lengths of the main and the side file, little-endian in 8 bytes each, and zeros
 unfoldable pub sizes_page : ℕ → ℕ → List ℕ
-sizes_page main side = (little_bytes 8 main ++ little_bytes 8 side) ++ replicate (4096 - 16) 0
+sizes_page main side = (little_bytes 8 main ++ little_bytes 8 side) ++ zeros 4080
 
 -- where a page begins in its file: page k of a file, from k = 1, has the number 2k or 2k + 1
 abbrev pub page_start : ℕ → ℕ

@@ -1,4 +1,5 @@
-ghost use Rattle.std.specs.Prelude.{◌≡◌, length, replicate};
+ghost use Rattle.std.specs.Prelude.{◌≡◌, length};
+ghost use Rattle.dq_base.specs.Images.{zeros};
 
 use crate::items::Items;
 use std::marker::Model;
@@ -31,8 +32,9 @@ impl Page {
     }
 
     /// A page of zeros. Takes no memory.
+    #[tactic(auto, unfolding(crate::specs::Images::zeros))]
     pub fn zeroed() -> Page
-        ensures { result ≡ replicate 4096 0 }
+        ensures { result ≡ zeros 4096 }
     {
         Page {
             bytes: [0; PAGE_SIZE],

@@ -1,0 +1,1 @@
+-- Applying the change from one image to another gives the other.

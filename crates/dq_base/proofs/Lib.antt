@@ -1,0 +1,4 @@
+pub mod FileBytes
+pub mod PutPages
+pub mod ChangedPages
+pub mod ChangeLaw
