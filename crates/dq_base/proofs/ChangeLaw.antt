@@ -15,6 +15,7 @@ use Rattle.dq_base.specs.Changes.{same_image, changed_from, numbers_above_one, s
 use Rattle.dq_base.specs.Applying.{stated_main, stated_side, put_pages, last_page, applied_with, applied}
 use Rattle.dq_base.proofs.FileBytes.{length-zeros, length-resized, get_or-resized, length-page_from, get_or-page_from}
 use Rattle.dq_base.proofs.PutPages.{SomeOf, SomeOf-append_left, All-append, Shows, Covers, length-put_pages, get_or-put_pages}
+use Rattle.dq_base.proofs.FaultLemmas.{last_page-push}
 use Rattle.dq_base.proofs.ChangedPages.{numbered, page_at_inside, page_at_is, changed_from_all, changed_from_some}
 
 -- ---- the sizes page
@@ -24,27 +25,16 @@ unfolding sizes_page
 length-sizes_page main side = omega (arith, length-append (little_bytes 8 main ++ little_bytes 8 side) (zeros 4080), length-zeros 4080)
 
 pub stated_main-sizes_page : (main side : ℕ) → main < 2 ^ 64 → stated_main (sizes_page main side) ≡ main
-unfolding sizes_page
+unfolding sizes_page stated_main
 stated_main-sizes_page main side fits =
     ap (little_number 8) (append_assoc (little_bytes 8 main) (little_bytes 8 side) (zeros 4080)) ∙ little_number-reads_back 8 main (little_bytes 8 side ++ zeros 4080) fits
 
 pub stated_side-sizes_page : (main side : ℕ) → side < 2 ^ 64 → stated_side (sizes_page main side) ≡ side
-unfolding sizes_page
+unfolding sizes_page stated_side
 stated_side-sizes_page main side fits =
     let whole : drop 8 (sizes_page main side) ≡ little_bytes 8 side ++ zeros 4080 =
         ap (drop 8) (append_assoc (little_bytes 8 main) (little_bytes 8 side) (zeros 4080)) ∙ drop_at (little_bytes 8 main) (little_bytes 8 side ++ zeros 4080) 8 refl in
     ap (little_number 8) whole ∙ little_number-reads_back 8 side (zeros 4080) fits
-
--- ---- the last page
-
-slice_get_end : {X : Type 0} (xs : List X) (x : X) → slice_get (xs ++ x ∷ []) (length xs) ≡ Some x
-slice_get_end [] x = refl
-slice_get_end (y ∷ ys) x = slice_get_end ys x
-
-pub last_page-push : (ps : List NumberedPage) (p : NumberedPage) → last_page (ps ++ p ∷ []) ≡ Some p
-last_page-push ps p =
-    let at : length (ps ++ p ∷ []) - 1 ≡ length ps = omega (arith, length_push ps p) in
-    ap (slice_get (ps ++ p ∷ [])) at ∙ slice_get_end ps p
 
 -- ---- the files of numbers
 

@@ -2,3 +2,6 @@ pub mod FileBytes
 pub mod PutPages
 pub mod ChangedPages
 pub mod ChangeLaw
+pub mod FaultLemmas
+pub mod SizesTests
+pub mod Steps

@@ -9,10 +9,10 @@ use Rattle.dq_base.specs.declared.page_fault.PageFault.TheVariants.{NoSizes, Ord
 use Rattle.dq_base.specs.Images.{resized, page_start, is_main, is_side}
 
 -- the lengths that the bytes of a sizes page state
-abbrev pub stated_main : List ℕ → ℕ
+unfoldable pub stated_main : List ℕ → ℕ
 stated_main page = little_number 8 page
 
-abbrev pub stated_side : List ℕ → ℕ
+unfoldable pub stated_side : List ℕ → ℕ
 stated_side page = little_number 8 (drop 8 page)
 
 -- a file with the bytes of a page from a place on, as far as they lie inside it
@@ -28,13 +28,14 @@ put_pages mine (p ∷ ps) file = put_pages mine ps (if mine p.number then replac
 abbrev pub last_page : List NumberedPage → Option NumberedPage
 last_page pages = slice_get pages (length pages - 1)
 
--- an image with both files resized as a sizes page states, and then the pages put into them
+-- an image with both files resized to these lengths, and then the pages put into them
+abbrev pub applied_at : ℕ → ℕ → List NumberedPage → Image → Image
+applied_at main side pages image = record { main = put_pages is_main pages (resized main image.main); side = put_pages is_side pages (resized side image.side) }
+
+-- the same, as a sizes page states the lengths
 abbrev pub applied_with : Option NumberedPage → List NumberedPage → Image → Image
 applied_with None pages image = image
-applied_with (Some sizes) pages image = record {
-    main = put_pages is_main pages (resized (stated_main sizes.page) image.main);
-    side = put_pages is_side pages (resized (stated_side sizes.page) image.side);
-  }
+applied_with (Some sizes) pages image = applied_at (stated_main sizes.page) (stated_side sizes.page) pages image
 
 -- Applying pages: both files are cut to the lengths that the last page states or grown to them with zeros, and then
 -- each page's bytes replace those of its file, as far as they lie inside it.
@@ -80,3 +81,7 @@ page_fault pages = fault_before (last_page pages) (take (length pages - 1) pages
 abbrev pub IsRefusal : PageFault → Option PageFault → Type 0
 IsRefusal NoMemory found = found ≡ None
 IsRefusal fault found = found ≡ Some fault
+
+-- the pages state these lengths: applying them resizes to them
+abbrev pub StateLengths : List NumberedPage → ℕ → ℕ → Type 0
+StateLengths pages main side = (image : Image) → applied image pages ≡ applied_at main side pages image

@@ -23,12 +23,15 @@ sizes_page main side = (little_bytes 8 main ++ little_bytes 8 side) ++ zeros 408
 abbrev pub page_start : ℕ → ℕ
 page_start number = 4096 * (number / 2 - 1)
 
--- above 1, the even numbers are pages of the main file, and the odd ones of the side file
+-- whether a number names a page of a file: above 1, the even numbers are the main file's, the odd ones the side file's
+abbrev pub is_page_of : ℕ → ℕ → Bool
+is_page_of parity number = nat_lt 1 number && (number % 2 == parity)
+
 abbrev pub is_main : ℕ → Bool
-is_main number = nat_lt 1 number && (number % 2 == 0)
+is_main number = is_page_of 0 number
 
 abbrev pub is_side : ℕ → Bool
-is_side number = nat_lt 1 number && (number % 2 == 1)
+is_side number = is_page_of 1 number
 
 -- the file that the page of a number lies in
 abbrev pub file_of : Image → ℕ → List ℕ

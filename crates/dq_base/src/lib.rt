@@ -2,16 +2,21 @@
 //! of faults, and the pages and images of a database.
 #![tactic(auto)]
 
+mod applying;
+mod changes;
 mod faults;
 mod images;
 mod items;
 mod page_fault;
+mod page_numbers;
 mod pages;
 mod sink;
 mod source;
 
+pub use applying::{LONGEST_FILE, apply};
+pub use changes::{change_gives_image, change_has_no_fault};
 pub use faults::Failed;
-pub use images::Image;
+pub use images::{Image, page_at, page_count};
 pub use items::{Bytes, Items};
 pub use page_fault::PageFault;
 pub use pages::{NumberedPage, PAGE_SIZE, Page, PageSet};

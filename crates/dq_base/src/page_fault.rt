@@ -1,3 +1,8 @@
+ghost use Rattle.std.specs.Prelude.{◌≡◌};
+ghost use Rattle.dq_base.specs.declared.page_fault.PageFault.TheVariants.{NoMemory};
+
+use std::alloc::AllocError;
+
 /// Why a page set cannot be applied. The image is unchanged after each of them.
 #[derive(Clone, Copy, Debug, PartialEq, Eq, thiserror::Error)]
 pub enum PageFault {
@@ -14,4 +19,12 @@ pub enum PageFault {
     /// Memory ran out.
     #[error("out of memory")]
     NoMemory,
+}
+
+impl From<AllocError> for PageFault {
+    ghost from_gives = { λ _ fault. fault ≡ NoMemory };
+
+    fn from(_error: AllocError) -> PageFault {
+        PageFault::NoMemory
+    }
 }
