@@ -2,11 +2,11 @@
 use Rattle.std.proofs.Common.{◌≡◌, ℕ, zero, suc, ◌+◌, ◌*◌, ◌/◌, ◌%◌, ◌-◌, ◌<◌, ◌≤◌, ◌⊎◌, max, Bool, true, false, cond, eqb, ltb, List, [], ◌∷◌, ◌++◌, length, get_or, Option, Some, None, refl, sym, ap, subst, ◌∙◌, arith, inl, inr}
 use Rattle.std.specs.List.{AllByRecursion}
 use Rattle.std.specs.Str.{bytes_eq}
-use Rattle.std.proofs.lemmas.Bool.{cases_lt, cases_Bool, both_ways, lt-ltb, le-ltb, ltb-true, ne_eqb, and_left}
+use Rattle.std.proofs.lemmas.Bool.{cases_lt, cases_Bool, both_ways, lt-ltb, le-ltb, ltb-true, eq-eqb, ne_eqb, and_left}
 use Rattle.std.proofs.lemmas.Slice.Eq.{bytes_eq-Decides}
 use Rattle.dq_base.specs.declared.images.Image.{Image}
 use Rattle.dq_base.specs.declared.pages.NumberedPage.{NumberedPage}
-use Rattle.dq_base.specs.Images.{page_start, file_of, page_from, page_at, pages_in}
+use Rattle.dq_base.specs.Images.{page_start, file_of, page_from, page_at, pages_in, sizes_page}
 use Rattle.dq_base.specs.Changes.{changed_page, changed_from}
 use Rattle.dq_base.proofs.PutPages.{SomeOf, SomeOf-append_left, SomeOf-append_right, All-append}
 
@@ -30,6 +30,14 @@ page_at_past image n above past =
     let over : ltb 1 n ≡ true = lt-ltb 1 n above in
     let beyond : ltb (page_start n) (length (file_of image n)) ≡ false = le-ltb _ _ past in
     rw (not_sizes, over, beyond) refl
+
+pub page_at-one : (image : Image) (n : ℕ) → n ≡ 1 → page_at image n ≡ Some (sizes_page (length image.main) (length image.side))
+unfolding page_at
+page_at-one image n e = rw (eq-eqb n 1 e) refl
+
+pub page_at-zero : (image : Image) (n : ℕ) → n ≡ 0 → page_at image n ≡ None
+unfolding page_at
+page_at-zero image n e = rw e refl
 
 -- a page above 1 is one of its file, which reaches into it
 pub page_at_is : (image : Image) (n : ℕ) (page : List ℕ) → 1 < n → page_at image n ≡ Some page → (page ≡ page_from (file_of image n) (page_start n)) × (page_start n < length (file_of image n))

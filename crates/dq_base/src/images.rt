@@ -1,9 +1,9 @@
 ghost use Rattle.std.specs.Prelude.{◌≡◌, ◌<◌, [], length, IfOk};
-ghost use Rattle.dq_base.specs.Images.{page_at, page_count, pages_in, sizes_page, page_from};
+ghost use Rattle.dq_base.specs.Images.{page_at, page_count, pages_in, file_of, sizes_page, page_from};
 
 use crate::items::Bytes;
 use crate::page_numbers::start_within;
-use crate::pages::{PAGE_SIZE, Page};
+use crate::pages::{PAGE_SIZE, Page, zeroed_bytes};
 use byteorder::{ByteOrder, LittleEndian};
 use std::alloc::{AllocError, Global};
 
@@ -52,14 +52,21 @@ pub fn page_at(image: &Image, number: u64) -> Option<Page>
     if number == 0 {
         return None;
     }
-    let file = if number % 2 == 0 {
-        image.main.as_slice()
-    } else {
-        image.side.as_slice()
-    };
+    let file = file_of(image, number);
     match start_within(number, file.len()) {
         Some(start) => Some(page_from(file, start)),
         None => None,
+    }
+}
+
+/// The file that the page of a number lies in.
+fn file_of(image: &Image, number: u64) -> &[u8]
+    ensures { result.now ≡ file_of image.now number }
+{
+    if number % 2 == 0 {
+        image.main.as_slice()
+    } else {
+        image.side.as_slice()
     }
 }
 
@@ -76,22 +83,20 @@ fn pages_in(file: &[u8]) -> u64
     file.len() as u64 / 4096 + if file.len() % 4096 == 0 { 0 } else { 1 }
 }
 
-#[tactic(auto, unfolding(crate::specs::Images::sizes_page, crate::specs::Images::zeros))]
 fn sizes_page(main: u64, side: u64) -> Page
     ensures { result ≡ sizes_page main side }
 {
-    let mut bytes = [0; PAGE_SIZE];
-    LittleEndian::write_u64(&mut bytes[..8], main);
-    LittleEndian::write_u64(&mut bytes[8..16], side);
+    let mut bytes = zeroed_bytes();
+    LittleEndian::write_u64(&mut bytes, main);
+    LittleEndian::write_u64(&mut bytes[8..], side);
     Page::new(bytes)
 }
 
-#[tactic(auto, unfolding(crate::specs::Images::page_from, crate::specs::Images::resized, crate::specs::Images::zeros))]
 fn page_from(file: &[u8], start: usize) -> Page
     requires { start < length file.now }
     ensures { result ≡ page_from file.now start }
 {
-    let mut bytes = [0; PAGE_SIZE];
+    let mut bytes = zeroed_bytes();
     let rest = &file[start..];
     let count = PAGE_SIZE.min(rest.len());
     bytes[..count].copy_from_slice(&rest[..count]);

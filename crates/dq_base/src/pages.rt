@@ -32,12 +32,11 @@ impl Page {
     }
 
     /// A page of zeros. Takes no memory.
-    #[tactic(auto, unfolding(crate::specs::Images::zeros))]
     pub fn zeroed() -> Page
         ensures { result ≡ zeros 4096 }
     {
         Page {
-            bytes: [0; PAGE_SIZE],
+            bytes: zeroed_bytes(),
         }
     }
 
@@ -46,7 +45,7 @@ impl Page {
         requires { length bytes.now ≡ 4096 }
         ensures { result ≡ bytes.now }
     {
-        let mut page = [0; PAGE_SIZE];
+        let mut page = zeroed_bytes();
         page.copy_from_slice(bytes);
         Page { bytes: page }
     }
@@ -58,6 +57,14 @@ impl Page {
     {
         &self.bytes
     }
+}
+
+/// The bytes of a page of zeros.
+#[tactic(auto, unfolding(crate::specs::Images::zeros))]
+pub(crate) fn zeroed_bytes() -> [u8; PAGE_SIZE]
+    ensures { result ≡ zeros 4096 }
+{
+    [0; PAGE_SIZE]
 }
 
 /// A page with its number in an image.
