@@ -5,4 +5,5 @@ pub mod ChangeLaw
 pub mod FaultLemmas
 pub mod PageBytes
 pub mod SizesTests
+pub mod ChangeFaults
 pub mod Steps
