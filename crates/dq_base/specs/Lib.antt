@@ -4,3 +4,4 @@ pub mod Sink
 pub mod Images
 pub mod Changes
 pub mod Applying
+pub mod Names
