@@ -83,7 +83,7 @@ change_is_sound a b differ main_fits side_fits =
     let side : stated_side last.page ≡ length b.side = stated_side-sizes_page (length b.main) (length b.side) (omega arith) in
     let order : order_fault 1 front ≡ None = ascending 1 2 (numbers_above_one b) a b (omega arith) in
     let lengths : length_fault (stated_main last.page) (stated_side last.page) front ≡ None =
-        rw (main, side) (all_reached (length b.main) (length b.side) front (changed_from_all (Reached (length b.main) (length b.side)) 2 (numbers_above_one b) a b (reached b))) in
+    rw (main, side) (all_reached (length b.main) (length b.side) front (changed_from_all (Reached (length b.main) (length b.side)) 2 (numbers_above_one b) a b (reached b))) in
     page_fault-push (changed a b) front last (changed_is a b differ)
     ∙ later_fault last front (sizes_are_sizes b main_fits side_fits)
     ∙ earlier_none (order_fault 1 front) (length_fault (stated_main last.page) (stated_side last.page) front) order

@@ -33,7 +33,7 @@ pub stated_side-sizes_page : (main side : ℕ) → side < 2 ^ 64 → stated_side
 unfolding sizes_page stated_side
 stated_side-sizes_page main side fits =
     let whole : drop 8 (sizes_page main side) ≡ little_bytes 8 side ++ zeros 4080 =
-        ap (drop 8) (append_assoc (little_bytes 8 main) (little_bytes 8 side) (zeros 4080)) ∙ drop_at (little_bytes 8 main) (little_bytes 8 side ++ zeros 4080) 8 refl in
+    ap (drop 8) (append_assoc (little_bytes 8 main) (little_bytes 8 side) (zeros 4080)) ∙ drop_at (little_bytes 8 main) (little_bytes 8 side ++ zeros 4080) 8 refl in
     ap (little_number 8) whole ∙ little_number-reads_back 8 side (zeros 4080) fits
 
 -- ---- the files of numbers
@@ -136,14 +136,14 @@ file_changed a b fa fb mine a_is b_is not_one places =
     let resized_len : length (resized (length fb) fa) ≡ length fb = length-resized (length fb) fa in
     let len : length (put_pages mine pages (resized (length fb) fa)) ≡ length fb = length-put_pages mine pages (resized (length fb) fa) (sizes_shown mine fb pages shows) ∙ resized_len in
     ext_get_or 0 (put_pages mine pages (resized (length fb) fa)) fb len (λ i lt.
-      let inside : i < length fb = omega arith in
-      let at : Place mine b i = places i inside in
-      let reason : SomeOf (Covers mine i) pages ⊎ (get_or (resized (length fb) fa) i 0 ≡ get_or fb i 0) =
-          elim (changed_byte a b fa fb mine i at (a_is at.number at.is_mine) (b_is at.number at.is_mine) inside) [
-            | inl listed ↦ inl (SomeOf-append_left (Covers mine i) front (sizes_of b ∷ []) listed)
-            | inr right ↦ inr right
-          ] in
-      get_or-put_pages mine pages (resized (length fb) fa) fb i shows (omega arith) reason)
+    let inside : i < length fb = omega arith in
+    let at : Place mine b i = places i inside in
+    let reason : SomeOf (Covers mine i) pages ⊎ (get_or (resized (length fb) fa) i 0 ≡ get_or fb i 0) =
+    elim (changed_byte a b fa fb mine i at (a_is at.number at.is_mine) (b_is at.number at.is_mine) inside) [
+      | inl listed ↦ inl (SomeOf-append_left (Covers mine i) front (sizes_of b ∷ []) listed)
+      | inr right ↦ inr right
+    ] in
+    get_or-put_pages mine pages (resized (length fb) fa) fb i shows (omega arith) reason)
 
 -- ---- whole images
 
@@ -166,11 +166,11 @@ applied_change a b differ main_fits side_fits =
     let pages : List NumberedPage = changed_from 2 (numbers_above_one b) a b ++ sizes_of b ∷ [] in
     let sizes : List ℕ = sizes_page (length b.main) (length b.side) in
     let main : put_pages is_main pages (resized (stated_main sizes) a.main) ≡ b.main =
-        ap (λ (n : ℕ). put_pages is_main pages (resized n a.main)) (stated_main-sizes_page (length b.main) (length b.side) main_fits)
-        ∙ file_changed a b a.main b.main is_main (file_of_main a) (file_of_main b) refl (main_place b) in
+    ap (λ (n : ℕ). put_pages is_main pages (resized n a.main)) (stated_main-sizes_page (length b.main) (length b.side) main_fits)
+    ∙ file_changed a b a.main b.main is_main (file_of_main a) (file_of_main b) refl (main_place b) in
     let side : put_pages is_side pages (resized (stated_side sizes) a.side) ≡ b.side =
-        ap (λ (n : ℕ). put_pages is_side pages (resized n a.side)) (stated_side-sizes_page (length b.main) (length b.side) side_fits)
-        ∙ file_changed a b a.side b.side is_side (file_of_side a) (file_of_side b) refl (side_place b) in
+    ap (λ (n : ℕ). put_pages is_side pages (resized n a.side)) (stated_side-sizes_page (length b.main) (length b.side) side_fits)
+    ∙ file_changed a b a.side b.side is_side (file_of_side a) (file_of_side b) refl (side_place b) in
     ap (applied a) (changed_is a b differ)
     ∙ ap (λ (last : Option NumberedPage). applied_with last pages a) (last_page-push (changed_from 2 (numbers_above_one b) a b) (sizes_of b))
     ∙ same_images (applied_with (Some (sizes_of b)) pages a) b main side

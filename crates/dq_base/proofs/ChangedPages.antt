@@ -70,8 +70,8 @@ unfolding changed_from
 changed_from_all P n zero a b h = tt
 changed_from_all P n (suc count) a b h =
     All-append P (changed_page n (page_at a n) (page_at b n)) (changed_from (suc n) count a b)
-      (changed_page_all P n (page_at a n) (page_at b n) (λ page e. h n page (omega arith) e))
-      (changed_from_all P (suc n) count a b (λ m page le e. h m page (omega arith) e))
+    (changed_page_all P n (page_at a n) (page_at b n) (λ page e. h n page (omega arith) e))
+    (changed_from_all P (suc n) count a b (λ m page le e. h m page (omega arith) e))
 
 -- a change lists a page of b that a has not, or has otherwise
 pub changed_from_some : (P : NumberedPage → Type 0) (n count : ℕ) (a b : Image) (m : ℕ) (page : List ℕ) → n ≤ m → m < n + count → page_at b m ≡ Some page → (page_at a m ≡ Some page → ⊥) → P (numbered m page)

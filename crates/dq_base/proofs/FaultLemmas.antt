@@ -79,8 +79,8 @@ unfolding fault_before
 fault_before-not_memory None front = λ e. absurd cc
 fault_before-not_memory (Some last) front =
     cond_both (is_sizes last) (earlier (order_fault 1 front) (length_fault (stated_main last.page) (stated_side last.page) front)) (Some NoSizes) NotMemory
-      (λ _. earlier-not_memory (order_fault 1 front) (length_fault (stated_main last.page) (stated_side last.page) front) (order_fault-not_memory 1 front) (length_fault-not_memory (stated_main last.page) (stated_side last.page) front))
-      (λ _ e. absurd cc)
+    (λ _. earlier-not_memory (order_fault 1 front) (length_fault (stated_main last.page) (stated_side last.page) front) (order_fault-not_memory 1 front) (length_fault-not_memory (stated_main last.page) (stated_side last.page) front))
+    (λ _ e. absurd cc)
 
 refusal : (fault : PageFault) (found : Option PageFault) → NotMemory found → found ≡ Some fault → IsRefusal fault found
 refusal NoSizes found other e = e

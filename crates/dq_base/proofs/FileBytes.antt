@@ -17,9 +17,9 @@ length-resized n file = omega (arith, length-append (take n file) (zeros (n - le
 zeros_at : (n i : ℕ) → get_or (zeros n) i 0 ≡ 0
 unfolding zeros
 zeros_at n i = elim (cases_lt i n) [
-    | inl lt ↦ get_or-replicate n i 0 0 lt
-    | inr le ↦ get_or_past (zeros n) i 0 (omega (arith, length-zeros n))
-  ]
+  | inl lt ↦ get_or-replicate n i 0 0 lt
+  | inr le ↦ get_or_past (zeros n) i 0 (omega (arith, length-zeros n))
+]
 
 pub get_or-resized : (n : ℕ) (file : List ℕ) (i : ℕ) → i < n → get_or (resized n file) i 0 ≡ get_or file i 0
 unfolding resized
@@ -43,8 +43,14 @@ get_or-page_from file start j lt = get_or-resized 4096 (drop start file) j lt �
 pub length-replaced : (file : List ℕ) (start : ℕ) (page : List ℕ) → length page ≡ 4096 → length (replaced file start page) ≡ length file
 unfolding replaced
 length-replaced file start page size =
-    omega (arith, length-append (take start file ++ take (length file - start) page) (drop (start + 4096) file), length-append (take start file) (take (length file - start) page),
-      length-take start file, length-take (length file - start) page, length-drop (start + 4096) file)
+    omega (
+      arith,
+      length-append (take start file ++ take (length file - start) page) (drop (start + 4096) file),
+      length-append (take start file) (take (length file - start) page),
+      length-take start file,
+      length-take (length file - start) page,
+      length-drop (start + 4096) file,
+    )
 
 pub get_or-replaced_inside : (file : List ℕ) (start : ℕ) (page : List ℕ) (j : ℕ) → length page ≡ 4096 → j < 4096 → start + j < length file → get_or (replaced file start page) (start + j) 0 ≡ get_or page j 0
 unfolding replaced

@@ -66,9 +66,9 @@ put_page_kept true p file target i size bytes right inside =
     elim (cases_lt i (page_start p.number)) [
       | inl before ↦ get_or-replaced_before file (page_start p.number) p.page i before inside ∙ right
       | inr from ↦ elim (cases_lt i (page_start p.number + 4096)) [
-          | inl to ↦ covered file target (page_start p.number) i p.page size (bytes refl) from to inside
-          | inr after ↦ get_or-replaced_after file (page_start p.number) p.page i size after inside ∙ right
-        ]
+        | inl to ↦ covered file target (page_start p.number) i p.page size (bytes refl) from to inside
+        | inr after ↦ get_or-replaced_after file (page_start p.number) p.page i size after inside ∙ right
+      ]
     ]
 
 pub length-put_pages : (mine : ℕ → Bool) (ps : List NumberedPage) (file : List ℕ) → AllByRecursion (λ p. length p.page ≡ 4096) ps → length (put_pages mine ps file) ≡ length file

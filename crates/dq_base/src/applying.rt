@@ -46,11 +46,9 @@ struct Lengths {
 
 /// The lengths that the last page of a set states, or the set's first fault.
 fn lengths_of(pages: &[NumberedPage]) -> Result<Lengths, PageFault>
-    ensures {
-        MatchResult result
-            (λ lengths. (page_fault pages.now ≡ None) × StateLengths pages.now lengths.main lengths.side)
-            (λ fault. page_fault pages.now ≡ Some fault)
-    }
+    ensures { MatchResult result
+        (λ lengths. (page_fault pages.now ≡ None) × StateLengths pages.now lengths.main lengths.side)
+        (λ fault. page_fault pages.now ≡ Some fault) }
 {
     let Some((last, front)) = pages.split_last() else {
         return Err(PageFault::NoSizes);
@@ -66,10 +64,8 @@ fn lengths_of(pages: &[NumberedPage]) -> Result<Lengths, PageFault>
 /// The lengths that a sizes page states; `None` where the page is none.
 #[tactic(auto, using(crate::proofs::SizesTests::sizes_tests))]
 fn stated_lengths(last: &NumberedPage) -> Option<Lengths>
-    ensures {
-        MatchOption result (is_sizes last.now ≡ false)
-            (λ lengths. (is_sizes last.now ≡ true) × (lengths.main ≡ stated_main last.now.page) × (lengths.side ≡ stated_side last.now.page))
-    }
+    ensures { MatchOption result (is_sizes last.now ≡ false)
+        (λ lengths. (is_sizes last.now ≡ true) × (lengths.main ≡ stated_main last.now.page) × (lengths.side ≡ stated_side last.now.page)) }
 {
     let bytes = last.page.bytes();
     if last.number != 1 || !are_zeros(&bytes[16..]) {
@@ -129,11 +125,9 @@ fn check_order(front: &[NumberedPage]) -> Result<(), PageFault>
 
 /// Refuses the first page that lies wholly past its file's length.
 fn check_lengths(front: &[NumberedPage], lengths: Lengths) -> Result<(), PageFault>
-    ensures {
-        MatchResult result
-            (λ _. length_fault lengths.main lengths.side front.now ≡ None)
-            (λ fault. length_fault lengths.main lengths.side front.now ≡ Some fault)
-    }
+    ensures { MatchResult result
+        (λ _. length_fault lengths.main lengths.side front.now ≡ None)
+        (λ fault. length_fault lengths.main lengths.side front.now ≡ Some fault) }
 {
     for page in front {
         if is_past_end(page.number, lengths) {

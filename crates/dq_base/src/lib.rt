@@ -13,6 +13,8 @@ mod page_numbers;
 mod pages;
 mod sink;
 mod source;
+#[cfg(test)]
+mod tests;
 
 pub use applying::{LONGEST_FILE, apply};
 pub use changes::{change_gives_image, change_has_no_fault};

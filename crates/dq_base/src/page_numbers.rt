@@ -3,10 +3,8 @@ ghost use Rattle.dq_base.specs.Images.{page_start};
 
 /// Where the page of a number begins in its file, if a file of this length reaches there.
 pub(crate) fn start_within(number: u64, len: usize) -> Option<usize>
-    ensures {
-        MatchOption result (len ≤ page_start number)
-            (λ start. (start ≡ page_start number) × (start < len))
-    }
+    ensures { MatchOption result (len ≤ page_start number)
+        (λ start. (start ≡ page_start number) × (start < len)) }
 {
     let index = (number / 2).saturating_sub(1);
     if index > len as u64 / 4096 {

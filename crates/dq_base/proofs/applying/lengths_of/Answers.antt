@@ -20,8 +20,8 @@ returns-in_err-check_order c =
     let order = order_fault 1 front in
     let lengths = length_fault (stated_main last.page) (stated_side last.page) front in
     let found : page_fault c.args.pages.now ≡ Some c.in_err-check_order.field-0.0 =
-        page_fault-push c.args.pages.now front last c.in-Some.ensures.cases.0 ∙ later_fault last front c.in-Some-stated_lengths.ensures.0
-        ∙ earlier_some order lengths c.in_err-check_order.field-0.0 c.in_err-check_order.ensures in
+    page_fault-push c.args.pages.now front last c.in-Some.ensures.cases.0 ∙ later_fault last front c.in-Some-stated_lengths.ensures.0
+    ∙ earlier_some order lengths c.in_err-check_order.field-0.0 c.in_err-check_order.ensures in
     rw (p.1, p.2) found
 
 -- the lengths that were checked are those that the last page states
@@ -38,8 +38,8 @@ returns-in_err-check_lengths c =
     let order = order_fault 1 front in
     let lengths = length_fault (stated_main last.page) (stated_side last.page) front in
     let found : page_fault c.args.pages.now ≡ Some c.in_err-check_lengths.field-0.0 =
-        page_fault-push c.args.pages.now front last c.in-Some.ensures.cases.0 ∙ later_fault last front stated.0 ∙ earlier_none order lengths c.in_ok-check_order.ensures
-        ∙ same_lengths last front c.in-Some-stated_lengths.lengths.main c.in-Some-stated_lengths.lengths.side stated.1 stated.2 ∙ c.in_err-check_lengths.ensures in
+    page_fault-push c.args.pages.now front last c.in-Some.ensures.cases.0 ∙ later_fault last front stated.0 ∙ earlier_none order lengths c.in_ok-check_order.ensures
+    ∙ same_lengths last front c.in-Some-stated_lengths.lengths.main c.in-Some-stated_lengths.lengths.side stated.1 stated.2 ∙ c.in_err-check_lengths.ensures in
     rw (p.1, p.2) found
 
 pub returns : goal.returns
@@ -52,7 +52,7 @@ returns c =
     let order = order_fault 1 front in
     let lengths = length_fault (stated_main last.page) (stated_side last.page) front in
     let none : page_fault c.args.pages.now ≡ None =
-        page_fault-push c.args.pages.now front last c.in-Some.ensures.cases.0 ∙ later_fault last front stated.0 ∙ earlier_none order lengths c.in_ok-check_order.ensures
-        ∙ same_lengths last front main side stated.1 stated.2 ∙ c.in_ok-check_lengths.ensures in
+    page_fault-push c.args.pages.now front last c.in-Some.ensures.cases.0 ∙ later_fault last front stated.0 ∙ earlier_none order lengths c.in_ok-check_order.ensures
+    ∙ same_lengths last front main side stated.1 stated.2 ∙ c.in_ok-check_lengths.ensures in
     let states : StateLengths c.args.pages.now main side = rw (stated.1, stated.2) (StateLengths-push c.args.pages.now front last c.in-Some.ensures.cases.0) in
     (none, states)
