@@ -1,75 +1,98 @@
+use crate::pages::zeroed_bytes;
 use crate::{
-    Image, Items, Name, NumberedPage, PAGE_SIZE, Page, PageFault, PageSet, apply, page_at,
+    Bytes, Image, Items, Name, NumberedPage, PAGE_SIZE, Page, PageFault, PageSet, apply, page_at,
     page_count,
 };
 use std::alloc::{AllocError, Global};
 use std::test::Fail;
 
-fn filled(number: u64, byte: u8) -> NumberedPage {
-    NumberedPage {
-        number,
-        page: Page::new([byte; PAGE_SIZE]),
-    }
+/// A page that begins with these bytes, and zeros.
+fn page_with(front: &[u8]) -> Page {
+    let mut bytes = zeroed_bytes();
+    let count = front.len().min(PAGE_SIZE);
+    bytes[..count].copy_from_slice(&front[..count]);
+    Page::new(bytes)
+}
+
+fn filled_page(byte: u8) -> Page {
+    Page::new([byte; PAGE_SIZE])
+}
+
+fn filled_file(alloc: Global, len: usize, byte: u8) -> Result<Bytes, AllocError> {
+    Ok(Items::new(vec![in alloc; byte; len]?))
 }
 
 fn sizes(main: u64, side: u64) -> NumberedPage {
-    let mut bytes = [0; PAGE_SIZE];
+    let mut bytes = zeroed_bytes();
     bytes[..8].copy_from_slice(&main.to_le_bytes());
     bytes[8..16].copy_from_slice(&side.to_le_bytes());
-    NumberedPage {
-        number: 1,
-        page: Page::new(bytes),
-    }
+    let page = Page::new(bytes);
+    NumberedPage { number: 1, page }
 }
 
-fn set_of(alloc: Global, pages: &[NumberedPage]) -> Result<PageSet, AllocError> {
+/// A set of these pages, each filled with its byte, and then a sizes page.
+fn set_of(alloc: Global, pages: &[(u64, u8)], main: u64, side: u64) -> Result<PageSet, AllocError> {
+    let mut all = Vec::new(alloc);
+    for (number, byte) in pages {
+        let page = filled_page(*byte);
+        all.push(NumberedPage {
+            number: *number,
+            page,
+        })?;
+    }
+    all.push(sizes(main, side))?;
     Ok(PageSet {
         tx: 1,
-        pages: Items::new(Vec::from_slice(alloc, pages)?),
+        pages: Items::new(all),
     })
 }
 
-fn image_of(alloc: Global, main: &[u8], side: &[u8]) -> Result<Image, AllocError> {
-    Ok(Image {
-        main: Items::new(Vec::from_slice(alloc, main)?),
-        side: Items::new(Vec::from_slice(alloc, side)?),
-    })
+/// What applying a set to a small image answers, and whether the image stayed.
+fn fault_of(alloc: Global, set: &PageSet) -> Result<(Result<(), PageFault>, bool), AllocError> {
+    let mut image = Image {
+        main: filled_file(alloc, 3, 7)?,
+        side: filled_file(alloc, 1, 9)?,
+    };
+    let answer = apply(&mut image, set);
+    let kept = image.main.as_slice() == [7, 7, 7].as_slice()
+        && image.side.as_slice() == [9].as_slice();
+    Ok((answer, kept))
 }
 
 #[test]
 fn pages_have_numbers(rt: HostRuntime) -> Result<(), Fail> {
     let alloc = rt.alloc();
-    let image = image_of(alloc, &[7; 12_288], &[9; 4096])?;
+    let image = Image {
+        main: filled_file(alloc, 12_288, 7)?,
+        side: filled_file(alloc, 4096, 9)?,
+    };
     assert_eq!(rt; page_count(&image), 5);
     for (number, byte) in [(2, 7), (4, 7), (6, 7), (3, 9)] {
         assert_eq!(rt;
             page_at(&image, number),
-            Some(Page::new([byte; PAGE_SIZE])),
+            Some(filled_page(byte)),
             "page {number}"
         );
     }
     for number in [0, 5, 7, 8, u64::MAX] {
         assert_eq!(rt; page_at(&image, number), None, "page {number}");
     }
-    let first = page_at(&image, 1).ok_or("no sizes page")?;
-    let mut want = [0; PAGE_SIZE];
-    want[1] = 0x30;
-    want[9] = 0x10;
-    assert_eq!(rt; first, Page::from_slice(&want));
+    let lengths = [0, 0x30, 0, 0, 0, 0, 0, 0, 0, 0x10, 0, 0, 0, 0, 0, 0];
+    assert_eq!(rt; page_at(&image, 1), Some(page_with(&lengths)));
     Ok(())
 }
 
 #[test]
 fn last_pages_are_padded(rt: HostRuntime) -> Result<(), Fail> {
     let alloc = rt.alloc();
-    let image = image_of(alloc, &[7; 4097], &[9; 2])?;
-    assert_eq!(rt; page_count(&image), 4);
-    let mut want = [0; PAGE_SIZE];
-    want[0] = 7;
-    assert_eq!(rt; page_at(&image, 4), Some(Page::new(want)));
-    want[0] = 9;
-    want[1] = 9;
-    assert_eq!(rt; page_at(&image, 3), Some(Page::new(want)));
+    let image = Image {
+        main: filled_file(alloc, 4097, 7)?,
+        side: filled_file(alloc, 2, 9)?,
+    };
+    let copy = image.try_clone(alloc)?;
+    assert_eq!(rt; page_count(&copy), 4);
+    assert_eq!(rt; page_at(&copy, 4), Some(page_with(&[7])));
+    assert_eq!(rt; page_at(&copy, 3), Some(page_with(&[9, 9])));
     let none = Image::new(alloc);
     assert_eq!(rt; page_count(&none), 1);
     assert_eq!(rt; page_at(&none, 1), Some(Page::zeroed()));
@@ -80,115 +103,77 @@ fn last_pages_are_padded(rt: HostRuntime) -> Result<(), Fail> {
 fn sets_are_applied(rt: HostRuntime) -> Result<(), Fail> {
     let alloc = rt.alloc();
     let mut image = Image::new(alloc);
-    // Both files grow; the page that the main file only partly fills is cut at its end.
-    let grows = set_of(alloc, &[filled(2, 0xaa), filled(4, 0xbb), sizes(4098, 3)])?;
+    // Both files grow; the main file only partly fills its second page.
+    let grows = set_of(alloc, &[(2, 0xaa), (4, 0xbb)], 4098, 3)?;
     assert_eq!(rt; apply(&mut image, &grows), Ok(()));
-    let mut main = Vec::from_slice(alloc, &[0xaa; PAGE_SIZE])?;
-    main.extend_from_slice(&[0xbb, 0xbb])?;
-    assert_eq!(rt; image.main.as_slice(), main.as_slice());
+    assert_eq!(rt; image.main.len(), 4098);
+    assert_eq!(rt; page_at(&image, 2), Some(filled_page(0xaa)));
+    assert_eq!(rt; page_at(&image, 4), Some(page_with(&[0xbb, 0xbb])));
     assert_eq!(rt; image.side.as_slice(), [0, 0, 0].as_slice());
-    // A page replaces what stood there; the main file grows with zeros and the side file is cut.
-    let replaces = set_of(alloc, &[filled(2, 0xcc), sizes(4099, 1)])?;
+    // A page replaces what stood there; the main file grows with zeros, and the side file is cut.
+    let replaces = set_of(alloc, &[(2, 0xcc)], 4099, 1)?;
     assert_eq!(rt; apply(&mut image, &replaces), Ok(()));
-    let mut main = Vec::from_slice(alloc, &[0xcc; PAGE_SIZE])?;
-    main.extend_from_slice(&[0xbb, 0xbb, 0])?;
-    assert_eq!(rt; image.main.as_slice(), main.as_slice());
+    assert_eq!(rt; image.main.len(), 4099);
+    assert_eq!(rt; page_at(&image, 2), Some(filled_page(0xcc)));
+    assert_eq!(rt; page_at(&image, 4), Some(page_with(&[0xbb, 0xbb, 0])));
     assert_eq!(rt; image.side.as_slice(), [0].as_slice());
-    let cuts = set_of(alloc, &[sizes(1, 0)])?;
-    assert_eq!(rt; apply(&mut image, &cuts), Ok(()));
-    assert_eq!(rt; image.main.as_slice(), [0xcc].as_slice());
-    assert!(rt; image.side.is_empty());
     Ok(())
 }
 
 #[test]
 fn faults_leave_the_image(rt: HostRuntime) -> Result<(), Fail> {
     let alloc = rt.alloc();
-    let mut dirty = sizes(0, 0);
-    let mut bytes = [0; PAGE_SIZE];
-    bytes[16] = 1;
-    dirty.page = Page::new(bytes);
-    let mut misnumbered = sizes(0, 0);
-    misnumbered.number = 2;
     let cases = [
-        (set_of(alloc, &[])?, PageFault::NoSizes),
-        (set_of(alloc, &[misnumbered])?, PageFault::NoSizes),
-        (set_of(alloc, &[dirty])?, PageFault::NoSizes),
-        (
-            set_of(alloc, &[filled(0, 0), sizes(67_108_865, 0)])?,
-            PageFault::NoSizes,
-        ),
-        (
-            set_of(alloc, &[filled(0, 0), sizes(0, 67_108_865)])?,
-            PageFault::NoSizes,
-        ),
-        (
-            set_of(alloc, &[filled(0, 0), sizes(67_108_864, 67_108_864)])?,
-            PageFault::Order(0),
-        ),
-        (
-            set_of(alloc, &[sizes(0, 0), sizes(0, 0)])?,
-            PageFault::Order(1),
-        ),
-        (
-            set_of(alloc, &[filled(2, 0), filled(2, 0), sizes(4096, 0)])?,
-            PageFault::Order(2),
-        ),
-        (
-            set_of(alloc, &[filled(6, 0), filled(4, 0), sizes(0, 0)])?,
-            PageFault::Order(4),
-        ),
-        (
-            set_of(alloc, &[filled(2, 0), filled(4, 0), sizes(4096, 0)])?,
-            PageFault::NotInLength(4),
-        ),
-        (
-            set_of(alloc, &[filled(2, 0), filled(5, 0), sizes(4096, 4096)])?,
-            PageFault::NotInLength(5),
-        ),
-        (
-            set_of(alloc, &[filled(u64::MAX, 0), sizes(4096, 4096)])?,
-            PageFault::NotInLength(u64::MAX),
-        ),
+        ([2, 0], 67_108_865, 0, PageFault::NoSizes),
+        ([2, 0], 0, 67_108_865, PageFault::NoSizes),
+        ([2, 0], 67_108_864, 67_108_864, PageFault::Order(0)),
+        ([2, 1], 4096, 0, PageFault::Order(1)),
+        ([2, 2], 4096, 0, PageFault::Order(2)),
+        ([6, 4], 0, 0, PageFault::Order(4)),
+        ([2, 4], 4096, 0, PageFault::NotInLength(4)),
+        ([2, 5], 4096, 4096, PageFault::NotInLength(5)),
+        ([2, u64::MAX], 4096, 4096, PageFault::NotInLength(u64::MAX)),
     ];
-    let mut image = image_of(alloc, &[1, 2, 3], &[4])?;
-    let before = image.try_clone(alloc)?;
-    for (case, (set, fault)) in cases.iter().enumerate() {
-        assert_eq!(rt; apply(&mut image, set), Err(*fault), "case {case}");
-        assert_eq!(rt;
-            image.main.as_slice(),
-            before.main.as_slice(),
-            "case {case}"
-        );
-        assert_eq!(rt;
-            image.side.as_slice(),
-            before.side.as_slice(),
-            "case {case}"
-        );
+    for ([first, second], main, side, fault) in cases {
+        let set = set_of(alloc, &[(first, 0), (second, 0)], main, side)?;
+        let (answer, kept) = fault_of(alloc, &set)?;
+        assert_eq!(rt; answer, Err(fault), "pages {first} and {second}");
+        assert!(rt; kept, "pages {first} and {second}");
     }
+    Ok(())
+}
+
+#[test]
+fn the_last_page_has_the_sizes(rt: HostRuntime) -> Result<(), Fail> {
+    let alloc = rt.alloc();
+    let dirty = page_with(&[0, 0, 0, 0, 0, 0, 0, 0, 0, 0, 0, 0, 0, 0, 0, 0, 1]);
+    for (number, page) in [(1, dirty), (2, Page::zeroed())] {
+        let pages = Items::new(Vec::from_slice(alloc, &[NumberedPage { number, page }])?);
+        let (answer, kept) = fault_of(alloc, &PageSet { tx: 1, pages })?;
+        assert_eq!(rt; answer, Err(PageFault::NoSizes), "page {number}");
+        assert!(rt; kept, "page {number}");
+    }
+    let pages = Items::new(Vec::new(alloc));
+    let (answer, _) = fault_of(alloc, &PageSet { tx: 1, pages })?;
+    assert_eq!(rt; answer, Err(PageFault::NoSizes));
     Ok(())
 }
 
 #[test]
 fn names_are_short_texts(rt: HostRuntime) -> Result<(), Fail> {
     let alloc = rt.alloc();
-    let mut text = String::new(alloc);
-    for _ in 0..255 {
-        text.push('x')?;
+    for (len, is_name) in [(0, false), (1, true), (255, true), (256, false)] {
+        let mut text = String::new(alloc);
+        for _ in 0..len {
+            text.push('x')?;
+        }
+        assert_eq!(rt; Name::new(text).is_some(), is_name, "{len} bytes");
     }
-    let longest = Name::new(text.clone()?).ok_or("255 bytes are a name")?;
-    assert_eq!(rt; longest.as_str(), text.as_str());
-    text.push('x')?;
-    assert_eq!(rt; Name::new(text), None);
-    for (text, is_name) in [
-        ("", false),
-        ("a", true),
-        ("a\0b", false),
-        ("\0", false),
-        ("é", true),
-    ] {
+    for (text, is_name) in [("a\0b", false), ("\0", false), ("é", true)] {
         let name = Name::new(String::from_str(alloc, text)?);
         assert_eq!(rt; name.is_some(), is_name, "{text:?}");
     }
+    let name = Name::new(String::from_str(alloc, "main")?).ok_or("a name")?;
+    assert_eq!(rt; name.as_str(), "main");
     Ok(())
 }
