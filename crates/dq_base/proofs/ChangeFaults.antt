@@ -1,18 +1,17 @@
 -- A change between images with files that are not too long is a list of pages without a fault.
-use Rattle.std.proofs.Common.{◌≡◌, ℕ, zero, suc, ◌+◌, ◌-◌, ◌*◌, ◌%◌, ◌^◌, ◌<◌, ◌≤◌, Bool, true, false, cond, ◌&&◌, eqb, leb, List, [], ◌∷◌, ◌++◌, length, take, drop, replicate, Option, Some, None, refl, sym, ap, subst, ◌∙◌, append_assoc, arith}
+use Rattle.std.proofs.Common.{◌≡◌, ℕ, zero, suc, ◌%◌, ◌<◌, ◌≤◌, Bool, true, false, cond, eqb, leb, List, [], ◌∷◌, ◌++◌, length, Option, Some, None, refl, ap, subst, ◌∙◌, arith}
 use Rattle.std.specs.Prelude.{◌==◌}
 use Rattle.std.specs.Str.{bytes_eq}
 use Rattle.std.specs.List.{AllByRecursion, list_all}
-use Rattle.std.proofs.lemmas.Bool.{cond-true, cond-false, cond_both, cases_Bool, lt-leb, lt-ltb}
+use Rattle.std.proofs.lemmas.Bool.{cond-false, lt-leb}
 use Rattle.std.proofs.lemmas.List.{drop_at}
 use Rattle.byteorder.specs.Endian.{little_bytes}
 use Rattle.dq_base.specs.declared.images.Image.{Image}
 use Rattle.dq_base.specs.declared.pages.NumberedPage.{NumberedPage}
-use Rattle.dq_base.specs.declared.page_fault.PageFault.{PageFault}
 use Rattle.dq_base.specs.declared.page_fault.PageFault.TheVariants.{NotInLength, Order}
-use Rattle.dq_base.specs.Images.{zeros, sizes_page, page_start, file_of, page_at}
+use Rattle.dq_base.specs.Images.{zeros, sizes_page, page_start, page_at}
 use Rattle.dq_base.specs.Changes.{changed_page, changed_from, numbers_above_one, sizes_of, changed}
-use Rattle.dq_base.specs.Applying.{stated_main, stated_side, longest_file, is_sizes, order_fault, length_fault, earlier, fault_before, page_fault}
+use Rattle.dq_base.specs.Applying.{stated_main, stated_side, longest_file, is_sizes, order_fault, length_fault, page_fault}
 use Rattle.dq_base.proofs.ChangedPages.{numbered, page_at_is, changed_from_all}
 use Rattle.dq_base.proofs.ChangeLaw.{stated_main-sizes_page, stated_side-sizes_page, changed_is}
 use Rattle.dq_base.proofs.FaultLemmas.{page_fault-push, later_fault, earlier_none}

@@ -1,18 +1,17 @@
 -- Applying the change from one image to another gives the other.
-use Rattle.std.proofs.Common.{◌≡◌, ℕ, zero, suc, ◌+◌, ◌*◌, ◌/◌, ◌%◌, ◌-◌, ◌^◌, ◌<◌, ◌≤◌, ◌⊎◌, max, Bool, true, false, cond, ◌&&◌, eqb, ltb, List, [], ◌∷◌, ◌++◌, length, get_or, take, drop, Option, Some, None, refl, sym, ap, subst, ◌∙◌, append_assoc, arith, inl, inr}
-use Rattle.std.specs.Prelude.{slice_get}
+use Rattle.std.proofs.Common.{◌≡◌, ℕ, ◌+◌, ◌*◌, ◌/◌, ◌%◌, ◌-◌, ◌^◌, ◌<◌, ◌≤◌, ◌⊎◌, Bool, true, false, eqb, ltb, List, [], ◌∷◌, ◌++◌, length, get_or, drop, Option, Some, None, refl, sym, ap, ◌∙◌, append_assoc, arith, inl, inr}
 use Rattle.std.specs.List.{AllByRecursion}
 use Rattle.std.specs.Str.{bytes_eq}
-use Rattle.std.proofs.lemmas.Bool.{cases_Bool, both_ways, and_parts, and_from, eqb-true, eq-eqb, ltb-true, lt-ltb, false_from_ne_true, cond-true, cond-false, ne_eqb}
-use Rattle.std.proofs.lemmas.List.{ext_get_or, length_push, drop_at, length-append}
+use Rattle.std.proofs.lemmas.Bool.{cases_Bool, both_ways, and_parts, and_from, eqb-true, eq-eqb, lt-ltb, false_from_ne_true, cond-true, cond-false, ne_eqb}
+use Rattle.std.proofs.lemmas.List.{ext_get_or, drop_at, length-append}
 use Rattle.std.proofs.lemmas.Slice.Eq.{bytes_eq-Decides}
 use Rattle.byteorder.specs.Endian.{little_bytes, little_number}
 use Rattle.byteorder.specs.Numbers.{little_number-reads_back}
 use Rattle.dq_base.specs.declared.images.Image.{Image}
 use Rattle.dq_base.specs.declared.pages.NumberedPage.{NumberedPage}
-use Rattle.dq_base.specs.Images.{zeros, resized, page_from, sizes_page, page_start, is_main, is_side, file_of, page_at, pages_in}
+use Rattle.dq_base.specs.Images.{zeros, resized, page_from, sizes_page, page_start, is_main, is_side, file_of, page_at}
 use Rattle.dq_base.specs.Changes.{same_image, changed_from, numbers_above_one, sizes_of, changed}
-use Rattle.dq_base.specs.Applying.{stated_main, stated_side, put_pages, last_page, applied_with, applied}
+use Rattle.dq_base.specs.Applying.{stated_main, stated_side, put_pages, applied_with, applied}
 use Rattle.dq_base.proofs.FileBytes.{length-zeros, length-resized, get_or-resized, length-page_from, get_or-page_from}
 use Rattle.dq_base.proofs.PutPages.{SomeOf, SomeOf-append_left, All-append, Shows, Covers, length-put_pages, get_or-put_pages}
 use Rattle.dq_base.proofs.FaultLemmas.{last_page-push}

@@ -1,14 +1,13 @@
 -- The first fault of a list of pages, from its last page and the pages before it.
-use Rattle.std.proofs.Common.{◌≡◌, ℕ, ◌+◌, ◌-◌, ◌%◌, ◌<◌, ◌≤◌, Bool, true, false, cond, eqb, leb, List, [], ◌∷◌, ◌++◌, length, take, Option, Some, None, refl, sym, ap, ◌∙◌, arith}
+use Rattle.std.proofs.Common.{◌≡◌, ℕ, ◌-◌, ◌%◌, true, false, cond, eqb, leb, List, [], ◌∷◌, ◌++◌, length, take, Option, Some, None, refl, sym, ap, ◌∙◌, arith}
 use Rattle.std.specs.Prelude.{slice_get}
 use Rattle.std.proofs.lemmas.Bool.{cond-true, cond-false, cond_both}
 use Rattle.std.proofs.lemmas.List.{take_at, length_push, nil_from_length}
-use Rattle.dq_base.specs.declared.images.Image.{Image}
 use Rattle.dq_base.specs.declared.pages.NumberedPage.{NumberedPage}
 use Rattle.dq_base.specs.declared.page_fault.PageFault.{PageFault}
 use Rattle.dq_base.specs.declared.page_fault.PageFault.TheVariants.{NoSizes, Order, NotInLength, NoMemory}
 use Rattle.dq_base.specs.Images.{page_start}
-use Rattle.dq_base.specs.Applying.{stated_main, stated_side, last_page, applied_at, applied_with, applied, is_sizes, order_fault, length_fault, earlier, fault_before, page_fault, IsRefusal, StateLengths}
+use Rattle.dq_base.specs.Applying.{stated_main, stated_side, last_page, applied_with, applied, is_sizes, order_fault, length_fault, earlier, fault_before, page_fault, IsRefusal, StateLengths}
 
 slice_get_end : {X : Type 0} (xs : List X) (x : X) → slice_get (xs ++ x ∷ []) (length xs) ≡ Some x
 slice_get_end [] x = refl

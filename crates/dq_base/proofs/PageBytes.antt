@@ -1,7 +1,7 @@
 -- How the bytes of a page are made: of a file's bytes and zeros, and of two lengths and zeros.
-use Rattle.std.proofs.Common.{◌≡◌, ℕ, ◌+◌, ◌-◌, ◌<◌, ◌≤◌, min, List, [], ◌∷◌, ◌++◌, length, take, drop, replicate, refl, sym, ap, ◌∙◌, append_assoc, arith}
+use Rattle.std.proofs.Common.{◌≡◌, ℕ, ◌-◌, min, List, [], ◌++◌, length, take, drop, refl, sym, ap, ◌∙◌, append_assoc, arith}
 use Rattle.std.proofs.lemmas.List.{append-nil, take_at, drop_at, take_all, drop_all, take_min, drop-replicate, length-append, length-drop}
-use Rattle.dq_base.specs.Images.{zeros, resized, page_from, sizes_page}
+use Rattle.dq_base.specs.Images.{zeros, resized}
 use Rattle.dq_base.proofs.FileBytes.{length-zeros}
 use borrow.Rule.Slice.PartMut.{put_mid, post_of}
 

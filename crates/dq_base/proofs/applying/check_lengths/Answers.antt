@@ -1,4 +1,4 @@
-use Rattle.std.proofs.Common.{arith, sym, ◌∙◌}
+use Rattle.std.proofs.Common.{sym, ◌∙◌}
 use Rattle.dq_base.specs.Applying.{length_fault}
 use Rattle.dq_base.proofs.Steps.{length_refused, length_more, length_all}
 use Rattle.dq_base.proofs.applying.check_lengths.Goals as goal

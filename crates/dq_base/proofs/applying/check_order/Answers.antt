@@ -1,4 +1,3 @@
-use Rattle.std.proofs.Common.{arith}
 use Rattle.dq_base.specs.Applying.{order_fault}
 use Rattle.dq_base.proofs.Steps.{order_refused, order_more, order_all}
 use Rattle.dq_base.proofs.applying.check_order.Goals as goal

@@ -1,5 +1,5 @@
-use Rattle.std.proofs.Common.{◌≡◌, ◌<◌, ◌≤◌, List, ℕ, length, Some, sym, ap, ◌∙◌, arith}
-use Rattle.dq_base.specs.Images.{page_at, page_from, page_start, file_of, sizes_page}
+use Rattle.std.proofs.Common.{List, ℕ, length, Some, sym, ap, ◌∙◌, arith}
+use Rattle.dq_base.specs.Images.{page_from, file_of}
 use Rattle.dq_base.proofs.ChangedPages.{page_at_inside, page_at_past, page_at-one, page_at-zero}
 use Rattle.dq_base.proofs.images.page_at.Goals as goal
 

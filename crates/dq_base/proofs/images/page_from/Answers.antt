@@ -1,6 +1,6 @@
 use Rattle.std.proofs.Common.{◌≡◌, ◌++◌, ◌-◌, List, ℕ, length, min, take, drop, ap, ◌∙◌}
 use Rattle.std.proofs.lemmas.List.{take_rest}
-use Rattle.dq_base.specs.Images.{zeros, page_from}
+use Rattle.dq_base.specs.Images.{page_from}
 use Rattle.dq_base.proofs.PageBytes.{padded}
 use Rattle.dq_base.proofs.images.page_from.Goals as goal
 
