@@ -1,2 +1,11 @@
 pub mod FaultLaws
 pub mod ContentLaws
+pub mod FileBytes
+pub mod PutPages
+pub mod ChangedPages
+pub mod ChangeLaw
+pub mod FaultLemmas
+pub mod PageBytes
+pub mod SizesTests
+pub mod ChangeFaults
+pub mod Steps

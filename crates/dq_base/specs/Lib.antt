@@ -4,3 +4,7 @@ pub mod Sink
 pub mod Calls
 pub mod Memory
 pub mod Edge
+pub mod Images
+pub mod Changes
+pub mod Applying
+pub mod Names

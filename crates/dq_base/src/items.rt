@@ -5,7 +5,7 @@ use std::marker::Model;
 /// A list that contracts compare: a `Vec` that clauses see as its items, without where they lie in memory.
 #[derive(Debug, Drop)]
 pub struct Items<T> {
-    inner: Vec<T>,
+    pub(crate) inner: Vec<T>,
 }
 
 /// A list of bytes.

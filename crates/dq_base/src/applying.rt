@@ -1,0 +1,209 @@
+ghost use Rattle.std.specs.Prelude.{◌≡◌, ◌≤◌, ◌==◌, ◌%◌, nat_le, if◌then◌else◌, length, drop, None, Some, MatchOption, MatchResult, IfErr, OnOk, OnErr, IsOk, true, false, vec_capacity};
+ghost use Rattle.std.specs.List.{list_all};
+ghost use Rattle.dq_base.specs.Images.{resized, page_start, is_page_of};
+ghost use Rattle.dq_base.specs.Applying.{stated_main, stated_side, is_sizes, replaced, put_pages, applied, order_fault, length_fault, page_fault, StateLengths, IsRefusal};
+
+use crate::images::Image;
+use crate::page_fault::PageFault;
+use crate::page_numbers::start_within;
+use crate::pages::{NumberedPage, PAGE_SIZE, PageSet};
+use byteorder::{ByteOrder, LittleEndian};
+use std::alloc::AllocError;
+
+/// The longest file that a page set may state, in bytes.
+pub const LONGEST_FILE: u64 = 67_108_864;
+
+/// Applies a page set: both files are cut to the lengths that its sizes page states or grown to them with zeros, and
+/// then its pages replace the bytes that they stand for, as far as these lie inside their file.
+///
+/// A set is refused by its first fault: `NoSizes`, then `Order`, then `NotInLength`. `NoMemory` comes only for a set
+/// without a fault, where there is no room for the longer files. After every refusal the image is unchanged.
+///
+/// Looks at the set's pages and at the bytes by which the files grow or shrink, and not at the rest of the image; a file
+/// that grows past its room is moved.
+pub fn apply(image: &mut Image, set: &PageSet) -> Result<(), PageFault>
+    ensures done { OnOk result (image.new ≡ applied image.old set.now.pages) }
+    ensures sound { OnOk result (page_fault set.now.pages ≡ None) }
+    ensures refused { IfErr result (λ fault. IsRefusal fault (page_fault set.now.pages)) }
+    ensures kept { OnErr result (image.new ≡ image.old) }
+{
+    let pages = set.pages.as_slice();
+    let lengths = lengths_of(pages)?;
+    let main = &mut image.main;
+    let side = &mut image.side;
+    resize_both(&mut main.inner, &mut side.inner, lengths)?;
+    put_all(&mut main.inner, pages, 0);
+    put_all(&mut side.inner, pages, 1);
+    Ok(())
+}
+
+/// The lengths of both files, in bytes.
+#[derive(Clone, Copy)]
+struct Lengths {
+    main: usize,
+    side: usize,
+}
+
+/// The lengths that the last page of a set states, or the set's first fault.
+fn lengths_of(pages: &[NumberedPage]) -> Result<Lengths, PageFault>
+    ensures { MatchResult result
+        (λ lengths. (page_fault pages.now ≡ None) × StateLengths pages.now lengths.main lengths.side)
+        (λ fault. page_fault pages.now ≡ Some fault) }
+{
+    let Some((last, front)) = pages.split_last() else {
+        return Err(PageFault::NoSizes);
+    };
+    let Some(lengths) = stated_lengths(last) else {
+        return Err(PageFault::NoSizes);
+    };
+    check_order(front)?;
+    check_lengths(front, lengths)?;
+    Ok(lengths)
+}
+
+/// The lengths that a sizes page states; `None` where the page is none.
+#[tactic(auto, using(crate::proofs::SizesTests::sizes_tests))]
+fn stated_lengths(last: &NumberedPage) -> Option<Lengths>
+    ensures { MatchOption result (is_sizes last.now ≡ false)
+        (λ lengths. (is_sizes last.now ≡ true) × (lengths.main ≡ stated_main last.now.page) × (lengths.side ≡ stated_side last.now.page)) }
+{
+    let bytes = last.page.bytes();
+    if last.number != 1 || !are_zeros(&bytes[16..]) {
+        return None;
+    }
+    let main = main_length(bytes);
+    let side = side_length(bytes);
+    if main > LONGEST_FILE || side > LONGEST_FILE {
+        return None;
+    }
+    Some(Lengths {
+        main: main as usize,
+        side: side as usize,
+    })
+}
+
+fn are_zeros(bytes: &[u8]) -> bool
+    ensures { result ≡ list_all (λ byte. byte == 0) bytes.now }
+{
+    for byte in bytes {
+        if *byte != 0 {
+            return false;
+        }
+    }
+    true
+}
+
+#[tactic(auto, unfolding(crate::specs::Applying::stated_main))]
+fn main_length(bytes: &[u8]) -> u64
+    requires { 8 ≤ length bytes.now }
+    ensures { result ≡ stated_main bytes.now }
+{
+    LittleEndian::read_u64(bytes)
+}
+
+#[tactic(auto, unfolding(crate::specs::Applying::stated_side))]
+fn side_length(bytes: &[u8]) -> u64
+    requires { 16 ≤ length bytes.now }
+    ensures { result ≡ stated_side bytes.now }
+{
+    LittleEndian::read_u64(&bytes[8..])
+}
+
+/// Refuses the first number that isn't above the one before it, or is 0 or 1.
+fn check_order(front: &[NumberedPage]) -> Result<(), PageFault>
+    ensures { MatchResult result (λ _. order_fault 1 front.now ≡ None) (λ fault. order_fault 1 front.now ≡ Some fault) }
+{
+    let mut before = 1;
+    for page in front {
+        if page.number <= before {
+            return Err(PageFault::Order(page.number));
+        }
+        before = page.number;
+    }
+    Ok(())
+}
+
+/// Refuses the first page that lies wholly past its file's length.
+fn check_lengths(front: &[NumberedPage], lengths: Lengths) -> Result<(), PageFault>
+    ensures { MatchResult result
+        (λ _. length_fault lengths.main lengths.side front.now ≡ None)
+        (λ fault. length_fault lengths.main lengths.side front.now ≡ Some fault) }
+{
+    for page in front {
+        if is_past_end(page.number, lengths) {
+            return Err(PageFault::NotInLength(page.number));
+        }
+    }
+    Ok(())
+}
+
+/// Whether the page of a number lies wholly past its file's length.
+fn is_past_end(number: u64, lengths: Lengths) -> bool
+    ensures { result ≡ nat_le (if number % 2 == 0 then lengths.main else lengths.side) (page_start number) }
+{
+    if number % 2 == 0 {
+        start_within(number, lengths.main).is_none()
+    } else {
+        start_within(number, lengths.side).is_none()
+    }
+}
+
+/// Cuts or grows both files, or neither where there is no room.
+fn resize_both(main: &mut Vec<u8>, side: &mut Vec<u8>, lengths: Lengths) -> Result<(), AllocError>
+    ensures main { OnOk result (main.new.items ≡ resized lengths.main main.old.items) }
+    ensures side { OnOk result (side.new.items ≡ resized lengths.side side.old.items) }
+    ensures main_kept { OnErr result (main.new.items ≡ main.old.items) }
+    ensures side_kept { OnErr result (side.new.items ≡ side.old.items) }
+{
+    make_room(main, lengths.main)?;
+    make_room(side, lengths.side)?;
+    resize(main, lengths.main)?;
+    resize(side, lengths.side)
+}
+
+/// Makes room for a length, without a change to the file.
+fn make_room(file: &mut Vec<u8>, len: usize) -> Result<(), AllocError>
+    ensures kept { file.new.items ≡ file.old.items }
+    ensures room { OnOk result (len ≤ vec_capacity file.new) }
+{
+    file.reserve(len.saturating_sub(file.len()))
+}
+
+/// Cuts a file to a length, or grows it with zeros; where there is room, this does not fail.
+#[tactic(auto, unfolding(crate::specs::Images::resized, crate::specs::Images::zeros))]
+fn resize(file: &mut Vec<u8>, len: usize) -> Result<(), AllocError>
+    ensures done { OnOk result (file.new.items ≡ resized len file.old.items) }
+    ensures kept { OnErr result (file.new.items ≡ file.old.items) }
+    ensures room { len ≤ vec_capacity file.old → IsOk result }
+{
+    file.resize(len, 0)
+}
+
+/// Puts each page of a file into it: the file whose pages' numbers have this remainder by 2.
+fn put_all(file: &mut [u8], pages: &[NumberedPage], parity: u64)
+    ensures { file.new ≡ put_pages (is_page_of parity) pages.now file.old }
+{
+    for page in pages {
+        if is_page_of(page.number, parity) {
+            put_page(file, page);
+        }
+    }
+}
+
+fn is_page_of(number: u64, parity: u64) -> bool
+    ensures { result ≡ is_page_of parity number }
+{
+    number > 1 && number % 2 == parity
+}
+
+/// Replaces the bytes that a page stands for, as far as they lie inside its file.
+#[tactic(auto, unfolding(crate::specs::Applying::replaced))]
+fn put_page(file: &mut [u8], page: &NumberedPage)
+    ensures { file.new ≡ replaced file.old (page_start page.now.number) page.now.page }
+{
+    let Some(start) = start_within(page.number, file.len()) else {
+        return;
+    };
+    let count = PAGE_SIZE.min(file.len() - start);
+    file[start..start + count].copy_from_slice(&page.page.bytes()[..count]);
+}

@@ -1,0 +1,104 @@
+ghost use Rattle.std.specs.Prelude.{◌≡◌, ◌<◌, [], length, IfOk};
+ghost use Rattle.dq_base.specs.Images.{page_at, page_count, pages_in, file_of, sizes_page, page_from};
+
+use crate::items::Bytes;
+use crate::page_numbers::start_within;
+use crate::pages::{PAGE_SIZE, Page, zeroed_bytes};
+use byteorder::{ByteOrder, LittleEndian};
+use std::alloc::{AllocError, Global};
+
+/// The pair of files that `sqlite` keeps for one database.
+#[derive(Debug, Drop)]
+pub struct Image {
+    /// The main file.
+    pub main: Bytes,
+    /// The file beside it.
+    pub side: Bytes,
+}
+
+impl Image {
+    /// Two empty files. Takes no memory.
+    pub fn new(alloc: Global) -> Image
+        ensures main { result.main ≡ [] }
+        ensures side { result.side ≡ [] }
+    {
+        Image {
+            main: Bytes::new(Vec::new(alloc)),
+            side: Bytes::new(Vec::new(alloc)),
+        }
+    }
+
+    /// A copy of both files. Fails where memory runs out.
+    pub fn try_clone(&self, alloc: Global) -> Result<Image, AllocError>
+        ensures { IfOk result (λ copy. copy ≡ self.now) }
+    {
+        let main = Vec::from_slice(alloc, self.main.as_slice())?;
+        let side = Vec::from_slice(alloc, self.side.as_slice())?;
+        Ok(Image {
+            main: Bytes::new(main),
+            side: Bytes::new(side),
+        })
+    }
+}
+
+/// The page of a number, a last page that its file only partly fills with zeros to its end; `None` exactly where the
+/// image has no such page. Page 1 is the sizes page and always exists. Takes no memory.
+pub fn page_at(image: &Image, number: u64) -> Option<Page>
+    ensures { result ≡ page_at image.now number }
+{
+    if number == 1 {
+        return Some(sizes_page(image.main.len() as u64, image.side.len() as u64));
+    }
+    if number == 0 {
+        return None;
+    }
+    let file = file_of(image, number);
+    match start_within(number, file.len()) {
+        Some(start) => Some(page_from(file, start)),
+        None => None,
+    }
+}
+
+/// The file that the page of a number lies in.
+fn file_of(image: &Image, number: u64) -> &[u8]
+    ensures { result.now ≡ file_of image.now number }
+{
+    if number % 2 == 0 {
+        image.main.as_slice()
+    } else {
+        image.side.as_slice()
+    }
+}
+
+/// How many pages an image has, the sizes page included. Takes no memory.
+pub fn page_count(image: &Image) -> u64
+    ensures { result ≡ page_count image.now }
+{
+    1 + pages_in(image.main.as_slice()) + pages_in(image.side.as_slice())
+}
+
+fn pages_in(file: &[u8]) -> u64
+    ensures { result ≡ pages_in file.now }
+{
+    file.len() as u64 / 4096 + if file.len() % 4096 == 0 { 0 } else { 1 }
+}
+
+fn sizes_page(main: u64, side: u64) -> Page
+    ensures { result ≡ sizes_page main side }
+{
+    let mut bytes = zeroed_bytes();
+    LittleEndian::write_u64(&mut bytes, main);
+    LittleEndian::write_u64(&mut bytes[8..], side);
+    Page::new(bytes)
+}
+
+fn page_from(file: &[u8], start: usize) -> Page
+    requires { start < length file.now }
+    ensures { result ≡ page_from file.now start }
+{
+    let mut bytes = zeroed_bytes();
+    let rest = &file[start..];
+    let count = PAGE_SIZE.min(rest.len());
+    bytes[..count].copy_from_slice(&rest[..count]);
+    Page::new(bytes)
+}
