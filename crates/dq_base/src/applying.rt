@@ -27,7 +27,16 @@ pub fn apply(image: &mut Image, set: &PageSet) -> Result<(), PageFault>
     ensures refused { IfErr result (λ fault. IsRefusal fault (page_fault set.now.pages)) }
     ensures kept { OnErr result (image.new ≡ image.old) }
 {
-    let pages = set.pages.as_slice();
+    apply_pages(image, set.pages.as_slice())
+}
+
+/// Applies pages that belong to no set, as `apply` does.
+pub fn apply_pages(image: &mut Image, pages: &[NumberedPage]) -> Result<(), PageFault>
+    ensures done { OnOk result (image.new ≡ applied image.old pages.now) }
+    ensures sound { OnOk result (page_fault pages.now ≡ None) }
+    ensures refused { IfErr result (λ fault. IsRefusal fault (page_fault pages.now)) }
+    ensures kept { OnErr result (image.new ≡ image.old) }
+{
     let lengths = lengths_of(pages)?;
     let main = &mut image.main;
     let side = &mut image.side;

@@ -21,7 +21,7 @@ mod tests;
 mod tries;
 mod writer;
 
-pub use applying::{LONGEST_FILE, apply};
+pub use applying::{LONGEST_FILE, apply, apply_pages};
 pub use calls::Calls;
 pub use changes::{change_gives_image, change_has_no_fault};
 pub use faults::Failed;
