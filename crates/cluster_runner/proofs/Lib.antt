@@ -3,3 +3,4 @@ pub mod Pieces
 pub mod Reading
 pub mod Printed
 pub mod Running
+pub mod Databases

@@ -4,3 +4,4 @@ pub mod World
 pub mod Run
 pub mod Outcome
 pub mod Stops
+pub mod Machine

@@ -2,8 +2,10 @@
 #![tactic(auto)]
 
 mod cluster;
+mod database;
 mod grammar;
 mod lines;
+mod machine;
 mod printing;
 mod run;
 mod stage;

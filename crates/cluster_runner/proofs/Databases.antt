@@ -1,0 +1,37 @@
+-- The place of a database among others, by the bytes of their names.
+use Rattle.std.proofs.Common.{◌≡◌, ℕ, suc, ◌+◌, ◌<◌, ◌≤◌, List, [], ◌∷◌, ◌++◌, length, get_or, take, drop, set, refl, sym, ap, subst, ◌∙◌, append_assoc, add-one, arith, Ordering}
+use Rattle.std.specs.Prelude.{insert}
+use Rattle.std.specs.Ordering.{nat_cmp}
+use Rattle.std.specs.declared.cmp.Ordering.TheVariants.{Less, Equal, Greater}
+use Rattle.std.specs.Cmp.Lexicographic.{slice_cmp}
+use Rattle.std.proofs.lemmas.List.{drop_more, drop_all, take_more, take_all, set_split, get_or_read, append-nil}
+use Rattle.cluster_runner.specs.declared.database.Database.{Database}
+use Rattle.cluster_runner.specs.Machine.{opened, at_name, StandsAt, BelongsAt}
+
+module _ (name : List ℕ) (ds : List Database) (i : ℕ) (x : Database) (lt : i < length ds) (is : x ≡ get_or ds i x) (so_far : (f : Database → Database) → at_name name f ds ≡ take i ds ++ at_name name f (drop i ds)) where
+  rest : drop i ds ≡ x ∷ drop (i + 1) ds
+  rest = drop_more ds i x lt ∙ ap (λ (d : Database). d ∷ drop (i + 1) ds) (sym is)
+
+  from_here : (f : Database → Database) → at_name name f ds ≡ take i ds ++ at_name name f (x ∷ drop (i + 1) ds)
+  from_here f = so_far f ∙ ap (λ (d : List Database). take i ds ++ at_name name f d) rest
+
+  pub belongs_here : slice_cmp nat_cmp name x.name ≡ Less → BelongsAt name ds i
+  unfolding at_name
+  belongs_here less = (omega arith, λ f. from_here f ∙ rw less (ap (λ (d : List Database). take i ds ++ f (opened name) ∷ d) (sym rest)))
+
+  pub stands_here : slice_cmp nat_cmp name x.name ≡ Equal → StandsAt name ds i
+  unfolding at_name
+  stands_here equal = (lt, λ f d.
+      let same : x ≡ get_or ds i d = get_or_read ds i x lt is d in
+      from_here f ∙ rw equal (sym (set_split ds i (f (get_or ds i d)) lt ∙ rw (← same, ← add-one) refl)))
+
+  pub later : slice_cmp nat_cmp name x.name ≡ Greater → (f : Database → Database) → at_name name f ds ≡ take (i + 1) ds ++ at_name name f (drop (i + 1) ds)
+  unfolding at_name
+  later greater f =
+      let front : take (i + 1) ds ≡ take i ds ++ x ∷ [] = take_more ds i x lt ∙ ap (λ (d : Database). take i ds ++ d ∷ []) (sym is) in
+      from_here f ∙ rw greater (rw front (sym (append_assoc (take i ds) (x ∷ []) (at_name name f (drop (i + 1) ds)))))
+
+pub belongs_last : (name : List ℕ) (ds : List Database) (i : ℕ) → length ds ≤ i → ((f : Database → Database) → at_name name f ds ≡ take i ds ++ at_name name f (drop i ds)) → BelongsAt name ds (length ds)
+unfolding at_name
+belongs_last name ds i past so_far = (omega arith, λ f.
+    so_far f ∙ rw (drop_all i ds past, take_all i ds past) (rw (take_all (length ds) ds (omega arith), drop_all (length ds) ds (omega arith)) refl))
