@@ -4,7 +4,7 @@ use Rattle.std.specs.Prelude.{insert}
 use Rattle.std.specs.Ordering.{nat_cmp}
 use Rattle.std.specs.declared.cmp.Ordering.TheVariants.{Less, Equal, Greater}
 use Rattle.std.specs.Cmp.Lexicographic.{slice_cmp}
-use Rattle.std.proofs.lemmas.List.{drop_more, drop_all, take_more, take_all, set_split, get_or_read, append-nil}
+use Rattle.std.proofs.lemmas.List.{drop_more, drop_all, take_more, take_all, set_split, get_or_read, set-get_or, length-take-le, length-append, get_or_at, set_at}
 use Rattle.cluster_runner.specs.declared.database.Database.{Database}
 use Rattle.cluster_runner.specs.Machine.{opened, at_name, StandsAt, BelongsAt}
 
@@ -35,3 +35,15 @@ pub belongs_last : (name : List ℕ) (ds : List Database) (i : ℕ) → length d
 unfolding at_name
 belongs_last name ds i past so_far = (omega arith, λ f.
     so_far f ∙ rw (drop_all i ds past, take_all i ds past) (rw (take_all (length ds) ds (omega arith), drop_all (length ds) ds (omega arith)) refl))
+
+-- doing nothing to a database that is there changes nothing
+pub stands_same : (name : List ℕ) (ds : List Database) (i : ℕ) → StandsAt name ds i → at_name name (λ database. database) ds ≡ ds
+stands_same name ds i s = s.1 (λ database. database) (opened name) ∙ set-get_or ds i (opened name)
+
+-- a database that was put into its place stands there
+pub put_stands : (name : List ℕ) (ds : List Database) (i : ℕ) (x : Database) → BelongsAt name ds i → x ≡ opened name → (i < length (insert ds i x)) × ((f : Database → Database) (d : Database) → at_name name f ds ≡ set (insert ds i x) i (f (get_or (insert ds i x) i d)))
+put_stands name ds i x b is =
+    let size : length (take i ds) ≡ i = length-take-le i ds b.0 in
+    (omega (arith, length-append (take i ds) (x ∷ drop i ds)), λ f d.
+      let read : get_or (insert ds i x) i d ≡ x = get_or_at (take i ds) x (drop i ds) d i size in
+      b.1 f ∙ rw (read, set_at (take i ds) x (drop i ds) (f x) i size) (ap (λ (y : Database). take i ds ++ f y ∷ drop i ds) (sym is)))

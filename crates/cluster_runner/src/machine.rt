@@ -1,6 +1,6 @@
 //! One machine: its databases, and how many commands it has taken.
 
-ghost use Rattle.std.specs.Prelude.{◌≡◌, ◌+◌, OnOk, IfOk, MatchResult};
+ghost use Rattle.std.specs.Prelude.{◌≡◌, ◌<◌, length, set, get_or, OnOk, IfOk, MatchResult};
 ghost use Rattle.cluster_runner.specs.Machine.{StandsAt, BelongsAt, at_name, frames, act};
 ghost use Rattle.cluster_runner.specs.declared.database.Database.{Database};
 
@@ -22,4 +22,39 @@ fn place_of(databases: &[Database], name: &Name) -> Result<usize, usize>
         }
     }
     Err(databases.len())
+}
+
+/// The place of the database of a name, which is made where there is none.
+fn opened_place(alloc: Global, databases: &mut Vec<Database>, name: &Name) -> Result<usize, AllocError>
+    ensures found { IfOk result (λ place. (place < length databases.new.items) × ((f : Database → Database) (d : Database) →
+        at_name name.now f databases.old.items ≡ set databases.new.items place (f (get_or databases.new.items place d)))) }
+    ensures here { IfOk result (λ place. at_name name.now (λ database. database) databases.old.items ≡ databases.new.items) }
+{
+    match place_of(databases.as_slice(), name) {
+        Ok(place) => Ok(place),
+        Err(place) => {
+            let database = Database::new(alloc, name.try_clone(alloc)?);
+            databases.insert(place, database)?;
+            Ok(place)
+        }
+    }
+}
+
+/// Does what a command says. Costs in the order of its pages, and of the databases where one is made. `Err` is want of
+/// memory; the databases are then not to be used.
+#[tactic(auto, unfolding(crate::specs::Machine::act))]
+pub(crate) fn act(alloc: Global, databases: &mut Vec<Database>, command: &Command) -> Result<(), AllocError>
+    ensures { OnOk result (databases.new.items ≡ act databases.old.items command.now) }
+{
+    match command {
+        Command::OpenDb { name } => {
+            opened_place(alloc, databases, name)?;
+        }
+        Command::Frames { name, tx, commit, pages, .. } => {
+            let place = opened_place(alloc, databases, name)?;
+            let database = &mut databases[place];
+            database.take_frames(alloc, *tx, *commit, pages.as_slice())?;
+        }
+    }
+    Ok(())
 }

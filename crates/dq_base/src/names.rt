@@ -1,10 +1,11 @@
-ghost use Rattle.std.specs.Prelude.{◌≡◌, ◌==◌, Some, SomeIff, string_bytes, refl};
+ghost use Rattle.std.specs.Prelude.{◌≡◌, ◌==◌, Some, SomeIff, IfOk, string_bytes, refl};
 ghost use Rattle.std.specs.Str.{bytes_eq};
 ghost use Rattle.std.specs.Ordering.{nat_cmp};
 ghost use Rattle.std.specs.Cmp.{partial_equiv_from_equiv};
 ghost use Rattle.std.specs.Cmp.Lexicographic.{slice_cmp, nat_list_eq_equiv, nat_list_cmp_total, texts_po, texts_ties};
 ghost use Rattle.dq_base.specs.Names.{has_nul, IsName};
 
+use std::alloc::{AllocError, Global};
 use std::cmp::Ordering;
 use std::marker::Model;
 
@@ -35,6 +36,15 @@ impl Name {
             return None;
         }
         Some(Name { text })
+    }
+
+    /// A copy of the name. `Err` is want of memory.
+    pub fn try_clone(&self, alloc: Global) -> Result<Name, AllocError>
+        ensures { IfOk result (λ copy. copy ≡ self.now) }
+    {
+        Ok(Name {
+            text: String::from_str(alloc, self.text.as_str())?,
+        })
     }
 
     /// The text, borrowed. Takes no memory.
