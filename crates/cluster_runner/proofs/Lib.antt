@@ -4,3 +4,4 @@ pub mod Reading
 pub mod Printed
 pub mod Running
 pub mod Databases
+pub mod Tables

@@ -5,3 +5,4 @@ pub mod Run
 pub mod Outcome
 pub mod Stops
 pub mod Machine
+pub mod Limits

@@ -2,6 +2,7 @@
 #![tactic(auto)]
 
 mod cluster;
+mod command_list;
 mod database;
 mod grammar;
 mod lines;
@@ -9,6 +10,7 @@ mod machine;
 mod printing;
 mod run;
 mod stage;
+mod stated;
 
 pub use cluster::Say;
 pub use grammar::{Event, ScriptLine};

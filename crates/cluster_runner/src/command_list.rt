@@ -1,0 +1,161 @@
+//! The list of commands that machines apply, within its limits.
+
+ghost use Rattle.std.specs.Prelude.{◌≡◌, ◌<◌, ◌+◌, ◌^◌, ◌++◌, ◌∷◌, [], length, slice_get, IfOk, OnErr, MatchOption, true, false, option_copied};
+ghost use Rattle.dq_base.specs.Applying.{stated_main, stated_side, last_page};
+ghost use Rattle.cluster_runner.specs.Limits.{name_of, stated_length, note, is_allowed, IsNotedAt, IsNew};
+
+use crate::stated::Stated;
+use byteorder::{ByteOrder, LittleEndian};
+use dq_base::{Name, NumberedPage};
+use frame_commands::Command;
+use std::alloc::{AllocError, Global};
+use std::marker::Model;
+
+/// How many names a list may have.
+const NAME_LIMIT: usize = 16;
+
+/// How long the files may be that a list states, all together.
+const LENGTH_LIMIT: u64 = 67_108_864;
+
+/// The place of the entry of a name.
+fn place_of(table: &[Stated], name: &Name) -> Option<usize>
+    ensures { MatchOption result (IsNew name.now table.now) (IsNotedAt name.now table.now) }
+{
+    for (place, stated) in table.iter().enumerate() {
+        if stated.name == *name {
+            return Some(place);
+        }
+    }
+    None
+}
+
+/// Whether a table is within the limits.
+#[tactic(auto, unfolding(crate::specs::Limits::is_allowed))]
+fn is_within(table: &[Stated]) -> bool
+    ensures { result ≡ is_allowed table.now }
+{
+    let mut total: u64 = 0;
+    for stated in table {
+        total = total.saturating_add(stated.length);
+    }
+    table.len() <= NAME_LIMIT && total <= LENGTH_LIMIT
+}
+
+/// Notes a length for a name where the table stays within the limits, and else leaves the table as it was. Answers
+/// whether it did.
+fn try_note(table: &mut Vec<Stated>, name: Name, length: u64) -> Result<bool, AllocError>
+    ensures allowed { IfOk result (λ noted. noted ≡ is_allowed (note table.old.items name length)) }
+    ensures noted { IfOk result (λ noted. noted ≡ true → table.new.items ≡ note table.old.items name length) }
+    ensures kept { IfOk result (λ noted. noted ≡ false → table.new.items ≡ table.old.items) }
+    ensures err { OnErr result (table.new.items ≡ table.old.items) }
+{
+    let Some(place) = place_of(table.as_slice(), &name) else {
+        table.push(Stated { name, length })?;
+        let within = is_within(table.as_slice());
+        if !within {
+            table.pop();
+        }
+        return Ok(within);
+    };
+    let before = table[place].length;
+    table[place].length = before.max(length);
+    let within = is_within(table.as_slice());
+    if !within {
+        table[place].length = before;
+    }
+    Ok(within)
+}
+
+/// The length that a sizes page states, of both files together.
+#[tactic(auto, unfolding(dq_base::specs::Applying::stated_main, dq_base::specs::Applying::stated_side))]
+fn length_in(sizes: &NumberedPage) -> u64
+    requires { stated_main sizes.now.page + stated_side sizes.now.page < 2 ^ 64 }
+    ensures { result ≡ stated_main sizes.now.page + stated_side sizes.now.page }
+{
+    let bytes = sizes.page.bytes();
+    LittleEndian::read_u64(bytes) + LittleEndian::read_u64(&bytes[8..])
+}
+
+/// The length that a command states for its database: that of the sizes page with which it commits, else 0.
+fn length_stated(command: &Command) -> u64
+    requires { stated_length command.now < 2 ^ 64 }
+    ensures { result ≡ stated_length command.now }
+{
+    match command {
+        Command::Frames {
+            commit: true,
+            pages,
+            ..
+        } => match pages.as_slice().last() {
+            Some(sizes) => length_in(sizes),
+            None => 0,
+        },
+        _ => 0,
+    }
+}
+
+fn name(command: &Command) -> &Name
+    ensures { result.now ≡ name_of command.now }
+{
+    match command {
+        Command::OpenDb { name } | Command::Frames { name, .. } => name,
+    }
+}
+
+/// A list of commands within its limits. Contracts see it as its commands.
+#[derive(Debug, Drop)]
+pub(crate) struct CommandList {
+    commands: Vec<Command>,
+    table: Vec<Stated>,
+}
+
+impl Model for CommandList {
+    ghost use Rattle.std.specs.Prelude.{◌≡◌, List};
+    ghost use Rattle.frame_commands.specs.declared.command.Command.{Command};
+    ghost use Rattle.cluster_runner.specs.Limits.{table_of};
+
+    ghost Value = { List Command };
+
+    ghost view = { λ l. l.commands.items };
+
+    ghost invariant = { λ l. l.table.items ≡ table_of l.commands.items };
+}
+
+impl CommandList {
+    ghost use Rattle.cluster_runner.specs.Limits.{may_join};
+
+    /// No commands.
+    pub fn new(alloc: Global) -> CommandList
+        ensures { result ≡ [] }
+    {
+        CommandList {
+            commands: Vec::new(alloc),
+            table: Vec::new(alloc),
+        }
+    }
+
+    /// The command at a place, if the list is so long.
+    pub fn get(&self, place: usize) -> Option<&Command>
+        ensures { option_copied result ≡ slice_get self.now place }
+    {
+        self.commands.get(place)
+    }
+
+    /// Adds a command where the limits allow it, and answers whether it did. After `Err`, which is want of memory, the
+    /// list is not to be used.
+    pub fn try_push(&mut self, alloc: Global, command: Command) -> Result<bool, AllocError>
+        requires { stated_length command < 2 ^ 64 }
+        ensures allowed { IfOk result (λ joined. joined ≡ may_join self.old command) }
+        ensures joined { IfOk result (λ joined. joined ≡ true → self.new ≡ self.old ++ command ∷ []) }
+        ensures refused { IfOk result (λ joined. joined ≡ false → self.new ≡ self.old) }
+    {
+        let length = length_stated(&command);
+        let name = name(&command).try_clone(alloc)?;
+        self.commands.push(command)?;
+        let noted = try_note(&mut self.table, name, length);
+        if !matches!(noted, Ok(true)) {
+            self.commands.pop();
+        }
+        noted
+    }
+}
