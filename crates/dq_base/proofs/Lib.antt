@@ -2,8 +2,10 @@ pub mod FileBytes
 pub mod PutPages
 pub mod ChangedPages
 pub mod ChangeLaw
-pub mod FaultLemmas
+pub mod PageFaults
 pub mod PageBytes
 pub mod SizesTests
 pub mod ChangeFaults
 pub mod Steps
+pub mod FaultLaws
+pub mod ContentLaws

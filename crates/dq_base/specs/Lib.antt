@@ -5,3 +5,6 @@ pub mod Images
 pub mod Changes
 pub mod Applying
 pub mod Names
+pub mod Calls
+pub mod Memory
+pub mod Edge

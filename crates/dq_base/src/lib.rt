@@ -3,26 +3,35 @@
 #![tactic(auto)]
 
 mod applying;
+mod calls;
 mod changes;
 mod faults;
 mod images;
 mod items;
+mod memory;
 mod names;
 mod page_fault;
 mod page_numbers;
 mod pages;
+mod reader;
 mod sink;
 mod source;
 #[cfg(test)]
 mod tests;
+mod tries;
+mod writer;
 
 pub use applying::{LONGEST_FILE, apply};
+pub use calls::Calls;
 pub use changes::{change_gives_image, change_has_no_fault};
 pub use faults::Failed;
 pub use images::{Image, page_at, page_count};
 pub use items::{Bytes, Items};
+pub use memory::{MemSink, MemSource};
 pub use names::Name;
 pub use page_fault::PageFault;
 pub use pages::{NumberedPage, PAGE_SIZE, Page, PageSet};
+pub use reader::ReadSource;
 pub use sink::Sink;
 pub use source::Source;
+pub use writer::WriteSink;

@@ -1,0 +1,5 @@
+pub mod Numbers
+pub mod Pieces
+pub mod Reading
+pub mod Printed
+pub mod Running

@@ -1,0 +1,6 @@
+pub mod Lines
+pub mod Grammar
+pub mod World
+pub mod Run
+pub mod Outcome
+pub mod Stops

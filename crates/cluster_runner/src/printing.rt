@@ -1,0 +1,67 @@
+//! Prints what was said.
+
+ghost use Rattle.std.specs.Prelude.{◌≡◌, ◌≤◌, IfOk, OnOk, OnErr, string_bytes};
+ghost use Rattle.std.specs.Io.KnownBytes.{Appends};
+ghost use Rattle.dq_base.specs.Faults.{Rose};
+ghost use Rattle.dq_base.specs.Sink.{AppendsFront};
+ghost use Rattle.cluster_runner.specs.Run.{printed_line, text_of};
+
+use crate::cluster::Say;
+use dq_base::{Failed, Sink};
+use std::alloc::{AllocError, Global};
+
+/// Why something could not be printed.
+#[derive(Clone, Copy, Debug, PartialEq, Eq)]
+pub(crate) enum PrintFault {
+    /// The sink failed.
+    Sink,
+    NoMemory,
+}
+
+impl From<Failed> for PrintFault {
+    ghost use Rattle.std.specs.Prelude.{◌≡◌};
+    ghost use Rattle.cluster_runner.specs.declared.printing.PrintFault.TheVariants.{Sink};
+
+    ghost from_gives = { λ _ e. e ≡ Sink };
+
+    fn from(_failed: Failed) -> PrintFault {
+        PrintFault::Sink
+    }
+}
+
+impl From<AllocError> for PrintFault {
+    ghost use Rattle.std.specs.Prelude.{◌≡◌};
+    ghost use Rattle.cluster_runner.specs.declared.printing.PrintFault.TheVariants.{NoMemory};
+
+    ghost from_gives = { λ _ e. e ≡ NoMemory };
+
+    fn from(_error: AllocError) -> PrintFault {
+        PrintFault::NoMemory
+    }
+}
+
+/// The line that is printed for what was said, with its LF.
+fn line_for(alloc: Global, say: &Say) -> Result<String, AllocError>
+    ensures { IfOk result (λ line. string_bytes line ≡ printed_line say.now) }
+{
+    match say {
+        Say::Reply { connection, bytes } => {
+            let digits = hex::encode(alloc, bytes.as_slice())?;
+            format!(in alloc; "reply {connection} {digits}\n")
+        }
+    }
+}
+
+/// Prints a line for each, in order. After `Err` a front of their text is printed.
+pub(crate) fn print<K: Sink>(alloc: Global, said: &[Say], sink: &mut K) -> Result<(), PrintFault>
+    ensures ok { OnOk result (Appends (K.written sink.old) (K.written sink.new) (text_of said.now)) }
+    ensures err { OnErr result (AppendsFront (K.written sink.old) (K.written sink.new) (text_of said.now)) }
+    ensures count { K.faults sink.old ≤ K.faults sink.new }
+    ensures cause { result ≡ Err PrintFault.Sink → Rose (K.faults sink.old) (K.faults sink.new) }
+{
+    for say in said {
+        let line = line_for(alloc, say)?;
+        sink.write_all(line.as_bytes())?;
+    }
+    Ok(())
+}

@@ -1,0 +1,224 @@
+//! Runs a script from its bytes to the text that it prints.
+
+ghost use Rattle.std.specs.Prelude.{◌≡◌, ◌+◌, ◌≤◌, ℕ, List, Option, Some, None, OnOk, OnErr, IfErr, IsErrOf, MatchBool, MatchResult};
+ghost use Rattle.std.specs.Io.KnownBytes.{Appends};
+ghost use Rattle.dq_base.specs.Faults.{Rose};
+ghost use Rattle.dq_base.specs.Sink.{AppendsFront};
+ghost use Rattle.cluster_runner.specs.declared.lines.TheConstants.{LINE_COUNT_LIMIT};
+ghost use Rattle.cluster_runner.specs.declared.cluster.Say.{Say};
+ghost use Rattle.cluster_runner.specs.Run.{Place, step, step_text, text_of, place_of};
+ghost use Rattle.cluster_runner.specs.Lines.{to_come};
+ghost use Rattle.cluster_runner.specs.Outcome.{Completes, Stopped, Ended, Reached};
+
+use crate::cluster::EventFault;
+use crate::lines::{LINE_COUNT_LIMIT, LineEnd, LineFault, LineReader};
+use crate::printing::{PrintFault, print};
+use crate::stage::Stage;
+use dq_base::{Failed, Sink, Source};
+use std::alloc::{AllocError, Global};
+
+/// How running a script ended.
+#[derive(Clone, Copy, Debug, PartialEq, Eq)]
+pub enum Outcome {
+    /// The script was read to its end and printed what it gives.
+    Done,
+    /// The first line that isn't in the grammar, or that names what isn't there, has this number, from 1.
+    Script(u64),
+    /// The source failed.
+    ReadFault,
+    /// The sink failed.
+    WriteFault,
+    /// There is not enough memory.
+    NoMemory,
+}
+
+/// Why a script stopped before its end.
+#[derive(Clone, Copy, Debug, PartialEq, Eq)]
+enum Stop {
+    Script(u64),
+    ReadFault,
+    WriteFault,
+    NoMemory,
+}
+
+impl From<LineFault> for Stop {
+    ghost use Rattle.cluster_runner.specs.Stops.{line_stop};
+
+    ghost from_gives = { λ fault stop. stop ≡ line_stop fault };
+
+    fn from(fault: LineFault) -> Stop {
+        match fault {
+            LineFault::Source => Stop::ReadFault,
+            LineFault::NoMemory => Stop::NoMemory,
+        }
+    }
+}
+
+impl From<PrintFault> for Stop {
+    ghost use Rattle.cluster_runner.specs.Stops.{print_stop};
+
+    ghost from_gives = { λ fault stop. stop ≡ print_stop fault };
+
+    fn from(fault: PrintFault) -> Stop {
+        match fault {
+            PrintFault::Sink => Stop::WriteFault,
+            PrintFault::NoMemory => Stop::NoMemory,
+        }
+    }
+}
+
+impl From<AllocError> for Stop {
+    ghost use Rattle.std.specs.Prelude.{◌≡◌};
+    ghost use Rattle.cluster_runner.specs.declared.run.Stop.TheVariants.{NoMemory};
+
+    ghost from_gives = { λ _ stop. stop ≡ NoMemory };
+
+    fn from(_error: AllocError) -> Stop {
+        Stop::NoMemory
+    }
+}
+
+/// Does what the line of this number says, and prints what was said then.
+fn run_line<K: Sink>(
+    alloc: Global,
+    stage: &mut Stage,
+    number: u64,
+    line: &[u8],
+    sink: &mut K,
+) -> Result<(), Stop>
+    requires { number ≤ LINE_COUNT_LIMIT }
+    ensures ok { OnOk result ((said : List Say) × (step (place_of stage.old) number line.now ≡ Some (place_of stage.new, said)) × Appends (K.written sink.old) (K.written sink.new) (text_of said)) }
+    ensures err { OnErr result (AppendsFront (K.written sink.old) (K.written sink.new) (step_text (place_of stage.old) number line.now)) }
+    ensures script { (n : ℕ) → IsErrOf result (Stop.Script n) → (n ≡ number) × (step (place_of stage.old) number line.now ≡ None) }
+    ensures read { IsErrOf result Stop.ReadFault → ⊥ }
+    ensures write { IsErrOf result Stop.WriteFault → Rose (K.faults sink.old) (K.faults sink.new) }
+    ensures count { K.faults sink.old ≤ K.faults sink.new }
+{
+    let said = match stage.take(alloc, number, line) {
+        Ok(said) => said,
+        Err(EventFault::NotThere) => return Err(Stop::Script(number)),
+        Err(EventFault::NoMemory) => return Err(Stop::NoMemory),
+    };
+    print(alloc, said.as_slice(), sink)?;
+    Ok(())
+}
+
+/// Reads the next line and does what it says. Answers whether the script may go on: it has ended where it may not.
+fn run_next<S: Source, K: Sink>(
+    alloc: Global,
+    lines: &mut LineReader,
+    stage: &mut Stage,
+    number: u64,
+    source: &mut S,
+    sink: &mut K,
+) -> Result<bool, Stop>
+    requires { number ≤ LINE_COUNT_LIMIT }
+    // From wherever the script came, it comes one line further, or it ends.
+    ensures goes { (first written : Option (List ℕ)) → Reached first (to_come lines.old (S.left source.old)) written (K.written sink.old) (place_of stage.old) number →
+        MatchResult result
+            (λ more. MatchBool more
+                (Reached first (to_come lines.new (S.left source.new)) written (K.written sink.new) (place_of stage.new) (number + 1))
+                (Completes first (S.left source.new) written (K.written sink.new)))
+            (λ stop. Stopped stop first (S.left source.new) written (K.written sink.new)) }
+    ensures read { IsErrOf result Stop.ReadFault → Rose (S.faults source.old) (S.faults source.new) }
+    ensures write { IsErrOf result Stop.WriteFault → Rose (K.faults sink.old) (K.faults sink.new) }
+    ensures source_count { S.faults source.old ≤ S.faults source.new }
+    ensures sink_count { K.faults sink.old ≤ K.faults sink.new }
+{
+    match lines.next_line(source)? {
+        LineEnd::Feed => {
+            run_line(alloc, stage, number, lines.line(), sink)?;
+            Ok(true)
+        }
+        LineEnd::Input => {
+            let line = lines.line();
+            if !line.is_empty() {
+                run_line(alloc, stage, number, line, sink)?;
+            }
+            Ok(false)
+        }
+        LineEnd::TooLong => Err(Stop::Script(number)),
+    }
+}
+
+/// Reads what stands behind the last line that a script may have: nothing may.
+fn run_past<S: Source>(lines: &mut LineReader, source: &mut S) -> Result<(), Stop>
+    ensures goes { (first written printed : Option (List ℕ)) (place : Place) → Reached first (to_come lines.old (S.left source.old)) written printed place (LINE_COUNT_LIMIT + 1) →
+        MatchResult result
+            (λ _. Completes first (S.left source.new) written printed)
+            (λ stop. Stopped stop first (S.left source.new) written printed) }
+    ensures read { IsErrOf result Stop.ReadFault → Rose (S.faults source.old) (S.faults source.new) }
+    ensures write { IsErrOf result Stop.WriteFault → ⊥ }
+    ensures source_count { S.faults source.old ≤ S.faults source.new }
+{
+    match lines.fill(source) {
+        Ok(false) => Ok(()),
+        Ok(true) => Err(Stop::Script(LINE_COUNT_LIMIT + 1)),
+        Err(Failed) => Err(Stop::ReadFault),
+    }
+}
+
+/// Runs the lines of a script in order, up to the first that isn't in the grammar.
+fn run_lines<S: Source, K: Sink>(
+    alloc: Global,
+    lines: &mut LineReader,
+    stage: &mut Stage,
+    source: &mut S,
+    sink: &mut K,
+) -> Result<(), Stop>
+    ensures goes { (first written : Option (List ℕ)) → Reached first (to_come lines.old (S.left source.old)) written (K.written sink.old) (place_of stage.old) 1 →
+        MatchResult result
+            (λ _. Completes first (S.left source.new) written (K.written sink.new))
+            (λ stop. Stopped stop first (S.left source.new) written (K.written sink.new)) }
+    ensures read { IsErrOf result Stop.ReadFault → Rose (S.faults source.old) (S.faults source.new) }
+    ensures write { IsErrOf result Stop.WriteFault → Rose (K.faults sink.old) (K.faults sink.new) }
+    ensures source_count { S.faults source.old ≤ S.faults source.new }
+    ensures sink_count { K.faults sink.old ≤ K.faults sink.new }
+{
+    for number in 1..=LINE_COUNT_LIMIT {
+        if !run_next(alloc, lines, stage, number, source, sink)? {
+            return Ok(());
+        }
+    }
+    run_past(lines, source)
+}
+
+/// Runs a script from its first line on.
+fn run<S: Source, K: Sink>(alloc: Global, source: &mut S, sink: &mut K) -> Result<(), Stop>
+    ensures ok { OnOk result (Completes (S.left source.old) (S.left source.new) (K.written sink.old) (K.written sink.new)) }
+    ensures err { IfErr result (λ stop. Stopped stop (S.left source.old) (S.left source.new) (K.written sink.old) (K.written sink.new)) }
+    ensures read { IsErrOf result Stop.ReadFault → Rose (S.faults source.old) (S.faults source.new) }
+    ensures write { IsErrOf result Stop.WriteFault → Rose (K.faults sink.old) (K.faults sink.new) }
+    ensures source_count { S.faults source.old ≤ S.faults source.new }
+    ensures sink_count { K.faults sink.old ≤ K.faults sink.new }
+{
+    let mut lines = LineReader::new(alloc)?;
+    let mut stage = Stage::Opening;
+    run_lines(alloc, &mut lines, &mut stage, source, sink)
+}
+
+/// Runs the script that the source gives, and prints to the sink what the script's run says.
+///
+/// The input is read in pieces; held are one piece, one line and a few bytes for each connection. It returns on every
+/// input: after a million lines, or within a line that is too long, it reads no further.
+///
+/// - `Done`: the script was read to its end, each line is in the grammar, and its text was printed.
+/// - `Script(line)`: that line is the first that isn't in the grammar or that names what isn't there; the text of the
+///   lines before it was printed.
+/// - `ReadFault`, `WriteFault`: the source, the sink failed; a front of the text that the bytes read so far give was
+///   printed. So it is after `NoMemory`, which alone has no cause in a count.
+pub fn run_script<S: Source, K: Sink>(alloc: Global, source: &mut S, sink: &mut K) -> Outcome
+    ensures ended { Ended result (S.left source.old) (S.left source.new) (K.written sink.old) (K.written sink.new) }
+    ensures read_fault { result ≡ Outcome.ReadFault → Rose (S.faults source.old) (S.faults source.new) }
+    ensures write_fault { result ≡ Outcome.WriteFault → Rose (K.faults sink.old) (K.faults sink.new) }
+    ensures source_count { S.faults source.old ≤ S.faults source.new }
+    ensures sink_count { K.faults sink.old ≤ K.faults sink.new }
+{
+    match run(alloc, source, sink) {
+        Ok(()) => Outcome::Done,
+        Err(Stop::Script(line)) => Outcome::Script(line),
+        Err(Stop::ReadFault) => Outcome::ReadFault,
+        Err(Stop::WriteFault) => Outcome::WriteFault,
+        Err(Stop::NoMemory) => Outcome::NoMemory,
+    }
+}

@@ -1,0 +1,192 @@
+ghost use Rattle.std.specs.Prelude.{◌≡◌, [], ◌↔◌, ◌++◌, min, take, drop, length, Some, IsErr, IsTrue, IfOk, OnOk, OnErr};
+ghost use Rattle.dq_base.specs.Faults.{HasCause};
+ghost use Rattle.dq_base.specs.Sink.{WriteAppends};
+ghost use Rattle.dq_base.specs.Source.{ReadMoves};
+ghost use Rattle.dq_base.specs.Calls.{no_calls, next_fails};
+ghost use Rattle.dq_base.specs.Memory.{after_read, after_write, after_failure};
+
+use crate::calls::Calls;
+use crate::faults::Failed;
+use crate::sink::Sink;
+use crate::source::Source;
+use std::alloc::Global;
+use std::marker::Model;
+
+/// A source of bytes that lie in memory. Some of its reads may be told to fail. No method takes memory.
+#[derive(Debug, Drop)]
+pub struct MemSource {
+    bytes: Vec<u8>,
+    at: usize,
+    calls: Calls,
+}
+
+impl Model for MemSource {
+    ghost use Rattle.std.specs.Prelude.{◌≤◌, drop, length};
+    ghost use Rattle.dq_base.specs.Memory.{InMemory};
+
+    ghost Value = { InMemory };
+
+    ghost view = { λ a. record { bytes = drop a.at a.bytes.items; calls = a.calls } };
+
+    ghost invariant = { λ a. a.at ≤ length a.bytes.items };
+}
+
+impl MemSource {
+    /// A source of these bytes, with no read made so far. `fails` lists the numbers, from 1, of the reads that are
+    /// to fail.
+    pub fn new(bytes: Vec<u8>, fails: Vec<u64>) -> MemSource
+        ensures { result ≡ record { bytes = bytes.items; calls = no_calls fails.items } }
+    {
+        MemSource {
+            bytes,
+            at: 0,
+            calls: Calls::new(fails),
+        }
+    }
+
+    /// The bytes that are left.
+    pub fn left(&self) -> &[u8]
+        ensures { result.now ≡ self.now.bytes }
+    {
+        &self.bytes[self.at..]
+    }
+
+    /// How many reads failed.
+    pub fn faults(&self) -> u64
+        ensures { result ≡ self.now.calls.faults }
+    {
+        self.calls.faults()
+    }
+}
+
+impl Source for MemSource {
+    ghost left = { λ source. Some source.bytes };
+
+    ghost faults = { λ source. source.calls.faults };
+
+    /// Moves as many bytes as are left and fit. It fails exactly where the call is one that is to fail, and leaves
+    /// the bytes and the buffer as they were.
+    fn read(&mut self, into: &mut [u8]) -> Result<usize, Failed>
+        ensures bytes { ReadMoves (Some self.old.bytes) (Some self.new.bytes) into.new result }
+        ensures cause { HasCause self.old.calls.faults self.new.calls.faults result }
+        ensures failing { IsErr result ↔ IsTrue (next_fails self.old.calls) }
+        ensures count { IfOk result (λ n. n ≡ min (length into.old) (length self.old.bytes)) }
+        ensures ok { IfOk result (λ n. self.new ≡ after_read self.old n) }
+        ensures buffer { IfOk result (λ n. into.new ≡ take n self.old.bytes ++ drop n into.old) }
+        ensures err { OnErr result (self.new ≡ after_failure self.old) }
+        ensures kept { OnErr result (into.new ≡ into.old) }
+    {
+        self.calls.start()?;
+        let rest = &self.bytes[self.at..];
+        let count = rest.len().min(into.len());
+        into[..count].copy_from_slice(&rest[..count]);
+        self.at += count;
+        Ok(count)
+    }
+}
+
+/// A sink that keeps what is written in memory. Some of its writes may be told to fail, and a write for which memory
+/// runs out fails too.
+#[derive(Debug, Drop)]
+pub struct MemSink {
+    bytes: Vec<u8>,
+    calls: Calls,
+}
+
+impl Model for MemSink {
+    ghost use Rattle.dq_base.specs.Memory.{InMemory};
+
+    ghost Value = { InMemory };
+
+    ghost view = { λ a. record { bytes = a.bytes.items; calls = a.calls } };
+}
+
+impl MemSink {
+    /// A sink that holds nothing, with no write made so far. It takes memory from `alloc` as it grows, and none here.
+    /// `fails` lists the numbers, from 1, of the writes that are to fail.
+    pub fn new(alloc: Global, fails: Vec<u64>) -> MemSink
+        ensures { result ≡ record { bytes = []; calls = no_calls fails.items } }
+    {
+        MemSink {
+            bytes: Vec::new(alloc),
+            calls: Calls::new(fails),
+        }
+    }
+
+    /// The bytes that were written.
+    pub fn bytes(&self) -> &[u8]
+        ensures { result.now ≡ self.now.bytes }
+    {
+        self.bytes.as_slice()
+    }
+
+    /// How many writes failed.
+    pub fn faults(&self) -> u64
+        ensures { result ≡ self.now.calls.faults }
+    {
+        self.calls.faults()
+    }
+}
+
+impl Sink for MemSink {
+    ghost written = { λ sink. Some sink.bytes };
+
+    ghost faults = { λ sink. sink.calls.faults };
+
+    /// Appends the bytes. It fails where the call is one that is to fail, and where memory runs out, and then appends
+    /// nothing.
+    fn write_all(&mut self, bytes: &[u8]) -> Result<(), Failed>
+        ensures bytes { WriteAppends (Some self.old.bytes) (Some self.new.bytes) bytes.now result }
+        ensures cause { HasCause self.old.calls.faults self.new.calls.faults result }
+        ensures failing { IsTrue (next_fails self.old.calls) → IsErr result }
+        ensures ok { OnOk result (self.new ≡ after_write self.old bytes.now) }
+        ensures err { OnErr result (self.new ≡ after_failure self.old) }
+    {
+        self.calls.start()?;
+        match self.bytes.extend_from_slice(bytes) {
+            Ok(()) => Ok(()),
+            Err(_) => Err(self.calls.fail()),
+        }
+    }
+}
+
+#[cfg(test)]
+mod tests {
+    use super::*;
+    use std::test::Fail;
+
+    #[test]
+    fn a_source_gives_pieces_and_fails_where_told(rt: HostRuntime) -> Result<(), Fail> {
+        let bytes = vec![in rt.alloc(); 1, 2, 3, 4, 5, 6, 7, 8]?;
+        let mut source = MemSource::new(bytes, vec![in rt.alloc(); 1, 4]?);
+        let mut into = [0u8; 3];
+        // What each read of three bytes answers, and then the buffer, how many bytes are left, and the faults.
+        let wanted = [
+            (Err(Failed), [0, 0, 0], 8, 1),
+            (Ok(3), [1, 2, 3], 5, 1),
+            (Ok(3), [4, 5, 6], 2, 1),
+            (Err(Failed), [4, 5, 6], 2, 2),
+            (Ok(2), [7, 8, 6], 0, 2),
+            (Ok(0), [7, 8, 6], 0, 2),
+        ];
+        for (answer, buffer, left, faults) in wanted {
+            assert_eq!(rt; source.read(&mut into), answer);
+            assert_eq!(rt; into, buffer);
+            assert_eq!(rt; source.left().len(), left);
+            assert_eq!(rt; source.faults(), faults);
+        }
+        Ok(())
+    }
+
+    #[test]
+    fn a_sink_keeps_what_did_not_fail(rt: HostRuntime) -> Result<(), Fail> {
+        let mut sink = MemSink::new(rt.alloc(), vec![in rt.alloc(); 2]?);
+        assert_eq!(rt; sink.write_all(b"one"), Ok(()));
+        assert_eq!(rt; sink.write_all(b"two"), Err(Failed));
+        assert_eq!(rt; sink.bytes(), b"one".as_slice());
+        assert_eq!(rt; sink.write_all(b"three"), Ok(()));
+        assert_eq!(rt; sink.bytes(), b"onethree".as_slice());
+        assert_eq!(rt; sink.faults(), 1);
+        Ok(())
+    }
+}

@@ -1,0 +1,4 @@
+pub mod Items
+pub mod Reading
+pub mod Message
+pub mod Writing

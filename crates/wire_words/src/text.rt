@@ -1,0 +1,42 @@
+ghost use Rattle.std.specs.Prelude.{◌≡◌, IsUtf8, string_bytes};
+
+use std::marker::Model;
+
+/// A text of the wire: UTF-8, which clauses see as its bytes. It may hold a NUL; the calls that write a text to the
+/// wire demand one without.
+#[derive(Debug, Drop)]
+pub struct WireText {
+    inner: String,
+}
+
+impl Model for WireText {
+    ghost use Rattle.std.specs.Prelude.{ℕ, List, string_bytes};
+
+    ghost Value = { List ℕ };
+
+    ghost view = { λ a. string_bytes a.inner };
+}
+
+impl WireText {
+    /// A text of these characters. Takes no memory.
+    pub fn new(text: String) -> WireText
+        ensures { result ≡ string_bytes text }
+    {
+        WireText { inner: text }
+    }
+
+    /// The text, borrowed.
+    pub fn as_str(&self) -> &str
+        ensures same { result.now ≡ self.now }
+        ensures utf8 { IsUtf8 self.now }
+    {
+        self.inner.as_str()
+    }
+
+    /// Gives the string back. Takes no memory.
+    pub fn into_string(self) -> String
+        ensures { string_bytes result ≡ self }
+    {
+        self.inner
+    }
+}

@@ -1,0 +1,110 @@
+ghost use Rattle.std.specs.Prelude.{◌≡◌, ◌<◌, ◌≤◌, ◌↔◌, ◌∷◌, ◌++◌, ℕ, List, [], length, IfOk, IsErr};
+ghost use Rattle.wire_words.specs.Items.{word, text, HasNoNul, gap};
+ghost use Rattle.wire_words.specs.Message.{header, message, counted, words_after_header};
+ghost use Rattle.wire_words.specs.Writing.{AppendsOrKeeps};
+
+use crate::WireBytes;
+use byteorder::{ByteOrder, LittleEndian};
+use std::alloc::{AllocError, Global};
+use std::marker::Model;
+
+/// Writes the items of a body, or of a whole message, one after the other. Clauses see the bytes written so far. A call
+/// that finds no memory leaves them as they were.
+#[derive(Debug, Drop)]
+pub struct Writer {
+    out: Vec<u8>,
+}
+
+impl Model for Writer {
+    ghost use Rattle.std.specs.Prelude.{ℕ, List};
+
+    ghost Value = { List ℕ };
+
+    ghost view = { λ w. w.out.items };
+}
+
+const ZEROS: [u8; 8] = [0; 8];
+
+// How many bytes fill this many up to a whole word.
+fn filling(len: usize) -> usize
+    ensures { result ≡ gap len }
+{
+    let over = len % 8;
+    if over == 0 { 0 } else { 8 - over }
+}
+
+impl Writer {
+    /// A writer that has written nothing. Takes no memory.
+    pub fn new(alloc: Global) -> Writer
+        ensures { result ≡ [] }
+    {
+        Writer {
+            out: Vec::new(alloc),
+        }
+    }
+
+    /// Writes a number of 64 bits.
+    pub fn word(&mut self, value: u64) -> Result<(), AllocError>
+        ensures { AppendsOrKeeps self.old self.new (word value) result }
+    {
+        let mut bytes = [0; 8];
+        LittleEndian::write_u64(&mut bytes, value);
+        self.out.extend_from_slice(&bytes)
+    }
+
+    // Appends all of both, or nothing.
+    fn both(&mut self, front: &[u8], back: &[u8]) -> Result<(), AllocError>
+        ensures { AppendsOrKeeps self.old self.new (front.now ++ back.now) result }
+    {
+        let start = self.out.len();
+        self.out.extend_from_slice(front)?;
+        let finished = self.out.extend_from_slice(back);
+        if finished.is_err() {
+            self.out.truncate(start);
+        }
+        finished
+    }
+
+    /// Writes a text: its UTF-8, one NUL, and zeros to a whole word.
+    pub fn text(&mut self, content: &str) -> Result<(), AllocError>
+        requires { HasNoNul content.now }
+        ensures { AppendsOrKeeps self.old self.new (text content.now) result }
+    {
+        let bytes = content.as_bytes();
+        let over = bytes.len() % 8;
+        self.both(bytes, &ZEROS[over..])
+    }
+
+    /// Writes the header of a message whose count of words is still 0; `finish_message` writes that count.
+    pub fn header(&mut self, kind: u8, schema: u8) -> Result<(), AllocError>
+        ensures { AppendsOrKeeps self.old self.new (header 0 kind schema) result }
+    {
+        self.out
+            .extend_from_slice(&[0, 0, 0, 0, kind, schema, 0, 0])
+    }
+
+    /// What was written. Takes no memory.
+    pub fn finish(self) -> WireBytes
+        ensures { result ≡ self }
+    {
+        WireBytes::new(self.out)
+    }
+
+    /// What was written, with the count of the words after the first eight bytes in the first four of them. An error
+    /// comes exactly where that count is more than 4,294,967,295. Takes no memory.
+    pub fn finish_message(self) -> Result<WireBytes, AllocError>
+        requires { 8 ≤ length self }
+        ensures counted { IfOk result (λ bytes. bytes ≡ counted self) }
+        ensures message { (kind schema : ℕ) (body : List ℕ) → self ≡ header 0 kind schema ++ body →
+            IfOk result (λ bytes. bytes ≡ message kind schema body) }
+        ensures many { IsErr result ↔ (4294967295 < words_after_header self) }
+    {
+        let words = (self.out.len() - 8) / 8;
+        let Ok(words) = u32::try_from(words) else {
+            return Err(AllocError);
+        };
+        let mut out = self.out;
+        LittleEndian::write_u32(&mut out, words);
+        Ok(WireBytes::new(out))
+    }
+}
