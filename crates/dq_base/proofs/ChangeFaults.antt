@@ -14,7 +14,7 @@ use Rattle.dq_base.specs.Changes.{changed_page, changed_from, numbers_above_one,
 use Rattle.dq_base.specs.Applying.{stated_main, stated_side, longest_file, is_sizes, order_fault, length_fault, page_fault}
 use Rattle.dq_base.proofs.ChangedPages.{numbered, page_at_is, changed_from_all}
 use Rattle.dq_base.proofs.ChangeLaw.{stated_main-sizes_page, stated_side-sizes_page, changed_is}
-use Rattle.dq_base.proofs.FaultLemmas.{page_fault-push, later_fault, earlier_none}
+use Rattle.dq_base.proofs.PageFaults.{page_fault-push, later_fault, earlier_none}
 use Rattle.dq_base.proofs.SizesTests.{zeros_past_lengths, is_sizes-true}
 
 -- ---- the sizes page of an image

@@ -14,7 +14,7 @@ use Rattle.dq_base.specs.Changes.{same_image, changed_from, numbers_above_one, s
 use Rattle.dq_base.specs.Applying.{stated_main, stated_side, put_pages, applied_with, applied}
 use Rattle.dq_base.proofs.FileBytes.{length-zeros, length-resized, get_or-resized, length-page_from, get_or-page_from}
 use Rattle.dq_base.proofs.PutPages.{SomeOf, SomeOf-append_left, All-append, Shows, Covers, length-put_pages, get_or-put_pages}
-use Rattle.dq_base.proofs.FaultLemmas.{last_page-push}
+use Rattle.dq_base.proofs.PageFaults.{last_page-push}
 use Rattle.dq_base.proofs.ChangedPages.{numbered, page_at_inside, page_at_is, changed_from_all, changed_from_some}
 
 -- ---- the sizes page

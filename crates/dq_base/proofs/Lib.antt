@@ -4,7 +4,7 @@ pub mod FileBytes
 pub mod PutPages
 pub mod ChangedPages
 pub mod ChangeLaw
-pub mod FaultLemmas
+pub mod PageFaults
 pub mod PageBytes
 pub mod SizesTests
 pub mod ChangeFaults

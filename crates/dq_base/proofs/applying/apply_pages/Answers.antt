@@ -1,7 +1,7 @@
 use Rattle.std.proofs.Common.{◌≡◌, ◌∙◌, ap, sym, Some}
 use Rattle.std.proofs.lemmas.Result.{err_from_is_err_and}
 use Rattle.dq_base.specs.Applying.{page_fault}
-use Rattle.dq_base.proofs.FaultLemmas.{page_fault-refuses}
+use Rattle.dq_base.proofs.PageFaults.{page_fault-refuses}
 use Rattle.dq_base.proofs.applying.apply_pages.Goals as goal
 
 pub returns-in_err-lengths-clause-refused : goal.returns-in_err-lengths-clause-refused

@@ -2,7 +2,7 @@ use Rattle.std.proofs.Common.{◌≡◌, ◌∙◌, ℕ, List, Some, None, refl}
 use Rattle.std.proofs.lemmas.Result.{err_from_is_err_and}
 use Rattle.dq_base.specs.declared.pages.NumberedPage.{NumberedPage}
 use Rattle.dq_base.specs.Applying.{page_fault, order_fault, length_fault, stated_main, stated_side, StateLengths}
-use Rattle.dq_base.proofs.FaultLemmas.{page_fault-push, StateLengths-push, no_pages, no_sizes, later_fault, earlier_some, earlier_none}
+use Rattle.dq_base.proofs.PageFaults.{page_fault-push, StateLengths-push, no_pages, no_sizes, later_fault, earlier_some, earlier_none}
 use Rattle.dq_base.proofs.applying.lengths_of.Goals as goal
 
 pub returns-in_default : goal.returns-in_default
