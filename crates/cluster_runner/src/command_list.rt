@@ -1,7 +1,8 @@
 //! The list of commands that machines apply, within its limits.
 
-ghost use Rattle.std.specs.Prelude.{◌≡◌, ◌<◌, ◌+◌, ◌^◌, ◌++◌, ◌∷◌, [], length, slice_get, IfOk, OnErr, MatchOption, true, false, option_copied};
+ghost use Rattle.std.specs.Prelude.{◌≡◌, ◌<◌, ◌+◌, ◌^◌, ◌++◌, ◌∷◌, [], length, vec_len, set, get_or, slice_get, IfOk, OnErr, MatchOption, true, false, option_copied};
 ghost use Rattle.dq_base.specs.Applying.{stated_main, stated_side, last_page};
+ghost use Rattle.cluster_runner.specs.declared.stated.Stated.{Stated};
 ghost use Rattle.cluster_runner.specs.Limits.{name_of, stated_length, note, is_allowed, IsNotedAt, IsNew};
 
 use crate::stated::Stated;
@@ -41,6 +42,15 @@ fn is_within(table: &[Stated]) -> bool
     table.len() <= NAME_LIMIT && total <= LENGTH_LIMIT
 }
 
+/// Gives the entry at a place another length.
+fn put_length(table: &mut Vec<Stated>, place: usize, size: u64)
+    requires { place < vec_len table.old }
+    ensures { (s : Stated) → table.new.items ≡ set table.old.items place (record { name = (get_or table.old.items place s).name; length = size }) }
+{
+    let stated = &mut table[place];
+    stated.length = size;
+}
+
 /// Notes a length for a name where the table stays within the limits, and else leaves the table as it was. Answers
 /// whether it did.
 fn try_note(table: &mut Vec<Stated>, name: Name, length: u64) -> Result<bool, AllocError>
@@ -58,10 +68,10 @@ fn try_note(table: &mut Vec<Stated>, name: Name, length: u64) -> Result<bool, Al
         return Ok(within);
     };
     let before = table[place].length;
-    table[place].length = before.max(length);
+    put_length(table, place, before.max(length));
     let within = is_within(table.as_slice());
     if !within {
-        table[place].length = before;
+        put_length(table, place, before);
     }
     Ok(within)
 }
