@@ -9,7 +9,7 @@ use Rattle.std.specs.Fmt.{decimal}
 use Rattle.hex.specs.Hex.{decode_of}
 use Rattle.cluster_runner.specs.declared.lines.TheConstants.{LINE_LIMIT}
 use Rattle.cluster_runner.specs.declared.grammar.Event.{Event}
-use Rattle.cluster_runner.specs.declared.grammar.Event.TheVariants.{Timeout, Connect, Bytes}
+use Rattle.cluster_runner.specs.declared.grammar.Event.TheVariants.{Timeout, Connect, Bytes, Put, Take}
 use Rattle.cluster_runner.specs.declared.grammar.ScriptLine.{ScriptLine}
 use Rattle.cluster_runner.specs.declared.grammar.ScriptLine.TheVariants as says
 
@@ -63,14 +63,23 @@ abbrev pub or_else : {A : Type 0} → Option (List ℕ) → (List ℕ → Option
 or_else None f other = other
 or_else (Some text) f other = f text
 
--- a line of words, each behind one space
+-- a line that has something happen: words, each behind one space
+unfoldable pub event_line : List ℕ → Option ScriptLine
+event_line line =
+    or_else (behind (codes "timeout ") line) (λ text. option_map (λ n. says.Event (Timeout n)) (number text))
+    (or_else (behind (codes "connect ") line) connect_of
+    (or_else (behind (codes "bytes ") line) bytes_of
+    (or_else (behind (codes "put ") line) (λ text. option_map (λ bytes. says.Event (Put bytes)) (hex_bytes text))
+    (or_else (behind (codes "take ") line) (λ text. option_map (λ n. says.Event (Take n)) (number text))
+    None))))
+
+-- a line of words
 unfoldable pub words_line : List ℕ → Option ScriptLine
 words_line line =
     or_else (behind (codes "nodes ") line) (λ text. option_map says.Nodes (number text))
-    (or_else (behind (codes "timeout ") line) (λ text. option_map (λ n. says.Event (Timeout n)) (number text))
-    (or_else (behind (codes "connect ") line) connect_of
-    (or_else (behind (codes "bytes ") line) bytes_of
-    None)))
+    (or_else (behind (codes "pages ") line) (λ text. option_map says.Pages (number text))
+    (or_else (behind (codes "show ") line) (λ text. option_map says.Show (number text))
+    (event_line line)))
 
 -- ASCII, and no longer than a line may be
 abbrev pub is_fit : List ℕ → Bool

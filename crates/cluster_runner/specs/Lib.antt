@@ -1,7 +1,12 @@
 pub mod Lines
 pub mod Grammar
 pub mod World
+pub mod Holding
+pub mod Digest
+pub mod Machines
+pub mod Scenes
 pub mod Run
+pub mod Steps
 pub mod Outcome
 pub mod Stops
 pub mod Machine

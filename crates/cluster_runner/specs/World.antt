@@ -12,10 +12,11 @@ use Rattle.wire_msgs.specs.Reading.{request_of}
 use Rattle.cluster_runner.specs.declared.cluster.Client.{Client}
 use Rattle.cluster_runner.specs.declared.cluster.Client.TheVariants.{Connected, Greeted}
 use Rattle.cluster_runner.specs.declared.cluster.Say.{Say}
-use Rattle.cluster_runner.specs.declared.cluster.Say.TheVariants.{Reply}
+use Rattle.cluster_runner.specs.declared.cluster.Say.TheVariants.{Reply, Node}
 use Rattle.cluster_runner.specs.declared.cluster.Cluster.{Cluster}
 use Rattle.cluster_runner.specs.declared.grammar.Event.{Event}
-use Rattle.cluster_runner.specs.declared.grammar.Event.TheVariants.{Timeout, Connect, Bytes}
+use Rattle.cluster_runner.specs.declared.grammar.Event.TheVariants.{Timeout, Connect, Bytes, Put, Take}
+use Rattle.cluster_runner.specs.Digest.{digest}
 
 -- node 1, the only voter: whether it leads, and how far each client is
 pub record World : Type 0 where
@@ -67,6 +68,12 @@ happens world (Bytes connection bytes) =
     if is_silent (world.clients connection) && greets bytes
     then Some (record { leads = world.leads; clients = put world.clients connection Greeted }, Reply connection (response_bytes (leader_known world.leads)) ∷ [])
     else None
+happens world (Put bytes) = None
+happens world (Take machine) = None
+
+-- how the node stands: as leader of term 1 it has applied the entry with which its term began, and no files are there
+abbrev pub node_standing : World → Say
+node_standing world = if world.leads then Node 1 1 true 1 (digest []) else Node 1 0 false 0 (digest [])
 
 -- the world that the runner keeps
 abbrev pub world_of : Cluster → World

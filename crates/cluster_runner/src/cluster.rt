@@ -4,6 +4,7 @@ ghost use Rattle.std.specs.Prelude.{◌≡◌, [], ◌∷◌, Some, None, IfOk, 
 ghost use Rattle.wire_msgs.specs.Responses.{response_bytes};
 ghost use Rattle.cluster_runner.specs.World.{asks_leader, greets, leader_known};
 
+use crate::digest::digest;
 use crate::grammar::Event;
 use byteorder::{ByteOrder, LittleEndian};
 use dq_base::Bytes;
@@ -29,6 +30,22 @@ pub(crate) enum Client {
 pub enum Say {
     /// A whole response to the client of a connection.
     Reply { connection: u32, bytes: WireBytes },
+    /// Bytes were no command, or the list of commands could not take it.
+    Refused,
+    /// How a node stands: its term, whether it leads, the index that it has applied, and the SHA-256 of its files.
+    Node {
+        node: u32,
+        term: u64,
+        leads: bool,
+        applied: u64,
+        digest: [u8; 32],
+    },
+    /// How a machine stands: how many commands it has applied, and the SHA-256 of its files.
+    Machine {
+        number: u32,
+        applied: u64,
+        digest: [u8; 32],
+    },
 }
 
 /// Why an event could not happen.
@@ -116,7 +133,7 @@ fn server_response(alloc: Global, leads: bool) -> Result<WireBytes, AllocError>
 }
 
 impl Cluster {
-    ghost use Rattle.cluster_runner.specs.World.{fresh, happens, is_silent, world_of};
+    ghost use Rattle.cluster_runner.specs.World.{fresh, happens, is_silent, node_standing, world_of};
 
     /// The node, started, and no client.
     pub fn new(alloc: Global) -> Cluster
@@ -190,7 +207,23 @@ impl Cluster {
                 let reply = self.greet(alloc, connection, bytes.as_slice())?;
                 said.push(reply)?;
             }
+            Event::Put { .. } | Event::Take { .. } => return Err(EventFault::NotThere),
         }
         Ok(said)
+    }
+
+    /// How the node stands. As leader it has applied the entry with which its term began; no files are there.
+    pub fn standing(&self, alloc: Global) -> Result<Say, AllocError>
+        ensures { IfOk result (λ say. say ≡ node_standing (world_of self.now)) }
+    {
+        let digest = digest(alloc, &[])?;
+        let index = self.leads as u64;
+        Ok(Say::Node {
+            node: 1,
+            term: index,
+            leads: self.leads,
+            applied: index,
+            digest,
+        })
     }
 }

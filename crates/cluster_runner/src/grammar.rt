@@ -3,7 +3,7 @@
 ghost use Rattle.std.specs.Prelude.{◌≡◌, ◌==◌, ◌<◌, ◌↔◌, length, nat_lt, position, IfOk, IfSome, IsTrue};
 ghost use Rattle.std.specs.Option.{option_map};
 ghost use Rattle.std.specs.List.{list_all};
-ghost use Rattle.cluster_runner.specs.Grammar.{IsPlain, number, hex_bytes, halves, connect_of, bytes_of, words_line, is_fit, is_blank, line_of};
+ghost use Rattle.cluster_runner.specs.Grammar.{IsPlain, number, hex_bytes, halves, connect_of, bytes_of, event_line, words_line, is_fit, is_blank, line_of};
 
 use crate::lines::LINE_LIMIT;
 use dq_base::Bytes;
@@ -19,6 +19,10 @@ pub enum Event {
     Connect { node: u32, connection: u32 },
     /// A client sends bytes on its connection.
     Bytes { connection: u32, bytes: Bytes },
+    /// Bytes that may be a command go to the list that machines apply.
+    Put { bytes: Bytes },
+    /// A machine applies the next command of the list.
+    Take { machine: u32 },
 }
 
 /// What one line of a script says.
@@ -28,6 +32,10 @@ pub enum ScriptLine {
     Blank,
     /// The mode line of a cluster of nodes, and how many of them vote.
     Nodes { voters: u32 },
+    /// The mode line of machines that apply one list of commands, and how many there are.
+    Pages { machines: u32 },
+    /// A node or machine is to be shown.
+    Show { number: u32 },
     /// An event.
     Event(Event),
 }
@@ -117,14 +125,19 @@ fn bytes_in(alloc: Global, text: &[u8]) -> Result<Option<ScriptLine>, AllocError
     Ok(Some(ScriptLine::Event(Event::Bytes { connection, bytes })))
 }
 
-/// A line of words, each behind one space.
-#[tactic(auto, unfolding(crate::specs::Grammar::words_line))]
-fn words_in(alloc: Global, line: &[u8]) -> Result<Option<ScriptLine>, AllocError>
-    ensures { IfOk result (λ said. said ≡ words_line line.now) }
+/// `put HEX`, behind its first word.
+fn put_in(alloc: Global, digits: &[u8]) -> Result<Option<ScriptLine>, AllocError>
+    ensures { IfOk result (λ line. line ≡ option_map (λ bytes. ScriptLine.Event (Event.Put bytes)) (hex_bytes digits.now)) }
 {
-    if let Some(text) = line.strip_prefix(b"nodes ") {
-        return Ok(number_in(text).map(|voters| ScriptLine::Nodes { voters }));
-    }
+    let bytes = hex_in(alloc, digits)?;
+    Ok(bytes.map(|bytes| ScriptLine::Event(Event::Put { bytes })))
+}
+
+/// A line that has something happen: words, each behind one space.
+#[tactic(auto, unfolding(crate::specs::Grammar::event_line))]
+fn event_in(alloc: Global, line: &[u8]) -> Result<Option<ScriptLine>, AllocError>
+    ensures { IfOk result (λ said. said ≡ event_line line.now) }
+{
     if let Some(text) = line.strip_prefix(b"timeout ") {
         return Ok(number_in(text).map(|node| ScriptLine::Event(Event::Timeout { node })));
     }
@@ -134,7 +147,30 @@ fn words_in(alloc: Global, line: &[u8]) -> Result<Option<ScriptLine>, AllocError
     if let Some(text) = line.strip_prefix(b"bytes ") {
         return bytes_in(alloc, text);
     }
+    if let Some(text) = line.strip_prefix(b"put ") {
+        return put_in(alloc, text);
+    }
+    if let Some(text) = line.strip_prefix(b"take ") {
+        return Ok(number_in(text).map(|machine| ScriptLine::Event(Event::Take { machine })));
+    }
     Ok(None)
+}
+
+/// A line of words.
+#[tactic(auto, unfolding(crate::specs::Grammar::words_line))]
+fn words_in(alloc: Global, line: &[u8]) -> Result<Option<ScriptLine>, AllocError>
+    ensures { IfOk result (λ said. said ≡ words_line line.now) }
+{
+    if let Some(text) = line.strip_prefix(b"nodes ") {
+        return Ok(number_in(text).map(|voters| ScriptLine::Nodes { voters }));
+    }
+    if let Some(text) = line.strip_prefix(b"pages ") {
+        return Ok(number_in(text).map(|machines| ScriptLine::Pages { machines }));
+    }
+    if let Some(text) = line.strip_prefix(b"show ") {
+        return Ok(number_in(text).map(|number| ScriptLine::Show { number }));
+    }
+    event_in(alloc, line)
 }
 
 /// Whether all bytes are ASCII.

@@ -4,11 +4,14 @@
 mod cluster;
 mod command_list;
 mod database;
+mod digest;
 mod grammar;
 mod lines;
 mod machine;
+mod machines;
 mod printing;
 mod run;
+mod scene;
 mod stage;
 mod stated;
 

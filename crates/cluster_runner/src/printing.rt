@@ -4,7 +4,7 @@ ghost use Rattle.std.specs.Prelude.{◌≡◌, ◌≤◌, IfOk, OnOk, OnErr, str
 ghost use Rattle.std.specs.Io.KnownBytes.{Appends};
 ghost use Rattle.dq_base.specs.Faults.{Rose};
 ghost use Rattle.dq_base.specs.Sink.{AppendsFront};
-ghost use Rattle.cluster_runner.specs.Run.{printed_line, text_of};
+ghost use Rattle.cluster_runner.specs.Run.{role, printed_line, text_of};
 
 use crate::cluster::Say;
 use dq_base::{Failed, Sink};
@@ -40,6 +40,13 @@ impl From<AllocError> for PrintFault {
     }
 }
 
+/// The role of a node that leads, or doesn't.
+fn role_name(leads: bool) -> &'static str
+    ensures { result.now ≡ role leads }
+{
+    if leads { "leader" } else { "follower" }
+}
+
 /// The line that is printed for what was said, with its LF.
 fn line_for(alloc: Global, say: &Say) -> Result<String, AllocError>
     ensures { IfOk result (λ line. string_bytes line ≡ printed_line say.now) }
@@ -48,6 +55,26 @@ fn line_for(alloc: Global, say: &Say) -> Result<String, AllocError>
         Say::Reply { connection, bytes } => {
             let digits = hex::encode(alloc, bytes.as_slice())?;
             format!(in alloc; "reply {connection} {digits}\n")
+        }
+        Say::Refused => String::from_str(alloc, "refused\n"),
+        Say::Node {
+            node,
+            term,
+            leads,
+            applied,
+            digest,
+        } => {
+            let role = role_name(*leads);
+            let digits = hex::encode(alloc, digest.as_slice())?;
+            format!(in alloc; "node {node} term {term} role {role} applied {applied} files {digits}\n")
+        }
+        Say::Machine {
+            number,
+            applied,
+            digest,
+        } => {
+            let digits = hex::encode(alloc, digest.as_slice())?;
+            format!(in alloc; "node {number} applied {applied} files {digits}\n")
         }
     }
 }

@@ -1,19 +1,19 @@
 //! Runs a script from its bytes to the text that it prints.
 
-ghost use Rattle.std.specs.Prelude.{◌≡◌, ◌+◌, ◌≤◌, ℕ, List, Option, Some, None, OnOk, OnErr, IfErr, IsErrOf, MatchBool, MatchResult};
+ghost use Rattle.std.specs.Prelude.{◌≡◌, ◌+◌, ◌≤◌, ℕ, List, Option, Some, None, Ok, Err, OnOk, OnErr, IfErr, IsErrOf, MatchBool, MatchResult};
 ghost use Rattle.std.specs.Io.KnownBytes.{Appends};
 ghost use Rattle.dq_base.specs.Faults.{Rose};
 ghost use Rattle.dq_base.specs.Sink.{AppendsFront};
 ghost use Rattle.cluster_runner.specs.declared.lines.TheConstants.{LINE_COUNT_LIMIT};
 ghost use Rattle.cluster_runner.specs.declared.cluster.Say.{Say};
-ghost use Rattle.cluster_runner.specs.Run.{Place, step, step_text, text_of, place_of};
+ghost use Rattle.cluster_runner.specs.Run.{Place, Fault, step, step_text, text_of, closing, place_of};
 ghost use Rattle.cluster_runner.specs.Lines.{to_come};
-ghost use Rattle.cluster_runner.specs.Outcome.{Completes, Stopped, Ended, Reached};
+ghost use Rattle.cluster_runner.specs.Stops.{fault_of};
+ghost use Rattle.cluster_runner.specs.Outcome.{Completes, Stopped, Ended, Reached, ReadWhole};
 
-use crate::cluster::EventFault;
 use crate::lines::{LINE_COUNT_LIMIT, LineEnd, LineFault, LineReader};
 use crate::printing::{PrintFault, print};
-use crate::stage::Stage;
+use crate::stage::{Stage, StepFault};
 use dq_base::{Failed, Sink, Source};
 use std::alloc::{AllocError, Global};
 
@@ -24,6 +24,8 @@ pub enum Outcome {
     Done,
     /// The first line that isn't in the grammar, or that names what isn't there, has this number, from 1.
     Script(u64),
+    /// The script has more than a million lines or more than 20,000 events.
+    Large,
     /// The source failed.
     ReadFault,
     /// The sink failed.
@@ -36,6 +38,7 @@ pub enum Outcome {
 #[derive(Clone, Copy, Debug, PartialEq, Eq)]
 enum Stop {
     Script(u64),
+    Large,
     ReadFault,
     WriteFault,
     NoMemory,
@@ -87,17 +90,18 @@ fn run_line<K: Sink>(
     sink: &mut K,
 ) -> Result<(), Stop>
     requires { number ≤ LINE_COUNT_LIMIT }
-    ensures ok { OnOk result ((said : List Say) × (step (place_of stage.old) number line.now ≡ Some (place_of stage.new, said)) × Appends (K.written sink.old) (K.written sink.new) (text_of said)) }
+    ensures ok { OnOk result ((said : List Say) × (step (place_of stage.old) number line.now ≡ Ok (place_of stage.new, said)) × Appends (K.written sink.old) (K.written sink.new) (text_of said)) }
     ensures err { OnErr result (AppendsFront (K.written sink.old) (K.written sink.new) (step_text (place_of stage.old) number line.now)) }
-    ensures script { (n : ℕ) → IsErrOf result (Stop.Script n) → (n ≡ number) × (step (place_of stage.old) number line.now ≡ None) }
+    ensures script { (fault : Fault) → IfErr result (λ stop. fault_of stop ≡ Some fault → step (place_of stage.old) number line.now ≡ Err fault) }
     ensures read { IsErrOf result Stop.ReadFault → ⊥ }
     ensures write { IsErrOf result Stop.WriteFault → Rose (K.faults sink.old) (K.faults sink.new) }
     ensures count { K.faults sink.old ≤ K.faults sink.new }
 {
-    let said = match stage.take(alloc, number, line) {
+    let said = match stage.take(alloc, line) {
         Ok(said) => said,
-        Err(EventFault::NotThere) => return Err(Stop::Script(number)),
-        Err(EventFault::NoMemory) => return Err(Stop::NoMemory),
+        Err(StepFault::NotThere) => return Err(Stop::Script(number)),
+        Err(StepFault::TooMany) => return Err(Stop::Large),
+        Err(StepFault::NoMemory) => return Err(Stop::NoMemory),
     };
     print(alloc, said.as_slice(), sink)?;
     Ok(())
@@ -118,7 +122,7 @@ fn run_next<S: Source, K: Sink>(
         MatchResult result
             (λ more. MatchBool more
                 (Reached first (to_come lines.new (S.left source.new)) written (K.written sink.new) (place_of stage.new) (number + 1))
-                (Completes first (S.left source.new) written (K.written sink.new)))
+                (ReadWhole first (S.left source.new) written (K.written sink.new) (place_of stage.new)))
             (λ stop. Stopped stop first (S.left source.new) written (K.written sink.new)) }
     ensures read { IsErrOf result Stop.ReadFault → Rose (S.faults source.old) (S.faults source.new) }
     ensures write { IsErrOf result Stop.WriteFault → Rose (K.faults sink.old) (K.faults sink.new) }
@@ -145,7 +149,7 @@ fn run_next<S: Source, K: Sink>(
 fn run_past<S: Source>(lines: &mut LineReader, source: &mut S) -> Result<(), Stop>
     ensures goes { (first written printed : Option (List ℕ)) (place : Place) → Reached first (to_come lines.old (S.left source.old)) written printed place (LINE_COUNT_LIMIT + 1) →
         MatchResult result
-            (λ _. Completes first (S.left source.new) written printed)
+            (λ _. ReadWhole first (S.left source.new) written printed place)
             (λ stop. Stopped stop first (S.left source.new) written printed) }
     ensures read { IsErrOf result Stop.ReadFault → Rose (S.faults source.old) (S.faults source.new) }
     ensures write { IsErrOf result Stop.WriteFault → ⊥ }
@@ -153,7 +157,7 @@ fn run_past<S: Source>(lines: &mut LineReader, source: &mut S) -> Result<(), Sto
 {
     match lines.fill(source) {
         Ok(false) => Ok(()),
-        Ok(true) => Err(Stop::Script(LINE_COUNT_LIMIT + 1)),
+        Ok(true) => Err(Stop::Large),
         Err(Failed) => Err(Stop::ReadFault),
     }
 }
@@ -168,7 +172,7 @@ fn run_lines<S: Source, K: Sink>(
 ) -> Result<(), Stop>
     ensures goes { (first written : Option (List ℕ)) → Reached first (to_come lines.old (S.left source.old)) written (K.written sink.old) (place_of stage.old) 1 →
         MatchResult result
-            (λ _. Completes first (S.left source.new) written (K.written sink.new))
+            (λ _. ReadWhole first (S.left source.new) written (K.written sink.new) (place_of stage.new))
             (λ stop. Stopped stop first (S.left source.new) written (K.written sink.new)) }
     ensures read { IsErrOf result Stop.ReadFault → Rose (S.faults source.old) (S.faults source.new) }
     ensures write { IsErrOf result Stop.WriteFault → Rose (K.faults sink.old) (K.faults sink.new) }
@@ -183,6 +187,20 @@ fn run_lines<S: Source, K: Sink>(
     run_past(lines, source)
 }
 
+/// Shows how all stand, at the end of a script.
+fn close<K: Sink>(alloc: Global, stage: &Stage, sink: &mut K) -> Result<(), Stop>
+    ensures ok { OnOk result (Appends (K.written sink.old) (K.written sink.new) (text_of (closing (place_of stage.now)))) }
+    ensures err { OnErr result (AppendsFront (K.written sink.old) (K.written sink.new) (text_of (closing (place_of stage.now)))) }
+    ensures script { IfErr result (λ stop. fault_of stop ≡ None) }
+    ensures read { IsErrOf result Stop.ReadFault → ⊥ }
+    ensures write { IsErrOf result Stop.WriteFault → Rose (K.faults sink.old) (K.faults sink.new) }
+    ensures count { K.faults sink.old ≤ K.faults sink.new }
+{
+    let said = stage.closing(alloc)?;
+    print(alloc, said.as_slice(), sink)?;
+    Ok(())
+}
+
 /// Runs a script from its first line on.
 fn run<S: Source, K: Sink>(alloc: Global, source: &mut S, sink: &mut K) -> Result<(), Stop>
     ensures ok { OnOk result (Completes (S.left source.old) (S.left source.new) (K.written sink.old) (K.written sink.new)) }
@@ -194,7 +212,8 @@ fn run<S: Source, K: Sink>(alloc: Global, source: &mut S, sink: &mut K) -> Resul
 {
     let mut lines = LineReader::new(alloc)?;
     let mut stage = Stage::Opening;
-    run_lines(alloc, &mut lines, &mut stage, source, sink)
+    run_lines(alloc, &mut lines, &mut stage, source, sink)?;
+    close(alloc, &stage, sink)
 }
 
 /// Runs the script that the source gives, and prints to the sink what the script's run says.
@@ -202,9 +221,11 @@ fn run<S: Source, K: Sink>(alloc: Global, source: &mut S, sink: &mut K) -> Resul
 /// The input is read in pieces; held are one piece, one line and a few bytes for each connection. It returns on every
 /// input: after a million lines, or within a line that is too long, it reads no further.
 ///
-/// - `Done`: the script was read to its end, each line is in the grammar, and its text was printed.
+/// - `Done`: the script was read to its end, it has no fault, and its text was printed.
 /// - `Script(line)`: that line is the first that isn't in the grammar or that names what isn't there; the text of the
 ///   lines before it was printed.
+/// - `Large`: the line behind the millionth, or the event behind the twenty thousandth, is the first fault; the text of
+///   the lines before it was printed.
 /// - `ReadFault`, `WriteFault`: the source, the sink failed; a front of the text that the bytes read so far give was
 ///   printed. So it is after `NoMemory`, which alone has no cause in a count.
 pub fn run_script<S: Source, K: Sink>(alloc: Global, source: &mut S, sink: &mut K) -> Outcome
@@ -217,6 +238,7 @@ pub fn run_script<S: Source, K: Sink>(alloc: Global, source: &mut S, sink: &mut 
     match run(alloc, source, sink) {
         Ok(()) => Outcome::Done,
         Err(Stop::Script(line)) => Outcome::Script(line),
+        Err(Stop::Large) => Outcome::Large,
         Err(Stop::ReadFault) => Outcome::ReadFault,
         Err(Stop::WriteFault) => Outcome::WriteFault,
         Err(Stop::NoMemory) => Outcome::NoMemory,

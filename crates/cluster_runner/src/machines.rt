@@ -1,0 +1,188 @@
+//! Machines that apply one list of commands, each at its own pace.
+
+ghost use Rattle.std.specs.Prelude.{◌≡◌, ◌<◌, [], ◌∷◌, Some, None, length, IfOk, IfSome, OnOk, OnErr, IsErrOf};
+ghost use Rattle.std.specs.Option.{option_map};
+ghost use Rattle.frame_commands.specs.Reading.{command_of};
+ghost use Rattle.cluster_runner.specs.Machines.{place_named};
+
+use crate::cluster::{EventFault, Say};
+use crate::command_list::CommandList;
+use crate::database::Database;
+use crate::digest::digest;
+use crate::grammar::Event;
+use crate::machine::act;
+use frame_commands::{CommandFault, read_command};
+use std::alloc::{AllocError, Global};
+use std::marker::Model;
+
+/// One machine: its databases, and how many commands it has applied.
+#[derive(Debug, Drop)]
+pub(crate) struct Machine {
+    databases: Vec<Database>,
+    applied: usize,
+}
+
+impl Model for Machine {
+    ghost use Rattle.cluster_runner.specs.Holding.{Holding};
+
+    ghost Value = { Holding };
+
+    ghost view = { λ m. record { databases = m.databases.items; applied = m.applied } };
+}
+
+impl Machine {
+    ghost use Rattle.cluster_runner.specs.Machines.{idle, after_next, standing};
+
+    /// A machine that has applied nothing.
+    fn new(alloc: Global) -> Machine
+        ensures { result ≡ idle }
+    {
+        Machine {
+            databases: Vec::new(alloc),
+            applied: 0,
+        }
+    }
+
+    /// Applies the next command of a list, where it has not applied all of them.
+    fn take_next(&mut self, alloc: Global, commands: &CommandList) -> Result<(), AllocError>
+        ensures { OnOk result (self.new ≡ after_next commands.now self.old) }
+    {
+        let Some(command) = commands.get(self.applied) else {
+            return Ok(());
+        };
+        act(alloc, &mut self.databases, command)?;
+        self.applied += 1;
+        Ok(())
+    }
+
+    /// How the machine of this number stands. Costs in the order of its files.
+    fn standing(&self, alloc: Global, number: u32) -> Result<Say, AllocError>
+        ensures { IfOk result (λ say. say ≡ standing number self.now) }
+    {
+        let digest = digest(alloc, self.databases.as_slice())?;
+        Ok(Say::Machine {
+            number,
+            applied: self.applied as u64,
+            digest,
+        })
+    }
+}
+
+/// The list of commands, and the machines by their numbers from 1.
+#[derive(Debug, Drop)]
+pub(crate) struct Machines {
+    commands: CommandList,
+    machines: Vec<Machine>,
+}
+
+/// The place of a machine's number among so many.
+fn place_of(number: u32, count: usize) -> Option<usize>
+    ensures place { result ≡ place_named number count }
+    ensures within { IfSome result (λ place. place < count) }
+{
+    if number >= 1 && number as usize <= count {
+        Some(number as usize - 1)
+    } else {
+        None
+    }
+}
+
+/// What is said of a command that may, or may not, join the list.
+fn refusal(alloc: Global, joined: bool) -> Result<Vec<Say>, AllocError>
+    ensures { IfOk result (λ said. said.items ≡ refusal joined) }
+{
+    let mut said = Vec::new(alloc);
+    if !joined {
+        said.push(Say::Refused)?;
+    }
+    Ok(said)
+}
+
+impl Machines {
+    ghost use Rattle.cluster_runner.specs.Run.{idle_fleet};
+    ghost use Rattle.cluster_runner.specs.Machines.{refusal, joins, with_command, take_at, applies, standing_of, standings, fleet_of};
+
+    /// So many machines that have applied nothing of an empty list.
+    pub fn new(alloc: Global, count: u32) -> Result<Machines, AllocError>
+        ensures { IfOk result (λ machines. fleet_of machines ≡ idle_fleet count) }
+    {
+        let mut machines = Vec::new(alloc);
+        for _ in 0..count {
+            machines.push(Machine::new(alloc))?;
+        }
+        Ok(Machines {
+            commands: CommandList::new(alloc),
+            machines,
+        })
+    }
+
+    /// Adds the command that bytes stand for, where it is one and the list may take it. Answers whether it did.
+    fn put(&mut self, alloc: Global, bytes: &[u8]) -> Result<bool, AllocError>
+        ensures joined { IfOk result (λ joined. joined ≡ joins (fleet_of self.old) (command_of bytes.now)) }
+        ensures list { OnOk result (fleet_of self.new ≡ with_command (fleet_of self.old) (command_of bytes.now)) }
+    {
+        match read_command(alloc, bytes) {
+            Ok(command) => self.commands.try_push(alloc, command),
+            Err(CommandFault::NoMemory) => Err(AllocError),
+            Err(_) => Ok(false),
+        }
+    }
+
+    /// A machine applies the next command of the list.
+    #[tactic(auto, unfolding(crate::specs::Machines::applies))]
+    fn take_next(&mut self, alloc: Global, number: u32) -> Result<(), EventFault>
+        ensures ok { OnOk result (applies (fleet_of self.old) (Event.Take number) ≡ Some (fleet_of self.new, [])) }
+        ensures fault { IsErrOf result EventFault.NotThere → applies (fleet_of self.old) (Event.Take number) ≡ None }
+    {
+        let Some(place) = place_of(number, self.machines.len()) else {
+            return Err(EventFault::NotThere);
+        };
+        let machine = &mut self.machines[place];
+        machine.take_next(alloc, &self.commands)?;
+        Ok(())
+    }
+
+    /// Has an event happen, and answers what was said. After `NotThere` nothing has happened; want of memory may come
+    /// after it has.
+    #[tactic(auto, unfolding(crate::specs::Machines::applies))]
+    pub fn take(&mut self, alloc: Global, event: Event) -> Result<Vec<Say>, EventFault>
+        ensures ok { IfOk result (λ said. applies (fleet_of self.old) event ≡ Some (fleet_of self.new, said.items)) }
+        ensures fault { IsErrOf result EventFault.NotThere → applies (fleet_of self.old) event ≡ None }
+    {
+        match event {
+            Event::Put { bytes } => {
+                let joined = self.put(alloc, bytes.as_slice())?;
+                Ok(refusal(alloc, joined)?)
+            }
+            Event::Take { machine } => {
+                self.take_next(alloc, machine)?;
+                Ok(Vec::new(alloc))
+            }
+            Event::Timeout { .. } | Event::Connect { .. } | Event::Bytes { .. } => Err(EventFault::NotThere),
+        }
+    }
+
+    /// How the machine of a number stands, where it is there.
+    pub fn standing(&self, alloc: Global, number: u32) -> Result<Option<Say>, AllocError>
+        ensures { IfOk result (λ say. say ≡ standing_of (fleet_of self.now) number) }
+    {
+        let Some(place) = place_of(number, self.machines.len()) else {
+            return Ok(None);
+        };
+        let say = self.machines[place].standing(alloc, number)?;
+        Ok(Some(say))
+    }
+
+    /// How all machines stand, by their numbers.
+    pub fn standings(&self, alloc: Global) -> Result<Vec<Say>, AllocError>
+        ensures { IfOk result (λ said. said.items ≡ standings 1 (fleet_of self.now).machines) }
+    {
+        let mut said = Vec::new(alloc);
+        let mut number: u32 = 1;
+        for machine in &self.machines {
+            said.push(machine.standing(alloc, number)?)?;
+            number += 1;
+        }
+        Ok(said)
+    }
+}
