@@ -3,6 +3,11 @@
 
 mod command;
 mod fault;
+mod kind;
+mod reading;
+mod writing;
 
 pub use command::Command;
 pub use fault::CommandFault;
+pub use reading::read_command;
+pub use writing::write_command;
