@@ -8,6 +8,7 @@ use Rattle.wire_words.specs.declared.fault.WordFault.TheVariants as word_faults
 use Rattle.wire_words.specs.Reading.{◌>>=◌, Unread, unread, word_at, raw_at, text_at}
 use Rattle.frame_commands.specs.declared.command.Command.{Command}
 use Rattle.frame_commands.specs.declared.command.Command.TheVariants.{OpenDb, Frames}
+use Rattle.frame_commands.specs.declared.items.FrameItems.{FrameItems}
 use Rattle.frame_commands.specs.declared.kind.CommandKind.{CommandKind}
 use Rattle.frame_commands.specs.declared.kind.CommandKind.TheVariants as kinds
 use Rattle.frame_commands.specs.declared.fault.CommandFault.{CommandFault}
@@ -68,22 +69,21 @@ numbers_at (suc count) left = do
   others ← numbers_at count first.1
   Ok (first.0 ∷ others.0, others.1)
 
+-- the page of a number
+unfoldable pub page_at : ℕ → Unread → Result (NumberedPage × Unread) WordFault
+page_at number left = do
+  page ← raw_at 4096 left
+  Ok (record { number = number; page = page.0 }, page.1)
+
 -- the pages of these numbers
 unfoldable pub pages_at : List ℕ → Unread → Result (List NumberedPage × Unread) WordFault
 pages_at [] left = Ok ([], left)
 pages_at (number ∷ numbers) left = do
-  page ← raw_at 4096 left
-  others ← pages_at numbers page.1
-  Ok (record { number = number; page = page.0 } ∷ others.0, others.1)
+  first ← page_at number left
+  others ← pages_at numbers first.1
+  Ok (first.0 ∷ others.0, others.1)
 
--- what follows the name of a Frames command, before its numbers are looked at
-pub record FrameItems : Type 0 where
-  pub tx : ℕ
-  pub truncate : ℕ
-  pub flag : ℕ
-  pub size : ℕ
-  pub pages : List NumberedPage
-
+-- what follows the name of a Frames command
 unfoldable pub frame_items_at : Unread → Result (FrameItems × Unread) WordFault
 frame_items_at left = do
   tx ← word_at left

@@ -3,7 +3,9 @@
 
 mod command;
 mod fault;
+mod items;
 mod kind;
+mod numbers;
 mod reading;
 mod writing;
 
