@@ -1,0 +1,5 @@
+pub mod ItemFacts
+pub mod Loops
+pub mod Ascending
+pub mod Ranges
+pub mod InTurn

@@ -1,5 +1,5 @@
 -- Which numbers a command may have.
-use Rattle.std.specs.Prelude.{ℕ, suc, ◌+◌, ◌-◌, ◌/◌, Bool, true, false, not, ◌&&◌, ◌==◌, nat_le, if◌then◌else◌, List, [], ◌∷◌, length, take, Option, Some, None}
+use Rattle.std.specs.Prelude.{ℕ, ◌+◌, ◌-◌, ◌/◌, Bool, true, false, not, ◌&&◌, ◌==◌, nat_le, if◌then◌else◌, List, [], ◌∷◌, length, take, Option, Some, None}
 use Rattle.dq_base.specs.declared.pages.NumberedPage.{NumberedPage}
 use Rattle.dq_base.specs.Applying.{is_sizes, stated_main, stated_side, last_page}
 use Rattle.frame_commands.specs.declared.command.Command.{Command}
@@ -24,7 +24,7 @@ stated_count page = 1 + pages_of (stated_main page) + pages_of (stated_side page
 -- the numbers ascend from one that is at least this, none of them is 1, and none is above the highest
 unfoldable pub numbers_ascend : ℕ → List NumberedPage → Bool
 numbers_ascend least [] = true
-numbers_ascend least (p ∷ ps) = nat_le least p.number && not (p.number == 1) && nat_le p.number highest_number && numbers_ascend (suc p.number) ps
+numbers_ascend least (p ∷ ps) = nat_le least p.number && not (p.number == 1) && nat_le p.number highest_number && numbers_ascend (p.number + 1) ps
 
 -- the pages before the last
 abbrev pub pages_before_last : List NumberedPage → List NumberedPage

@@ -89,7 +89,8 @@ fn pages(alloc: Global, words: &mut Words<'_>, numbers: &[u64]) -> Result<Vec<Nu
 {
     let mut pages = Vec::new(alloc);
     for number in numbers {
-        let page = page(alloc, words, *number)?;
+        let number = *number;
+        let page = page(alloc, words, number)?;
         pages.push(page)?;
     }
     Ok(pages)

@@ -1,6 +1,6 @@
 ghost use Rattle.std.specs.Prelude.{◌≡◌, ◌≤◌, ◌++◌, true, length, IfOk, OnOk};
 ghost use Rattle.frame_commands.specs.Numbers.{numbers_fit, frames_fit};
-ghost use Rattle.frame_commands.specs.Spelling.{Writes, IsInRange, IsTextName, ArePages, head, command_bytes, frames_bytes, number_words, page_bytes};
+ghost use Rattle.frame_commands.specs.Spelling.{Writes, IsInRange, IsTextName, ArePages, flag, command_bytes, frames_bytes, number_words, page_bytes};
 ghost use Rattle.wire_words.specs.Items.{text};
 
 use crate::command::Command;
@@ -44,6 +44,13 @@ fn put_pages(out: &mut Writer, pages: &[NumberedPage]) -> Result<(), AllocError>
     Ok(())
 }
 
+/// 1 for a commit, else 0.
+fn flag(commit: bool) -> u32
+    ensures { result ≡ flag commit }
+{
+    if commit { 1 } else { 0 }
+}
+
 /// What follows the name of a Frames command.
 fn put_frames(out: &mut Writer, tx: u64, truncate: u32, commit: bool, pages: &[NumberedPage]) -> Result<(), AllocError>
     requires { length pages.now ≤ 64 }
@@ -51,7 +58,7 @@ fn put_frames(out: &mut Writer, tx: u64, truncate: u32, commit: bool, pages: &[N
     ensures fit { OnOk result (ArePages pages.now) }
 {
     out.word(tx)?;
-    out.pair(truncate, u32::from(commit))?;
+    out.pair(truncate, flag(commit))?;
     out.pair(pages.len() as u32, PAGE_SIZE as u32)?;
     put_numbers(out, pages)?;
     put_pages(out, pages)
