@@ -6,7 +6,6 @@ use Rattle.wire_words.specs.declared.fault.WordFault.{WordFault}
 use Rattle.wire_words.specs.declared.fault.WordFault.TheVariants as faults
 use Rattle.wire_words.specs.Items.{word, raw}
 use Rattle.wire_words.specs.Reading.{◌>>=◌, Unread, word_at, Fails}
-use Rattle.frame_commands.specs.Spelling.{number_words, page_bytes, ArePages}
 use Rattle.frame_commands.specs.Reading.{numbers_at, page_at, pages_at}
 
 -- what was read before, and what is still read

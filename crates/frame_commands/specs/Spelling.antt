@@ -38,9 +38,13 @@ abbrev pub command_bytes : Command → List ℕ
 command_bytes (OpenDb name) = head 1 ++ text name
 command_bytes (Frames name tx truncate commit pages) = head 2 ++ (text name ++ frames_bytes tx truncate commit pages)
 
+-- each number has 64 bits
+abbrev pub HaveNumbers : List NumberedPage → Type 0
+HaveNumbers pages = AllByRecursion (λ p. p.number < 2 ^ 64) pages
+
 -- each page has 4,096 bytes
-abbrev pub ArePages : List NumberedPage → Type 0
-ArePages pages = AllByRecursion (λ p. length p.page ≡ 4096) pages
+abbrev pub HaveSizes : List NumberedPage → Type 0
+HaveSizes pages = AllByRecursion (λ p. length p.page ≡ 4096) pages
 
 -- the name of a database, in UTF-8
 abbrev pub IsTextName : List ℕ → Type 0
@@ -49,7 +53,7 @@ IsTextName name = IsName name × IsUtf8 name
 -- what the types of a command hold
 abbrev pub IsInRange : Command → Type 0
 IsInRange (OpenDb name) = IsTextName name
-IsInRange (Frames name tx truncate commit pages) = IsTextName name × (tx < 2 ^ 64) × ArePages pages
+IsInRange (Frames name tx truncate commit pages) = IsTextName name × (tx < 2 ^ 64) × (truncate < 2 ^ 32) × HaveNumbers pages × HaveSizes pages
 
 -- The bytes stand for the command: its numbers are in range, and it is spelled so.
 pub record Writes (command : Command) (bytes : List ℕ) : Type 0 where

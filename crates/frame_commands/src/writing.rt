@@ -1,6 +1,6 @@
 ghost use Rattle.std.specs.Prelude.{◌≡◌, ◌≤◌, ◌++◌, true, length, IfOk, OnOk};
 ghost use Rattle.frame_commands.specs.Numbers.{numbers_fit, frames_fit};
-ghost use Rattle.frame_commands.specs.Spelling.{Writes, IsInRange, IsTextName, ArePages, flag, command_bytes, frames_bytes, number_words, page_bytes};
+ghost use Rattle.frame_commands.specs.Spelling.{Writes, IsInRange, IsTextName, HaveNumbers, HaveSizes, flag, command_bytes, frames_bytes, number_words, page_bytes};
 ghost use Rattle.wire_words.specs.Items.{text};
 
 use crate::command::Command;
@@ -24,7 +24,8 @@ fn put_name(out: &mut Writer, name: &Name) -> Result<(), AllocError>
 
 /// The numbers of the pages, a word each.
 fn put_numbers(out: &mut Writer, pages: &[NumberedPage]) -> Result<(), AllocError>
-    ensures { OnOk result (out.new ≡ out.old ++ number_words pages.now) }
+    ensures bytes { OnOk result (out.new ≡ out.old ++ number_words pages.now) }
+    ensures fit { OnOk result (HaveNumbers pages.now) }
 {
     for page in pages {
         out.word(page.number)?;
@@ -35,7 +36,7 @@ fn put_numbers(out: &mut Writer, pages: &[NumberedPage]) -> Result<(), AllocErro
 /// The bytes of the pages.
 fn put_pages(out: &mut Writer, pages: &[NumberedPage]) -> Result<(), AllocError>
     ensures bytes { OnOk result (out.new ≡ out.old ++ page_bytes pages.now) }
-    ensures fit { OnOk result (ArePages pages.now) }
+    ensures fit { OnOk result (HaveSizes pages.now) }
 {
     for page in pages {
         let bytes = page.page.bytes();
@@ -55,7 +56,8 @@ fn flag(commit: bool) -> u32
 fn put_frames(out: &mut Writer, tx: u64, truncate: u32, commit: bool, pages: &[NumberedPage]) -> Result<(), AllocError>
     requires { length pages.now ≤ 64 }
     ensures bytes { OnOk result (out.new ≡ out.old ++ frames_bytes tx truncate commit pages.now) }
-    ensures fit { OnOk result (ArePages pages.now) }
+    ensures numbers { OnOk result (HaveNumbers pages.now) }
+    ensures sizes { OnOk result (HaveSizes pages.now) }
 {
     out.word(tx)?;
     out.pair(truncate, flag(commit))?;
