@@ -18,7 +18,7 @@ pub raw_size : (size : ℕ) (old new : Unread) (result : Result (List ℕ) WordF
 raw_size size old new (Ok bytes) given = (raw_took size old new bytes given).0
 raw_size size old new (Err fault) given = tt
 
-both_true : (a b : Bool) → (a && b) ≡ true → (a ≡ true) × (b ≡ true)
+pub both_true : (a b : Bool) → (a && b) ≡ true → (a ≡ true) × (b ≡ true)
 both_true true b e = (refl, e)
 both_true false b e = absurd cc
 

@@ -6,3 +6,4 @@ pub mod InTurn
 pub mod Passing
 pub mod Halves
 pub mod PageLaws
+pub mod FrameLaws
