@@ -7,3 +7,4 @@ pub mod Passing
 pub mod Halves
 pub mod PageLaws
 pub mod FrameLaws
+pub mod CommandLaws
