@@ -1,3 +1,6 @@
+ghost use Rattle.std.specs.Prelude.{◌≡◌};
+ghost use Rattle.frame_commands.specs.Reading.{of_word};
+
 use thiserror::Error;
 use wire_words::WordFault;
 
@@ -25,4 +28,15 @@ pub enum CommandFault {
     /// There is not enough memory.
     #[error("out of memory")]
     NoMemory,
+}
+
+impl From<WordFault> for CommandFault {
+    ghost from_gives = { λ word fault. fault ≡ of_word word };
+
+    fn from(word: WordFault) -> CommandFault {
+        match word {
+            WordFault::NoMemory => CommandFault::NoMemory,
+            word => CommandFault::Word(word),
+        }
+    }
 }

@@ -3,6 +3,15 @@
 
 mod command;
 mod fault;
+mod items;
+mod kind;
+mod laws;
+mod numbers;
+mod reading;
+mod writing;
 
 pub use command::Command;
 pub use fault::CommandFault;
+pub use laws::{commands_read_back, commands_stand_apart};
+pub use reading::read_command;
+pub use writing::write_command;

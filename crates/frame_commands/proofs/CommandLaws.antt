@@ -1,0 +1,239 @@
+-- A command is read exactly where the bytes stand for it, and commands stand apart.
+use Rattle.std.proofs.Common.{◌≡◌, ℕ, ◌+◌, ◌*◌, ◌/◌, ◌%◌, ◌<◌, ◌≤◌, ◌^◌, Bool, true, false, cond, eqb, leb, ◌&&◌, ◌⊎◌, inl, inr, List, [], ◌∷◌, ◌++◌, length, Option, Some, None, Result, Ok, Err, refl, sym, ap, subst, ◌∙◌, append_assoc, arith}
+use Rattle.std.specs.Prelude.{IfOk}
+use Rattle.std.proofs.lemmas.Bool.{eqb-true, leb-true, le-leb}
+use Rattle.std.proofs.lemmas.List.{append-nil, nil_from_length}
+use Rattle.wire_words.specs.declared.fault.WordFault.TheVariants as word_faults
+use Rattle.wire_words.specs.Items.{word, text, AreBytes}
+use Rattle.wire_words.specs.Reading.{◌>>=◌, Unread, unread, word_at, text_at}
+use Rattle.wire_words.proofs.ReadBack.{bind_ok, ok_is, passed}
+use Rattle.frame_commands.specs.declared.command.Command.{Command}
+use Rattle.frame_commands.specs.declared.command.Command.TheVariants.{OpenDb, Frames}
+use Rattle.frame_commands.specs.declared.kind.CommandKind.{CommandKind}
+use Rattle.frame_commands.specs.declared.kind.CommandKind.TheVariants as kinds
+use Rattle.frame_commands.specs.declared.fault.CommandFault.{CommandFault}
+use Rattle.frame_commands.specs.declared.fault.CommandFault.TheVariants.{Format, Kind, Word, Tail}
+use Rattle.frame_commands.specs.Numbers.{numbers_fit}
+use Rattle.frame_commands.specs.Spelling.{head, frames_bytes, command_bytes, IsTextName, IsInRange, Writes}
+use Rattle.frame_commands.specs.Reading.{in_command, command_kind, kind_in, kind_of, kind_at, name_at, frames_at, command_after, command_at, ended, command_of, Gives}
+use Rattle.frame_commands.proofs.ItemFacts.{in_command_ok, command_is, both_true, is_short, was_head}
+use Rattle.frame_commands.proofs.Passing.{Passed, passed_none, pass_none, passed_both, between, passed_first, passed_second, bytes_after, word_passed, word_stood, text_passed, text_stood}
+use Rattle.frame_commands.proofs.FrameLaws.{frames_passed, frames_stood}
+use Rattle.frame_commands.proofs.Ranges.{few_pages}
+
+-- ---- the head: each type has a case in the proofs below
+
+-- the number of a type
+abbrev pub kind_number : CommandKind → ℕ
+kind_number kinds.OpenDb = 1
+kind_number kinds.Frames = 2
+
+some_is : {A : Type 0} (x y : A) → Some x ≡ Some y → x ≡ y
+some_is x y e = cc
+
+-- one test of a choice among several
+one_of : {A : Type 0} (b : Bool) (x : A) (others : Option A) (y : A) → cond b (Some x) others ≡ Some y → ((b ≡ true) × (x ≡ y)) ⊎ (others ≡ Some y)
+one_of true x others y e = inl (refl, some_is x y e)
+one_of false x others y e = inr e
+
+none_of : {A : Type 0} (x : A) (P : Type 0) → None ≡ Some x → P
+none_of x P e = absurd cc
+
+number_is : (n number : ℕ) (one kind : CommandKind) → (eqb n number ≡ true) × (one ≡ kind) → kind_number one ≡ number → n ≡ kind_number kind
+number_is n number one kind e is = eqb-true n number e.0 ∙ sym is ∙ ap kind_number e.1
+
+known_number : (n : ℕ) (kind : CommandKind) → command_kind n ≡ Some kind → n ≡ kind_number kind
+known_number n kind e =
+    elim (one_of (eqb n 1) kinds.OpenDb (cond (eqb n 2) (Some kinds.Frames) None) kind e) [
+      | inl is ↦ number_is n 1 kinds.OpenDb kind is refl
+      | inr e ↦ elim (one_of (eqb n 2) kinds.Frames None kind e) [
+          | inl is ↦ number_is n 2 kinds.Frames kind is refl
+          | inr e ↦ none_of kind (n ≡ kind_number kind) e
+        ]
+    ]
+
+kind_in_ok : (at n : ℕ) (known : Option CommandKind) (kind : CommandKind) → kind_in at n known ≡ Ok kind → (known ≡ Some kind) × (n / 65536 ≡ 0)
+kind_in_ok at n None kind e = absurd cc
+kind_in_ok at n (Some one) kind e =
+    let a = passed (eqb (n / 65536) 0) (Word (word_faults.Pad at)) (Ok one) kind e in
+    (ap (λ (k : CommandKind). Some k) (command_is one kind a.1), eqb-true (n / 65536) 0 a.0)
+
+head_number : (at n : ℕ) (kind : CommandKind) → kind_of at n ≡ Ok kind → n ≡ 1 + 256 * kind_number kind
+head_number at n kind e =
+    let a = passed (eqb (n % 256) 1) Format (kind_in at n (command_kind (n / 256 % 256))) kind e in
+    let format : n % 256 ≡ 1 = eqb-true (n % 256) 1 a.0 in
+    let b = kind_in_ok at n (command_kind (n / 256 % 256)) kind a.1 in
+    let number : n / 256 % 256 ≡ kind_number kind = known_number (n / 256 % 256) kind b.0 in
+    let zeros : n / 65536 ≡ 0 = b.1 in
+    omega arith
+
+head_is : (kind : CommandKind) → word (1 + 256 * kind_number kind) ≡ head (kind_number kind)
+head_is kinds.OpenDb = refl
+head_is kinds.Frames = refl
+
+head_passed : (kind : CommandKind) (old new : Unread) → AreBytes old.bytes → kind_at old ≡ Ok (kind, new) → Passed (head (kind_number kind)) old new
+head_passed kind old new fits e =
+    let h = was_head kind old new e in
+    let w = word_passed old new h.number fits h.word in
+    subst (λ (x : List ℕ). Passed x old new) (ap word (head_number old.at h.number kind h.is_kind) ∙ head_is kind) w.1
+
+head_stood : (kind : CommandKind) (old new : Unread) → Passed (head (kind_number kind)) old new → kind_at old ≡ Ok (kind, new)
+unfolding kind_at
+head_stood kinds.OpenDb old new p = rw (word_stood old new 257 (omega arith) p) refl
+head_stood kinds.Frames old new p = rw (word_stood old new 513 (omega arith) p) refl
+
+-- ---- the name
+
+name_passed : (old new : Unread) (t : List ℕ) → name_at old ≡ Ok (t, new) → IsTextName t × Passed (text t) old new
+unfolding name_at
+name_passed old new t e =
+    let a = bind_ok (text_at old) (λ name. cond (is_short name.0) (Ok name) (Err (word_faults.Short old.at))) (t, new) e in
+    let b = passed (is_short a.0.0) (word_faults.Short old.at) (Ok a.0) (t, new) a.2 in
+    let is : a.0 ≡ (t, new) = ok_is a.0 (t, new) b.1 in
+    let both = both_true (leb 1 (length a.0.0)) (leb (length a.0.0) 255) b.0 in
+    let read = text_passed old a.0.1 a.0.0 a.1 in
+    subst (λ (x : List ℕ × Unread). IsTextName x.0 × Passed (text x.0) old x.1) is
+      ((record { not_empty = omega (arith, leb-true 1 (length a.0.0) both.0); short = leb-true (length a.0.0) 255 both.1; no_nul = read.1 }, read.0), read.2)
+
+name_stood : (old new : Unread) (t : List ℕ) → IsTextName t → Passed (text t) old new → name_at old ≡ Ok (t, new)
+unfolding name_at
+name_stood old new t name p =
+    rw (text_stood old new t name.1 name.0.no_nul p, le-leb 1 (length t) (omega (arith, name.0.not_empty)), le-leb (length t) 255 name.0.short) refl
+
+-- ---- the rest: each type of command has a case in the proofs below
+
+abbrev kind_from : Command → CommandKind
+kind_from (OpenDb name) = kinds.OpenDb
+kind_from (Frames name tx truncate commit pages) = kinds.Frames
+
+abbrev name_from : Command → List ℕ
+name_from (OpenDb name) = name
+name_from (Frames name tx truncate commit pages) = name
+
+-- what follows the name
+abbrev rest_bytes : Command → List ℕ
+rest_bytes (OpenDb name) = []
+rest_bytes (Frames name tx truncate commit pages) = frames_bytes tx truncate commit pages
+
+three_parts : (command : Command) → head (kind_number (kind_from command)) ++ (text (name_from command) ++ rest_bytes command) ≡ command_bytes command
+three_parts (OpenDb name) = ap (λ (x : List ℕ). head 1 ++ x) (append-nil (text name))
+three_parts (Frames name tx truncate commit pages) = refl
+
+name_in_range : (command : Command) → IsInRange command → IsTextName (name_from command)
+name_in_range (OpenDb name) range = range
+name_in_range (Frames name tx truncate commit pages) range = range.0
+
+record PassedRest (kind : CommandKind) (name : List ℕ) (command : Command) (old new : Unread) : Type 0 where
+  pub is_kind : kind ≡ kind_from command
+  pub is_name : name ≡ name_from command
+  pub range : IsTextName name → IsInRange command
+  pub fits : numbers_fit command ≡ true
+  pub stood : Passed (rest_bytes command) old new
+
+rest_passed : (kind : CommandKind) (name : List ℕ) (old new : Unread) (command : Command) → AreBytes old.bytes → command_after kind name old ≡ Ok (command, new) → PassedRest kind name command old new
+rest_passed kinds.OpenDb name old new command fits e =
+    let made : Command × Unread = (OpenDb name, old) in
+    subst (λ (x : Command × Unread). PassedRest kinds.OpenDb name x.0 old x.1) (command_is made (command, new) e)
+      (record { is_kind = refl; is_name = refl; range = λ r. r; fits = refl; stood = pass_none old })
+rest_passed kinds.Frames name old new command fits e =
+    let p = frames_passed name old new command fits e in
+    subst (λ (c : Command). PassedRest kinds.Frames name c old new) p.is
+      (record { is_kind = refl; is_name = refl; range = λ r. (r, p.tx_fits, p.truncate_fits, p.numbers, p.sizes); fits = p.fits; stood = p.stood })
+
+rest_stood : (command : Command) (old new : Unread) → IsInRange command → numbers_fit command ≡ true → Passed (rest_bytes command) old new
+    → command_after (kind_from command) (name_from command) old ≡ Ok (command, new)
+rest_stood (OpenDb name) old new range fits p = ap (λ (left : Unread). Ok (OpenDb name, left)) (passed_none old new p)
+rest_stood (Frames name tx truncate commit pages) old new range fits p =
+    frames_stood name tx truncate commit pages old new range.1 range.2 (few_pages truncate commit pages fits) range.3 range.4 fits p
+
+-- ---- a command
+
+-- a command stood between two states of a reader
+pub record PassedCommand (command : Command) (old new : Unread) : Type 0 where
+  pub range : IsInRange command
+  pub fits : numbers_fit command ≡ true
+  pub stood : Passed (command_bytes command) old new
+
+pub command_passed : (command : Command) (old new : Unread) → AreBytes old.bytes → command_at old ≡ Ok (command, new) → PassedCommand command old new
+unfolding command_at
+command_passed command old new fits e =
+    let a = bind_ok (kind_at old) (λ kind. in_command (name_at kind.1) >>= λ name. command_after kind.0 name.0 name.1) (command, new) e in
+    let b = bind_ok (in_command (name_at a.0.1)) (λ name. command_after a.0.0 name.0 name.1) (command, new) a.2 in
+    let head_part = head_passed a.0.0 old a.0.1 fits a.1 in
+    let fits1 = bytes_after (head (kind_number a.0.0)) old a.0.1 head_part fits in
+    let name = name_passed a.0.1 b.0.1 b.0.0 (in_command_ok (name_at a.0.1) b.0 b.1) in
+    let fits2 = bytes_after (text b.0.0) a.0.1 b.0.1 name.1 fits1 in
+    let rest = rest_passed a.0.0 b.0.0 b.0.1 new command fits2 b.2 in
+    let last = passed_both a.0.1 b.0.1 new (text b.0.0) (rest_bytes command) name.1 rest.stood in
+    let whole = passed_both old a.0.1 new (head (kind_number a.0.0)) (text b.0.0 ++ rest_bytes command) head_part last in
+    let spelled : head (kind_number a.0.0) ++ (text b.0.0 ++ rest_bytes command) ≡ command_bytes command =
+      ap (λ (k : CommandKind). head (kind_number k) ++ (text b.0.0 ++ rest_bytes command)) rest.is_kind
+      ∙ ap (λ (t : List ℕ). head (kind_number (kind_from command)) ++ (text t ++ rest_bytes command)) rest.is_name
+      ∙ three_parts command in
+    record { range = rest.range name.0; fits = rest.fits; stood = subst (λ (x : List ℕ). Passed x old new) spelled whole }
+
+pub command_stood : (command : Command) (old new : Unread) → PassedCommand command old new → command_at old ≡ Ok (command, new)
+unfolding command_at
+command_stood command old new c =
+    let front = head (kind_number (kind_from command)) in
+    let name = text (name_from command) in
+    let rest = rest_bytes command in
+    let p : Passed (front ++ (name ++ rest)) old new = subst (λ (x : List ℕ). Passed x old new) (sym (three_parts command)) c.stood in
+    let mid = between old front (name ++ rest) new in
+    let p1 = passed_second old new front (name ++ rest) p in
+    let end = between mid name rest new in
+    let kind_read = head_stood (kind_from command) old mid (passed_first old new front (name ++ rest) p) in
+    let name_read = name_stood mid end (name_from command) (name_in_range command c.range) (passed_first mid new name rest p1) in
+    rw (kind_read, name_read) (rest_stood command end new c.range c.fits (passed_second mid new name rest p1))
+
+-- ---- all of the bytes
+
+pub command_found : (command : Command) (bytes : List ℕ) → AreBytes bytes → command_of bytes ≡ Ok command → Writes command bytes
+unfolding command_of
+command_found command bytes fits e =
+    let a = bind_ok (command_at (unread bytes)) ended command e in
+    let b = passed (eqb (length a.0.1.bytes) 0) Tail (Ok a.0.0) command a.2 in
+    let end : a.0.1.bytes ≡ [] = nil_from_length a.0.1.bytes (eqb-true (length a.0.1.bytes) 0 b.0) in
+    let c = command_passed a.0.0 (unread bytes) a.0.1 fits a.1 in
+    let parts : bytes ≡ command_bytes a.0.0 = c.stood.parts ∙ ap (λ (x : List ℕ). command_bytes a.0.0 ++ x) end ∙ append-nil (command_bytes a.0.0) in
+    subst (λ (x : Command). Writes x bytes) (command_is a.0.0 command b.1) (record { in_range = c.range; fits = c.fits; parts = parts })
+
+-- what is left behind a command
+abbrev behind : List ℕ → List ℕ → Unread
+behind bytes rest = record { at = 0 + length bytes; bytes = rest }
+
+read_before : (command : Command) (bytes rest : List ℕ) → Writes command bytes → command_at (unread (bytes ++ rest)) ≡ Ok (command, behind bytes rest)
+read_before command bytes rest w =
+    command_stood command (unread (bytes ++ rest)) (behind bytes rest) (record {
+      range = w.in_range;
+      fits = w.fits;
+      stood = record { parts = ap (λ (x : List ℕ). x ++ rest) w.parts; place = ap (λ (x : List ℕ). 0 + length x) w.parts };
+    })
+
+pub command_read : (command : Command) (bytes : List ℕ) → Writes command bytes → command_of bytes ≡ Ok command
+unfolding command_of
+command_read command bytes w =
+    let read : command_at (unread bytes) ≡ Ok (command, behind bytes []) = ap (λ (x : List ℕ). command_at (unread x)) (sym (append-nil bytes)) ∙ read_before command bytes [] w in
+    rw read refl
+
+pub is_found : (bytes : List ℕ) (result : Result Command CommandFault) → AreBytes bytes → Gives (command_of bytes) result → IfOk result (λ command. Writes command bytes)
+is_found bytes (Ok command) fits given = command_found command bytes fits given
+is_found bytes (Err fault) fits given = tt
+
+pub is_only : (bytes : List ℕ) (result : Result Command CommandFault) → Gives (command_of bytes) result → (command : Command) → Writes command bytes → Gives (Ok command) result
+is_only bytes result given command w = subst (λ (reading : Result Command CommandFault). Gives reading result) (command_read command bytes w) given
+
+-- ---- two commands at the front of the same bytes
+
+pub stand_apart : (command other : Command) (bytes other_bytes rest other_rest : List ℕ) → Writes command bytes → Writes other other_bytes → bytes ++ rest ≡ other_bytes ++ other_rest → (command ≡ other) × (rest ≡ other_rest)
+stand_apart command other bytes other_bytes rest other_rest w v e =
+    let one = read_before command bytes rest w in
+    let two = read_before other other_bytes other_rest v in
+    let first : Command × Unread = (command, behind bytes rest) in
+    let second : Command × Unread = (other, behind other_bytes other_rest) in
+    let same : first ≡ second = command_is first second (sym one ∙ ap (λ (x : List ℕ). command_at (unread x)) e ∙ two) in
+    (ap (λ (x : Command × Unread). x.0) same, ap (λ (x : Command × Unread). x.1.bytes) same)
+
+pub no_prefix : (command other : Command) (bytes other_bytes rest : List ℕ) → Writes command bytes → Writes other other_bytes → bytes ++ rest ≡ other_bytes → rest ≡ []
+no_prefix command other bytes other_bytes rest w v e =
+    (stand_apart command other bytes other_bytes rest [] w v (e ∙ sym (append-nil other_bytes))).1

@@ -1,0 +1,143 @@
+-- Reading a command, with the first fault that is met: its format, its type, its items from left to right, the size of
+-- its pages, its numbers, its end.
+use Rattle.std.specs.Prelude.{◌≡◌, ℕ, zero, suc, ◌+◌, ◌*◌, ◌/◌, ◌%◌, Bool, not, ◌&&◌, ◌==◌, nat_le, nat_lt, if◌then◌else◌, List, [], ◌∷◌, length, drop, slice_index, Option, Some, None, Result, Ok, Err, MatchResult}
+use Rattle.byteorder.specs.Endian.{little_number}
+use Rattle.dq_base.specs.declared.pages.NumberedPage.{NumberedPage}
+use Rattle.wire_words.specs.declared.fault.WordFault.{WordFault}
+use Rattle.wire_words.specs.declared.fault.WordFault.TheVariants as word_faults
+use Rattle.wire_words.specs.Reading.{◌>>=◌, Unread, unread, word_at, raw_at, text_at}
+use Rattle.frame_commands.specs.declared.command.Command.{Command}
+use Rattle.frame_commands.specs.declared.command.Command.TheVariants.{OpenDb, Frames}
+use Rattle.frame_commands.specs.declared.items.FrameItems.{FrameItems}
+use Rattle.frame_commands.specs.declared.kind.CommandKind.{CommandKind}
+use Rattle.frame_commands.specs.declared.kind.CommandKind.TheVariants as kinds
+use Rattle.frame_commands.specs.declared.fault.CommandFault.{CommandFault}
+use Rattle.frame_commands.specs.declared.fault.CommandFault.TheVariants.{Format, Kind, Word, PageSize, Number, Tail, NoMemory}
+use Rattle.frame_commands.specs.Numbers.{frames_fit}
+
+-- the fault of a command, where an item has this one
+abbrev pub of_word : WordFault → CommandFault
+of_word word_faults.NoMemory = NoMemory
+of_word fault = Word fault
+
+abbrev pub in_command : {X : Type 0} → Result X WordFault → Result X CommandFault
+in_command (Ok x) = Ok x
+in_command (Err fault) = Err (of_word fault)
+
+-- the type of command that a number stands for
+abbrev pub command_kind : ℕ → Option CommandKind
+command_kind n = if n == 1 then Some kinds.OpenDb else if n == 2 then Some kinds.Frames else None
+
+-- what a head says, as a number of 64 bits whose lowest byte is the format, the next one the type, and the rest zeros
+abbrev pub kind_in : ℕ → ℕ → Option CommandKind → Result CommandKind CommandFault
+kind_in at n None = Err Kind
+kind_in at n (Some kind) = if n / 65536 == 0 then Ok kind else Err (Word (word_faults.Pad at))
+
+abbrev pub kind_of : ℕ → ℕ → Result CommandKind CommandFault
+kind_of at n = if n % 256 == 1 then kind_in at n (command_kind (n / 256 % 256)) else Err Format
+
+-- the head: its type of command
+unfoldable pub kind_at : Unread → Result (CommandKind × Unread) CommandFault
+kind_at left = do
+  n ← in_command (word_at left)
+  kind ← kind_of left.at n.0
+  Ok (kind, n.1)
+
+-- a name: a text of 1 to 255 bytes
+unfoldable pub name_at : Unread → Result (List ℕ × Unread) WordFault
+name_at left = do
+  name ← text_at left
+  if nat_le 1 (length name.0) && nat_le (length name.0) 255 then Ok name else Err (word_faults.Short left.at)
+
+-- a number of 32 bits, a byte, and three zeros
+unfoldable pub flagged_at : Unread → Result ((ℕ × ℕ) × Unread) WordFault
+flagged_at left = do
+  item ← raw_at 5 left
+  Ok ((little_number 4 item.0, slice_index item.0 4), item.1)
+
+-- a number of 32 bits, one of 16 bits, and two zeros
+unfoldable pub sized_at : Unread → Result ((ℕ × ℕ) × Unread) WordFault
+sized_at left = do
+  item ← raw_at 6 left
+  Ok ((little_number 4 item.0, little_number 2 (drop 4 item.0)), item.1)
+
+-- so many numbers
+unfoldable pub numbers_at : ℕ → Unread → Result (List ℕ × Unread) WordFault
+numbers_at zero left = Ok ([], left)
+numbers_at (suc count) left = do
+  first ← word_at left
+  others ← numbers_at count first.1
+  Ok (first.0 ∷ others.0, others.1)
+
+-- the page of a number
+unfoldable pub page_at : ℕ → Unread → Result (NumberedPage × Unread) WordFault
+page_at number left = do
+  page ← raw_at 4096 left
+  Ok (record { number = number; page = page.0 }, page.1)
+
+-- the pages of these numbers
+unfoldable pub pages_at : List ℕ → Unread → Result (List NumberedPage × Unread) WordFault
+pages_at [] left = Ok ([], left)
+pages_at (number ∷ numbers) left = do
+  first ← page_at number left
+  others ← pages_at numbers first.1
+  Ok (first.0 ∷ others.0, others.1)
+
+-- what follows the name of a Frames command
+unfoldable pub frame_items_at : Unread → Result (FrameItems × Unread) WordFault
+frame_items_at left = do
+  tx ← word_at left
+  flagged ← flagged_at tx.1
+  sized ← sized_at flagged.1
+  numbers ← numbers_at sized.0.0 sized.1
+  pages ← pages_at numbers.0 numbers.1
+  Ok (record { tx = tx.0; truncate = flagged.0.0; flag = flagged.0.1; size = sized.0.1; pages = pages.0 }, pages.1)
+
+-- the command of these items
+abbrev pub frames_of : List ℕ → FrameItems → Result Command CommandFault
+frames_of name items =
+    if items.size == 4096 then
+      (if nat_le items.flag 1 && frames_fit items.truncate (items.flag == 1) items.pages
+       then Ok (Frames name items.tx items.truncate (items.flag == 1) items.pages)
+       else Err Number)
+    else Err PageSize
+
+-- the rest of a Frames command
+unfoldable pub frames_at : List ℕ → Unread → Result (Command × Unread) CommandFault
+frames_at name left = do
+  items ← in_command (frame_items_at left)
+  command ← frames_of name items.0
+  Ok (command, items.1)
+
+-- the rest of a command of this type
+abbrev pub command_after : CommandKind → List ℕ → Unread → Result (Command × Unread) CommandFault
+command_after kinds.OpenDb name left = Ok (OpenDb name, left)
+command_after kinds.Frames name left = frames_at name left
+
+-- a command, whatever follows it
+unfoldable pub command_at : Unread → Result (Command × Unread) CommandFault
+command_at left = do
+  kind ← kind_at left
+  name ← in_command (name_at kind.1)
+  command_after kind.0 name.0 name.1
+
+-- what was read, where nothing is left
+abbrev pub ended : Command × Unread → Result Command CommandFault
+ended x = if length x.1.bytes == 0 then Ok x.0 else Err Tail
+
+-- the command of these bytes, or the first fault
+unfoldable pub command_of : List ℕ → Result Command CommandFault
+command_of bytes = command_at (unread bytes) >>= ended
+
+-- A fault is the one that reading gives, unless memory ran out.
+abbrev pub Fails : {X : Type 0} → CommandFault → Result X CommandFault → Type 0
+Fails NoMemory reading = Unit {0}
+Fails fault reading = reading ≡ Err fault
+
+-- What a call gave is what reading gives, unless memory ran out.
+abbrev pub Gives : {X : Type 0} → Result X CommandFault → Result X CommandFault → Type 0
+Gives reading result = MatchResult result (λ x. reading ≡ Ok x) (λ fault. Fails fault reading)
+
+-- The same of a part that a reader takes, where nothing is said of where a fault leaves it.
+abbrev pub Finds : {X : Type 0} → (Unread → Result (X × Unread) CommandFault) → Unread → Unread → Result X CommandFault → Type 0
+Finds read old new result = MatchResult result (λ x. read old ≡ Ok (x, new)) (λ fault. Fails fault (read old))

@@ -1,0 +1,22 @@
+ghost use Rattle.std.specs.Prelude.{◌≡◌};
+ghost use Rattle.frame_commands.specs.Reading.{command_kind};
+
+/// The types of command.
+#[derive(Clone, Copy, Debug, PartialEq, Eq)]
+pub(crate) enum CommandKind {
+    OpenDb,
+    Frames,
+}
+
+impl CommandKind {
+    /// The type that a command's second byte stands for.
+    pub(crate) fn of(kind: u64) -> Option<CommandKind>
+        ensures { result ≡ command_kind kind }
+    {
+        match kind {
+            1 => Some(CommandKind::OpenDb),
+            2 => Some(CommandKind::Frames),
+            _ => None,
+        }
+    }
+}

@@ -1,0 +1,94 @@
+ghost use Rattle.std.specs.Prelude.{◌≡◌, IfOk, Ok};
+ghost use Rattle.frame_commands.specs.declared.command.Command.{Command};
+ghost use Rattle.frame_commands.specs.Spelling.{Writes};
+ghost use Rattle.frame_commands.specs.Reading.{Gives, Finds, kind_at, frames_at, command_at, command_of};
+
+use crate::command::Command;
+use crate::fault::CommandFault;
+use crate::items::{frame_items, name};
+use crate::kind::CommandKind;
+use dq_base::{Name, PAGE_SIZE};
+use std::alloc::Global;
+use wire_words::{WordFault, Words};
+
+/// The type of the command, from the head that it begins with.
+#[tactic(auto, unfolding(crate::specs::Reading::kind_at))]
+fn kind(words: &mut Words<'_>) -> Result<CommandKind, CommandFault>
+    requires { words.old.at ≡ 0 }
+    ensures { Finds kind_at words.old words.new result }
+{
+    let head = words.u64()?;
+    if head % 256 != 1 {
+        return Err(CommandFault::Format);
+    }
+    let Some(kind) = CommandKind::of(head / 256 % 256) else {
+        return Err(CommandFault::Kind);
+    };
+    if head / 65536 != 0 {
+        return Err(CommandFault::Word(WordFault::Pad(0)));
+    }
+    Ok(kind)
+}
+
+/// The rest of a Frames command. The first fault comes: that of an item, then `PageSize`, then `Number`.
+#[tactic(auto, unfolding(crate::specs::Reading::frames_at))]
+fn frames(alloc: Global, name: Name, words: &mut Words<'_>) -> Result<Command, CommandFault>
+    ensures { Finds (frames_at name) words.old words.new result }
+{
+    let items = frame_items(alloc, words)?;
+    if usize::from(items.size) != PAGE_SIZE {
+        return Err(CommandFault::PageSize);
+    }
+    let command = Command::Frames {
+        name,
+        tx: items.tx,
+        truncate: items.truncate,
+        commit: items.flag == 1,
+        pages: items.pages,
+    };
+    if items.flag > 1 || !command.numbers_fit() {
+        return Err(CommandFault::Number);
+    }
+    Ok(command)
+}
+
+/// A command, whatever follows it.
+#[tactic(auto, unfolding(crate::specs::Reading::command_at))]
+fn command(alloc: Global, words: &mut Words<'_>) -> Result<Command, CommandFault>
+    requires { words.old.at ≡ 0 }
+    ensures { Finds command_at words.old words.new result }
+{
+    let kind = kind(words)?;
+    let name = name(alloc, words)?;
+    match kind {
+        CommandKind::OpenDb => Ok(Command::OpenDb { name }),
+        CommandKind::Frames => frames(alloc, name, words),
+    }
+}
+
+#[tactic(auto, unfolding(crate::specs::Reading::command_of))]
+fn whole_command(alloc: Global, bytes: &[u8]) -> Result<Command, CommandFault>
+    ensures { Gives (command_of bytes.now) result }
+{
+    let mut words = Words::new(bytes);
+    let command = command(alloc, &mut words)?;
+    if words.left() != 0 {
+        return Err(CommandFault::Tail);
+    }
+    Ok(command)
+}
+
+/// Reads a command, which has to be all of the bytes. The first fault comes: `Format` where the first byte isn't 1,
+/// `Kind` where the second stands for no type, `Word` at the first item that isn't there or isn't filled up with zeros,
+/// `PageSize`, `Number` and `Tail`. Fewer than eight bytes are `Word(Short(0))`, and a name that isn't 1 to 255 bytes is
+/// `Word(Short(at))`. Takes memory for what is there, and not for what a count claims.
+pub fn read_command(alloc: Global, bytes: &[u8]) -> Result<Command, CommandFault>
+    // What is read is what the bytes stand for.
+    ensures found { IfOk result (λ command. Writes command bytes.now) }
+    // What the bytes stand for is read, unless memory runs out.
+    ensures only { (command : Command) → Writes command bytes.now → Gives (Ok command) result }
+    // Which fault it is.
+    ensures exact { Gives (command_of bytes.now) result }
+{
+    whole_command(alloc, bytes)
+}
