@@ -5,3 +5,4 @@ pub mod Printed
 pub mod Running
 pub mod Databases
 pub mod Tables
+pub mod CommandSizes

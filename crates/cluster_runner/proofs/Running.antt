@@ -1,5 +1,5 @@
 -- Running a script line by line gives the run that its bytes make.
-use Rattle.std.proofs.Common.{◌≡◌, ◌≢◌, ℕ, zero, suc, ◌+◌, ◌<◌, ◌≤◌, Bool, true, false, cond, ◌&&◌, eqb, List, [], ◌∷◌, ◌++◌, Option, Some, None, length, refl, sym, ap, subst, ◌∙◌, append_assoc, arith, inl, inr}
+use Rattle.std.proofs.Common.{◌≡◌, ◌≢◌, ℕ, zero, suc, ◌+◌, ◌<◌, ◌≤◌, Bool, true, false, cond, ◌&&◌, eqb, List, [], ◌∷◌, ◌++◌, Option, Some, None, Ok, Err, length, refl, sym, ap, subst, ◌∙◌, append_assoc, arith, inl, inr}
 use Rattle.std.specs.Prelude.{nat_le, unwrap_or}
 use Rattle.std.specs.Option.{option_map_or}
 use Rattle.std.specs.Io.KnownBytes.{Appends, Consumes, Keeps, IsAtEnd}
@@ -10,16 +10,14 @@ use Rattle.cluster_runner.specs.declared.lines.TheConstants.{LINE_LIMIT, LINE_CO
 use Rattle.cluster_runner.specs.declared.cluster.Say.{Say}
 use Rattle.cluster_runner.specs.declared.lines.LineFault.{LineFault}
 use Rattle.cluster_runner.specs.declared.lines.LineFault.TheVariants as line
-use Rattle.cluster_runner.specs.declared.run.Stop.{Stop}
-use Rattle.cluster_runner.specs.declared.run.Stop.TheVariants.{Script, ReadFault, WriteFault, NoMemory}
 use Rattle.cluster_runner.specs.Stops.{line_stop}
 use Rattle.cluster_runner.specs.Lines.{with_byte, lines_of, HasNoFeed, Cursor, to_come, TakesLine}
-use Rattle.cluster_runner.specs.Grammar.{◌>>=◌, line_of}
-use Rattle.cluster_runner.specs.Run.{Place, Opening, line_step, step, step_text, Run, said_before, run_from, run, text_of, printed}
-use Rattle.cluster_runner.specs.Outcome.{IsInput, Completes, Refuses, StopsShort, Reached, Stopped}
+use Rattle.cluster_runner.specs.Grammar.{line_of}
+use Rattle.cluster_runner.specs.Run.{Place, Opening, Next, Fault, Line, Large, said_step, step, step_text, next_text, Run, said_before, onward, closing, ending, run_from, run_so_far, run, text_of, printed}
+use Rattle.cluster_runner.specs.Outcome.{IsInput, Completes, Refuses, StopsShort, Reached, ReadWhole, StoppedBy, Stopped}
 use Rattle.cluster_runner.proofs.Reading.{Consumes-none}
 use Rattle.cluster_runner.proofs.Printed.{text_of-append}
-use Rattle.std.proofs.lemmas.Bool.{lt-leb}
+use Rattle.std.proofs.lemmas.Bool.{lt-leb, le-leb}
 use Rattle.std.proofs.lemmas.Bool.Decides.{eqb_tells}
 
 -- ---- lines
@@ -57,29 +55,24 @@ line_begins b (c ∷ line) more h =
 
 -- ---- steps
 
-run_step : (place : Place) (number : ℕ) (line : List ℕ) (lines : List (List ℕ)) (next : Place) (said : List Say) → step place number line ≡ Some (next, said)
-    → run_from place number (line ∷ lines) ≡ said_before said (run_from next (suc number) lines)
-run_step place number line lines next said e = rw e refl
+run_step : (whole : Bool) (place : Place) (number : ℕ) (line : List ℕ) (lines : List (List ℕ)) (next : Place) (said : List Say) → step place number line ≡ Ok (next, said)
+    → run_from whole place number (line ∷ lines) ≡ said_before said (run_from whole next (suc number) lines)
+run_step whole place number line lines next said e = rw e refl
 
-run_fault : (place : Place) (number : ℕ) (line : List ℕ) (lines : List (List ℕ)) → step place number line ≡ None → run_from place number (line ∷ lines) ≡ record { said = []; fault = Some number }
-run_fault place number line lines e = rw e refl
-
-none_either : {A : Type 0} (b : Bool) (x : Option A) → x ≡ None → cond b x None ≡ None
-none_either true x e = e
-none_either false x e = refl
+run_fault : (whole : Bool) (place : Place) (number : ℕ) (line : List ℕ) (lines : List (List ℕ)) (fault : Fault) → step place number line ≡ Err fault → run_from whole place number (line ∷ lines) ≡ record { said = []; fault = Some fault }
+run_fault whole place number line lines fault e = rw e refl
 
 line_long : (line : List ℕ) → LINE_LIMIT < length line → line_of line ≡ None
 unfolding line_of
 line_long line long = rw (lt-leb (length line) LINE_LIMIT long) refl
 
 -- a line that is too long, whatever follows it
-step_long : (place : Place) (number : ℕ) (line : List ℕ) → LINE_LIMIT < length line → step place number line ≡ None
+step_long : (place : Place) (number : ℕ) (line : List ℕ) → number ≤ LINE_COUNT_LIMIT → LINE_LIMIT < length line → step place number line ≡ Err (Line number)
 unfolding step
-step_long place number line long =
-    none_either (nat_le number LINE_COUNT_LIMIT) (line_of line >>= line_step place) (rw (line_long line long) refl)
+step_long place number line few long = rw (le-leb number LINE_COUNT_LIMIT few, line_long line long) refl
 
 -- a line past the last that a script may have
-step_past : (place : Place) (number : ℕ) (line : List ℕ) → LINE_COUNT_LIMIT < number → step place number line ≡ None
+step_past : (place : Place) (number : ℕ) (line : List ℕ) → LINE_COUNT_LIMIT < number → step place number line ≡ Err Large
 unfolding step
 step_past place number line past = rw (lt-leb number LINE_COUNT_LIMIT past) refl
 
@@ -93,23 +86,23 @@ starts None = tt
 starts (Some all) = refl
 
 pub reached_start : (left written : Option (List ℕ)) → Reached left (to_come (record { line = []; ahead = [] }) left) written written Opening 1
-reached_start left written = record { read = []; said = []; taken = starts left; told = Appends-nothing written; goes_on = λ more. refl }
+reached_start left written = record { read = []; said = []; taken = starts left; told = Appends-nothing written; goes_on = λ whole more. refl }
 
 -- A line that is in the grammar leads on.
 pub reached_line : (first now later written printed_now printed_later : Option (List ℕ)) (place next : Place) (number : ℕ) (line : List ℕ) (said : List Say)
-    → Reached first now written printed_now place number → TakesLine now later line (10 ∷ []) → step place number line ≡ Some (next, said)
+    → Reached first now written printed_now place number → TakesLine now later line (10 ∷ []) → step place number line ≡ Ok (next, said)
     → Appends printed_now printed_later (text_of said) → Reached first later written printed_later next (suc number)
 reached_line first now later written printed_now printed_later place next number line said r t e a = record {
     read = r.read ++ (line ++ 10 ∷ []);
     said = r.said ++ said;
     taken = Consumes-then first now later r.read (line ++ 10 ∷ []) r.taken t.taken;
     told = rw (text_of-append r.said said) (Appends-then written printed_now printed_later (text_of r.said) (text_of said) r.told a);
-    goes_on = λ more.
-      ap run (append_assoc r.read (line ++ 10 ∷ []) more ∙ ap (λ (bytes : List ℕ). r.read ++ bytes) (append_assoc line (10 ∷ []) more))
-      ∙ r.goes_on (line ++ 10 ∷ more)
-      ∙ ap (λ (lines : List (List ℕ)). said_before r.said (run_from place number lines)) (lines_feed line more t.no_feed)
-      ∙ ap (said_before r.said) (run_step place number line (lines_of more) next said e)
-      ∙ said_twice r.said said (run_from next (suc number) (lines_of more));
+    goes_on = λ whole more.
+      ap (run_so_far whole) (append_assoc r.read (line ++ 10 ∷ []) more ∙ ap (λ (bytes : List ℕ). r.read ++ bytes) (append_assoc line (10 ∷ []) more))
+      ∙ r.goes_on whole (line ++ 10 ∷ more)
+      ∙ ap (λ (lines : List (List ℕ)). said_before r.said (run_from whole place number lines)) (lines_feed line more t.no_feed)
+      ∙ ap (said_before r.said) (run_step whole place number line (lines_of more) next said e)
+      ∙ said_twice r.said said (run_from whole next (suc number) (lines_of more));
   }
 
 -- ---- what a reader holds
@@ -148,14 +141,15 @@ without_separator : (first now : Option (List ℕ)) (line : List ℕ) → TakesL
 without_separator first now line t = rw (append-nil line) at t.taken
 
 -- what a line printed is a front of the text of the run from there on
-step_front : (a b : Option (List ℕ)) (place : Place) (number : ℕ) (line : List ℕ) (lines : List (List ℕ)) → AppendsFront a b (step_text place number line) → AppendsFront a b (text_of (run_from place number (line ∷ lines)).said)
-step_front a b place number line lines front =
-    let P : Option (Place × List Say) → Type 0 = λ o. AppendsFront a b (option_map_or (λ (next : Place × List Say). text_of next.1) o []) → AppendsFront a b (text_of (option_map_or (λ (next : Place × List Say). said_before next.1 (run_from next.0 (suc number) lines)) o (record { said = []; fault = Some number })).said) in
-    let by_cases : (o : Option (Place × List Say)) → P o =
+step_front : (a b : Option (List ℕ)) (whole : Bool) (place : Place) (number : ℕ) (line : List ℕ) (lines : List (List ℕ)) → AppendsFront a b (step_text place number line) → AppendsFront a b (text_of (run_from whole place number (line ∷ lines)).said)
+step_front a b whole place number line lines front =
+    let go : Place × List Say → Run = λ next. run_from whole next.0 (suc number) lines in
+    let P : Next → Type 0 = λ o. AppendsFront a b (next_text o) → AppendsFront a b (text_of (onward go o).said) in
+    let by_cases : (o : Next) → P o =
     λ o. elim o as P [
-      | None ↦ λ h. h
-      | Some next ↦ λ h.
-        let more = (run_from next.0 (suc number) lines).said in
+      | Err fault ↦ λ h. h
+      | Ok next ↦ λ h.
+        let more = (go next).said in
         rw (text_of-append next.1 more) (AppendsFront-longer a b (text_of next.1) (text_of more) h)
     ] in
     by_cases (step place number line) front
@@ -170,96 +164,100 @@ some_line (b ∷ bytes) more some =
     ]
 
 -- a step that leads nowhere printed nothing
-pub nothing_printed : (a b : Option (List ℕ)) (place : Place) (number : ℕ) (line : List ℕ) → step place number line ≡ None → AppendsFront a b (step_text place number line) → Appends a b []
-nothing_printed a b place number line e front =
-    let none : step_text place number line ≡ [] = ap (λ (o : Option (Place × List Say)). option_map_or (λ (next : Place × List Say). text_of next.1) o []) e in
+pub nothing_printed : (a b : Option (List ℕ)) (place : Place) (number : ℕ) (line : List ℕ) (fault : Fault) → step place number line ≡ Err fault → AppendsFront a b (step_text place number line) → Appends a b []
+nothing_printed a b place number line fault e front =
+    let none : step_text place number line ≡ [] = ap next_text e in
     let nothing : front.0 ≡ [] = (nothing_behind front.0 front.1 (front.2 ∙ none)).0 in
     rw nothing at front.3
 
 -- ---- how a script ends
 
 module _ (first now written printed_now : Option (List ℕ)) (place : Place) (number : ℕ) (r : Reached first now written printed_now place number) where
-  ends_so : (later : Option (List ℕ)) (tail : List ℕ) (said : List Say) (fault : Option ℕ) → run_from place number (lines_of tail) ≡ record { said = said; fault = fault } → Appends printed_now later (text_of said)
+  ends_so : (later : Option (List ℕ)) (tail : List ℕ) (said : List Say) (fault : Option Fault) → run_from true place number (lines_of tail) ≡ record { said = said; fault = fault } → Appends printed_now later (text_of said)
       → ((run (r.read ++ tail)).fault ≡ fault) × Appends written later (printed (run (r.read ++ tail)))
   ends_so later tail said fault h a =
-      let e = r.goes_on tail ∙ ap (said_before r.said) h in
+      let e = r.goes_on true tail ∙ ap (said_before r.said) h in
       (ap (λ (x : Run). x.fault) e, rw (ap printed e ∙ text_of-append r.said said) (Appends-then written printed_now later (text_of r.said) (text_of said) r.told a))
 
   -- No line was left.
-  pub completes_none : (cursor : Cursor) (left : Option (List ℕ)) (line : List ℕ) → TakesLine now (to_come cursor left) line [] → IsAtEnd (to_come cursor left) → length line ≡ 0 → Completes first left written printed_now
-  completes_none cursor left line t end empty =
+  pub whole_none : (cursor : Cursor) (left : Option (List ℕ)) (line : List ℕ) → TakesLine now (to_come cursor left) line [] → IsAtEnd (to_come cursor left) → length line ≡ 0 → ReadWhole first left written printed_now place
+  whole_none cursor left line t end empty =
       let nil : line ≡ [] = nil_from_length line empty in
-      let w = ends_so printed_now line [] None (ap (λ (l : List ℕ). run_from place number (lines_of l)) nil) (Appends-nothing printed_now) in
       record {
-        script = r.read ++ line;
-        input = Consumes-all first (to_come cursor left) (r.read ++ line) (Consumes-then first now (to_come cursor left) r.read line r.taken (without_separator now (to_come cursor left) line t)) end;
-        read = end_left cursor left end;
-        sound = w.0;
-        text = w.1;
+        read = r.read ++ line;
+        said = r.said;
+        taken = held_end first cursor left (r.read ++ line) (Consumes-then first now (to_come cursor left) r.read line r.taken (without_separator now (to_come cursor left) line t)) end;
+        end = end_left cursor left end;
+        told = r.told;
+        ends = λ whole. r.goes_on whole line ∙ ap (λ (l : List ℕ). said_before r.said (run_from whole place number (lines_of l))) nil;
       }
 
-  -- A last line that lacks its LF is in the grammar.
-  pub completes_last : (later : Option (List ℕ)) (cursor : Cursor) (left : Option (List ℕ)) (line : List ℕ) (next : Place) (said : List Say) → TakesLine now (to_come cursor left) line [] → IsAtEnd (to_come cursor left)
-      → 0 < length line → step place number line ≡ Some (next, said) → Appends printed_now later (text_of said) → Completes first left written later
-  completes_last later cursor left [] next said t end some e a = absurd (omega arith)
-  completes_last later cursor left (b ∷ line) next said t end some e a =
-      let lines = ap (run_from place number) (lines_last b line t.no_feed) ∙ run_step place number (b ∷ line) [] next said e ∙ ap (λ (s : List Say). record { said = s; fault = None }) (append-nil said) in
-      let w = ends_so later (b ∷ line) said None lines a in
-      record {
-        script = r.read ++ b ∷ line;
-        input = Consumes-all first (to_come cursor left) (r.read ++ b ∷ line) (Consumes-then first now (to_come cursor left) r.read (b ∷ line) r.taken (without_separator now (to_come cursor left) (b ∷ line) t)) end;
-        read = end_left cursor left end;
-        sound = w.0;
-        text = w.1;
-      }
+  -- A last line that lacks its LF leads on.
+  pub whole_last : (later : Option (List ℕ)) (cursor : Cursor) (left : Option (List ℕ)) (line : List ℕ) (next : Place) (said : List Say) → TakesLine now (to_come cursor left) line [] → IsAtEnd (to_come cursor left)
+      → 0 < length line → step place number line ≡ Ok (next, said) → Appends printed_now later (text_of said) → ReadWhole first left written later next
+  whole_last later cursor left [] next said t end some e a = absurd (omega arith)
+  whole_last later cursor left (b ∷ line) next said t end some e a = record {
+      read = r.read ++ b ∷ line;
+      said = r.said ++ said;
+      taken = held_end first cursor left (r.read ++ b ∷ line) (Consumes-then first now (to_come cursor left) r.read (b ∷ line) r.taken (without_separator now (to_come cursor left) (b ∷ line) t)) end;
+      end = end_left cursor left end;
+      told = rw (text_of-append r.said said) (Appends-then written printed_now later (text_of r.said) (text_of said) r.told a);
+      ends = λ whole.
+        r.goes_on whole (b ∷ line)
+        ∙ ap (λ (lines : List (List ℕ)). said_before r.said (run_from whole place number lines)) (lines_last b line t.no_feed)
+        ∙ ap (said_before r.said) (run_step whole place number (b ∷ line) [] next said e)
+        ∙ said_twice r.said said (ending whole next);
+    }
 
-  refuses : (later printed_later : Option (List ℕ)) (bytes line : List ℕ) (others : List (List ℕ)) → Consumes now later bytes → lines_of (bytes ++ unwrap_or later []) ≡ line ∷ others → step place number line ≡ None
-      → Appends printed_now printed_later [] → Refuses number first written printed_later
-  refuses later printed_later bytes line others taken lines e a =
+  refuses : (later printed_later : Option (List ℕ)) (bytes line : List ℕ) (others : List (List ℕ)) (fault : Fault) → Consumes now later bytes → lines_of (bytes ++ unwrap_or later []) ≡ line ∷ others → step place number line ≡ Err fault
+      → Appends printed_now printed_later [] → Refuses fault first written printed_later
+  refuses later printed_later bytes line others fault taken lines e a =
       let tail = bytes ++ unwrap_or later [] in
-      let w = ends_so printed_later tail [] (Some number) (ap (run_from place number) lines ∙ run_fault place number line others e) a in
+      let w = ends_so printed_later tail [] (Some fault) (ap (run_from true place number) lines ∙ run_fault true place number line others fault e) a in
       record {
         script = r.read ++ tail;
         input = rw (append_assoc r.read bytes (unwrap_or later [])) at (input_is first later (r.read ++ bytes) (Consumes-then first now later r.read bytes r.taken taken));
-        fault = w.0;
+        faulty = w.0;
         text = w.1;
       }
 
   -- A line that ends with LF isn't in the grammar.
-  pub refuses_feed : (later printed_later : Option (List ℕ)) (line : List ℕ) → TakesLine now later line (10 ∷ []) → step place number line ≡ None → Appends printed_now printed_later [] → Refuses number first written printed_later
-  refuses_feed later printed_later line t e a =
+  pub refuses_feed : (later printed_later : Option (List ℕ)) (line : List ℕ) (fault : Fault) → TakesLine now later line (10 ∷ []) → step place number line ≡ Err fault → Appends printed_now printed_later [] → Refuses fault first written printed_later
+  refuses_feed later printed_later line fault t e a =
       let rest = unwrap_or later [] in
-      refuses later printed_later (line ++ 10 ∷ []) line (lines_of rest) t.taken (ap lines_of (append_assoc line (10 ∷ []) rest) ∙ lines_feed line rest t.no_feed) e a
+      refuses later printed_later (line ++ 10 ∷ []) line (lines_of rest) fault t.taken (ap lines_of (append_assoc line (10 ∷ []) rest) ∙ lines_feed line rest t.no_feed) e a
 
   -- A last line that lacks its LF isn't in the grammar.
-  pub refuses_last : (later printed_later : Option (List ℕ)) (line : List ℕ) → TakesLine now later line [] → IsAtEnd later → 0 < length line → step place number line ≡ None → Appends printed_now printed_later []
-      → Refuses number first written printed_later
-  refuses_last later printed_later [] t end some e a = absurd (omega arith)
-  refuses_last later printed_later (b ∷ line) t end some e a =
+  pub refuses_last : (later printed_later : Option (List ℕ)) (line : List ℕ) (fault : Fault) → TakesLine now later line [] → IsAtEnd later → 0 < length line → step place number line ≡ Err fault → Appends printed_now printed_later []
+      → Refuses fault first written printed_later
+  refuses_last later printed_later [] fault t end some e a = absurd (omega arith)
+  refuses_last later printed_later (b ∷ line) fault t end some e a =
       let bytes : (b ∷ line) ++ unwrap_or later [] ≡ b ∷ line = ap (λ (rest : List ℕ). (b ∷ line) ++ rest) (nothing_to_come later end) ∙ append-nil (b ∷ line) in
-      refuses later printed_later (b ∷ line) (b ∷ line) [] (without_separator now later (b ∷ line) t) (ap lines_of bytes ∙ lines_last b line t.no_feed) e a
+      refuses later printed_later (b ∷ line) (b ∷ line) [] fault (without_separator now later (b ∷ line) t) (ap lines_of bytes ∙ lines_last b line t.no_feed) e a
 
   -- A line is too long.
-  pub refuses_long : (later : Option (List ℕ)) (line : List ℕ) → TakesLine now later line [] → LINE_LIMIT < length line → Refuses number first written printed_now
-  refuses_long later [] t long = absurd (omega arith)
-  refuses_long later (b ∷ line) t long =
+  pub refuses_long : (later : Option (List ℕ)) (line : List ℕ) → number ≤ LINE_COUNT_LIMIT → TakesLine now later line [] → LINE_LIMIT < length line → Refuses (Line number) first written printed_now
+  refuses_long later [] few t long = absurd (omega arith)
+  refuses_long later (b ∷ line) few t long =
       let w = line_begins b line (unwrap_or later []) t.no_feed in
-      refuses later printed_now (b ∷ line) ((b ∷ line) ++ w.rest) w.others (without_separator now later (b ∷ line) t) w.lines
-      (step_long place number ((b ∷ line) ++ w.rest) (omega (arith, length-append (b ∷ line) w.rest))) (Appends-nothing printed_now)
+      refuses later printed_now (b ∷ line) ((b ∷ line) ++ w.rest) w.others (Line number) (without_separator now later (b ∷ line) t) w.lines
+      (step_long place number ((b ∷ line) ++ w.rest) few (omega (arith, length-append (b ∷ line) w.rest))) (Appends-nothing printed_now)
 
-  stops_short : (left printed_later : Option (List ℕ)) (tail : List ℕ) → Consumes first left (r.read ++ tail) → AppendsFront printed_now printed_later (text_of (run_from place number (lines_of tail)).said) → StopsShort first left written printed_later
+  stops_short : (left printed_later : Option (List ℕ)) (tail : List ℕ) → Consumes first left (r.read ++ tail) → AppendsFront printed_now printed_later (text_of (run_from false place number (lines_of tail)).said) → StopsShort first left written printed_later
   stops_short left printed_later tail taken front =
-      let said = (run_from place number (lines_of tail)).said in
-      let text : printed (run (r.read ++ tail)) ≡ text_of r.said ++ text_of said = ap printed (r.goes_on tail) ∙ text_of-append r.said said in
+      let said = (run_from false place number (lines_of tail)).said in
+      let text : printed (run_so_far false (r.read ++ tail)) ≡ text_of r.said ++ text_of said = ap printed (r.goes_on false tail) ∙ text_of-append r.said said in
       record {
         read = r.read ++ tail;
         taken = taken;
+        whole = false;
+        ended = λ e. absurd cc;
         text = rw text (AppendsFront-then written printed_now printed_later (text_of r.said) (text_of said) r.told front);
       }
 
   -- Nothing is left behind the last line that a script may have.
-  pub completes_past : (cursor : Cursor) (left : Option (List ℕ)) → Keeps now (to_come cursor left) → IsAtEnd (to_come cursor left) → Completes first left written printed_now
-  completes_past cursor left kept end = completes_none cursor left [] (record { taken = Consumes-none now (to_come cursor left) kept; no_feed = tt }) end refl
+  pub whole_past : (cursor : Cursor) (left : Option (List ℕ)) → Keeps now (to_come cursor left) → IsAtEnd (to_come cursor left) → ReadWhole first left written printed_now place
+  whole_past cursor left kept end = whole_none cursor left [] (record { taken = Consumes-none now (to_come cursor left) kept; no_feed = tt }) end refl
 
   -- Nothing more was printed.
   pub short_reading : (cursor : Cursor) (left : Option (List ℕ)) (line : List ℕ) → TakesLine now (to_come cursor left) line [] → StopsShort first left written printed_now
@@ -274,7 +272,7 @@ module _ (first now written printed_now : Option (List ℕ)) (place : Place) (nu
       let taken = held first cursor left (r.read ++ (line ++ 10 ∷ [])) (Consumes-then first now (to_come cursor left) r.read (line ++ 10 ∷ []) r.taken t.taken) in
       let lines : lines_of ((line ++ 10 ∷ []) ++ cursor.ahead) ≡ line ∷ lines_of cursor.ahead = ap lines_of (append_assoc line (10 ∷ []) cursor.ahead) ∙ lines_feed line cursor.ahead t.no_feed in
       stops_short left printed_later ((line ++ 10 ∷ []) ++ cursor.ahead) (rw (append_assoc r.read (line ++ 10 ∷ []) cursor.ahead) at taken)
-      (subst (λ (l : List (List ℕ)). AppendsFront printed_now printed_later (text_of (run_from place number l).said)) (sym lines) (step_front printed_now printed_later place number line (lines_of cursor.ahead) front))
+      (subst (λ (l : List (List ℕ)). AppendsFront printed_now printed_later (text_of (run_from false place number l).said)) (sym lines) (step_front printed_now printed_later false place number line (lines_of cursor.ahead) front))
 
   -- A last line that lacks its LF printed a front of its text.
   pub short_last : (printed_later : Option (List ℕ)) (cursor : Cursor) (left : Option (List ℕ)) (line : List ℕ) → TakesLine now (to_come cursor left) line [] → IsAtEnd (to_come cursor left) → 0 < length line
@@ -283,14 +281,14 @@ module _ (first now written printed_now : Option (List ℕ)) (place : Place) (nu
   short_last printed_later cursor left (b ∷ line) t end some front =
       let taken = held_end first cursor left (r.read ++ b ∷ line) (Consumes-then first now (to_come cursor left) r.read (b ∷ line) r.taken (without_separator now (to_come cursor left) (b ∷ line) t)) end in
       stops_short left printed_later (b ∷ line) taken
-      (subst (λ (l : List (List ℕ)). AppendsFront printed_now printed_later (text_of (run_from place number l).said)) (sym (lines_last b line t.no_feed)) (step_front printed_now printed_later place number (b ∷ line) [] front))
+      (subst (λ (l : List (List ℕ)). AppendsFront printed_now printed_later (text_of (run_from false place number l).said)) (sym (lines_last b line t.no_feed)) (step_front printed_now printed_later false place number (b ∷ line) [] front))
 
   -- There is a line past the last that a script may have.
-  pub refuses_past : (cursor : Cursor) (left : Option (List ℕ)) → Keeps now (to_come cursor left) → 0 < length cursor.ahead → LINE_COUNT_LIMIT < number → Refuses number first written printed_now
+  pub refuses_past : (cursor : Cursor) (left : Option (List ℕ)) → Keeps now (to_come cursor left) → 0 < length cursor.ahead → LINE_COUNT_LIMIT < number → Refuses Large first written printed_now
   refuses_past cursor left kept some past =
       let all = held now cursor left [] (Consumes-none now (to_come cursor left) kept) in
       let w = some_line cursor.ahead (unwrap_or left []) some in
-      refuses left printed_now cursor.ahead w.0 w.1 all w.2 (step_past place number w.0 past) (Appends-nothing printed_now)
+      refuses left printed_now cursor.ahead w.0 w.1 Large all w.2 (step_past place number w.0 past) (Appends-nothing printed_now)
 
   pub short_past : (cursor : Cursor) (left : Option (List ℕ)) → Keeps now (to_come cursor left) → StopsShort first left written printed_now
   short_past cursor left kept =
@@ -298,26 +296,46 @@ module _ (first now written printed_now : Option (List ℕ)) (place : Place) (nu
       stops_short left printed_now cursor.ahead (rw (append-nil r.read) at taken) (AppendsFront-nothing printed_now _)
 
   -- A line that ends with LF stopped the script.
-  pub stopped_feed : (printed_later : Option (List ℕ)) (cursor : Cursor) (left : Option (List ℕ)) (line : List ℕ) (stop : Stop) → TakesLine now (to_come cursor left) line (10 ∷ []) → AppendsFront printed_now printed_later (step_text place number line)
-      → ((n : ℕ) → stop ≡ Script n → (n ≡ number) × (step place number line ≡ None)) → Stopped stop first left written printed_later
-  stopped_feed printed_later cursor left line (Script n) t front refused =
-      let h = refused n refl in
-      let nothing = nothing_printed printed_now printed_later place number line h.1 front in
-      subst (λ (k : ℕ). Refuses k first written printed_later) (sym h.0) (refuses_feed (to_come cursor left) printed_later line t h.1 nothing)
-  stopped_feed printed_later cursor left line ReadFault t front refused = short_feed printed_later cursor left line t front
-  stopped_feed printed_later cursor left line WriteFault t front refused = short_feed printed_later cursor left line t front
-  stopped_feed printed_later cursor left line NoMemory t front refused = short_feed printed_later cursor left line t front
+  pub stopped_feed : (printed_later : Option (List ℕ)) (cursor : Cursor) (left : Option (List ℕ)) (line : List ℕ) (stop : Option Fault) → TakesLine now (to_come cursor left) line (10 ∷ []) → AppendsFront printed_now printed_later (step_text place number line)
+      → ((fault : Fault) → stop ≡ Some fault → step place number line ≡ Err fault) → StoppedBy stop first left written printed_later
+  stopped_feed printed_later cursor left line None t front refused = short_feed printed_later cursor left line t front
+  stopped_feed printed_later cursor left line (Some fault) t front refused =
+      let e = refused fault refl in
+      refuses_feed (to_come cursor left) printed_later line fault t e (nothing_printed printed_now printed_later place number line fault e front)
 
   -- A last line that lacks its LF stopped the script.
-  pub stopped_last : (printed_later : Option (List ℕ)) (cursor : Cursor) (left : Option (List ℕ)) (line : List ℕ) (stop : Stop) → TakesLine now (to_come cursor left) line [] → IsAtEnd (to_come cursor left) → 0 < length line
-      → AppendsFront printed_now printed_later (step_text place number line) → ((n : ℕ) → stop ≡ Script n → (n ≡ number) × (step place number line ≡ None)) → Stopped stop first left written printed_later
-  stopped_last printed_later cursor left line (Script n) t end some front refused =
-      let h = refused n refl in
-      let nothing = nothing_printed printed_now printed_later place number line h.1 front in
-      subst (λ (k : ℕ). Refuses k first written printed_later) (sym h.0) (refuses_last (to_come cursor left) printed_later line t end some h.1 nothing)
-  stopped_last printed_later cursor left line ReadFault t end some front refused = short_last printed_later cursor left line t end some front
-  stopped_last printed_later cursor left line WriteFault t end some front refused = short_last printed_later cursor left line t end some front
-  stopped_last printed_later cursor left line NoMemory t end some front refused = short_last printed_later cursor left line t end some front
+  pub stopped_last : (printed_later : Option (List ℕ)) (cursor : Cursor) (left : Option (List ℕ)) (line : List ℕ) (stop : Option Fault) → TakesLine now (to_come cursor left) line [] → IsAtEnd (to_come cursor left) → 0 < length line
+      → AppendsFront printed_now printed_later (step_text place number line) → ((fault : Fault) → stop ≡ Some fault → step place number line ≡ Err fault) → StoppedBy stop first left written printed_later
+  stopped_last printed_later cursor left line None t end some front refused = short_last printed_later cursor left line t end some front
+  stopped_last printed_later cursor left line (Some fault) t end some front refused =
+      let e = refused fault refl in
+      refuses_last (to_come cursor left) printed_later line fault t end some e (nothing_printed printed_now printed_later place number line fault e front)
+
+module _ (first now written printed_now later : Option (List ℕ)) (place : Place) (r : ReadWhole first now written printed_now place) where
+  -- All were shown at the end.
+  pub completes : Appends printed_now later (text_of (closing place)) → Completes first now written later
+  completes a = record {
+      script = r.read;
+      input = Consumes-all first now r.read r.taken r.end;
+      read = r.end;
+      sound = ap (λ (x : Run). x.fault) (r.ends true);
+      text = rw (ap printed (r.ends true) ∙ text_of-append r.said (closing place)) (Appends-then written printed_now later (text_of r.said) (text_of (closing place)) r.told a);
+    }
+
+  -- Showing them at the end stopped short.
+  pub short_closing : AppendsFront printed_now later (text_of (closing place)) → StopsShort first now written later
+  short_closing a = record {
+      read = r.read;
+      taken = r.taken;
+      whole = true;
+      ended = λ _. r.end;
+      text = rw (ap printed (r.ends true) ∙ text_of-append r.said (closing place)) (AppendsFront-then written printed_now later (text_of r.said) (text_of (closing place)) r.told a);
+    }
+
+-- Where no fault of the script stopped it, it stopped short.
+pub stopped_short : (stop : Option Fault) (left left' written written' : Option (List ℕ)) → stop ≡ None → StopsShort left left' written written' → StoppedBy stop left left' written written'
+stopped_short None left left' written written' e short = short
+stopped_short (Some fault) left left' written written' e short = absurd cc
 
 -- Reading a line stopped the script.
 pub stopped_reading : (fault : LineFault) (left left' written written' : Option (List ℕ)) → StopsShort left left' written written' → Stopped (line_stop fault) left left' written written'
@@ -330,4 +348,4 @@ some_bytes (suc n) e = omega arith
 
 -- A script that was not begun.
 pub short_start : (left written : Option (List ℕ)) → StopsShort left left written written
-short_start left written = record { read = []; taken = Consumes-nothing left; text = AppendsFront-nothing written _ }
+short_start left written = record { read = []; taken = Consumes-nothing left; whole = false; ended = λ e. absurd cc; text = AppendsFront-nothing written _ }

@@ -195,6 +195,7 @@ impl Cluster {
 
     /// Has an event happen, and answers what was said. After `NotThere` nothing has happened; want of memory may come
     /// after it has.
+    #[tactic(auto, unfolding(crate::specs::World::happens))]
     pub fn take(&mut self, alloc: Global, event: Event) -> Result<Vec<Say>, EventFault>
         ensures ok { IfOk result (λ said. happens (world_of self.old) event ≡ Some (world_of self.new, said.items)) }
         ensures fault { IsErrOf result EventFault.NotThere → happens (world_of self.old) event ≡ None }
@@ -213,17 +214,17 @@ impl Cluster {
     }
 
     /// How the node stands. As leader it has applied the entry with which its term began; no files are there.
-    pub fn standing(&self, alloc: Global) -> Result<Say, AllocError>
-        ensures { IfOk result (λ say. say ≡ node_standing (world_of self.now)) }
+    pub fn standing(&self) -> Say
+        ensures { result ≡ node_standing (world_of self.now) }
     {
-        let digest = digest(alloc, &[])?;
+        let digest = digest(&[]);
         let index = self.leads as u64;
-        Ok(Say::Node {
+        Say::Node {
             node: 1,
             term: index,
             leads: self.leads,
             applied: index,
             digest,
-        })
+        }
     }
 }

@@ -1,6 +1,6 @@
 //! The list of commands that machines apply, within its limits.
 
-ghost use Rattle.std.specs.Prelude.{◌≡◌, ◌<◌, ◌+◌, ◌^◌, ◌++◌, ◌∷◌, [], length, vec_len, set, get_or, slice_get, IfOk, OnErr, MatchOption, true, false, option_copied};
+ghost use Rattle.std.specs.Prelude.{◌≡◌, ◌<◌, ◌+◌, ◌^◌, ◌++◌, ◌∷◌, [], length, vec_len, set, get_or, slice_get, IfOk, OnSome, OnErr, MatchOption, true, false, option_copied};
 ghost use Rattle.dq_base.specs.Applying.{stated_main, stated_side, last_page};
 ghost use Rattle.cluster_runner.specs.declared.stated.Stated.{Stated};
 ghost use Rattle.cluster_runner.specs.Limits.{name_of, stated_length, note, is_allowed, IsNotedAt, IsNew};
@@ -146,7 +146,8 @@ impl CommandList {
 
     /// The command at a place, if the list is so long.
     pub fn get(&self, place: usize) -> Option<&Command>
-        ensures { option_copied result ≡ slice_get self.now place }
+        ensures command { option_copied result ≡ slice_get self.now place }
+        ensures small { OnSome result (place + 1 < 2 ^ 64) }
     {
         self.commands.get(place)
     }

@@ -3,7 +3,7 @@
 ghost use Rattle.std.specs.Prelude.{◌≡◌, ◌<◌, [], ◌∷◌, Some, None, length, IfOk, IfSome, OnOk, OnErr, IsErrOf};
 ghost use Rattle.std.specs.Option.{option_map};
 ghost use Rattle.frame_commands.specs.Reading.{command_of};
-ghost use Rattle.cluster_runner.specs.Machines.{place_named};
+ghost use Rattle.cluster_runner.specs.Machines.{place_named, refusal};
 
 use crate::cluster::{EventFault, Say};
 use crate::command_list::CommandList;
@@ -56,15 +56,15 @@ impl Machine {
     }
 
     /// How the machine of this number stands. Costs in the order of its files.
-    fn standing(&self, alloc: Global, number: u32) -> Result<Say, AllocError>
-        ensures { IfOk result (λ say. say ≡ standing number self.now) }
+    fn standing(&self, number: u32) -> Say
+        ensures { result ≡ standing number self.now }
     {
-        let digest = digest(alloc, self.databases.as_slice())?;
-        Ok(Say::Machine {
+        let digest = digest(self.databases.as_slice());
+        Say::Machine {
             number,
             applied: self.applied as u64,
             digest,
-        })
+        }
     }
 }
 
@@ -100,7 +100,7 @@ fn refusal(alloc: Global, joined: bool) -> Result<Vec<Say>, AllocError>
 
 impl Machines {
     ghost use Rattle.cluster_runner.specs.Run.{idle_fleet};
-    ghost use Rattle.cluster_runner.specs.Machines.{refusal, joins, with_command, take_at, applies, standing_of, standings, fleet_of};
+    ghost use Rattle.cluster_runner.specs.Machines.{joins, with_command, take_at, applies, standing_of, standings, fleet_of};
 
     /// So many machines that have applied nothing of an empty list.
     pub fn new(alloc: Global, count: u32) -> Result<Machines, AllocError>
@@ -163,14 +163,11 @@ impl Machines {
     }
 
     /// How the machine of a number stands, where it is there.
-    pub fn standing(&self, alloc: Global, number: u32) -> Result<Option<Say>, AllocError>
-        ensures { IfOk result (λ say. say ≡ standing_of (fleet_of self.now) number) }
+    pub fn standing(&self, number: u32) -> Option<Say>
+        ensures { result ≡ standing_of (fleet_of self.now) number }
     {
-        let Some(place) = place_of(number, self.machines.len()) else {
-            return Ok(None);
-        };
-        let say = self.machines[place].standing(alloc, number)?;
-        Ok(Some(say))
+        let place = place_of(number, self.machines.len())?;
+        Some(self.machines[place].standing(number))
     }
 
     /// How all machines stand, by their numbers.
@@ -180,7 +177,7 @@ impl Machines {
         let mut said = Vec::new(alloc);
         let mut number: u32 = 1;
         for machine in &self.machines {
-            said.push(machine.standing(alloc, number)?)?;
+            said.push(machine.standing(number))?;
             number += 1;
         }
         Ok(said)

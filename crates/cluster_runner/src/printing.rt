@@ -65,7 +65,7 @@ fn line_for(alloc: Global, say: &Say) -> Result<String, AllocError>
             digest,
         } => {
             let role = role_name(*leads);
-            let digits = hex::encode(alloc, digest.as_slice())?;
+            let digits = hex::encode(alloc, digest)?;
             format!(in alloc; "node {node} term {term} role {role} applied {applied} files {digits}\n")
         }
         Say::Machine {
@@ -73,7 +73,7 @@ fn line_for(alloc: Global, say: &Say) -> Result<String, AllocError>
             applied,
             digest,
         } => {
-            let digits = hex::encode(alloc, digest.as_slice())?;
+            let digits = hex::encode(alloc, digest)?;
             format!(in alloc; "node {number} applied {applied} files {digits}\n")
         }
     }

@@ -31,17 +31,13 @@ impl Scene {
     }
 
     /// How the node or machine of a number stands, where it is there.
-    pub fn show(&self, alloc: Global, number: u32) -> Result<Option<Say>, AllocError>
-        ensures { IfOk result (λ say. say ≡ shown (scene_of self.now) number) }
+    pub fn show(&self, number: u32) -> Option<Say>
+        ensures { result ≡ shown (scene_of self.now) number }
     {
         match self {
-            Scene::Nodes(cluster) => {
-                if number != 1 {
-                    return Ok(None);
-                }
-                Ok(Some(cluster.standing(alloc)?))
-            }
-            Scene::Pages(machines) => machines.standing(alloc, number),
+            Scene::Nodes(cluster) if number == 1 => Some(cluster.standing()),
+            Scene::Nodes(_) => None,
+            Scene::Pages(machines) => machines.standing(number),
         }
     }
 
@@ -52,7 +48,7 @@ impl Scene {
         match self {
             Scene::Nodes(cluster) => {
                 let mut said = Vec::new(alloc);
-                said.push(cluster.standing(alloc)?)?;
+                said.push(cluster.standing())?;
                 Ok(said)
             }
             Scene::Pages(machines) => machines.standings(alloc),

@@ -7,7 +7,7 @@ use crate::cluster::{Cluster, EventFault, Say};
 use crate::grammar::{Event, ScriptLine, line_in};
 use crate::machines::Machines;
 use crate::scene::Scene;
-use std::alloc::{AllocError, Global};
+use std::alloc::{AllocError, AllocFailed, Global};
 
 /// How many events a script may have. Mode lines, comments, empty lines and what is shown are none.
 pub const EVENT_LIMIT: u64 = 20_000;
@@ -51,6 +51,17 @@ impl From<AllocError> for StepFault {
     ghost from_gives = { λ _ e. e ≡ NoMemory };
 
     fn from(_error: AllocError) -> StepFault {
+        StepFault::NoMemory
+    }
+}
+
+impl<T: Drop> From<AllocFailed<T>> for StepFault {
+    ghost use Rattle.std.specs.Prelude.{◌≡◌};
+    ghost use Rattle.cluster_runner.specs.declared.stage.StepFault.TheVariants.{NoMemory};
+
+    ghost from_gives = { λ _ e. e ≡ NoMemory };
+
+    fn from(_failed: AllocFailed<T>) -> StepFault {
         StepFault::NoMemory
     }
 }
@@ -113,7 +124,7 @@ impl Stage {
         let Stage::Within { scene, .. } = self else {
             return Err(StepFault::NotThere);
         };
-        let Some(say) = scene.show(alloc, shows)? else {
+        let Some(say) = scene.show(shows) else {
             return Err(StepFault::NotThere);
         };
         let mut said = Vec::new(alloc);

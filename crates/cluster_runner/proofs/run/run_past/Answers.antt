@@ -1,6 +1,6 @@
 use Rattle.std.proofs.Common.{arith}
 use Rattle.cluster_runner.specs.Lines.{to_come}
-use Rattle.cluster_runner.proofs.Running.{completes_past, refuses_past, short_past}
+use Rattle.cluster_runner.proofs.Running.{whole_past, refuses_past, short_past}
 use Rattle.cluster_runner.proofs.run.run_past.Goals as goal
 
 pub returns-in-Ok-true-clause-goes : goal.returns-in-Ok-true-clause-goes
@@ -11,7 +11,7 @@ returns-in-Ok-true-clause-goes g c = λ first written printed place r.
 pub returns-in-Ok-false-clause-goes : goal.returns-in-Ok-false-clause-goes
 returns-in-Ok-false-clause-goes g c = λ first written printed place r.
     let now = to_come c.args.lines.now (g.S.Source.left c.args.source.now) in
-    completes_past first now written printed place 1000001 r c.fill.new.self (g.S.Source.left c.fill.new.source) c.in-Ok-false.ensures.same (c.in-Ok-false.ensures.none c.in-Ok-false.field-0-test)
+    whole_past first now written printed place 1000001 r c.fill.new.self (g.S.Source.left c.fill.new.source) c.in-Ok-false.ensures.same (c.in-Ok-false.ensures.none c.in-Ok-false.field-0-test)
 
 pub returns-in-Err-clause-goes : goal.returns-in-Err-clause-goes
 returns-in-Err-clause-goes g c = λ first written printed place r.
