@@ -36,8 +36,8 @@ unfolding name_at
 name_refused old new t e not =
     let text = text_took old new t e in
     let named : is_short t ≡ true → IsName t = λ short.
-        let both = both_true (leb 1 (length t)) (leb (length t) 255) short in
-        record { not_empty = omega (arith, leb-true 1 (length t) both.0); short = leb-true (length t) 255 both.1; no_nul = text.spelled.no_nul } in
+    let both = both_true (leb 1 (length t)) (leb (length t) 255) short in
+    record { not_empty = omega (arith, leb-true 1 (length t) both.0); short = leb-true (length t) 255 both.1; no_nul = text.spelled.no_nul } in
     rw (e, no_name t (is_short t) refl named not) refl
 
 -- ---- the head

@@ -97,9 +97,9 @@ frame_items_at left = do
 abbrev pub frames_of : List ℕ → FrameItems → Result Command CommandFault
 frames_of name items =
     if items.size == 4096 then
-      (if nat_le items.flag 1 && frames_fit items.truncate (items.flag == 1) items.pages
-       then Ok (Frames name items.tx items.truncate (items.flag == 1) items.pages)
-       else Err Number)
+    (if nat_le items.flag 1 && frames_fit items.truncate (items.flag == 1) items.pages
+    then Ok (Frames name items.tx items.truncate (items.flag == 1) items.pages)
+    else Err Number)
     else Err PageSize
 
 -- the rest of a Frames command

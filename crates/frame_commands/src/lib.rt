@@ -15,3 +15,6 @@ pub use fault::CommandFault;
 pub use laws::{commands_read_back, commands_stand_apart};
 pub use reading::read_command;
 pub use writing::write_command;
+
+#[cfg(test)]
+mod tests;
