@@ -1,21 +1,21 @@
 -- A command is read exactly where the bytes stand for it, and commands stand apart.
-use Rattle.std.proofs.Common.{◌≡◌, ℕ, ◌+◌, ◌*◌, ◌/◌, ◌%◌, ◌<◌, ◌≤◌, ◌^◌, Bool, true, false, cond, eqb, leb, ◌&&◌, ◌⊎◌, inl, inr, List, [], ◌∷◌, ◌++◌, length, Option, Some, None, Result, Ok, Err, refl, sym, ap, subst, ◌∙◌, append_assoc, arith}
+use Rattle.std.proofs.Common.{◌≡◌, ℕ, ◌+◌, ◌*◌, ◌/◌, ◌%◌, Bool, true, false, cond, eqb, leb, ◌⊎◌, inl, inr, List, [], ◌++◌, length, Option, Some, None, Result, Ok, Err, refl, sym, ap, subst, ◌∙◌, arith}
 use Rattle.std.specs.Prelude.{IfOk}
 use Rattle.std.proofs.lemmas.Bool.{eqb-true, leb-true, le-leb}
 use Rattle.std.proofs.lemmas.List.{append-nil, nil_from_length}
 use Rattle.wire_words.specs.declared.fault.WordFault.TheVariants as word_faults
 use Rattle.wire_words.specs.Items.{word, text, AreBytes}
-use Rattle.wire_words.specs.Reading.{◌>>=◌, Unread, unread, word_at, text_at}
+use Rattle.wire_words.specs.Reading.{◌>>=◌, Unread, unread, text_at}
 use Rattle.wire_words.proofs.ReadBack.{bind_ok, ok_is, passed}
 use Rattle.frame_commands.specs.declared.command.Command.{Command}
 use Rattle.frame_commands.specs.declared.command.Command.TheVariants.{OpenDb, Frames}
 use Rattle.frame_commands.specs.declared.kind.CommandKind.{CommandKind}
 use Rattle.frame_commands.specs.declared.kind.CommandKind.TheVariants as kinds
 use Rattle.frame_commands.specs.declared.fault.CommandFault.{CommandFault}
-use Rattle.frame_commands.specs.declared.fault.CommandFault.TheVariants.{Format, Kind, Word, Tail}
+use Rattle.frame_commands.specs.declared.fault.CommandFault.TheVariants.{Format, Word, Tail}
 use Rattle.frame_commands.specs.Numbers.{numbers_fit}
 use Rattle.frame_commands.specs.Spelling.{head, frames_bytes, command_bytes, IsTextName, IsInRange, Writes}
-use Rattle.frame_commands.specs.Reading.{in_command, command_kind, kind_in, kind_of, kind_at, name_at, frames_at, command_after, command_at, ended, command_of, Gives}
+use Rattle.frame_commands.specs.Reading.{in_command, command_kind, kind_in, kind_of, kind_at, name_at, command_after, command_at, ended, command_of, Gives}
 use Rattle.frame_commands.proofs.ItemFacts.{in_command_ok, command_is, both_true, is_short, was_head}
 use Rattle.frame_commands.proofs.Passing.{Passed, passed_none, pass_none, passed_both, between, passed_first, passed_second, bytes_after, word_passed, word_stood, text_passed, text_stood}
 use Rattle.frame_commands.proofs.FrameLaws.{frames_passed, frames_stood}

@@ -1,14 +1,12 @@
 -- What follows the name of a Frames command is read exactly where its spelling stands.
-use Rattle.std.proofs.Common.{◌≡◌, ℕ, ◌+◌, ◌<◌, ◌≤◌, ◌^◌, Bool, true, false, cond, eqb, leb, ◌&&◌, List, ◌++◌, length, Result, Ok, Err, refl, sym, ap, subst, ◌∙◌, arith}
+use Rattle.std.proofs.Common.{◌≡◌, ℕ, ◌<◌, ◌≤◌, ◌^◌, Bool, true, false, cond, eqb, leb, ◌&&◌, List, ◌++◌, length, Ok, Err, refl, sym, ap, subst, ◌∙◌, arith}
 use Rattle.std.proofs.lemmas.Bool.{eqb-true, eqb-false, leb-true, le-leb}
 use Rattle.dq_base.specs.declared.pages.NumberedPage.{NumberedPage}
-use Rattle.wire_words.specs.declared.fault.WordFault.{WordFault}
 use Rattle.wire_words.specs.Items.{word, pair, AreBytes}
 use Rattle.wire_words.specs.Reading.{◌>>=◌, Unread, word_at}
 use Rattle.wire_words.proofs.ReadBack.{bind_ok, ok_is, passed}
 use Rattle.frame_commands.specs.declared.command.Command.{Command}
-use Rattle.frame_commands.specs.declared.command.Command.TheVariants.{OpenDb, Frames}
-use Rattle.frame_commands.specs.declared.fault.CommandFault.{CommandFault}
+use Rattle.frame_commands.specs.declared.command.Command.TheVariants.{Frames}
 use Rattle.frame_commands.specs.declared.fault.CommandFault.TheVariants.{PageSize, Number}
 use Rattle.frame_commands.specs.declared.items.FrameItems.{FrameItems}
 use Rattle.frame_commands.specs.Numbers.{frames_fit}
@@ -17,7 +15,7 @@ use Rattle.frame_commands.specs.Reading.{in_command, flagged_at, sized_at, numbe
 use Rattle.frame_commands.proofs.ItemFacts.{in_command_ok, command_is, both_true}
 use Rattle.frame_commands.proofs.Passing.{Passed, passed_both, between, passed_first, passed_second, bytes_after, word_passed, word_stood}
 use Rattle.frame_commands.proofs.Halves.{flagged_passed, flagged_stood, sized_passed, sized_stood}
-use Rattle.frame_commands.proofs.PageLaws.{words_of, numbers_of, AreWords, numbers_passed, numbers_stood, pages_passed, pages_stood, words_are, numbers_have, as_many}
+use Rattle.frame_commands.proofs.PageLaws.{words_of, AreWords, numbers_passed, numbers_stood, pages_passed, pages_stood, words_are, numbers_have, as_many}
 
 abbrev pub after_sizes : List NumberedPage → List ℕ
 after_sizes pages = number_words pages ++ page_bytes pages

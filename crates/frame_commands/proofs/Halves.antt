@@ -1,13 +1,12 @@
 -- A number of 32 bits that shares its word with a shorter one.
-use Rattle.std.proofs.Common.{◌≡◌, ℕ, ◌+◌, ◌<◌, ◌≤◌, ◌^◌, ◌%◌, ◌/◌, List, [], ◌∷◌, ◌++◌, length, take, drop, get_or, Result, Ok, Err, refl, sym, ap, subst, ◌∙◌, arith}
+use Rattle.std.proofs.Common.{◌≡◌, ℕ, ◌<◌, ◌^◌, ◌%◌, ◌/◌, List, [], ◌∷◌, ◌++◌, length, take, drop, get_or, Ok, refl, sym, ap, subst, ◌∙◌, arith}
 use Rattle.std.specs.Int.{w16, from_le_bytes}
 use Rattle.std.proofs.lemmas.List.{take_all, take_more, take-append-drop, length-drop}
 use Rattle.std.proofs.lemmas.Nat.{le_bytes_2}
 use Rattle.byteorder.specs.Endian.{little_bytes, little_number}
 use Rattle.byteorder.specs.Numbers.{little_from-lt, little_number-reads_back}
-use Rattle.wire_words.specs.declared.fault.WordFault.{WordFault}
 use Rattle.wire_words.specs.Items.{pair, raw, zeros_after, AreBytes}
-use Rattle.wire_words.specs.Reading.{◌>>=◌, Unread, raw_at}
+use Rattle.wire_words.specs.Reading.{Unread, raw_at}
 use Rattle.wire_words.proofs.ReadBack.{bind_ok, ok_is}
 use Rattle.wire_words.proofs.Numbers.{bytes_of_number_4, AreBytes-drop}
 use Rattle.frame_commands.specs.Reading.{flagged_at, sized_at}

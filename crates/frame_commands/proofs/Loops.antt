@@ -1,10 +1,9 @@
 -- The steps of the loops that read numbers and pages.
-use Rattle.std.proofs.Common.{◌≡◌, ℕ, suc, ◌+◌, ◌-◌, ◌<◌, ◌≤◌, List, [], ◌∷◌, ◌++◌, length, get_or, drop, Result, Ok, Err, refl, sym, ap, subst, ◌∙◌, append_assoc, arith}
+use Rattle.std.proofs.Common.{◌≡◌, ℕ, suc, ◌+◌, ◌-◌, ◌<◌, ◌≤◌, List, [], ◌∷◌, ◌++◌, length, get_or, drop, Result, Ok, Err, refl, sym, ap, ◌∙◌, append_assoc, arith}
 use Rattle.std.proofs.lemmas.List.{append-nil, at_drop_more, at_drop_all}
 use Rattle.dq_base.specs.declared.pages.NumberedPage.{NumberedPage}
 use Rattle.wire_words.specs.declared.fault.WordFault.{WordFault}
 use Rattle.wire_words.specs.declared.fault.WordFault.TheVariants as faults
-use Rattle.wire_words.specs.Items.{word, raw}
 use Rattle.wire_words.specs.Reading.{◌>>=◌, Unread, word_at, Fails}
 use Rattle.frame_commands.specs.Reading.{numbers_at, page_at, pages_at}
 

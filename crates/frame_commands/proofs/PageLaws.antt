@@ -1,8 +1,7 @@
 -- Numbers and pages are read exactly where their spelling stands.
-use Rattle.std.proofs.Common.{◌≡◌, ℕ, zero, suc, ◌+◌, ◌<◌, ◌^◌, List, [], ◌∷◌, ◌++◌, length, Result, Ok, Err, refl, sym, ap, subst, ◌∙◌, arith}
+use Rattle.std.proofs.Common.{◌≡◌, ℕ, zero, suc, ◌<◌, ◌^◌, List, [], ◌∷◌, ◌++◌, length, Ok, refl, ap, subst}
 use Rattle.std.specs.List.{AllByRecursion}
 use Rattle.dq_base.specs.declared.pages.NumberedPage.{NumberedPage}
-use Rattle.wire_words.specs.declared.fault.WordFault.{WordFault}
 use Rattle.wire_words.specs.Items.{word, raw, AreBytes}
 use Rattle.wire_words.specs.Reading.{◌>>=◌, Unread, word_at, raw_at}
 use Rattle.wire_words.proofs.ReadBack.{bind_ok, ok_is}
