@@ -1,21 +1,21 @@
 -- A command is read exactly where the bytes stand for it, and commands stand apart.
-use Rattle.std.proofs.Common.{◌≡◌, ℕ, ◌+◌, ◌*◌, ◌/◌, ◌%◌, ◌<◌, ◌≤◌, ◌^◌, Bool, true, false, cond, eqb, leb, ◌&&◌, ◌⊎◌, inl, inr, List, [], ◌∷◌, ◌++◌, length, Option, Some, None, Result, Ok, Err, refl, sym, ap, subst, ◌∙◌, append_assoc, arith}
+use Rattle.std.proofs.Common.{◌≡◌, ℕ, ◌+◌, ◌*◌, ◌/◌, ◌%◌, Bool, true, false, cond, eqb, leb, ◌⊎◌, inl, inr, List, [], ◌++◌, length, Option, Some, None, Result, Ok, Err, refl, sym, ap, subst, ◌∙◌, arith}
 use Rattle.std.specs.Prelude.{IfOk}
 use Rattle.std.proofs.lemmas.Bool.{eqb-true, leb-true, le-leb}
 use Rattle.std.proofs.lemmas.List.{append-nil, nil_from_length}
 use Rattle.wire_words.specs.declared.fault.WordFault.TheVariants as word_faults
 use Rattle.wire_words.specs.Items.{word, text, AreBytes}
-use Rattle.wire_words.specs.Reading.{◌>>=◌, Unread, unread, word_at, text_at}
+use Rattle.wire_words.specs.Reading.{◌>>=◌, Unread, unread, text_at}
 use Rattle.wire_words.proofs.ReadBack.{bind_ok, ok_is, passed}
 use Rattle.frame_commands.specs.declared.command.Command.{Command}
 use Rattle.frame_commands.specs.declared.command.Command.TheVariants.{OpenDb, Frames}
 use Rattle.frame_commands.specs.declared.kind.CommandKind.{CommandKind}
 use Rattle.frame_commands.specs.declared.kind.CommandKind.TheVariants as kinds
 use Rattle.frame_commands.specs.declared.fault.CommandFault.{CommandFault}
-use Rattle.frame_commands.specs.declared.fault.CommandFault.TheVariants.{Format, Kind, Word, Tail}
+use Rattle.frame_commands.specs.declared.fault.CommandFault.TheVariants.{Format, Word, Tail}
 use Rattle.frame_commands.specs.Numbers.{numbers_fit}
 use Rattle.frame_commands.specs.Spelling.{head, frames_bytes, command_bytes, IsTextName, IsInRange, Writes}
-use Rattle.frame_commands.specs.Reading.{in_command, command_kind, kind_in, kind_of, kind_at, name_at, frames_at, command_after, command_at, ended, command_of, Gives}
+use Rattle.frame_commands.specs.Reading.{in_command, command_kind, kind_in, kind_of, kind_at, name_at, command_after, command_at, ended, command_of, Gives}
 use Rattle.frame_commands.proofs.ItemFacts.{in_command_ok, command_is, both_true, is_short, was_head}
 use Rattle.frame_commands.proofs.Passing.{Passed, passed_none, pass_none, passed_both, between, passed_first, passed_second, bytes_after, word_passed, word_stood, text_passed, text_stood}
 use Rattle.frame_commands.proofs.FrameLaws.{frames_passed, frames_stood}
@@ -47,9 +47,9 @@ known_number n kind e =
     elim (one_of (eqb n 1) kinds.OpenDb (cond (eqb n 2) (Some kinds.Frames) None) kind e) [
       | inl is ↦ number_is n 1 kinds.OpenDb kind is refl
       | inr e ↦ elim (one_of (eqb n 2) kinds.Frames None kind e) [
-          | inl is ↦ number_is n 2 kinds.Frames kind is refl
-          | inr e ↦ none_of kind (n ≡ kind_number kind) e
-        ]
+        | inl is ↦ number_is n 2 kinds.Frames kind is refl
+        | inr e ↦ none_of kind (n ≡ kind_number kind) e
+      ]
     ]
 
 kind_in_ok : (at n : ℕ) (known : Option CommandKind) (kind : CommandKind) → kind_in at n known ≡ Ok kind → (known ≡ Some kind) × (n / 65536 ≡ 0)
@@ -93,7 +93,7 @@ name_passed old new t e =
     let both = both_true (leb 1 (length a.0.0)) (leb (length a.0.0) 255) b.0 in
     let read = text_passed old a.0.1 a.0.0 a.1 in
     subst (λ (x : List ℕ × Unread). IsTextName x.0 × Passed (text x.0) old x.1) is
-      ((record { not_empty = omega (arith, leb-true 1 (length a.0.0) both.0); short = leb-true (length a.0.0) 255 both.1; no_nul = read.1 }, read.0), read.2)
+    ((record { not_empty = omega (arith, leb-true 1 (length a.0.0) both.0); short = leb-true (length a.0.0) 255 both.1; no_nul = read.1 }, read.0), read.2)
 
 name_stood : (old new : Unread) (t : List ℕ) → IsTextName t → Passed (text t) old new → name_at old ≡ Ok (t, new)
 unfolding name_at
@@ -134,11 +134,11 @@ rest_passed : (kind : CommandKind) (name : List ℕ) (old new : Unread) (command
 rest_passed kinds.OpenDb name old new command fits e =
     let made : Command × Unread = (OpenDb name, old) in
     subst (λ (x : Command × Unread). PassedRest kinds.OpenDb name x.0 old x.1) (command_is made (command, new) e)
-      (record { is_kind = refl; is_name = refl; range = λ r. r; fits = refl; stood = pass_none old })
+    (record { is_kind = refl; is_name = refl; range = λ r. r; fits = refl; stood = pass_none old })
 rest_passed kinds.Frames name old new command fits e =
     let p = frames_passed name old new command fits e in
     subst (λ (c : Command). PassedRest kinds.Frames name c old new) p.is
-      (record { is_kind = refl; is_name = refl; range = λ r. (r, p.tx_fits, p.truncate_fits, p.numbers, p.sizes); fits = p.fits; stood = p.stood })
+    (record { is_kind = refl; is_name = refl; range = λ r. (r, p.tx_fits, p.truncate_fits, p.numbers, p.sizes); fits = p.fits; stood = p.stood })
 
 rest_stood : (command : Command) (old new : Unread) → IsInRange command → numbers_fit command ≡ true → Passed (rest_bytes command) old new
     → command_after (kind_from command) (name_from command) old ≡ Ok (command, new)
@@ -167,9 +167,9 @@ command_passed command old new fits e =
     let last = passed_both a.0.1 b.0.1 new (text b.0.0) (rest_bytes command) name.1 rest.stood in
     let whole = passed_both old a.0.1 new (head (kind_number a.0.0)) (text b.0.0 ++ rest_bytes command) head_part last in
     let spelled : head (kind_number a.0.0) ++ (text b.0.0 ++ rest_bytes command) ≡ command_bytes command =
-      ap (λ (k : CommandKind). head (kind_number k) ++ (text b.0.0 ++ rest_bytes command)) rest.is_kind
-      ∙ ap (λ (t : List ℕ). head (kind_number (kind_from command)) ++ (text t ++ rest_bytes command)) rest.is_name
-      ∙ three_parts command in
+    ap (λ (k : CommandKind). head (kind_number k) ++ (text b.0.0 ++ rest_bytes command)) rest.is_kind
+    ∙ ap (λ (t : List ℕ). head (kind_number (kind_from command)) ++ (text t ++ rest_bytes command)) rest.is_name
+    ∙ three_parts command in
     record { range = rest.range name.0; fits = rest.fits; stood = subst (λ (x : List ℕ). Passed x old new) spelled whole }
 
 pub command_stood : (command : Command) (old new : Unread) → PassedCommand command old new → command_at old ≡ Ok (command, new)

@@ -1,14 +1,12 @@
 -- What follows the name of a Frames command is read exactly where its spelling stands.
-use Rattle.std.proofs.Common.{◌≡◌, ℕ, ◌+◌, ◌<◌, ◌≤◌, ◌^◌, Bool, true, false, cond, eqb, leb, ◌&&◌, List, ◌++◌, length, Result, Ok, Err, refl, sym, ap, subst, ◌∙◌, arith}
+use Rattle.std.proofs.Common.{◌≡◌, ℕ, ◌<◌, ◌≤◌, ◌^◌, Bool, true, false, cond, eqb, leb, ◌&&◌, List, ◌++◌, length, Ok, Err, refl, sym, ap, subst, ◌∙◌, arith}
 use Rattle.std.proofs.lemmas.Bool.{eqb-true, eqb-false, leb-true, le-leb}
 use Rattle.dq_base.specs.declared.pages.NumberedPage.{NumberedPage}
-use Rattle.wire_words.specs.declared.fault.WordFault.{WordFault}
 use Rattle.wire_words.specs.Items.{word, pair, AreBytes}
 use Rattle.wire_words.specs.Reading.{◌>>=◌, Unread, word_at}
 use Rattle.wire_words.proofs.ReadBack.{bind_ok, ok_is, passed}
 use Rattle.frame_commands.specs.declared.command.Command.{Command}
-use Rattle.frame_commands.specs.declared.command.Command.TheVariants.{OpenDb, Frames}
-use Rattle.frame_commands.specs.declared.fault.CommandFault.{CommandFault}
+use Rattle.frame_commands.specs.declared.command.Command.TheVariants.{Frames}
 use Rattle.frame_commands.specs.declared.fault.CommandFault.TheVariants.{PageSize, Number}
 use Rattle.frame_commands.specs.declared.items.FrameItems.{FrameItems}
 use Rattle.frame_commands.specs.Numbers.{frames_fit}
@@ -17,7 +15,7 @@ use Rattle.frame_commands.specs.Reading.{in_command, flagged_at, sized_at, numbe
 use Rattle.frame_commands.proofs.ItemFacts.{in_command_ok, command_is, both_true}
 use Rattle.frame_commands.proofs.Passing.{Passed, passed_both, between, passed_first, passed_second, bytes_after, word_passed, word_stood}
 use Rattle.frame_commands.proofs.Halves.{flagged_passed, flagged_stood, sized_passed, sized_stood}
-use Rattle.frame_commands.proofs.PageLaws.{words_of, numbers_of, AreWords, numbers_passed, numbers_stood, pages_passed, pages_stood, words_are, numbers_have, as_many}
+use Rattle.frame_commands.proofs.PageLaws.{words_of, AreWords, numbers_passed, numbers_stood, pages_passed, pages_stood, words_are, numbers_have, as_many}
 
 abbrev pub after_sizes : List NumberedPage → List ℕ
 after_sizes pages = number_words pages ++ page_bytes pages
@@ -79,10 +77,10 @@ items_passed old new items fits e =
     let few : length ps < 2 ^ 32 = subst (λ (n : ℕ). n < 2 ^ 32) count sized.first_fits in
     let made : FrameItems × Unread = (items_from a.0.0 b.0.0 c.0.0.1 ps, end) in
     subst (λ (x : FrameItems × Unread). PassedItems x.0 old x.1) (ok_is made (items, new) f.2)
-      (record {
-        are = record { tx_fits = tx.0; truncate_fits = flagged.first_fits; flag_fits = flagged.second_fits; size_fits = sized.second_fits; few = few; numbers = have; sizes = pages.sizes };
-        stood = whole;
-      })
+    (record {
+      are = record { tx_fits = tx.0; truncate_fits = flagged.first_fits; flag_fits = flagged.second_fits; size_fits = sized.second_fits; few = few; numbers = have; sizes = pages.sizes };
+      stood = whole;
+    })
 
 pub items_stood : (items : FrameItems) (old new : Unread) → AreItems items → Passed (items_bytes items) old new → frame_items_at old ≡ Ok (items, new)
 unfolding frame_items_at
@@ -164,14 +162,22 @@ frames_passed name old new command fits e =
     let made : Command × Unread = (b.0, a.0.1) in
     let flags : pair items.truncate items.flag ≡ pair items.truncate (flag (eqb items.flag 1)) = ap (pair items.truncate) (sym (flag_back items.flag w.few)) in
     let bytes : items_bytes items ≡ frames_bytes items.tx items.truncate (eqb items.flag 1) items.pages =
-      ap (λ (x : List ℕ). word items.tx ++ (x ++ after_flag items.size items.pages)) flags
-      ∙ ap (λ (n : ℕ). word items.tx ++ (pair items.truncate (flag (eqb items.flag 1)) ++ after_flag n items.pages)) w.size in
+    ap (λ (x : List ℕ). word items.tx ++ (x ++ after_flag items.size items.pages)) flags
+    ∙ ap (λ (n : ℕ). word items.tx ++ (pair items.truncate (flag (eqb items.flag 1)) ++ after_flag n items.pages)) w.size in
     subst (λ (x : Command × Unread). PassedFrames name x.0 old x.1) (command_is made (command, new) b.2)
-      (record {
-        tx = items.tx; truncate = items.truncate; commit = eqb items.flag 1; pages = items.pages;
-        is = w.is; tx_fits = p.are.tx_fits; truncate_fits = p.are.truncate_fits; numbers = p.are.numbers; sizes = p.are.sizes; fits = w.fits;
-        stood = subst (λ (x : List ℕ). Passed x old a.0.1) bytes p.stood;
-      })
+    (record {
+      tx = items.tx;
+      truncate = items.truncate;
+      commit = eqb items.flag 1;
+      pages = items.pages;
+      is = w.is;
+      tx_fits = p.are.tx_fits;
+      truncate_fits = p.are.truncate_fits;
+      numbers = p.are.numbers;
+      sizes = p.are.sizes;
+      fits = w.fits;
+      stood = subst (λ (x : List ℕ). Passed x old a.0.1) bytes p.stood;
+    })
 
 pub frames_stood : (name : List ℕ) (tx truncate : ℕ) (commit : Bool) (pages : List NumberedPage) (old new : Unread) → tx < 2 ^ 64 → truncate < 2 ^ 32 → length pages ≤ 64 → HaveNumbers pages → HaveSizes pages → frames_fit truncate commit pages ≡ true
     → Passed (frames_bytes tx truncate commit pages) old new → frames_at name old ≡ Ok (Frames name tx truncate commit pages, new)

@@ -1,13 +1,12 @@
 -- A number of 32 bits that shares its word with a shorter one.
-use Rattle.std.proofs.Common.{◌≡◌, ℕ, ◌+◌, ◌<◌, ◌≤◌, ◌^◌, ◌%◌, ◌/◌, List, [], ◌∷◌, ◌++◌, length, take, drop, get_or, Result, Ok, Err, refl, sym, ap, subst, ◌∙◌, arith}
+use Rattle.std.proofs.Common.{◌≡◌, ℕ, ◌<◌, ◌^◌, ◌%◌, ◌/◌, List, [], ◌∷◌, ◌++◌, length, take, drop, get_or, Ok, refl, sym, ap, subst, ◌∙◌, arith}
 use Rattle.std.specs.Int.{w16, from_le_bytes}
 use Rattle.std.proofs.lemmas.List.{take_all, take_more, take-append-drop, length-drop}
 use Rattle.std.proofs.lemmas.Nat.{le_bytes_2}
 use Rattle.byteorder.specs.Endian.{little_bytes, little_number}
 use Rattle.byteorder.specs.Numbers.{little_from-lt, little_number-reads_back}
-use Rattle.wire_words.specs.declared.fault.WordFault.{WordFault}
 use Rattle.wire_words.specs.Items.{pair, raw, zeros_after, AreBytes}
-use Rattle.wire_words.specs.Reading.{◌>>=◌, Unread, raw_at}
+use Rattle.wire_words.specs.Reading.{Unread, raw_at}
 use Rattle.wire_words.proofs.ReadBack.{bind_ok, ok_is}
 use Rattle.wire_words.proofs.Numbers.{bytes_of_number_4, AreBytes-drop}
 use Rattle.frame_commands.specs.Reading.{flagged_at, sized_at}
@@ -47,7 +46,7 @@ sized_item : (item : List ℕ) → length item ≡ 6 → AreBytes item → item 
 sized_item item len fits =
     let front : take 4 item ≡ little_bytes 4 (little_number 4 item) = sym (bytes_of_number_4 item (omega (arith, len)) fits) in
     let end : little_bytes 2 (little_number 2 (drop 4 item)) ≡ drop 4 item =
-      le_bytes_2 (drop 4 item) (little_number 2 (drop 4 item)) (omega (arith, len, length-drop 4 item)) (AreBytes-drop 4 item fits) (le_number_2 (drop 4 item)) in
+    le_bytes_2 (drop 4 item) (little_number 2 (drop 4 item)) (omega (arith, len, length-drop 4 item)) (AreBytes-drop 4 item fits) (le_number_2 (drop 4 item)) in
     sym (take-append-drop 4 item) ∙ ap (λ (x : List ℕ). x ++ drop 4 item) front ∙ ap (λ (x : List ℕ). little_bytes 4 (little_number 4 item) ++ x) (sym end)
 
 -- two numbers that stood in one word
@@ -65,9 +64,9 @@ flagged_passed old new numbers fits e =
     let p = raw_passed 5 old a.0.1 item a.1 in
     let bytes = bytes_of item (zeros_after (length item)) old a.0.1 p.1 fits in
     let spelled : raw item ≡ pair (little_number 4 item) (get_or item 4 0) =
-      ap raw (flagged_item item p.0 bytes) ∙ flagged_is (little_number 4 item) (get_or item 4 0) (bytes 4) in
+    ap raw (flagged_item item p.0 bytes) ∙ flagged_is (little_number 4 item) (get_or item 4 0) (bytes 4) in
     subst (λ (x : (ℕ × ℕ) × Unread). PassedPair x.0.0 x.0.1 256 old x.1) (ok_is made (numbers, new) a.2)
-      (record { first_fits = little_from-lt 0 4 item bytes; second_fits = bytes 4; passed = subst (λ (x : List ℕ). Passed x old a.0.1) spelled p.1 })
+    (record { first_fits = little_from-lt 0 4 item bytes; second_fits = bytes 4; passed = subst (λ (x : List ℕ). Passed x old a.0.1) spelled p.1 })
 
 pub sized_passed : (old new : Unread) (numbers : ℕ × ℕ) → AreBytes old.bytes → sized_at old ≡ Ok (numbers, new) → PassedPair numbers.0 numbers.1 65536 old new
 unfolding sized_at
@@ -79,9 +78,9 @@ sized_passed old new numbers fits e =
     let bytes = bytes_of item (zeros_after (length item)) old a.0.1 p.1 fits in
     let below : little_number 2 (drop 4 item) < 65536 = little_from-lt 0 2 (drop 4 item) (AreBytes-drop 4 item bytes) in
     let spelled : raw item ≡ pair (little_number 4 item) (little_number 2 (drop 4 item)) =
-      ap raw (sized_item item p.0 bytes) ∙ sized_is (little_number 4 item) (little_number 2 (drop 4 item)) below in
+    ap raw (sized_item item p.0 bytes) ∙ sized_is (little_number 4 item) (little_number 2 (drop 4 item)) below in
     subst (λ (x : (ℕ × ℕ) × Unread). PassedPair x.0.0 x.0.1 65536 old x.1) (ok_is made (numbers, new) a.2)
-      (record { first_fits = little_from-lt 0 4 item bytes; second_fits = below; passed = subst (λ (x : List ℕ). Passed x old a.0.1) spelled p.1 })
+    (record { first_fits = little_from-lt 0 4 item bytes; second_fits = below; passed = subst (λ (x : List ℕ). Passed x old a.0.1) spelled p.1 })
 
 pub flagged_stood : (old new : Unread) (number flag : ℕ) → number < 2 ^ 32 → flag < 256 → Passed (pair number flag) old new → flagged_at old ≡ Ok ((number, flag), new)
 unfolding flagged_at

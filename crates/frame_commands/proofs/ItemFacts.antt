@@ -1,5 +1,5 @@
 -- What single items are where a call of a reader gave them.
-use Rattle.std.proofs.Common.{◌≡◌, ℕ, ◌+◌, ◌<◌, ◌≤◌, Bool, true, false, ◌&&◌, leb, ltb, List, length, Result, Ok, Err, refl, sym, ap, ◌∙◌, arith}
+use Rattle.std.proofs.Common.{◌≡◌, ℕ, ◌+◌, Bool, true, false, ◌&&◌, leb, ltb, List, length, Result, Ok, Err, refl, sym, ap, ◌∙◌, arith}
 use Rattle.std.specs.Prelude.{IfOk}
 use Rattle.std.proofs.lemmas.Bool.{leb-true}
 use Rattle.dq_base.specs.Names.{IsName}
@@ -36,8 +36,8 @@ unfolding name_at
 name_refused old new t e not =
     let text = text_took old new t e in
     let named : is_short t ≡ true → IsName t = λ short.
-        let both = both_true (leb 1 (length t)) (leb (length t) 255) short in
-        record { not_empty = omega (arith, leb-true 1 (length t) both.0); short = leb-true (length t) 255 both.1; no_nul = text.spelled.no_nul } in
+    let both = both_true (leb 1 (length t)) (leb (length t) 255) short in
+    record { not_empty = omega (arith, leb-true 1 (length t) both.0); short = leb-true (length t) 255 both.1; no_nul = text.spelled.no_nul } in
     rw (e, no_name t (is_short t) refl named not) refl
 
 -- ---- the head

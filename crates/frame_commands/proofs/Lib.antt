@@ -8,3 +8,4 @@ pub mod Halves
 pub mod PageLaws
 pub mod FrameLaws
 pub mod CommandLaws
+pub mod InOtherWords

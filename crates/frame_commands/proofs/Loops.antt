@@ -1,10 +1,9 @@
 -- The steps of the loops that read numbers and pages.
-use Rattle.std.proofs.Common.{◌≡◌, ℕ, suc, ◌+◌, ◌-◌, ◌<◌, ◌≤◌, List, [], ◌∷◌, ◌++◌, length, get_or, drop, Result, Ok, Err, refl, sym, ap, subst, ◌∙◌, append_assoc, arith}
+use Rattle.std.proofs.Common.{◌≡◌, ℕ, suc, ◌+◌, ◌-◌, ◌<◌, ◌≤◌, List, [], ◌∷◌, ◌++◌, length, get_or, drop, Result, Ok, Err, refl, sym, ap, ◌∙◌, append_assoc, arith}
 use Rattle.std.proofs.lemmas.List.{append-nil, at_drop_more, at_drop_all}
 use Rattle.dq_base.specs.declared.pages.NumberedPage.{NumberedPage}
 use Rattle.wire_words.specs.declared.fault.WordFault.{WordFault}
 use Rattle.wire_words.specs.declared.fault.WordFault.TheVariants as faults
-use Rattle.wire_words.specs.Items.{word, raw}
 use Rattle.wire_words.specs.Reading.{◌>>=◌, Unread, word_at, Fails}
 use Rattle.frame_commands.specs.Reading.{numbers_at, page_at, pages_at}
 
@@ -71,8 +70,8 @@ pub pages_end : (e : WordFault) (front : List NumberedPage) (ns : List ℕ) (i n
 unfolding pages_at
 pages_end e front ns i n left total lt is fails so_far =
     fails_so e (page_at n left) total (λ f h.
-        let one : pages_so_far front (n ∷ drop (i + 1) ns) left ≡ Err f = rw h refl in
-        sym so_far ∙ next_number (λ (ms : List ℕ). pages_so_far front ms left) ns i n lt is ∙ one) fails
+    let one : pages_so_far front (n ∷ drop (i + 1) ns) left ≡ Err f = rw h refl in
+    sym so_far ∙ next_number (λ (ms : List ℕ). pages_so_far front ms left) ns i n lt is ∙ one) fails
 
 pub pages_done : (front : List NumberedPage) (ns : List ℕ) (i : ℕ) (left : Unread) (total : Result (List NumberedPage × Unread) WordFault) → length ns ≤ i → pages_so_far front (drop i ns) left ≡ total → total ≡ Ok (front, left)
 unfolding pages_at

@@ -1,8 +1,7 @@
 -- Numbers and pages are read exactly where their spelling stands.
-use Rattle.std.proofs.Common.{◌≡◌, ℕ, zero, suc, ◌+◌, ◌<◌, ◌^◌, List, [], ◌∷◌, ◌++◌, length, Result, Ok, Err, refl, sym, ap, subst, ◌∙◌, arith}
+use Rattle.std.proofs.Common.{◌≡◌, ℕ, zero, suc, ◌<◌, ◌^◌, List, [], ◌∷◌, ◌++◌, length, Ok, refl, ap, subst}
 use Rattle.std.specs.List.{AllByRecursion}
 use Rattle.dq_base.specs.declared.pages.NumberedPage.{NumberedPage}
-use Rattle.wire_words.specs.declared.fault.WordFault.{WordFault}
 use Rattle.wire_words.specs.Items.{word, raw, AreBytes}
 use Rattle.wire_words.specs.Reading.{◌>>=◌, Unread, word_at, raw_at}
 use Rattle.wire_words.proofs.ReadBack.{bind_ok, ok_is}
@@ -42,7 +41,7 @@ numbers_passed (suc count) old new ns fits e =
     let others = numbers_passed count mid b.0.1 b.0.0 (bytes_after (word n) old mid first.1 fits) b.1 in
     let made : List ℕ × Unread = (n ∷ b.0.0, b.0.1) in
     subst (λ (x : List ℕ × Unread). PassedNumbers (suc count) x.0 old x.1) (ok_is made (ns, new) b.2)
-      (record { many = ap suc others.many; fit = (first.0, others.fit); passed = passed_both old mid b.0.1 (word n) (words_of b.0.0) first.1 others.passed })
+    (record { many = ap suc others.many; fit = (first.0, others.fit); passed = passed_both old mid b.0.1 (word n) (words_of b.0.0) first.1 others.passed })
 
 pub numbers_stood : (ps : List NumberedPage) (old new : Unread) → HaveNumbers ps → Passed (number_words ps) old new → numbers_at (length ps) old ≡ Ok (numbers_of ps, new)
 unfolding numbers_at
@@ -85,11 +84,11 @@ pages_passed (n ∷ ns) old new ps e =
     let others = pages_passed ns mid b.0.1 b.0.0 b.1 in
     let made : List NumberedPage × Unread = (p ∷ b.0.0, b.0.1) in
     subst (λ (x : List NumberedPage × Unread). PassedPages (n ∷ ns) x.0 old x.1) (ok_is made (ps, new) b.2)
-      (record {
-        numbers = rw (first.0, others.numbers) refl;
-        sizes = (first.1, others.sizes);
-        passed = passed_both old mid b.0.1 (raw p.page) (page_bytes b.0.0) first.2 others.passed;
-      })
+    (record {
+      numbers = rw (first.0, others.numbers) refl;
+      sizes = (first.1, others.sizes);
+      passed = passed_both old mid b.0.1 (raw p.page) (page_bytes b.0.0) first.2 others.passed;
+    })
 
 pub pages_stood : (ps : List NumberedPage) (old new : Unread) → HaveSizes ps → Passed (page_bytes ps) old new → pages_at (numbers_of ps) old ≡ Ok (ps, new)
 unfolding pages_at

@@ -1,7 +1,7 @@
 -- What a reader passed: items one after the other.
-use Rattle.std.proofs.Common.{◌≡◌, ℕ, ◌+◌, ◌<◌, ◌^◌, Bool, true, false, List, [], ◌∷◌, ◌++◌, length, take, drop, Result, Ok, Err, refl, sym, ap, subst, ◌∙◌, append_assoc, arith}
+use Rattle.std.proofs.Common.{◌≡◌, ℕ, ◌+◌, ◌<◌, ◌^◌, List, [], ◌++◌, length, take, drop, Ok, refl, sym, ap, subst, ◌∙◌, append_assoc, arith}
 use Rattle.std.specs.Prelude.{IsUtf8}
-use Rattle.std.proofs.lemmas.List.{drop_at, take_at, length-append, append-nil}
+use Rattle.std.proofs.lemmas.List.{drop_at, take_at, length-append}
 use Rattle.wire_words.specs.Items.{word, text, raw, AreBytes, IsWord, IsText, IsRaw, HasNoNul}
 use Rattle.wire_words.specs.Reading.{Unread, Took, word_at, raw_at, text_at}
 use Rattle.wire_words.proofs.ReadBack.{same_unread, word_took, word_again}

@@ -1,12 +1,12 @@
 -- When the numbers of a Frames command are in range.
-use Rattle.std.proofs.Common.{◌≡◌, ℕ, ◌+◌, ◌-◌, ◌<◌, ◌≤◌, Bool, true, false, cond, ◌&&◌, eqb, leb, List, [], ◌∷◌, ◌++◌, length, take, Option, Some, None, refl, sym, ap, ◌∙◌, arith}
+use Rattle.std.proofs.Common.{◌≡◌, ℕ, ◌-◌, ◌≤◌, Bool, true, false, cond, ◌&&◌, eqb, leb, List, [], ◌∷◌, ◌++◌, length, Some, refl, sym, ap, ◌∙◌, arith}
 use Rattle.std.proofs.lemmas.Bool.{leb-true, le-leb}
 use Rattle.std.proofs.lemmas.List.{take_at, length_push}
 use Rattle.dq_base.specs.declared.pages.NumberedPage.{NumberedPage}
 use Rattle.dq_base.specs.Applying.{last_page}
 use Rattle.dq_base.proofs.FaultLemmas.{last_page-push}
 use Rattle.frame_commands.specs.declared.command.Command.{Command}
-use Rattle.frame_commands.specs.declared.command.Command.TheVariants.{OpenDb, Frames}
+use Rattle.frame_commands.specs.declared.command.Command.TheVariants.{Frames}
 use Rattle.frame_commands.specs.Numbers.{numbers_ascend, pages_before_last, ends_with, frames_fit, numbers_fit, most_pages}
 
 -- the part of the test that looks at the numbers, for pages that end in a last one

@@ -41,7 +41,7 @@ unfoldable pub frames_fit : ℕ → Bool → List NumberedPage → Bool
 frames_fit truncate commit pages =
     nat_le 1 (length pages) && nat_le (length pages) most_pages
     && (if commit then ends_with truncate (last_page pages) && numbers_ascend 0 (pages_before_last pages)
-        else (truncate == 0) && numbers_ascend 0 pages)
+    else (truncate == 0) && numbers_ascend 0 pages)
 
 -- whether no number of a command is out of its range
 abbrev pub numbers_fit : Command → Bool

@@ -1,6 +1,6 @@
 -- Reading a command, with the first fault that is met: its format, its type, its items from left to right, the size of
 -- its pages, its numbers, its end.
-use Rattle.std.specs.Prelude.{◌≡◌, ℕ, zero, suc, ◌+◌, ◌*◌, ◌/◌, ◌%◌, Bool, not, ◌&&◌, ◌==◌, nat_le, nat_lt, if◌then◌else◌, List, [], ◌∷◌, length, drop, slice_index, Option, Some, None, Result, Ok, Err, MatchResult}
+use Rattle.std.specs.Prelude.{◌≡◌, ℕ, zero, suc, ◌/◌, ◌%◌, ◌&&◌, ◌==◌, nat_le, if◌then◌else◌, List, [], ◌∷◌, length, drop, slice_index, Option, Some, None, Result, Ok, Err, MatchResult}
 use Rattle.byteorder.specs.Endian.{little_number}
 use Rattle.dq_base.specs.declared.pages.NumberedPage.{NumberedPage}
 use Rattle.wire_words.specs.declared.fault.WordFault.{WordFault}
@@ -97,9 +97,9 @@ frame_items_at left = do
 abbrev pub frames_of : List ℕ → FrameItems → Result Command CommandFault
 frames_of name items =
     if items.size == 4096 then
-      (if nat_le items.flag 1 && frames_fit items.truncate (items.flag == 1) items.pages
-       then Ok (Frames name items.tx items.truncate (items.flag == 1) items.pages)
-       else Err Number)
+    (if nat_le items.flag 1 && frames_fit items.truncate (items.flag == 1) items.pages
+    then Ok (Frames name items.tx items.truncate (items.flag == 1) items.pages)
+    else Err Number)
     else Err PageSize
 
 -- the rest of a Frames command

@@ -1,6 +1,6 @@
 -- The one spelling of each command, and which bytes stand for it.
 use Rattle.std.specs.Prelude.{◌≡◌, ℕ, ◌<◌, ◌^◌, Bool, true, false, List, [], ◌∷◌, ◌++◌, length, IsUtf8}
-use Rattle.std.specs.List.{flat_map, AllByRecursion}
+use Rattle.std.specs.List.{AllByRecursion}
 use Rattle.dq_base.specs.declared.pages.NumberedPage.{NumberedPage}
 use Rattle.dq_base.specs.Names.{IsName}
 use Rattle.wire_words.specs.Items.{word, pair, text, raw}

@@ -4,7 +4,9 @@ use dq_base::{Items, Name, NumberedPage};
 #[derive(Debug, Drop)]
 pub enum Command {
     /// Makes an empty database of this name, unless there is one.
-    OpenDb { name: Name },
+    OpenDb {
+        name: Name,
+    },
     /// Pages of a transaction. They stand with the transaction's earlier ones until the last of its commands commits
     /// them all.
     Frames {

@@ -84,7 +84,11 @@ fn page(alloc: Global, words: &mut Words<'_>, number: u64) -> Result<NumberedPag
 }
 
 /// The pages of these numbers.
-fn pages(alloc: Global, words: &mut Words<'_>, numbers: &[u64]) -> Result<Vec<NumberedPage>, WordFault>
+fn pages(
+    alloc: Global,
+    words: &mut Words<'_>,
+    numbers: &[u64],
+) -> Result<Vec<NumberedPage>, WordFault>
     ensures { Finds (λ pages. pages.items) (pages_at numbers.now) words.old words.new result }
 {
     let mut pages = Vec::new(alloc);

@@ -1,6 +1,10 @@
-ghost use Rattle.std.specs.Prelude.{◌≡◌, ℕ, List, [], ◌++◌, Ok};
+ghost use Rattle.std.specs.Prelude.{◌≡◌, ℕ, Bool, true, List, [], ◌++◌, Ok};
+ghost use Rattle.dq_base.specs.declared.pages.NumberedPage.{NumberedPage};
 ghost use Rattle.wire_words.specs.Items.{AreBytes};
 ghost use Rattle.frame_commands.specs.declared.command.Command.{Command};
+ghost use Rattle.frame_commands.specs.declared.command.Command.TheVariants.{OpenDb, Frames};
+ghost use Rattle.frame_commands.specs.Numbers.{numbers_fit};
+ghost use Rattle.frame_commands.specs.InRange.{AreInRange};
 ghost use Rattle.frame_commands.specs.Spelling.{Writes};
 ghost use Rattle.frame_commands.specs.Reading.{command_of};
 
@@ -17,4 +21,14 @@ pub fn commands_stand_apart()
         bytes ++ rest ≡ other_bytes ++ other_rest → (command ≡ other) × (rest ≡ other_rest) }
     ensures prefix { (command other : Command) (bytes other_bytes rest : List ℕ) → Writes command bytes → Writes other other_bytes →
         bytes ++ rest ≡ other_bytes → rest ≡ [] }
+{}
+
+/// The test of a command's numbers says what their range is: an OpenDb has none that could be out of it, and those of a
+/// Frames command are in range exactly where it has 1 to 64 pages that end the transaction or after which it goes on.
+pub fn numbers_are_in_range()
+    ensures open_db { (name : List ℕ) → numbers_fit (OpenDb name) ≡ true }
+    ensures sound { (name : List ℕ) (tx truncate : ℕ) (commit : Bool) (pages : List NumberedPage) →
+        numbers_fit (Frames name tx truncate commit pages) ≡ true → AreInRange truncate commit pages }
+    ensures complete { (name : List ℕ) (tx truncate : ℕ) (commit : Bool) (pages : List NumberedPage) →
+        AreInRange truncate commit pages → numbers_fit (Frames name tx truncate commit pages) ≡ true }
 {}

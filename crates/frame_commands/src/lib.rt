@@ -12,6 +12,9 @@ mod writing;
 
 pub use command::Command;
 pub use fault::CommandFault;
-pub use laws::{commands_read_back, commands_stand_apart};
+pub use laws::{commands_read_back, commands_stand_apart, numbers_are_in_range};
 pub use reading::read_command;
 pub use writing::write_command;
+
+#[cfg(test)]
+mod tests;

@@ -53,7 +53,13 @@ fn flag(commit: bool) -> u32
 }
 
 /// What follows the name of a Frames command.
-fn put_frames(out: &mut Writer, tx: u64, truncate: u32, commit: bool, pages: &[NumberedPage]) -> Result<(), AllocError>
+fn put_frames(
+    out: &mut Writer,
+    tx: u64,
+    truncate: u32,
+    commit: bool,
+    pages: &[NumberedPage],
+) -> Result<(), AllocError>
     requires { length pages.now ≤ 64 }
     ensures bytes { OnOk result (out.new ≡ out.old ++ frames_bytes tx truncate commit pages.now) }
     ensures numbers { OnOk result (HaveNumbers pages.now) }

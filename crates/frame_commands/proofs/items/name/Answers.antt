@@ -1,4 +1,4 @@
-use Rattle.std.proofs.Common.{sym, ap, ◌∙◌}
+use Rattle.std.proofs.Common.{ap, ◌∙◌}
 use Rattle.wire_words.specs.declared.fault.WordFault.TheVariants.{Short}
 use Rattle.std.specs.Prelude.{Err}
 use Rattle.frame_commands.proofs.ItemFacts.{name_refused}

@@ -1,4 +1,3 @@
-use Rattle.std.proofs.Common.{◌≡◌, ◌++◌, ◌∷◌, []}
 use Rattle.std.proofs.lemmas.Result.{err_from_is_err_and}
 use Rattle.frame_commands.specs.Reading.{numbers_at}
 use Rattle.frame_commands.proofs.Loops.{numbers_more, numbers_end, numbers_done}

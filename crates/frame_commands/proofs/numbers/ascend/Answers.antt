@@ -1,4 +1,4 @@
-use Rattle.std.proofs.Common.{sym, ◌∙◌, arith}
+use Rattle.std.proofs.Common.{sym, arith}
 use Rattle.frame_commands.specs.Numbers.{numbers_ascend}
 use Rattle.frame_commands.proofs.Ascending.{is_next-low, is_next-one, is_next-high, is_next-true, ascend_more, ascend_refused, ascend_all}
 use Rattle.frame_commands.proofs.numbers.ascend.Goals as goal

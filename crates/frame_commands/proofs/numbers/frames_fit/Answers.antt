@@ -1,4 +1,4 @@
-use Rattle.std.proofs.Common.{◌≡◌, true, false, cond, ◌&&◌, sym, ap, ◌∙◌, refl}
+use Rattle.std.proofs.Common.{sym, ◌∙◌, refl}
 use Rattle.frame_commands.proofs.Ranges.{frames_fit-push}
 use Rattle.frame_commands.proofs.numbers.frames_fit.Goals as goal
 

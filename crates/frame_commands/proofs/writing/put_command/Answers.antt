@@ -1,4 +1,3 @@
-use Rattle.std.proofs.Common.{sym, ap, ◌∙◌}
 use Rattle.frame_commands.specs.Spelling.{head, frames_bytes}
 use Rattle.wire_words.specs.Items.{text}
 use Rattle.frame_commands.proofs.InTurn.{three}
