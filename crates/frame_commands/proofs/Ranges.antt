@@ -4,7 +4,7 @@ use Rattle.std.proofs.lemmas.Bool.{leb-true, le-leb}
 use Rattle.std.proofs.lemmas.List.{take_at, length_push}
 use Rattle.dq_base.specs.declared.pages.NumberedPage.{NumberedPage}
 use Rattle.dq_base.specs.Applying.{last_page}
-use Rattle.dq_base.proofs.FaultLemmas.{last_page-push}
+use Rattle.dq_base.proofs.PageFaults.{last_page-push}
 use Rattle.frame_commands.specs.declared.command.Command.{Command}
 use Rattle.frame_commands.specs.declared.command.Command.TheVariants.{Frames}
 use Rattle.frame_commands.specs.Numbers.{numbers_ascend, pages_before_last, ends_with, frames_fit, numbers_fit, most_pages}
