@@ -6,3 +6,4 @@ pub mod Running
 pub mod Databases
 pub mod Tables
 pub mod CommandSizes
+pub mod Standings

@@ -1,6 +1,6 @@
 -- Running a script line by line gives the run that its bytes make.
 use Rattle.std.proofs.Common.{◌≡◌, ◌≢◌, ℕ, zero, suc, ◌+◌, ◌<◌, ◌≤◌, Bool, true, false, cond, ◌&&◌, eqb, List, [], ◌∷◌, ◌++◌, Option, Some, None, Ok, Err, length, refl, sym, ap, subst, ◌∙◌, append_assoc, arith, inl, inr}
-use Rattle.std.specs.Prelude.{nat_le, unwrap_or}
+use Rattle.std.specs.Prelude.{nat_le, unwrap_or, Result, OnOk, OnErr, IfErr, MatchResult}
 use Rattle.std.specs.Option.{option_map_or}
 use Rattle.std.specs.Io.KnownBytes.{Appends, Consumes, Keeps, IsAtEnd}
 use Rattle.std.proofs.lemmas.List.{append-nil, length-append, nil_from_length}
@@ -10,7 +10,8 @@ use Rattle.cluster_runner.specs.declared.lines.TheConstants.{LINE_LIMIT, LINE_CO
 use Rattle.cluster_runner.specs.declared.cluster.Say.{Say}
 use Rattle.cluster_runner.specs.declared.lines.LineFault.{LineFault}
 use Rattle.cluster_runner.specs.declared.lines.LineFault.TheVariants as line
-use Rattle.cluster_runner.specs.Stops.{line_stop}
+use Rattle.cluster_runner.specs.declared.run.Stop.{Stop}
+use Rattle.cluster_runner.specs.Stops.{line_stop, fault_of}
 use Rattle.cluster_runner.specs.Lines.{with_byte, lines_of, HasNoFeed, Cursor, to_come, TakesLine}
 use Rattle.cluster_runner.specs.Grammar.{line_of}
 use Rattle.cluster_runner.specs.Run.{Place, Opening, Next, Fault, Line, Large, said_step, step, step_text, next_text, Run, said_before, onward, closing, ending, run_from, run_so_far, run, text_of, printed}
@@ -336,6 +337,13 @@ module _ (first now written printed_now later : Option (List ℕ)) (place : Plac
 pub stopped_short : (stop : Option Fault) (left left' written written' : Option (List ℕ)) → stop ≡ None → StopsShort left left' written written' → StoppedBy stop left left' written written'
 stopped_short None left left' written written' e short = short
 stopped_short (Some fault) left left' written written' e short = absurd cc
+
+-- A script that was read to its end closes by showing all.
+pub closed : {X : Type 0} (result : Result X Stop) (first now written printed_now later : Option (List ℕ)) (place : Place) → ReadWhole first now written printed_now place
+    → OnOk result (Appends printed_now later (text_of (closing place))) → OnErr result (AppendsFront printed_now later (text_of (closing place))) → IfErr result (λ stop. fault_of stop ≡ None)
+    → MatchResult result (λ _. Completes first now written later) (λ stop. Stopped stop first now written later)
+closed (Ok x) first now written printed_now later place r ok err none = completes first now written printed_now later place r ok
+closed (Err stop) first now written printed_now later place r ok err none = stopped_short (fault_of stop) first now written later none (short_closing first now written printed_now later place r err)
 
 -- Reading a line stopped the script.
 pub stopped_reading : (fault : LineFault) (left left' written written' : Option (List ℕ)) → StopsShort left left' written written' → Stopped (line_stop fault) left left' written written'

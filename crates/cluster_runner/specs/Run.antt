@@ -108,13 +108,18 @@ run script = run_so_far true script
 abbrev pub role : Bool → List ℕ
 role leads = if leads then codes "leader" else codes "follower"
 
+-- how a node stands, behind its number
+abbrev pub node_text : ℕ → Bool → ℕ → List ℕ → List ℕ
+node_text term leads applied digest =
+    codes " term " ++ (decimal term ++ (codes " role " ++ (role leads ++ (codes " applied " ++ (decimal applied ++ (codes " files " ++ (encode_lower digest ++ codes "\n")))))))
+
 -- the line that is printed for what was said
 abbrev pub printed_line : Say → List ℕ
 printed_line (Reply connection bytes) =
     codes "reply " ++ (decimal connection ++ (codes " " ++ (encode_lower bytes ++ codes "\n")))
 printed_line Refused = codes "refused\n"
 printed_line (Node node term leads applied digest) =
-    codes "node " ++ (decimal node ++ (codes " term " ++ (decimal term ++ (codes " role " ++ (role leads ++ (codes " applied " ++ (decimal applied ++ (codes " files " ++ (encode_lower digest ++ codes "\n")))))))))
+    codes "node " ++ (decimal node ++ node_text term leads applied digest)
 printed_line (Machine number applied digest) =
     codes "node " ++ (decimal number ++ (codes " applied " ++ (decimal applied ++ (codes " files " ++ (encode_lower digest ++ codes "\n")))))
 

@@ -42,7 +42,7 @@ pub enum Say {
     },
     /// How a machine stands: how many commands it has applied, and the SHA-256 of its files.
     Machine {
-        number: u32,
+        number: u64,
         applied: u64,
         digest: [u8; 32],
     },

@@ -56,7 +56,7 @@ impl Machine {
     }
 
     /// How the machine of this number stands. Costs in the order of its files.
-    fn standing(&self, number: u32) -> Say
+    fn standing(&self, number: u64) -> Say
         ensures { result ≡ standing number self.now }
     {
         let digest = digest(self.databases.as_slice());
@@ -107,7 +107,7 @@ impl Machines {
         ensures { IfOk result (λ machines. fleet_of machines ≡ idle_fleet count) }
     {
         let mut machines = Vec::new(alloc);
-        for _ in 0..count {
+        for _made in 0..count {
             machines.push(Machine::new(alloc))?;
         }
         Ok(Machines {
@@ -167,7 +167,7 @@ impl Machines {
         ensures { result ≡ standing_of (fleet_of self.now) number }
     {
         let place = place_of(number, self.machines.len())?;
-        Some(self.machines[place].standing(number))
+        Some(self.machines[place].standing(u64::from(number)))
     }
 
     /// How all machines stand, by their numbers.
@@ -175,10 +175,8 @@ impl Machines {
         ensures { IfOk result (λ said. said.items ≡ standings 1 (fleet_of self.now).machines) }
     {
         let mut said = Vec::new(alloc);
-        let mut number: u32 = 1;
-        for machine in &self.machines {
-            said.push(machine.standing(number))?;
-            number += 1;
+        for (place, machine) in self.machines.iter().enumerate() {
+            said.push(machine.standing(place as u64 + 1))?;
         }
         Ok(said)
     }

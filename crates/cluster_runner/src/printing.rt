@@ -4,7 +4,8 @@ ghost use Rattle.std.specs.Prelude.{◌≡◌, ◌≤◌, IfOk, OnOk, OnErr, str
 ghost use Rattle.std.specs.Io.KnownBytes.{Appends};
 ghost use Rattle.dq_base.specs.Faults.{Rose};
 ghost use Rattle.dq_base.specs.Sink.{AppendsFront};
-ghost use Rattle.cluster_runner.specs.Run.{role, printed_line, text_of};
+ghost use Rattle.cluster_runner.specs.Run.{role, node_text, printed_line, text_of};
+ghost use Rattle.cluster_runner.specs.declared.cluster.Say.{Say};
 
 use crate::cluster::Say;
 use dq_base::{Failed, Sink};
@@ -47,6 +48,23 @@ fn role_name(leads: bool) -> &'static str
     if leads { "leader" } else { "follower" }
 }
 
+/// The line of a machine, with its LF.
+fn machine_line(alloc: Global, number: u64, applied: u64, digest: &[u8; 32]) -> Result<String, AllocError>
+    ensures { IfOk result (λ line. string_bytes line ≡ printed_line (Say.Machine number applied digest.now)) }
+{
+    let digits = hex::encode(alloc, digest)?;
+    format!(in alloc; "node {number} applied {applied} files {digits}\n")
+}
+
+/// How a node stands, behind its number, with the LF.
+fn node_standing(alloc: Global, term: u64, leads: bool, applied: u64, digest: &[u8; 32]) -> Result<String, AllocError>
+    ensures { IfOk result (λ text. string_bytes text ≡ node_text term leads applied digest.now) }
+{
+    let role = role_name(leads);
+    let digits = hex::encode(alloc, digest)?;
+    format!(in alloc; " term {term} role {role} applied {applied} files {digits}\n")
+}
+
 /// The line that is printed for what was said, with its LF.
 fn line_for(alloc: Global, say: &Say) -> Result<String, AllocError>
     ensures { IfOk result (λ line. string_bytes line ≡ printed_line say.now) }
@@ -64,18 +82,14 @@ fn line_for(alloc: Global, say: &Say) -> Result<String, AllocError>
             applied,
             digest,
         } => {
-            let role = role_name(*leads);
-            let digits = hex::encode(alloc, digest)?;
-            format!(in alloc; "node {node} term {term} role {role} applied {applied} files {digits}\n")
+            let standing = node_standing(alloc, *term, *leads, *applied, digest)?;
+            format!(in alloc; "node {node}{standing}")
         }
         Say::Machine {
             number,
             applied,
             digest,
-        } => {
-            let digits = hex::encode(alloc, digest)?;
-            format!(in alloc; "node {number} applied {applied} files {digits}\n")
-        }
+        } => machine_line(alloc, *number, *applied, digest),
     }
 }
 

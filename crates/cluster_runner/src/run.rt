@@ -201,6 +201,27 @@ fn close<K: Sink>(alloc: Global, stage: &Stage, sink: &mut K) -> Result<(), Stop
     Ok(())
 }
 
+/// Runs the lines of a script in order, and shows how all stand at its end.
+fn run_whole<S: Source, K: Sink>(
+    alloc: Global,
+    lines: &mut LineReader,
+    stage: &mut Stage,
+    source: &mut S,
+    sink: &mut K,
+) -> Result<(), Stop>
+    ensures goes { (first written : Option (List ℕ)) → Reached first (to_come lines.old (S.left source.old)) written (K.written sink.old) (place_of stage.old) 1 →
+        MatchResult result
+            (λ _. Completes first (S.left source.new) written (K.written sink.new))
+            (λ stop. Stopped stop first (S.left source.new) written (K.written sink.new)) }
+    ensures read { IsErrOf result Stop.ReadFault → Rose (S.faults source.old) (S.faults source.new) }
+    ensures write { IsErrOf result Stop.WriteFault → Rose (K.faults sink.old) (K.faults sink.new) }
+    ensures source_count { S.faults source.old ≤ S.faults source.new }
+    ensures sink_count { K.faults sink.old ≤ K.faults sink.new }
+{
+    run_lines(alloc, lines, stage, source, sink)?;
+    close(alloc, stage, sink)
+}
+
 /// Runs a script from its first line on.
 fn run<S: Source, K: Sink>(alloc: Global, source: &mut S, sink: &mut K) -> Result<(), Stop>
     ensures ok { OnOk result (Completes (S.left source.old) (S.left source.new) (K.written sink.old) (K.written sink.new)) }
@@ -212,8 +233,7 @@ fn run<S: Source, K: Sink>(alloc: Global, source: &mut S, sink: &mut K) -> Resul
 {
     let mut lines = LineReader::new(alloc)?;
     let mut stage = Stage::Opening;
-    run_lines(alloc, &mut lines, &mut stage, source, sink)?;
-    close(alloc, &stage, sink)
+    run_whole(alloc, &mut lines, &mut stage, source, sink)
 }
 
 /// Runs the script that the source gives, and prints to the sink what the script's run says.
