@@ -7,3 +7,4 @@ pub mod Databases
 pub mod Tables
 pub mod CommandSizes
 pub mod Standings
+pub mod Agreement
