@@ -11,6 +11,8 @@ mod printing;
 mod run;
 mod stage;
 mod stated;
+#[cfg(test)]
+mod tests;
 
 pub use cluster::Say;
 pub use grammar::{Event, ScriptLine};
