@@ -14,6 +14,8 @@ mod run;
 mod scene;
 mod stage;
 mod stated;
+#[cfg(test)]
+mod tests;
 
 pub use cluster::Say;
 pub use grammar::{Event, ScriptLine};

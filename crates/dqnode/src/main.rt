@@ -3,6 +3,8 @@
 
 mod program;
 mod status;
+#[cfg(test)]
+mod tests;
 mod words;
 
 pub use program::dqnode;
