@@ -1,10 +1,10 @@
 -- What the program does: its words, its input, what it writes and the status that it ends with.
-use Rattle.std.specs.Prelude.{◌≡◌, ◌++◌, ℕ, List, [], ◌∷◌, map, codes, string_bytes, String, Option, Some, None, IfSome}
+use Rattle.std.specs.Prelude.{◌≡◌, ◌++◌, ℕ, Bool, true, List, [], ◌∷◌, map, codes, string_bytes, String, Option, Some, None, IfSome}
 use Rattle.std.specs.declared.alloc.Global.{Global}
 use Rattle.std.specs.Fmt.{decimal}
 use Rattle.std.specs.Io.KnownBytes.{Appends}
 use Rattle.dq_base.specs.Sink.{AppendsFront}
-use Rattle.cluster_runner.specs.Run.{Run, run, printed}
+use Rattle.cluster_runner.specs.Run.{Run, Fault, Line, Large, run_so_far, run, printed}
 use Rattle.cluster_runner.specs.Outcome.{IsInput}
 
 -- the words ask for a script to be run
@@ -19,28 +19,34 @@ words_error = codes "error words\n"
 abbrev pub line_error : ℕ → List ℕ
 line_error line = codes "error line " ++ (decimal line ++ codes "\n")
 
-abbrev pub fault_text : Option ℕ → List ℕ
+-- the line that says that there are too many lines or events
+abbrev pub large_error : List ℕ
+large_error = codes "error large\n"
+
+abbrev pub fault_text : Option Fault → List ℕ
 fault_text None = []
-fault_text (Some line) = line_error line
+fault_text (Some (Line line)) = line_error line
+fault_text (Some Large) = large_error
 
--- what a script gives in all: what its run prints, and then the line that names its fault, where it has one
-abbrev pub script_text : List ℕ → List ℕ
-script_text script = printed (run script) ++ fault_text (run script).fault
+-- what a run gives in all: what it prints, and then the line that names its fault, where it has one
+abbrev pub run_text : Run → List ℕ
+run_text run = printed run ++ fault_text run.fault
 
--- The script has its first fault at some line, and all of its text was written.
-pub record Faults (left written written' : Option (List ℕ)) : Type 0 where
+-- The script has this fault, its first, and all of its text was written.
+pub record Faults (fault : Fault) (left written written' : Option (List ℕ)) : Type 0 where
   pub script : List ℕ
   pub input : IsInput left script
-  pub line : ℕ
-  pub fault : (run script).fault ≡ Some line
-  pub text : Appends written written' (script_text script)
+  pub faulty : (run script).fault ≡ Some fault
+  pub text : Appends written written' (run_text (run script))
 
 -- these bytes are a front of what the source has left, where that is told
 abbrev pub IsFrontOf : List ℕ → Option (List ℕ) → Type 0
 IsFrontOf front left = IfSome left (λ all. (rest : List ℕ) × (front ++ rest ≡ all))
 
--- A front was written of the text that a front of the script gives.
+-- A front was written of the text that a front of the script gives, which is the whole script only where all of it is.
 pub record BreaksOff (left written written' : Option (List ℕ)) : Type 0 where
   pub read : List ℕ
   pub front : IsFrontOf read left
-  pub text : AppendsFront written written' (script_text read)
+  pub whole : Bool
+  pub ended : whole ≡ true → IsInput left read
+  pub text : AppendsFront written written' (run_text (run_so_far whole read))

@@ -1,9 +1,10 @@
 -- The numbers of the ways in which the program ends.
 use Rattle.std.specs.Prelude.{◌≡◌, ◌⊎◌, ℕ, Option, List}
+use Rattle.cluster_runner.specs.Run as script
 use Rattle.cluster_runner.specs.Outcome.{Completes}
 use Rattle.dqnode.specs.Program.{Faults, BreaksOff}
 use Rattle.dqnode.specs.declared.status.Status.{Status}
-use Rattle.dqnode.specs.declared.status.Status.TheVariants.{Done, Words, Script, ReadFault, WriteFault, NoMemory}
+use Rattle.dqnode.specs.declared.status.Status.TheVariants.{Done, Words, Script, ReadFault, WriteFault, NoMemory, Large}
 
 abbrev pub status_code : Status → ℕ
 status_code Done = 0
@@ -12,10 +13,11 @@ status_code Script = 2
 status_code ReadFault = 3
 status_code WriteFault = 4
 status_code NoMemory = 7
+status_code Large = 9
 
 -- the statuses that there are
 abbrev pub IsStatus : ℕ → Type 0
-IsStatus code = (code ≡ 0) ⊎ (code ≡ 1) ⊎ (code ≡ 2) ⊎ (code ≡ 3) ⊎ (code ≡ 4) ⊎ (code ≡ 7)
+IsStatus code = (code ≡ 0) ⊎ (code ≡ 1) ⊎ (code ≡ 2) ⊎ (code ≡ 3) ⊎ (code ≡ 4) ⊎ (code ≡ 7) ⊎ (code ≡ 9)
 
 -- those of a fault of the outside, and of want of memory
 abbrev pub IsBroken : ℕ → Type 0
@@ -25,7 +27,8 @@ IsBroken code = (code ≡ 3) ⊎ (code ≡ 4) ⊎ (code ≡ 7)
 abbrev pub ScriptEnds : Status → Option (List ℕ) → Option (List ℕ) → Option (List ℕ) → Option (List ℕ) → Type 0
 ScriptEnds Done left left' written written' = Completes left left' written written'
 ScriptEnds Words left left' written written' = ⊥
-ScriptEnds Script left left' written written' = Faults left written written'
+ScriptEnds Script left left' written written' = (line : ℕ) × Faults (script.Line line) left written written'
 ScriptEnds ReadFault left left' written written' = BreaksOff left written written'
 ScriptEnds WriteFault left left' written written' = BreaksOff left written written'
 ScriptEnds NoMemory left left' written written' = BreaksOff left written written'
+ScriptEnds Large left left' written written' = Faults script.Large left written written'

@@ -1,11 +1,13 @@
 //! All that the program does.
 
-ghost use Rattle.std.specs.Prelude.{◌≡◌, ◌≢◌, ◌≤◌, ◌↔◌, ◌⊎◌, ℕ, IsTrue};
+ghost use Rattle.std.specs.Prelude.{◌≡◌, ◌≢◌, ◌≤◌, ◌↔◌, ◌⊎◌, ℕ, List, IsTrue};
 ghost use Rattle.std.specs.Io.KnownBytes.{Appends};
 ghost use Rattle.dq_base.specs.Faults.{Rose};
 ghost use Rattle.cluster_runner.specs.Outcome.{Completes};
 ghost use Rattle.dq_base.specs.Sink.{AppendsFront};
-ghost use Rattle.dqnode.specs.Program.{IsScript, words_error, line_error, Faults, BreaksOff};
+ghost use Rattle.cluster_runner.specs.Run.{Line, Large};
+ghost use Rattle.cluster_runner.specs.Alike.{KeepsAlike};
+ghost use Rattle.dqnode.specs.Program.{IsScript, words_error, line_error, large_error, Faults, BreaksOff};
 ghost use Rattle.dqnode.specs.Status.{IsStatus, IsBroken, ScriptEnds};
 
 use crate::status::Status;
@@ -40,6 +42,20 @@ fn refuse_line<K: Sink>(alloc: Global, line: u64, output: &mut K) -> Status
     }
 }
 
+/// Writes the error line of a script with too many lines or events.
+fn refuse_large<K: Sink>(output: &mut K) -> Status
+    ensures large { result ≡ Status.Large → Appends (K.written output.old) (K.written output.new) large_error }
+    ensures write_fault { result ≡ Status.WriteFault → Rose (K.faults output.old) (K.faults output.new) }
+    ensures broken { result ≢ Status.Large → AppendsFront (K.written output.old) (K.written output.new) large_error }
+    ensures others { (result ≡ Status.Large) ⊎ (result ≡ Status.WriteFault) }
+    ensures count { K.faults output.old ≤ K.faults output.new }
+{
+    match output.write_all(b"error large\n") {
+        Ok(()) => Status::Large,
+        Err(_) => Status::WriteFault,
+    }
+}
+
 /// Runs the script that the input gives.
 fn script<S: Source, K: Sink>(alloc: Global, input: &mut S, output: &mut K) -> Status
     ensures ended { ScriptEnds result (S.left input.old) (S.left input.new) (K.written output.old) (K.written output.new) }
@@ -51,6 +67,7 @@ fn script<S: Source, K: Sink>(alloc: Global, input: &mut S, output: &mut K) -> S
     match run_script(alloc, input, output) {
         Outcome::Done => Status::Done,
         Outcome::Script(line) => refuse_line(alloc, line, output),
+        Outcome::Large => refuse_large(output),
         Outcome::ReadFault => Status::ReadFault,
         Outcome::WriteFault => Status::WriteFault,
         Outcome::NoMemory => Status::NoMemory,
@@ -74,22 +91,27 @@ fn refuse_words<K: Sink>(output: &mut K) -> Status
 /// process ends with.
 ///
 /// The words are exactly `script`: the input is a script, whose text goes to the output. Other words give status 1 and
-/// the line `error words`. A line that isn't in the grammar, the first in the script, gives status 2, behind the text
-/// of the lines before it, and `error line` with its number. 3 is a fault of the input and 4 one of the output, an
-/// error line that could not be written included; 7 is want of memory.
+/// the line `error words`. A line that isn't in the grammar, or that names what isn't there, the first fault of the
+/// script, gives status 2, behind the text of the lines before it, and `error line` with its number. So the line behind
+/// the millionth and the event behind the twenty thousandth give status 9 and `error large`. 3 is a fault of the input
+/// and 4 one of the output, an error line that could not be written included; 7 is want of memory.
 pub fn dqnode<S: Source, K: Sink>(
     alloc: Global,
     words: &[String],
     input: &mut S,
     output: &mut K,
 ) -> u8
-    // The script was read to its end, each line of it is in the grammar, and its text was written.
+    // The script was read to its end, it has no fault, and its text was written.
     ensures done { result ≡ 0 → IsScript words.now × Completes (S.left input.old) (S.left input.new) (K.written output.old) (K.written output.new) }
     // The words are refused exactly where they are not `script`, unless their line can't be written.
     ensures words { result ≡ 1 → ¬ (IsScript words.now) × Appends (K.written output.old) (K.written output.new) words_error }
     ensures only_words { ¬ (IsScript words.now) → (result ≡ 1) ⊎ (result ≡ 4) }
-    // The script has a first line that isn't in the grammar, and it is named.
-    ensures script { result ≡ 2 → IsScript words.now × Faults (S.left input.old) (K.written output.old) (K.written output.new) }
+    // The script's first fault is a line that isn't in the grammar there, and it is named.
+    ensures script { result ≡ 2 → IsScript words.now × ((line : ℕ) × Faults (Line line) (S.left input.old) (K.written output.old) (K.written output.new)) }
+    // The script's first fault is that it has too many lines or events, and it is said.
+    ensures large { result ≡ 9 → IsScript words.now × Faults Large (S.left input.old) (K.written output.old) (K.written output.new) }
+    // Machines of a script that have applied as many commands hold the same files and pending pages.
+    ensures alike { (script : List ℕ) → KeepsAlike script }
     // The input, the output failed in this call.
     ensures read_fault { result ≡ 3 → IsScript words.now × Rose (S.faults input.old) (S.faults input.new) }
     ensures write_fault { result ≡ 4 → Rose (K.faults output.old) (K.faults output.new) }

@@ -15,6 +15,8 @@ pub enum Status {
     WriteFault,
     /// There is not enough memory.
     NoMemory,
+    /// The script has too many lines or events.
+    Large,
 }
 
 impl Status {
@@ -31,6 +33,7 @@ impl Status {
             Status::ReadFault => 3,
             Status::WriteFault => 4,
             Status::NoMemory => 7,
+            Status::Large => 9,
         }
     }
 }
