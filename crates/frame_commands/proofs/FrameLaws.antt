@@ -14,8 +14,8 @@ use Rattle.frame_commands.specs.Spelling.{flag, number_words, page_bytes, frames
 use Rattle.frame_commands.specs.Reading.{in_command, flagged_at, sized_at, numbers_at, pages_at, frame_items_at, frames_of, frames_at}
 use Rattle.frame_commands.proofs.ItemFacts.{in_command_ok, command_is, both_true}
 use Rattle.frame_commands.proofs.Passing.{Passed, passed_both, between, passed_first, passed_second, bytes_after, word_passed, word_stood}
-use Rattle.frame_commands.proofs.Halves.{flagged_passed, flagged_stood, sized_passed, sized_stood}
-use Rattle.frame_commands.proofs.PageLaws.{words_of, AreWords, numbers_passed, numbers_stood, pages_passed, pages_stood, words_are, numbers_have, as_many}
+use Rattle.frame_commands.proofs.Halves.{PassedPair, flagged_passed, flagged_stood, sized_passed, sized_stood}
+use Rattle.frame_commands.proofs.PageLaws.{words_of, AreWords, PassedNumbers, PassedPages, numbers_passed, numbers_stood, pages_passed, pages_stood, words_are, numbers_have, as_many}
 
 abbrev pub after_sizes : List NumberedPage → List ℕ
 after_sizes pages = number_words pages ++ page_bytes pages
@@ -47,6 +47,30 @@ pub record PassedItems (items : FrameItems) (old new : Unread) : Type 0 where
   pub are : AreItems items
   pub stood : Passed (items_bytes items) old new
 
+-- items that stood one after the other
+items_stand : (old m1 m2 m3 m4 new : Unread) (tx : ℕ) (flagged sized : ℕ × ℕ) (ns : List ℕ) (ps : List NumberedPage) → (tx < 2 ^ 64) × Passed (word tx) old m1 → PassedPair flagged.0 flagged.1 256 m1 m2
+    → PassedPair sized.0 sized.1 65536 m2 m3 → PassedNumbers sized.0 ns m3 m4 → PassedPages ns ps m4 new → PassedItems (items_from tx flagged sized.1 ps) old new
+items_stand old m1 m2 m3 m4 new tx flagged sized ns ps first second third numbers pages =
+    let count : sized.0 ≡ length ps = sym numbers.many ∙ ap length (sym pages.numbers) ∙ as_many ps in
+    let words : words_of ns ≡ number_words ps = ap words_of (sym pages.numbers) ∙ words_are ps in
+    let number_part : Passed (number_words ps) m3 m4 = subst (λ (x : List ℕ). Passed x m3 m4) words numbers.passed in
+    let size_part : Passed (pair (length ps) sized.1) m2 m3 = subst (λ (n : ℕ). Passed (pair n sized.1) m2 m3) count third.passed in
+    let part3 = passed_both m3 m4 new (number_words ps) (page_bytes ps) number_part pages.passed in
+    let part2 = passed_both m2 m3 new (pair (length ps) sized.1) (after_sizes ps) size_part part3 in
+    let part1 = passed_both m1 m2 new (pair flagged.0 flagged.1) (after_flag sized.1 ps) second.passed part2 in
+    record {
+      are = record {
+        tx_fits = first.0;
+        truncate_fits = second.first_fits;
+        flag_fits = second.second_fits;
+        size_fits = third.second_fits;
+        few = subst (λ (n : ℕ). n < 2 ^ 32) count third.first_fits;
+        numbers = numbers_have ps (subst AreWords (sym pages.numbers) numbers.fit);
+        sizes = pages.sizes;
+      };
+      stood = passed_both old m1 new (word tx) (after_tx flagged.0 flagged.1 sized.1 ps) first.1 part1;
+    }
+
 pub items_passed : (old new : Unread) (items : FrameItems) → AreBytes old.bytes → frame_items_at old ≡ Ok (items, new) → PassedItems items old new
 unfolding frame_items_at
 items_passed old new items fits e =
@@ -55,8 +79,6 @@ items_passed old new items fits e =
     let c = bind_ok (sized_at b.0.1) (λ sized. numbers_at sized.0.0 sized.1 >>= λ numbers. pages_at numbers.0 numbers.1 >>= λ pages. Ok (items_from a.0.0 b.0.0 sized.0.1 pages.0, pages.1)) (items, new) b.2 in
     let d = bind_ok (numbers_at c.0.0.0 c.0.1) (λ numbers. pages_at numbers.0 numbers.1 >>= λ pages. Ok (items_from a.0.0 b.0.0 c.0.0.1 pages.0, pages.1)) (items, new) c.2 in
     let f = bind_ok (pages_at d.0.0 d.0.1) (λ pages. Ok (items_from a.0.0 b.0.0 c.0.0.1 pages.0, pages.1)) (items, new) d.2 in
-    let ps = f.0.0 in
-    let end = f.0.1 in
     let tx = word_passed old a.0.1 a.0.0 fits a.1 in
     let fits1 = bytes_after (word a.0.0) old a.0.1 tx.1 fits in
     let flagged = flagged_passed a.0.1 b.0.1 b.0.0 fits1 b.1 in
@@ -64,23 +86,10 @@ items_passed old new items fits e =
     let sized = sized_passed b.0.1 c.0.1 c.0.0 fits2 c.1 in
     let fits3 = bytes_after (pair c.0.0.0 c.0.0.1) b.0.1 c.0.1 sized.passed fits2 in
     let numbers = numbers_passed c.0.0.0 c.0.1 d.0.1 d.0.0 fits3 d.1 in
-    let pages = pages_passed d.0.0 d.0.1 end ps f.1 in
-    let count : c.0.0.0 ≡ length ps = sym numbers.many ∙ ap length (sym pages.numbers) ∙ as_many ps in
-    let words : words_of d.0.0 ≡ number_words ps = ap words_of (sym pages.numbers) ∙ words_are ps in
-    let have : HaveNumbers ps = numbers_have ps (subst AreWords (sym pages.numbers) numbers.fit) in
-    let number_part : Passed (number_words ps) c.0.1 d.0.1 = subst (λ (x : List ℕ). Passed x c.0.1 d.0.1) words numbers.passed in
-    let part3 = passed_both c.0.1 d.0.1 end (number_words ps) (page_bytes ps) number_part pages.passed in
-    let size_part : Passed (pair (length ps) c.0.0.1) b.0.1 c.0.1 = subst (λ (n : ℕ). Passed (pair n c.0.0.1) b.0.1 c.0.1) count sized.passed in
-    let part2 = passed_both b.0.1 c.0.1 end (pair (length ps) c.0.0.1) (after_sizes ps) size_part part3 in
-    let part1 = passed_both a.0.1 b.0.1 end (pair b.0.0.0 b.0.0.1) (after_flag c.0.0.1 ps) flagged.passed part2 in
-    let whole = passed_both old a.0.1 end (word a.0.0) (after_tx b.0.0.0 b.0.0.1 c.0.0.1 ps) tx.1 part1 in
-    let few : length ps < 2 ^ 32 = subst (λ (n : ℕ). n < 2 ^ 32) count sized.first_fits in
-    let made : FrameItems × Unread = (items_from a.0.0 b.0.0 c.0.0.1 ps, end) in
-    subst (λ (x : FrameItems × Unread). PassedItems x.0 old x.1) (ok_is made (items, new) f.2)
-    (record {
-      are = record { tx_fits = tx.0; truncate_fits = flagged.first_fits; flag_fits = flagged.second_fits; size_fits = sized.second_fits; few = few; numbers = have; sizes = pages.sizes };
-      stood = whole;
-    })
+    let pages = pages_passed d.0.0 d.0.1 f.0.1 f.0.0 f.1 in
+    let made : FrameItems × Unread = (items_from a.0.0 b.0.0 c.0.0.1 f.0.0, f.0.1) in
+    subst (λ (x : FrameItems × Unread). PassedItems x.0 old x.1) {x = made} (ok_is made (items, new) f.2)
+    (items_stand old a.0.1 b.0.1 c.0.1 d.0.1 f.0.1 a.0.0 b.0.0 c.0.0 d.0.0 f.0.0 tx flagged sized numbers pages)
 
 pub items_stood : (items : FrameItems) (old new : Unread) → AreItems items → Passed (items_bytes items) old new → frame_items_at old ≡ Ok (items, new)
 unfolding frame_items_at
