@@ -12,6 +12,11 @@ const NO_LEADER: &str = "reply 1 02000000010000000000000000000000000000000000000
 /// The reply of node 1 as the leader: id 1 and the address `n1`.
 const LEADER: &str = "reply 1 020000000100000001000000000000006e31000000000000\n";
 
+/// How node 1 stands at the end, before an election and after it: no files are there, and so the digest is that of no
+/// bytes.
+const FOLLOWS: &str = "node 1 term 0 role follower applied 0 files e3b0c44298fc1c149afbf4c8996fb92427ae41e4649b934ca495991b7852b855\n";
+const LEADS: &str = "node 1 term 1 role leader applied 1 files e3b0c44298fc1c149afbf4c8996fb92427ae41e4649b934ca495991b7852b855\n";
+
 /// How long a line may be, in bytes without its LF.
 const LONGEST_LINE: usize = 1_048_576;
 
@@ -54,20 +59,22 @@ fn run_script(alloc: Global, script: &[u8]) -> Result<Ended, AllocError> {
 fn replies_name_the_leader(rt: HostRuntime) -> Result<(), Fail> {
     let alloc = rt.alloc();
     let rows = [
-        ("", "", ""),
-        ("# nothing\n\n", "", ""),
-        ("nodes 1\n", "", ""),
-        ("nodes 1\nconnect 1 1\n", GREETING, NO_LEADER),
-        ("nodes 1\ntimeout 1\nconnect 1 1\n", GREETING, LEADER),
+        ("", "", "", ""),
+        ("# nothing\n\n", "", "", ""),
+        ("nodes 1\n", "", "", FOLLOWS),
+        ("nodes 1\nconnect 1 1\n", GREETING, NO_LEADER, FOLLOWS),
+        ("nodes 1\ntimeout 1\nconnect 1 1\n", GREETING, LEADER, LEADS),
         (
             "nodes 1\nconnect 1 1\ntimeout 1\ntimeout 1\n",
             GREETING,
             LEADER,
+            LEADS,
         ),
-        ("#\n\nnodes 1\n\nconnect 1 1\n# asks\n", GREETING, NO_LEADER),
+        ("#\n\nnodes 1\n\nconnect 1 1\n# asks\n", GREETING, NO_LEADER, FOLLOWS),
     ];
-    for (front, last, text) in rows {
+    for (front, last, reply, closing) in rows {
         let script = format!(in alloc; "{front}{last}")?;
+        let text = format!(in alloc; "{reply}{closing}")?;
         let ended = run_script(alloc, script.as_bytes())?;
         assert_eq!(rt; ended.status, 0, "after {front:?}");
         assert_eq!(rt; ended.text.as_slice(), text.as_bytes(), "after {front:?}");
@@ -81,10 +88,43 @@ fn replies_name_the_leader(rt: HostRuntime) -> Result<(), Fail> {
 }
 
 #[test]
+fn machines_that_took_as_many_commands_show_one_digest(rt: HostRuntime) -> Result<(), Fail> {
+    let alloc = rt.alloc();
+    // The command opens the database `d`, whose two files are empty.
+    let script = b"pages 3\nput 01010000000000006400000000000000\nput ff\ntake 1\ntake 3\ntake 3\n";
+    let text = "refused\n\
+        node 1 applied 1 files 6b7ca8dd6d1eb5f30a9f5542f5d8940824560feda9ea77b3311211c818fe18bb\n\
+        node 2 applied 0 files e3b0c44298fc1c149afbf4c8996fb92427ae41e4649b934ca495991b7852b855\n\
+        node 3 applied 1 files 6b7ca8dd6d1eb5f30a9f5542f5d8940824560feda9ea77b3311211c818fe18bb\n";
+    let ended = run_script(alloc, script)?;
+    assert_eq!(rt; ended.status, 0);
+    assert_eq!(rt; ended.text.as_slice(), text.as_bytes());
+    Ok(())
+}
+
+#[test]
+fn a_line_behind_the_millionth_is_too_many(rt: HostRuntime) -> Result<(), Fail> {
+    let alloc = rt.alloc();
+    let mut lines = vec![in alloc; b'\n'; 1_000_000]?;
+    let ended = run_script(alloc, lines.as_slice())?;
+    assert_eq!(rt; (ended.status, ended.text.is_empty()), (0, true));
+    lines.push(b'x')?;
+    let ended = run_script(alloc, lines.as_slice())?;
+    assert_eq!(rt; ended.status, 9);
+    assert_eq!(rt; ended.text.as_slice(), b"error large\n".as_slice());
+    // Its line can't be written.
+    let ended = run(alloc, "script", lines.as_slice(), &[], &[1])?;
+    assert_eq!(rt; (ended.status, ended.text.is_empty()), (4, true));
+    Ok(())
+}
+
+#[test]
 fn faulty_lines_are_numbered(rt: HostRuntime) -> Result<(), Fail> {
     let alloc = rt.alloc();
     let rows = [
         ("nodes 8\n", "", "error line 1\n"),
+        ("nodes 0\n", "", "error line 1\n"),
+        ("nodes 1\ncrash 2\n", "", "error line 2\n"),
         ("#\n\nhello\nnodes 1\n", "", "error line 3\n"),
         ("nodes 1\ntimeo", "", "error line 2\n"),
         (
