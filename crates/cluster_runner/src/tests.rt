@@ -272,8 +272,8 @@ fn frames(alloc: Global, letter: &str, truncate: &str, commit: &str, sizes: &str
 #[test]
 fn machines_show_what_they_applied(rt: HostRuntime) -> Result<(), Fail> {
     let alloc = rt.alloc();
-    let empty = frames(alloc, "64", "01000000", "01000000", "")?;
-    let open = frames(alloc, "64", "01000000", "00000000", "")?;
+    let empty = frames(alloc, "64", "01000000", "01", "")?;
+    let open = frames(alloc, "64", "01000000", "00", "")?;
     let (empty, open) = (empty.as_str(), open.as_str());
     // Lines between `pages 2` and `take 1`, what they say, and what node 1 shows then.
     let rows = [
@@ -333,10 +333,10 @@ fn a_list_has_sixteen_names(rt: HostRuntime) -> Result<(), Fail> {
 fn a_list_states_64_mebibytes(rt: HostRuntime) -> Result<(), Fail> {
     let alloc = rt.alloc();
     // 64 MiB in the main file are 16,384 pages and the sizes page; one byte more in the file beside it is one page more.
-    let full = frames(alloc, "64", "01400000", "01000000", "0000000400000000")?;
-    let over = frames(alloc, "64", "02400000", "01000000", "00000004000000000100000000000000")?;
-    let other = frames(alloc, "65", "02000000", "01000000", "00000000000000000100000000000000")?;
-    let small = frames(alloc, "64", "02000000", "01000000", "0100000000000000")?;
+    let full = frames(alloc, "64", "01400000", "01", "0000000400000000")?;
+    let over = frames(alloc, "64", "02400000", "01", "00000004000000000100000000000000")?;
+    let other = frames(alloc, "65", "02000000", "01", "00000000000000000100000000000000")?;
+    let small = frames(alloc, "64", "02000000", "01", "0100000000000000")?;
     // Over the limit, up to it, less, and another database that adds to the greatest length.
     let script = format!(in alloc; "pages 1\n{over}\n{full}\n{small}\n{other}\n{full}\n")?;
     let ended = run(alloc, script.as_bytes(), &[], &[])?;

@@ -112,9 +112,23 @@ fn a_line_behind_the_millionth_is_too_many(rt: HostRuntime) -> Result<(), Fail> 
     let ended = run_script(alloc, lines.as_slice())?;
     assert_eq!(rt; ended.status, 9);
     assert_eq!(rt; ended.text.as_slice(), b"error large\n".as_slice());
-    // Its line can't be written.
-    let ended = run(alloc, "script", lines.as_slice(), &[], &[1])?;
-    assert_eq!(rt; (ended.status, ended.text.is_empty()), (4, true));
+    Ok(())
+}
+
+#[test]
+fn an_event_behind_the_twenty_thousandth_is_too_many(rt: HostRuntime) -> Result<(), Fail> {
+    let alloc = rt.alloc();
+    let mut script = Vec::from_slice(alloc, b"pages 1\n")?;
+    for _ in 0..20_001 {
+        script.extend_from_slice(b"take 1\n")?;
+    }
+    // The second time the error line can't be written.
+    let rows = [(0, 9, "error large\n"), (1, 4, "")];
+    for (write, status, text) in rows {
+        let ended = run(alloc, "script", script.as_slice(), &[], &[write])?;
+        assert_eq!(rt; ended.status, status);
+        assert_eq!(rt; ended.text.as_slice(), text.as_bytes());
+    }
     Ok(())
 }
 
