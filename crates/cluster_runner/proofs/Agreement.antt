@@ -1,5 +1,5 @@
 -- Each machine holds what its front of the list makes, wherever a script leads.
-use Rattle.std.proofs.Common.{◌≡◌, ℕ, zero, suc, ◌+◌, ◌<◌, ◌≤◌, Bool, true, false, cond, eqb, leb, List, [], ◌∷◌, ◌++◌, fold, Option, Some, None, Ok, Err, length, get_or, take, set, refl, sym, ap, subst, ◌∙◌, append_assoc, arith, inl, inr}
+use Rattle.std.proofs.Common.{◌≡◌, ℕ, zero, suc, ◌+◌, ◌<◌, Bool, true, false, cond, List, [], ◌∷◌, ◌++◌, Option, Some, None, Ok, Err, length, get_or, take, set, refl, sym, ap, subst, ◌∙◌, append_assoc, arith, inl, inr}
 use Rattle.std.specs.Prelude.{slice_get, Result}
 use Rattle.std.specs.Option.{option_map}
 use Rattle.std.proofs.lemmas.Bool.Decides.{eqb_tells}
@@ -30,18 +30,18 @@ Follow fleet = (i : ℕ) → i < length fleet.machines → Follows fleet.command
 
 alike : (fleet : Fleet) → Follow fleet → Alike fleet
 alike fleet follow = record {
-    follow = follow;
-    same = λ i j here there e.
+  follow = follow;
+  same = λ i j here there e.
       (follow i here).holds ∙ ap (λ (n : ℕ). files (take n fleet.commands)) e ∙ sym (follow j there).holds;
-  }
+}
 
 -- ---- one machine
 
 follows_more : (commands : List Command) (command : Command) (machine : Holding) → Follows commands machine → Follows (commands ++ command ∷ []) machine
 follows_more commands command machine f = record {
-    within = omega (arith, f.within, length-append commands (command ∷ []));
-    holds = f.holds ∙ ap files (sym (take-append-le machine.applied commands (command ∷ []) f.within));
-  }
+  within = omega (arith, f.within, length-append commands (command ∷ []));
+  holds = f.holds ∙ ap files (sym (take-append-le machine.applied commands (command ∷ []) f.within));
+}
 
 follows_next : (commands : List Command) (machine : Holding) (next : Option Command) → slice_get commands machine.applied ≡ next → Follows commands machine → Follows commands (after_command machine next)
 follows_next commands machine None e f = f
@@ -71,10 +71,10 @@ follow_take fleet place follow i lt =
     let here : i < length fleet.machines = omega (arith, lt, length-set fleet.machines place next) in
     elim (eqb_tells i place) [
       | inl p ↦
-        let at : i ≡ place = p.1 in
-        let f = subst (λ (n : ℕ). Follows fleet.commands (get_or fleet.machines n idle)) at (follow i here) in
-        subst (Follows fleet.commands) (sym (ap (λ (n : ℕ). get_or (set fleet.machines place next) n idle) at ∙ get_or-set_same fleet.machines place next idle (subst (λ (n : ℕ). n < length fleet.machines) at here)))
-        (follows_next fleet.commands old (slice_get fleet.commands old.applied) refl f)
+          let at : i ≡ place = p.1 in
+          let f = subst (λ (n : ℕ). Follows fleet.commands (get_or fleet.machines n idle)) at (follow i here) in
+          subst (Follows fleet.commands) (sym (ap (λ (n : ℕ). get_or (set fleet.machines place next) n idle) at ∙ get_or-set_same fleet.machines place next idle (subst (λ (n : ℕ). n < length fleet.machines) at here)))
+          (follows_next fleet.commands old (slice_get fleet.commands old.applied) refl f)
       | inr p ↦ subst (Follows fleet.commands) (sym (get_or-set_other fleet.machines place i next idle p.1)) (follow i here)
     ]
 
@@ -204,6 +204,6 @@ are_alike (Within events (Pages fleet)) follow = alike fleet follow
 
 pub keeps_alike : (script : List ℕ) → KeepsAlike script
 keeps_alike script = record {
-    alike = are_alike (place_after script) (lead Opening 1 (lines_of script) tt);
-    shown = shows Opening 1 (lines_of script);
-  }
+  alike = are_alike (place_after script) (lead Opening 1 (lines_of script) tt);
+  shown = shows Opening 1 (lines_of script);
+}

@@ -1,11 +1,11 @@
 -- What a command states fits in 64 bits.
-use Rattle.std.proofs.Common.{◌≡◌, ℕ, ◌+◌, ◌*◌, ◌/◌, ◌<◌, ◌≤◌, ◌^◌, Bool, true, false, List, Option, Some, None, arith, refl, sym}
+use Rattle.std.proofs.Common.{◌≡◌, ℕ, ◌+◌, ◌/◌, ◌<◌, ◌^◌, true, false, List, Option, Some, None, arith}
 use Rattle.std.proofs.lemmas.Bool.{and_parts, eqb-true}
 use Rattle.dq_base.specs.declared.pages.NumberedPage.{NumberedPage}
 use Rattle.dq_base.specs.Applying.{stated_main, stated_side, last_page}
 use Rattle.frame_commands.specs.declared.command.Command.{Command}
 use Rattle.frame_commands.specs.declared.command.Command.TheVariants.{OpenDb, Frames}
-use Rattle.frame_commands.specs.Numbers.{frames_fit, ends_with, numbers_fit, stated_count, pages_of}
+use Rattle.frame_commands.specs.Numbers.{frames_fit, ends_with}
 use Rattle.frame_commands.specs.Spelling.{Writes}
 use Rattle.cluster_runner.specs.Limits.{length_stated_by, stated_length}
 

@@ -1,5 +1,5 @@
 -- The place of a database among others, by the bytes of their names.
-use Rattle.std.proofs.Common.{◌≡◌, ℕ, suc, ◌+◌, ◌<◌, ◌≤◌, List, [], ◌∷◌, ◌++◌, length, get_or, take, drop, set, refl, sym, ap, subst, ◌∙◌, append_assoc, add-one, arith, Ordering}
+use Rattle.std.proofs.Common.{◌≡◌, ℕ, ◌+◌, ◌<◌, ◌≤◌, List, [], ◌∷◌, ◌++◌, length, get_or, take, drop, set, refl, sym, ap, ◌∙◌, append_assoc, add-one, arith}
 use Rattle.std.specs.Prelude.{insert}
 use Rattle.std.specs.Ordering.{nat_cmp}
 use Rattle.std.specs.declared.cmp.Ordering.TheVariants.{Less, Equal, Greater}
@@ -21,9 +21,12 @@ module _ (name : List ℕ) (ds : List Database) (i : ℕ) (x : Database) (lt : i
 
   pub stands_here : slice_cmp nat_cmp name x.name ≡ Equal → StandsAt name ds i
   unfolding at_name
-  stands_here equal = (lt, λ f d.
-      let same : x ≡ get_or ds i d = get_or_read ds i x lt is d in
-      from_here f ∙ rw equal (sym (set_split ds i (f (get_or ds i d)) lt ∙ rw (← same, ← add-one) refl)))
+  stands_here equal = (
+    lt,
+    λ f d.
+        let same : x ≡ get_or ds i d = get_or_read ds i x lt is d in
+        from_here f ∙ rw equal (sym (set_split ds i (f (get_or ds i d)) lt ∙ rw (← same, ← add-one) refl)),
+  )
 
   pub later : slice_cmp nat_cmp name x.name ≡ Greater → (f : Database → Database) → at_name name f ds ≡ take (i + 1) ds ++ at_name name f (drop (i + 1) ds)
   unfolding at_name
@@ -33,8 +36,11 @@ module _ (name : List ℕ) (ds : List Database) (i : ℕ) (x : Database) (lt : i
 
 pub belongs_last : (name : List ℕ) (ds : List Database) (i : ℕ) → length ds ≤ i → ((f : Database → Database) → at_name name f ds ≡ take i ds ++ at_name name f (drop i ds)) → BelongsAt name ds (length ds)
 unfolding at_name
-belongs_last name ds i past so_far = (omega arith, λ f.
-    so_far f ∙ rw (drop_all i ds past, take_all i ds past) (rw (take_all (length ds) ds (omega arith), drop_all (length ds) ds (omega arith)) refl))
+belongs_last name ds i past so_far = (
+  omega arith,
+  λ f.
+      so_far f ∙ rw (drop_all i ds past, take_all i ds past) (rw (take_all (length ds) ds (omega arith), drop_all (length ds) ds (omega arith)) refl),
+)
 
 -- doing nothing to a database that is there changes nothing
 pub stands_same : (name : List ℕ) (ds : List Database) (i : ℕ) → StandsAt name ds i → at_name name (λ database. database) ds ≡ ds
@@ -43,7 +49,9 @@ stands_same name ds i s = s.1 (λ database. database) (opened name) ∙ set-get_
 -- a database that was put into its place stands there
 pub put_stands : (name : List ℕ) (ds : List Database) (i : ℕ) (x : Database) → BelongsAt name ds i → x ≡ opened name → (i < length (insert ds i x)) × ((f : Database → Database) (d : Database) → at_name name f ds ≡ set (insert ds i x) i (f (get_or (insert ds i x) i d)))
 put_stands name ds i x b is =
-    let size : length (take i ds) ≡ i = length-take-le i ds b.0 in
-    (omega (arith, length-append (take i ds) (x ∷ drop i ds)), λ f d.
-      let read : get_or (insert ds i x) i d ≡ x = get_or_at (take i ds) x (drop i ds) d i size in
-      b.1 f ∙ rw (read, set_at (take i ds) x (drop i ds) (f x) i size) (ap (λ (y : Database). take i ds ++ f y ∷ drop i ds) (sym is)))
+    let size : length (take i ds) ≡ i = length-take-le i ds b.0 in (
+      omega (arith, length-append (take i ds) (x ∷ drop i ds)),
+      λ f d.
+          let read : get_or (insert ds i x) i d ≡ x = get_or_at (take i ds) x (drop i ds) d i size in
+          b.1 f ∙ rw (read, set_at (take i ds) x (drop i ds) (f x) i size) (ap (λ (y : Database). take i ds ++ f y ∷ drop i ds) (sym is)),
+    )

@@ -1,7 +1,7 @@
 -- What is taken off the front of the bytes to come, call by call.
-use Rattle.std.proofs.Common.{◌≡◌, ℕ, List, [], ◌∷◌, ◌++◌, Option, Some, None, refl, sym, ap, ◌∙◌, append_assoc}
+use Rattle.std.proofs.Common.{◌≡◌, ℕ, List, [], ◌∷◌, ◌++◌, Option, Some, None, sym, ap, ◌∙◌, append_assoc}
 use Rattle.std.proofs.lemmas.List.{append-nil}
-use Rattle.std.specs.Io.KnownBytes.{Consumes, Keeps, IsAtEnd}
+use Rattle.std.specs.Io.KnownBytes.{Consumes, Keeps}
 use Rattle.dq_base.proofs.ContentLaws.{Consumes-then, Consumes-kept}
 use Rattle.cluster_runner.specs.Lines.{HasNoFeed, Cursor, to_come, TakesPart, TakesLine}
 

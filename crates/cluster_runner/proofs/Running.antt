@@ -1,11 +1,10 @@
 -- Running a script line by line gives the run that its bytes make.
-use Rattle.std.proofs.Common.{◌≡◌, ◌≢◌, ℕ, zero, suc, ◌+◌, ◌<◌, ◌≤◌, Bool, true, false, cond, ◌&&◌, eqb, List, [], ◌∷◌, ◌++◌, Option, Some, None, Ok, Err, length, refl, sym, ap, subst, ◌∙◌, append_assoc, arith, inl, inr}
-use Rattle.std.specs.Prelude.{nat_le, unwrap_or, Result, OnOk, OnErr, IfErr, MatchResult}
-use Rattle.std.specs.Option.{option_map_or}
+use Rattle.std.proofs.Common.{◌≡◌, ◌≢◌, ℕ, zero, suc, ◌<◌, ◌≤◌, Bool, true, false, eqb, List, [], ◌∷◌, ◌++◌, Option, Some, None, Ok, Err, length, refl, sym, ap, subst, ◌∙◌, append_assoc, arith, inl, inr}
+use Rattle.std.specs.Prelude.{unwrap_or, Result, OnOk, OnErr, IfErr, MatchResult}
 use Rattle.std.specs.Io.KnownBytes.{Appends, Consumes, Keeps, IsAtEnd}
 use Rattle.std.proofs.lemmas.List.{append-nil, length-append, nil_from_length}
 use Rattle.dq_base.specs.Sink.{AppendsFront}
-use Rattle.dq_base.proofs.ContentLaws.{Consumes-nothing, Consumes-then, Consumes-kept, Appends-nothing, Appends-then, AppendsFront-whole, AppendsFront-nothing, AppendsFront-longer, AppendsFront-then, Consumes-all}
+use Rattle.dq_base.proofs.ContentLaws.{Consumes-nothing, Consumes-then, Consumes-kept, Appends-nothing, Appends-then, AppendsFront-nothing, AppendsFront-longer, AppendsFront-then, Consumes-all}
 use Rattle.cluster_runner.specs.declared.lines.TheConstants.{LINE_LIMIT, LINE_COUNT_LIMIT}
 use Rattle.cluster_runner.specs.declared.cluster.Say.{Say}
 use Rattle.cluster_runner.specs.declared.lines.LineFault.{LineFault}
@@ -14,7 +13,7 @@ use Rattle.cluster_runner.specs.declared.run.Stop.{Stop}
 use Rattle.cluster_runner.specs.Stops.{line_stop, fault_of}
 use Rattle.cluster_runner.specs.Lines.{with_byte, lines_of, HasNoFeed, Cursor, to_come, TakesLine}
 use Rattle.cluster_runner.specs.Grammar.{line_of}
-use Rattle.cluster_runner.specs.Run.{Place, Opening, Next, Fault, Line, Large, said_step, step, step_text, next_text, Run, said_before, onward, closing, ending, run_from, run_so_far, run, text_of, printed}
+use Rattle.cluster_runner.specs.Run.{Place, Opening, Next, Fault, Line, Large, step, step_text, next_text, Run, said_before, onward, closing, ending, run_from, run_so_far, run, text_of, printed}
 use Rattle.cluster_runner.specs.Outcome.{IsInput, Completes, Refuses, StopsShort, Reached, ReadWhole, StoppedBy, Stopped}
 use Rattle.cluster_runner.proofs.Reading.{Consumes-none}
 use Rattle.cluster_runner.proofs.Printed.{text_of-append}
@@ -94,17 +93,17 @@ pub reached_line : (first now later written printed_now printed_later : Option (
     → Reached first now written printed_now place number → TakesLine now later line (10 ∷ []) → step place number line ≡ Ok (next, said)
     → Appends printed_now printed_later (text_of said) → Reached first later written printed_later next (suc number)
 reached_line first now later written printed_now printed_later place next number line said r t e a = record {
-    read = r.read ++ (line ++ 10 ∷ []);
-    said = r.said ++ said;
-    taken = Consumes-then first now later r.read (line ++ 10 ∷ []) r.taken t.taken;
-    told = rw (text_of-append r.said said) (Appends-then written printed_now printed_later (text_of r.said) (text_of said) r.told a);
-    goes_on = λ whole more.
+  read = r.read ++ (line ++ 10 ∷ []);
+  said = r.said ++ said;
+  taken = Consumes-then first now later r.read (line ++ 10 ∷ []) r.taken t.taken;
+  told = rw (text_of-append r.said said) (Appends-then written printed_now printed_later (text_of r.said) (text_of said) r.told a);
+  goes_on = λ whole more.
       ap (run_so_far whole) (append_assoc r.read (line ++ 10 ∷ []) more ∙ ap (λ (bytes : List ℕ). r.read ++ bytes) (append_assoc line (10 ∷ []) more))
       ∙ r.goes_on whole (line ++ 10 ∷ more)
       ∙ ap (λ (lines : List (List ℕ)). said_before r.said (run_from whole place number lines)) (lines_feed line more t.no_feed)
       ∙ ap (said_before r.said) (run_step whole place number line (lines_of more) next said e)
       ∙ said_twice r.said said (run_from whole next (suc number) (lines_of more));
-  }
+}
 
 -- ---- what a reader holds
 
@@ -150,8 +149,8 @@ step_front a b whole place number line lines front =
     λ o. elim o as P [
       | Err fault ↦ λ h. h
       | Ok next ↦ λ h.
-        let more = (go next).said in
-        rw (text_of-append next.1 more) (AppendsFront-longer a b (text_of next.1) (text_of more) h)
+          let more = (go next).said in
+          rw (text_of-append next.1 more) (AppendsFront-longer a b (text_of next.1) (text_of more) h)
     ] in
     by_cases (step place number line) front
 
@@ -198,17 +197,17 @@ module _ (first now written printed_now : Option (List ℕ)) (place : Place) (nu
       → 0 < length line → step place number line ≡ Ok (next, said) → Appends printed_now later (text_of said) → ReadWhole first left written later next
   whole_last later cursor left [] next said t end some e a = absurd (omega arith)
   whole_last later cursor left (b ∷ line) next said t end some e a = record {
-      read = r.read ++ b ∷ line;
-      said = r.said ++ said;
-      taken = held_end first cursor left (r.read ++ b ∷ line) (Consumes-then first now (to_come cursor left) r.read (b ∷ line) r.taken (without_separator now (to_come cursor left) (b ∷ line) t)) end;
-      end = end_left cursor left end;
-      told = rw (text_of-append r.said said) (Appends-then written printed_now later (text_of r.said) (text_of said) r.told a);
-      ends = λ whole.
+    read = r.read ++ b ∷ line;
+    said = r.said ++ said;
+    taken = held_end first cursor left (r.read ++ b ∷ line) (Consumes-then first now (to_come cursor left) r.read (b ∷ line) r.taken (without_separator now (to_come cursor left) (b ∷ line) t)) end;
+    end = end_left cursor left end;
+    told = rw (text_of-append r.said said) (Appends-then written printed_now later (text_of r.said) (text_of said) r.told a);
+    ends = λ whole.
         r.goes_on whole (b ∷ line)
         ∙ ap (λ (lines : List (List ℕ)). said_before r.said (run_from whole place number lines)) (lines_last b line t.no_feed)
         ∙ ap (said_before r.said) (run_step whole place number (b ∷ line) [] next said e)
         ∙ said_twice r.said said (ending whole next);
-    }
+  }
 
   refuses : (later printed_later : Option (List ℕ)) (bytes line : List ℕ) (others : List (List ℕ)) (fault : Fault) → Consumes now later bytes → lines_of (bytes ++ unwrap_or later []) ≡ line ∷ others → step place number line ≡ Err fault
       → Appends printed_now printed_later [] → Refuses fault first written printed_later
@@ -316,22 +315,22 @@ module _ (first now written printed_now later : Option (List ℕ)) (place : Plac
   -- All were shown at the end.
   pub completes : Appends printed_now later (text_of (closing place)) → Completes first now written later
   completes a = record {
-      script = r.read;
-      input = Consumes-all first now r.read r.taken r.end;
-      read = r.end;
-      sound = ap (λ (x : Run). x.fault) (r.ends true);
-      text = rw (ap printed (r.ends true) ∙ text_of-append r.said (closing place)) (Appends-then written printed_now later (text_of r.said) (text_of (closing place)) r.told a);
-    }
+    script = r.read;
+    input = Consumes-all first now r.read r.taken r.end;
+    read = r.end;
+    sound = ap (λ (x : Run). x.fault) (r.ends true);
+    text = rw (ap printed (r.ends true) ∙ text_of-append r.said (closing place)) (Appends-then written printed_now later (text_of r.said) (text_of (closing place)) r.told a);
+  }
 
   -- Showing them at the end stopped short.
   pub short_closing : AppendsFront printed_now later (text_of (closing place)) → StopsShort first now written later
   short_closing a = record {
-      read = r.read;
-      taken = r.taken;
-      whole = true;
-      ended = λ _. r.end;
-      text = rw (ap printed (r.ends true) ∙ text_of-append r.said (closing place)) (AppendsFront-then written printed_now later (text_of r.said) (text_of (closing place)) r.told a);
-    }
+    read = r.read;
+    taken = r.taken;
+    whole = true;
+    ended = λ _. r.end;
+    text = rw (ap printed (r.ends true) ∙ text_of-append r.said (closing place)) (AppendsFront-then written printed_now later (text_of r.said) (text_of (closing place)) r.told a);
+  }
 
 -- Where no fault of the script stopped it, it stopped short.
 pub stopped_short : (stop : Option Fault) (left left' written written' : Option (List ℕ)) → stop ≡ None → StopsShort left left' written written' → StoppedBy stop left left' written written'

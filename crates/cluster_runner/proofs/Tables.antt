@@ -1,5 +1,5 @@
 -- The entry of a name in a table.
-use Rattle.std.proofs.Common.{◌≡◌, ℕ, suc, ◌+◌, ◌<◌, ◌≤◌, max, Bool, true, false, List, [], ◌∷◌, ◌++◌, length, get_or, take, drop, set, refl, sym, ap, ◌∙◌, append_assoc, add-one, arith}
+use Rattle.std.proofs.Common.{◌≡◌, ℕ, ◌+◌, ◌<◌, ◌≤◌, max, true, false, List, [], ◌∷◌, ◌++◌, length, get_or, take, drop, set, refl, sym, ap, ◌∙◌, append_assoc, add-one}
 use Rattle.std.specs.Str.{bytes_eq}
 use Rattle.std.proofs.lemmas.List.{drop_more, drop_all, take_more, take_all, set_split, set-set, set-get_or, get_or-set_same, get_or_read}
 use Rattle.cluster_runner.specs.declared.stated.Stated.{Stated}
@@ -11,9 +11,12 @@ module _ (name : List ℕ) (table : List Stated) (i : ℕ) (x : Stated) (lt : i 
 
   pub noted_here : bytes_eq x.name name ≡ true → IsNotedAt name table i
   unfolding note
-  noted_here same = (lt, λ size s.
-      let read : x ≡ get_or table i s = get_or_read table i x lt is s in
-      from_here size ∙ rw same (sym (set_split table i (record { name = (get_or table i s).name; length = max (get_or table i s).length size }) lt ∙ rw (← read, ← add-one) refl)))
+  noted_here same = (
+    lt,
+    λ size s.
+        let read : x ≡ get_or table i s = get_or_read table i x lt is s in
+        from_here size ∙ rw same (sym (set_split table i (record { name = (get_or table i s).name; length = max (get_or table i s).length size }) lt ∙ rw (← read, ← add-one) refl)),
+  )
 
   pub noted_later : bytes_eq x.name name ≡ false → (size : ℕ) → note table name size ≡ take (i + 1) table ++ note (drop (i + 1) table) name size
   unfolding note

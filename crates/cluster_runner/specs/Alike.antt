@@ -1,5 +1,5 @@
 -- Machines that have applied the same number of commands hold the same files and pending pages.
-use Rattle.std.specs.Prelude.{◌≡◌, ◌<◌, ◌≤◌, ℕ, suc, List, [], ◌∷◌, ◌++◌, length, get_or, take, Option, None, Result, Ok, Err, ⊤}
+use Rattle.std.specs.Prelude.{◌≡◌, ◌<◌, ◌≤◌, ℕ, suc, List, [], ◌∷◌, ◌++◌, length, get_or, take, None, Ok, Err, ⊤}
 use Rattle.frame_commands.specs.declared.command.Command.{Command}
 use Rattle.cluster_runner.specs.declared.cluster.Say.{Say}
 use Rattle.cluster_runner.specs.Lines.{lines_of}
@@ -7,7 +7,7 @@ use Rattle.cluster_runner.specs.Machine.{files}
 use Rattle.cluster_runner.specs.Holding.{Holding}
 use Rattle.cluster_runner.specs.Machines.{Fleet, idle}
 use Rattle.cluster_runner.specs.Scenes.{Nodes, Pages}
-use Rattle.cluster_runner.specs.Run.{Place, Opening, Within, Next, Run, step, closing, run}
+use Rattle.cluster_runner.specs.Run.{Place, Opening, Within, Next, step, closing, run}
 
 -- A machine has applied a front of the list, and holds what that front makes.
 pub record Follows (commands : List Command) (machine : Holding) : Type 0 where
@@ -18,7 +18,7 @@ pub record Follows (commands : List Command) (machine : Holding) : Type 0 where
 pub record Alike (fleet : Fleet) : Type 0 where
   pub follow : (i : ℕ) → i < length fleet.machines → Follows fleet.commands (get_or fleet.machines i idle)
   pub same : (i j : ℕ) → i < length fleet.machines → j < length fleet.machines → (get_or fleet.machines i idle).applied ≡ (get_or fleet.machines j idle).applied
-    → (get_or fleet.machines i idle).databases ≡ (get_or fleet.machines j idle).databases
+      → (get_or fleet.machines i idle).databases ≡ (get_or fleet.machines j idle).databases
 
 -- where there are machines, they are alike
 abbrev pub AreAlike : Place → Type 0

@@ -1,5 +1,5 @@
 -- The limits of a list of commands: how many names it has, and how long the files are that it states.
-use Rattle.std.specs.Prelude.{◌≡◌, ◌==◌, ◌+◌, ◌&&◌, ℕ, max, Bool, List, [], ◌∷◌, ◌++◌, fold, length, get_or, set, sum_by, nat_le, ◌<◌, Option, Some, None, if◌then◌else◌}
+use Rattle.std.specs.Prelude.{◌≡◌, ◌+◌, ◌&&◌, ℕ, max, Bool, List, [], ◌∷◌, ◌++◌, fold, length, get_or, set, sum_by, nat_le, ◌<◌, Option, Some, None, if◌then◌else◌}
 use Rattle.std.specs.Str.{bytes_eq}
 use Rattle.dq_base.specs.declared.pages.NumberedPage.{NumberedPage}
 use Rattle.dq_base.specs.Applying.{stated_main, stated_side, last_page}

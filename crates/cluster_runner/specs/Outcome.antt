@@ -1,5 +1,5 @@
 -- How running a script goes and ends, in terms of what the source had left and of what the sink holds, before and after.
-use Rattle.std.specs.Prelude.{◌≡◌, ◌++◌, ℕ, suc, Bool, true, List, Option, Some, None, IfSome}
+use Rattle.std.specs.Prelude.{◌≡◌, ◌++◌, ℕ, Bool, true, List, Option, Some, None, IfSome}
 use Rattle.std.specs.Io.KnownBytes.{Appends, Consumes, IsAtEnd}
 use Rattle.dq_base.specs.Sink.{AppendsFront}
 use Rattle.cluster_runner.specs.declared.cluster.Say.{Say}

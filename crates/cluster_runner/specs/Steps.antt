@@ -1,5 +1,5 @@
 -- What a line answers.
-use Rattle.std.specs.Prelude.{◌≡◌, ℕ, List, Result, Ok, Err, Vec, ⊤}
+use Rattle.std.specs.Prelude.{◌≡◌, ℕ, Result, Ok, Err, Vec, ⊤}
 use Rattle.std.specs.declared.alloc.Global.{Global}
 use Rattle.cluster_runner.specs.declared.cluster.EventFault.{EventFault}
 use Rattle.cluster_runner.specs.declared.cluster.EventFault.TheVariants as event

@@ -29,7 +29,10 @@ pub(crate) enum Client {
 #[derive(Debug, Drop)]
 pub enum Say {
     /// A whole response to the client of a connection.
-    Reply { connection: u32, bytes: WireBytes },
+    Reply {
+        connection: u32,
+        bytes: WireBytes,
+    },
     /// Bytes were no command, or the list of commands could not take it.
     Refused,
     /// How a node stands: its term, whether it leads, the index that it has applied, and the SHA-256 of its files.

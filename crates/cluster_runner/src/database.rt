@@ -48,7 +48,12 @@ impl Database {
     }
 
     /// The pages that are pending for a transaction, and these behind them. Nothing is pending then.
-    fn join(&mut self, alloc: Global, tx: u64, pages: &[NumberedPage]) -> Result<Vec<NumberedPage>, AllocError>
+    fn join(
+        &mut self,
+        alloc: Global,
+        tx: u64,
+        pages: &[NumberedPage],
+    ) -> Result<Vec<NumberedPage>, AllocError>
         ensures all { IfOk result (λ all. all.items ≡ pending_of tx self.old.pending ++ pages.now) }
         ensures rest { self.new ≡ record self.old { pending = None } }
     {
@@ -63,7 +68,13 @@ impl Database {
     /// Takes pages of a transaction, and where it ends with them, brings all of its pages into the image. Costs in the
     /// order of the pages.
     #[tactic(auto, unfolding(crate::specs::Machine::frames))]
-    pub fn take_frames(&mut self, alloc: Global, tx: u64, commit: bool, pages: &[NumberedPage]) -> Result<(), AllocError>
+    pub fn take_frames(
+        &mut self,
+        alloc: Global,
+        tx: u64,
+        commit: bool,
+        pages: &[NumberedPage],
+    ) -> Result<(), AllocError>
         ensures { OnOk result (self.new ≡ frames tx commit pages.now self.old) }
     {
         if commit && !self.awaits(tx) {

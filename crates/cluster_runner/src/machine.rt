@@ -25,7 +25,11 @@ fn place_of(databases: &[Database], name: &Name) -> Result<usize, usize>
 }
 
 /// The place of the database of a name, which is made where there is none.
-fn opened_place(alloc: Global, databases: &mut Vec<Database>, name: &Name) -> Result<usize, AllocError>
+fn opened_place(
+    alloc: Global,
+    databases: &mut Vec<Database>,
+    name: &Name,
+) -> Result<usize, AllocError>
     ensures found { IfOk result (λ place. (place < length databases.new.items) × ((f : Database → Database) (d : Database) →
         at_name name.now f databases.old.items ≡ set databases.new.items place (f (get_or databases.new.items place d)))) }
     ensures here { IfOk result (λ place. at_name name.now (λ database. database) databases.old.items ≡ databases.new.items) }
@@ -43,14 +47,24 @@ fn opened_place(alloc: Global, databases: &mut Vec<Database>, name: &Name) -> Re
 /// Does what a command says. Costs in the order of its pages, and of the databases where one is made. `Err` is want of
 /// memory; the databases are then not to be used.
 #[tactic(auto, unfolding(crate::specs::Machine::act))]
-pub(crate) fn act(alloc: Global, databases: &mut Vec<Database>, command: &Command) -> Result<(), AllocError>
+pub(crate) fn act(
+    alloc: Global,
+    databases: &mut Vec<Database>,
+    command: &Command,
+) -> Result<(), AllocError>
     ensures { OnOk result (databases.new.items ≡ act databases.old.items command.now) }
 {
     match command {
         Command::OpenDb { name } => {
             opened_place(alloc, databases, name)?;
         }
-        Command::Frames { name, tx, commit, pages, .. } => {
+        Command::Frames {
+            name,
+            tx,
+            commit,
+            pages,
+            ..
+        } => {
             let place = opened_place(alloc, databases, name)?;
             let database = &mut databases[place];
             database.take_frames(alloc, *tx, *commit, pages.as_slice())?;

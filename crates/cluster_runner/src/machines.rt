@@ -158,7 +158,9 @@ impl Machines {
                 self.take_next(alloc, machine)?;
                 Ok(Vec::new(alloc))
             }
-            Event::Timeout { .. } | Event::Connect { .. } | Event::Bytes { .. } => Err(EventFault::NotThere),
+            Event::Timeout { .. } | Event::Connect { .. } | Event::Bytes { .. } => Err(
+                EventFault::NotThere,
+            ),
         }
     }
 

@@ -49,7 +49,12 @@ fn role_name(leads: bool) -> &'static str
 }
 
 /// The line of a machine, with its LF.
-fn machine_line(alloc: Global, number: u64, applied: u64, digest: &[u8; 32]) -> Result<String, AllocError>
+fn machine_line(
+    alloc: Global,
+    number: u64,
+    applied: u64,
+    digest: &[u8; 32],
+) -> Result<String, AllocError>
     ensures { IfOk result (λ line. string_bytes line ≡ printed_line (Say.Machine number applied digest.now)) }
 {
     let digits = hex::encode(alloc, digest)?;
@@ -57,7 +62,13 @@ fn machine_line(alloc: Global, number: u64, applied: u64, digest: &[u8; 32]) -> 
 }
 
 /// How a node stands, behind its number, with the LF.
-fn node_standing(alloc: Global, term: u64, leads: bool, applied: u64, digest: &[u8; 32]) -> Result<String, AllocError>
+fn node_standing(
+    alloc: Global,
+    term: u64,
+    leads: bool,
+    applied: u64,
+    digest: &[u8; 32],
+) -> Result<String, AllocError>
     ensures { IfOk result (λ text. string_bytes text ≡ node_text term leads applied digest.now) }
 {
     let role = role_name(leads);

@@ -120,10 +120,10 @@ fn run_next<S: Source, K: Sink>(
     // From wherever the script came, it comes one line further, or it ends.
     ensures goes { (first written : Option (List ℕ)) → Reached first (to_come lines.old (S.left source.old)) written (K.written sink.old) (place_of stage.old) number →
         MatchResult result
-            (λ more. MatchBool more
-                (Reached first (to_come lines.new (S.left source.new)) written (K.written sink.new) (place_of stage.new) (number + 1))
-                (ReadWhole first (S.left source.new) written (K.written sink.new) (place_of stage.new)))
-            (λ stop. Stopped stop first (S.left source.new) written (K.written sink.new)) }
+        (λ more. MatchBool more
+        (Reached first (to_come lines.new (S.left source.new)) written (K.written sink.new) (place_of stage.new) (number + 1))
+        (ReadWhole first (S.left source.new) written (K.written sink.new) (place_of stage.new)))
+        (λ stop. Stopped stop first (S.left source.new) written (K.written sink.new)) }
     ensures read { IsErrOf result Stop.ReadFault → Rose (S.faults source.old) (S.faults source.new) }
     ensures write { IsErrOf result Stop.WriteFault → Rose (K.faults sink.old) (K.faults sink.new) }
     ensures source_count { S.faults source.old ≤ S.faults source.new }
@@ -149,8 +149,8 @@ fn run_next<S: Source, K: Sink>(
 fn run_past<S: Source>(lines: &mut LineReader, source: &mut S) -> Result<(), Stop>
     ensures goes { (first written printed : Option (List ℕ)) (place : Place) → Reached first (to_come lines.old (S.left source.old)) written printed place (LINE_COUNT_LIMIT + 1) →
         MatchResult result
-            (λ _. ReadWhole first (S.left source.new) written printed place)
-            (λ stop. Stopped stop first (S.left source.new) written printed) }
+        (λ _. ReadWhole first (S.left source.new) written printed place)
+        (λ stop. Stopped stop first (S.left source.new) written printed) }
     ensures read { IsErrOf result Stop.ReadFault → Rose (S.faults source.old) (S.faults source.new) }
     ensures write { IsErrOf result Stop.WriteFault → ⊥ }
     ensures source_count { S.faults source.old ≤ S.faults source.new }
@@ -172,8 +172,8 @@ fn run_lines<S: Source, K: Sink>(
 ) -> Result<(), Stop>
     ensures goes { (first written : Option (List ℕ)) → Reached first (to_come lines.old (S.left source.old)) written (K.written sink.old) (place_of stage.old) 1 →
         MatchResult result
-            (λ _. ReadWhole first (S.left source.new) written (K.written sink.new) (place_of stage.new))
-            (λ stop. Stopped stop first (S.left source.new) written (K.written sink.new)) }
+        (λ _. ReadWhole first (S.left source.new) written (K.written sink.new) (place_of stage.new))
+        (λ stop. Stopped stop first (S.left source.new) written (K.written sink.new)) }
     ensures read { IsErrOf result Stop.ReadFault → Rose (S.faults source.old) (S.faults source.new) }
     ensures write { IsErrOf result Stop.WriteFault → Rose (K.faults sink.old) (K.faults sink.new) }
     ensures source_count { S.faults source.old ≤ S.faults source.new }
@@ -211,8 +211,8 @@ fn run_whole<S: Source, K: Sink>(
 ) -> Result<(), Stop>
     ensures goes { (first written : Option (List ℕ)) → Reached first (to_come lines.old (S.left source.old)) written (K.written sink.old) (place_of stage.old) 1 →
         MatchResult result
-            (λ _. Completes first (S.left source.new) written (K.written sink.new))
-            (λ stop. Stopped stop first (S.left source.new) written (K.written sink.new)) }
+        (λ _. Completes first (S.left source.new) written (K.written sink.new))
+        (λ stop. Stopped stop first (S.left source.new) written (K.written sink.new)) }
     ensures read { IsErrOf result Stop.ReadFault → Rose (S.faults source.old) (S.faults source.new) }
     ensures write { IsErrOf result Stop.WriteFault → Rose (K.faults sink.old) (K.faults sink.new) }
     ensures source_count { S.faults source.old ≤ S.faults source.new }

@@ -14,6 +14,7 @@ const LEADER: &str = "reply 1 020000000100000001000000000000006e31000000000000\n
 
 /// The digest of no files, and that of the database `d` with two empty files.
 const NO_FILES: &str = "e3b0c44298fc1c149afbf4c8996fb92427ae41e4649b934ca495991b7852b855";
+
 const EMPTY_DATABASE: &str = "6b7ca8dd6d1eb5f30a9f5542f5d8940824560feda9ea77b3311211c818fe18bb";
 
 /// What running a script did.
@@ -47,8 +48,18 @@ fn replies_name_the_leader(rt: HostRuntime) -> Result<(), Fail> {
     let rows = [
         ("", "", "", ""),
         ("#\nnodes 1\n\n", "", "", "0 role follower applied 0"),
-        ("nodes 1\nconnect 1 1\n", GREETING, NO_LEADER, "0 role follower applied 0"),
-        ("nodes 1\ntimeout 1\nconnect 1 1\n", GREETING, LEADER, "1 role leader applied 1"),
+        (
+            "nodes 1\nconnect 1 1\n",
+            GREETING,
+            NO_LEADER,
+            "0 role follower applied 0",
+        ),
+        (
+            "nodes 1\ntimeout 1\nconnect 1 1\n",
+            GREETING,
+            LEADER,
+            "1 role leader applied 1",
+        ),
     ];
     for (front, last, reply, standing) in rows {
         let script = format!(in alloc; "{front}{last}")?;
@@ -247,7 +258,10 @@ fn twenty_thousand_events_happen(rt: HostRuntime) -> Result<(), Fail> {
     script.extend_from_slice(b"show 1\n#\n")?;
     let ended = run(alloc, script.as_slice(), &[], &[])?;
     assert_eq!(rt; ended.outcome, Outcome::Done);
-    let rows = [("take 1", Outcome::Large), ("take 2", Outcome::Script(20_004))];
+    let rows = [
+        ("take 1", Outcome::Large),
+        ("take 2", Outcome::Script(20_004)),
+    ];
     for (line, outcome) in rows {
         let mut more = Vec::from_slice(alloc, script.as_slice())?;
         more.extend_from_slice(line.as_bytes())?;
@@ -259,7 +273,13 @@ fn twenty_thousand_events_happen(rt: HostRuntime) -> Result<(), Fail> {
 
 /// The `put` line of a Frames command of the database of a letter, by its hex digits: its one page is the sizes page,
 /// which begins with these digits.
-fn frames(alloc: Global, letter: &str, truncate: &str, commit: &str, sizes: &str) -> Result<String, AllocError> {
+fn frames(
+    alloc: Global,
+    letter: &str,
+    truncate: &str,
+    commit: &str,
+    sizes: &str,
+) -> Result<String, AllocError> {
     let mut line = format!(in alloc;
         "put 0102000000000000{letter}000000000000000100000000000000{truncate}{commit}00000001000000001000000100000000000000{sizes}"
     )?;
@@ -278,12 +298,22 @@ fn machines_show_what_they_applied(rt: HostRuntime) -> Result<(), Fail> {
     // Lines between `pages 2` and `take 1`, what they say, and what node 1 shows then.
     let rows = [
         ("", "", "0", NO_FILES),
-        ("put 01010000000000006400000000000000", "", "1", EMPTY_DATABASE),
+        (
+            "put 01010000000000006400000000000000",
+            "",
+            "1",
+            EMPTY_DATABASE,
+        ),
         (empty, "", "1", EMPTY_DATABASE),
         // A sizes page that doesn't commit, a byte that is no command, and another type.
         (open, "refused\n", "0", NO_FILES),
         ("put ff", "refused\n", "0", NO_FILES),
-        ("put 01030000000000006400000000000000", "refused\n", "0", NO_FILES),
+        (
+            "put 01030000000000006400000000000000",
+            "refused\n",
+            "0",
+            NO_FILES,
+        ),
     ];
     for (line, said, applied, digest) in rows {
         let script = format!(in alloc; "pages 2\n{line}\ntake 1\ntake 1\n")?;
@@ -300,11 +330,32 @@ fn machines_show_what_they_applied(rt: HostRuntime) -> Result<(), Fail> {
 #[test]
 fn machines_are_numbered(rt: HostRuntime) -> Result<(), Fail> {
     let alloc = rt.alloc();
-    for line in ["take 0", "take 4", "show 0", "show 4", "timeout 1", "connect 1 1", "bytes 1 00", "nodes 1", "pages 3", "put", "put ", "put 0"] {
-        assert_eq!(rt; outcome_of(alloc, "pages 3\n", line)?, Outcome::Script(2), "{line:?}");
+    for line in [
+        "take 0",
+        "take 4",
+        "show 0",
+        "show 4",
+        "timeout 1",
+        "connect 1 1",
+        "bytes 1 00",
+        "nodes 1",
+        "pages 3",
+        "put",
+        "put ",
+        "put 0",
+    ] {
+        assert_eq!(rt;
+            outcome_of(alloc, "pages 3\n", line)?,
+            Outcome::Script(2),
+            "{line:?}"
+        );
     }
     for line in ["take 3", "show 3", "put 00"] {
-        assert_eq!(rt; outcome_of(alloc, "pages 3\n", line)?, Outcome::Done, "{line:?}");
+        assert_eq!(rt;
+            outcome_of(alloc, "pages 3\n", line)?,
+            Outcome::Done,
+            "{line:?}"
+        );
     }
     Ok(())
 }
@@ -320,7 +371,9 @@ fn a_list_has_sixteen_names(rt: HostRuntime) -> Result<(), Fail> {
         script.push_str("00000000000000\n")?;
     }
     // A name that is there already may come again, and a further one may not.
-    script.push_str("put 01010000000000006000000000000000\nput 01010000000000007000000000000000\n")?;
+    script.push_str(
+        "put 01010000000000006000000000000000\nput 01010000000000007000000000000000\n",
+    )?;
     script.push_str("put 01010000000000006f00000000000000\n")?;
     let ended = run(alloc, script.as_bytes(), &[], &[])?;
     let text = format!(in alloc; "refused\nnode 1 applied 0 files {NO_FILES}\n")?;
@@ -334,8 +387,20 @@ fn a_list_states_64_mebibytes(rt: HostRuntime) -> Result<(), Fail> {
     let alloc = rt.alloc();
     // 64 MiB in the main file are 16,384 pages and the sizes page; one byte more in the file beside it is one page more.
     let full = frames(alloc, "64", "01400000", "01", "0000000400000000")?;
-    let over = frames(alloc, "64", "02400000", "01", "00000004000000000100000000000000")?;
-    let other = frames(alloc, "65", "02000000", "01", "00000000000000000100000000000000")?;
+    let over = frames(
+        alloc,
+        "64",
+        "02400000",
+        "01",
+        "00000004000000000100000000000000",
+    )?;
+    let other = frames(
+        alloc,
+        "65",
+        "02000000",
+        "01",
+        "00000000000000000100000000000000",
+    )?;
     let small = frames(alloc, "64", "02000000", "01", "0100000000000000")?;
     // Over the limit, up to it, less, and another database that adds to the greatest length.
     let script = format!(in alloc; "pages 1\n{over}\n{full}\n{small}\n{other}\n{full}\n")?;

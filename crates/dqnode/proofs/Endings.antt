@@ -1,5 +1,5 @@
 -- How a script ends, from how running it ended and what became of its error line.
-use Rattle.std.proofs.Common.{◌≡◌, ◌≢◌, ◌⊎◌, ℕ, true, List, [], ◌++◌, Option, Some, None, refl, sym, ap, inl, inr}
+use Rattle.std.proofs.Common.{◌≡◌, ◌≢◌, ◌⊎◌, ℕ, true, List, [], ◌++◌, Option, Some, None, sym, ap, inl, inr}
 use Rattle.std.specs.Io.KnownBytes.{Appends, Consumes}
 use Rattle.std.proofs.lemmas.List.{append-nil}
 use Rattle.dq_base.specs.Sink.{AppendsFront}
@@ -23,12 +23,12 @@ whole_front (Some all) script input = ([], rw (append-nil script) (sym input))
 -- A script that stopped short breaks off.
 pub breaks_off : (left left' written written' : Option (List ℕ)) → StopsShort left left' written written' → BreaksOff left written written'
 breaks_off left left' written written' s = record {
-    read = s.read;
-    front = consumed_front left left' s.read s.taken;
-    whole = s.whole;
-    ended = λ e. Consumes-all left left' s.read s.taken (s.ended e);
-    text = AppendsFront-longer written written' (printed (run_so_far s.whole s.read)) (fault_text (run_so_far s.whole s.read).fault) s.text;
-  }
+  read = s.read;
+  front = consumed_front left left' s.read s.taken;
+  whole = s.whole;
+  ended = λ e. Consumes-all left left' s.read s.taken (s.ended e);
+  text = AppendsFront-longer written written' (printed (run_so_far s.whole s.read)) (fault_text (run_so_far s.whole s.read).fault) s.text;
+}
 
 module _ (left written printed_now later : Option (List ℕ)) (fault : Fault) (r : Refuses fault left written printed_now) where
   text_is : run_text (run r.script) ≡ printed (run r.script) ++ fault_text (Some fault)
@@ -36,20 +36,20 @@ module _ (left written printed_now later : Option (List ℕ)) (fault : Fault) (r
 
   told : Appends printed_now later (fault_text (Some fault)) → Faults fault left written later
   told a = record {
-      script = r.script;
-      input = r.input;
-      faulty = r.faulty;
-      text = rw text_is (Appends-then written printed_now later (printed (run r.script)) (fault_text (Some fault)) r.text a);
-    }
+    script = r.script;
+    input = r.input;
+    faulty = r.faulty;
+    text = rw text_is (Appends-then written printed_now later (printed (run r.script)) (fault_text (Some fault)) r.text a);
+  }
 
   not_told : AppendsFront printed_now later (fault_text (Some fault)) → BreaksOff left written later
   not_told a = record {
-      read = r.script;
-      front = whole_front left r.script r.input;
-      whole = true;
-      ended = λ _. r.input;
-      text = rw text_is (AppendsFront-then written printed_now later (printed (run r.script)) (fault_text (Some fault)) r.text a);
-    }
+    read = r.script;
+    front = whole_front left r.script r.input;
+    whole = true;
+    ended = λ _. r.input;
+    text = rw text_is (AppendsFront-then written printed_now later (printed (run r.script)) (fault_text (Some fault)) r.text a);
+  }
 
 -- A script with a faulty line ends by what became of its error line.
 pub line_refused : (left written printed_now later : Option (List ℕ)) (line : ℕ) → Refuses (Line line) left written printed_now → (left' : Option (List ℕ)) (ends : Status)

@@ -7,10 +7,9 @@ mod status;
 mod tests;
 mod words;
 
+use dq_base::{ReadSource, WriteSink};
 pub use program::dqnode;
 pub use status::Status;
-
-use dq_base::{ReadSource, WriteSink};
 use std::io;
 use std::process::ExitCode;
 

@@ -14,8 +14,11 @@ const LEADER: &str = "reply 1 020000000100000001000000000000006e31000000000000\n
 
 /// How node 1 stands at the end, before an election and after it: no files are there, and so the digest is that of no
 /// bytes.
-const FOLLOWS: &str = "node 1 term 0 role follower applied 0 files e3b0c44298fc1c149afbf4c8996fb92427ae41e4649b934ca495991b7852b855\n";
-const LEADS: &str = "node 1 term 1 role leader applied 1 files e3b0c44298fc1c149afbf4c8996fb92427ae41e4649b934ca495991b7852b855\n";
+const FOLLOWS: &str =
+    "node 1 term 0 role follower applied 0 files e3b0c44298fc1c149afbf4c8996fb92427ae41e4649b934ca495991b7852b855\n";
+
+const LEADS: &str =
+    "node 1 term 1 role leader applied 1 files e3b0c44298fc1c149afbf4c8996fb92427ae41e4649b934ca495991b7852b855\n";
 
 /// How long a line may be, in bytes without its LF.
 const LONGEST_LINE: usize = 1_048_576;
@@ -70,7 +73,12 @@ fn replies_name_the_leader(rt: HostRuntime) -> Result<(), Fail> {
             LEADER,
             LEADS,
         ),
-        ("#\n\nnodes 1\n\nconnect 1 1\n# asks\n", GREETING, NO_LEADER, FOLLOWS),
+        (
+            "#\n\nnodes 1\n\nconnect 1 1\n# asks\n",
+            GREETING,
+            NO_LEADER,
+            FOLLOWS,
+        ),
     ];
     for (front, last, reply, closing) in rows {
         let script = format!(in alloc; "{front}{last}")?;

@@ -1,4 +1,4 @@
-use Rattle.std.proofs.Common.{◌≡◌, true, false, ◌∙◌, sym, ap, arith}
+use Rattle.std.proofs.Common.{◌≡◌, true, false, ◌∙◌, sym, ap}
 use Rattle.std.specs.Prelude.{Vec}
 use Rattle.cluster_runner.specs.declared.stated.Stated.{Stated}
 use Rattle.cluster_runner.proofs.Tables.{put_back}

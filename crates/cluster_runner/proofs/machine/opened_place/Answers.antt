@@ -1,4 +1,4 @@
-use Rattle.std.proofs.Common.{◌∙◌, ap, List, ℕ}
+use Rattle.std.proofs.Common.{◌∙◌, ap}
 use Rattle.cluster_runner.specs.Machine.{opened}
 use Rattle.cluster_runner.proofs.Databases.{stands_same, put_stands}
 use Rattle.cluster_runner.proofs.machine.opened_place.Goals as goal

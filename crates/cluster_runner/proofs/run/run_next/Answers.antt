@@ -1,4 +1,4 @@
-use Rattle.std.proofs.Common.{ap, sym, ◌∙◌, ◌≡◌, ℕ, suc, List, Option, add-one, arith, length, ◌<◌, Err}
+use Rattle.std.proofs.Common.{sym, ◌∙◌, add-one, length}
 use Rattle.std.proofs.lemmas.Bool.{eqb-true}
 use Rattle.std.proofs.lemmas.Result.{err_from_is_err_and}
 use Rattle.cluster_runner.specs.Lines.{to_come}
