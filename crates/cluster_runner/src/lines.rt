@@ -92,6 +92,7 @@ impl LineReader {
     ghost use Rattle.cluster_runner.specs.Lines.{Cursor, to_come, TakesPart, TakesLine, EndsSo};
     ghost use Rattle.cluster_runner.specs.declared.lines.LineEnd.TheVariants.{Feed, Input, TooLong};
 
+    /// A reader that has read nothing. It takes the memory of one piece, 64 KiB; `Err` is want of it.
     pub fn new(alloc: Global) -> Result<LineReader, AllocError>
         ensures { IfOk result (λ reader. reader ≡ record { line = []; ahead = [] }) }
     {

@@ -1,17 +1,13 @@
-ghost use Rattle.std.specs.Prelude.{◌≡◌, ◌≤◌, ◌==◌, ◌%◌, nat_le, if◌then◌else◌, length, drop, None, Some, MatchOption, MatchResult, IfErr, OnOk, OnErr, IsOk, true, false, vec_capacity};
-ghost use Rattle.std.specs.List.{list_all};
+ghost use Rattle.std.specs.Prelude.{◌≡◌, ◌≤◌, ◌==◌, ◌%◌, nat_le, if◌then◌else◌, None, Some, MatchResult, IfErr, OnOk, OnErr, IsOk, vec_capacity};
 ghost use Rattle.dq_base.specs.Images.{resized, page_start, is_page_of};
-ghost use Rattle.dq_base.specs.Applying.{stated_main, stated_side, is_sizes, replaced, put_pages, applied, order_fault, length_fault, page_fault, StateLengths, IsRefusal};
+ghost use Rattle.dq_base.specs.Applying.{replaced, put_pages, applied, order_fault, length_fault, page_fault, StateLengths, IsRefusal};
 
 use crate::images::Image;
 use crate::page_fault::PageFault;
 use crate::page_numbers::start_within;
 use crate::pages::{NumberedPage, PAGE_SIZE, PageSet};
-use byteorder::{ByteOrder, LittleEndian};
+use crate::sizes::{Lengths, stated_lengths};
 use std::alloc::AllocError;
-
-/// The longest file that a page set may state, in bytes.
-pub const LONGEST_FILE: u64 = 67_108_864;
 
 /// Applies a page set: both files are cut to the lengths that its sizes page states or grown to them with zeros, and
 /// then its pages replace the bytes that they stand for, as far as these lie inside their file.
@@ -46,13 +42,6 @@ pub fn apply_pages(image: &mut Image, pages: &[NumberedPage]) -> Result<(), Page
     Ok(())
 }
 
-/// The lengths of both files, in bytes.
-#[derive(Clone, Copy)]
-struct Lengths {
-    main: usize,
-    side: usize,
-}
-
 /// The lengths that the last page of a set states, or the set's first fault.
 fn lengths_of(pages: &[NumberedPage]) -> Result<Lengths, PageFault>
     ensures { MatchResult result
@@ -68,54 +57,6 @@ fn lengths_of(pages: &[NumberedPage]) -> Result<Lengths, PageFault>
     check_order(front)?;
     check_lengths(front, lengths)?;
     Ok(lengths)
-}
-
-/// The lengths that a sizes page states; `None` where the page is none.
-#[tactic(auto, using(crate::proofs::SizesTests::sizes_tests))]
-fn stated_lengths(last: &NumberedPage) -> Option<Lengths>
-    ensures { MatchOption result (is_sizes last.now ≡ false)
-        (λ lengths. (is_sizes last.now ≡ true) × (lengths.main ≡ stated_main last.now.page) × (lengths.side ≡ stated_side last.now.page)) }
-{
-    let bytes = last.page.bytes();
-    if last.number != 1 || !are_zeros(&bytes[16..]) {
-        return None;
-    }
-    let main = main_length(bytes);
-    let side = side_length(bytes);
-    if main > LONGEST_FILE || side > LONGEST_FILE {
-        return None;
-    }
-    Some(Lengths {
-        main: main as usize,
-        side: side as usize,
-    })
-}
-
-fn are_zeros(bytes: &[u8]) -> bool
-    ensures { result ≡ list_all (λ byte. byte == 0) bytes.now }
-{
-    for byte in bytes {
-        if *byte != 0 {
-            return false;
-        }
-    }
-    true
-}
-
-#[tactic(auto, unfolding(crate::specs::Applying::stated_main))]
-fn main_length(bytes: &[u8]) -> u64
-    requires { 8 ≤ length bytes.now }
-    ensures { result ≡ stated_main bytes.now }
-{
-    LittleEndian::read_u64(bytes)
-}
-
-#[tactic(auto, unfolding(crate::specs::Applying::stated_side))]
-fn side_length(bytes: &[u8]) -> u64
-    requires { 16 ≤ length bytes.now }
-    ensures { result ≡ stated_side bytes.now }
-{
-    LittleEndian::read_u64(&bytes[8..])
 }
 
 /// Refuses the first number that isn't above the one before it, or is 0 or 1.

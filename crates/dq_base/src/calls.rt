@@ -2,7 +2,7 @@ ghost use Rattle.std.specs.Prelude.{◌≡◌, ◌≤◌, ◌↔◌, IsErr, IsTr
 ghost use Rattle.dq_base.specs.Faults.{one_more, HasCause};
 ghost use Rattle.dq_base.specs.Calls.{no_calls, next_fails, after_call, after_fault};
 
-use crate::faults::Failed;
+use crate::faults::{Failed, count_fault};
 use std::marker::Model;
 
 /// Calls that are counted, some of which are to fail: those whose numbers, from 1, are listed.
@@ -46,7 +46,7 @@ impl Calls {
     {
         self.made = self.made.saturating_add(1);
         if self.fails.contains(&self.made) {
-            self.faults = self.faults.saturating_add(1);
+            count_fault(&mut self.faults);
             return Err(Failed);
         }
         Ok(())
@@ -57,7 +57,7 @@ impl Calls {
         ensures count { self.new ≡ record self.old { faults = one_more self.old.faults } }
         ensures never_falls { self.old.faults ≤ self.new.faults }
     {
-        self.faults = self.faults.saturating_add(1);
+        count_fault(&mut self.faults);
         Failed
     }
 

@@ -15,13 +15,14 @@ mod page_numbers;
 mod pages;
 mod reader;
 mod sink;
+mod sizes;
 mod source;
 #[cfg(test)]
 mod tests;
 mod tries;
 mod writer;
 
-pub use applying::{LONGEST_FILE, apply, apply_pages};
+pub use applying::{apply, apply_pages};
 pub use calls::Calls;
 pub use changes::{change_gives_image, change_has_no_fault};
 pub use faults::Failed;
@@ -33,5 +34,6 @@ pub use page_fault::PageFault;
 pub use pages::{NumberedPage, PAGE_SIZE, Page, PageSet};
 pub use reader::ReadSource;
 pub use sink::Sink;
+pub use sizes::{LONGEST_FILE, Lengths, stated_lengths};
 pub use source::Source;
 pub use writer::WriteSink;

@@ -17,7 +17,7 @@ use std::marker::Model;
 pub struct MemSource {
     bytes: Vec<u8>,
     at: usize,
-    calls: Calls,
+    reads: Calls,
 }
 
 impl Model for MemSource {
@@ -26,7 +26,7 @@ impl Model for MemSource {
 
     ghost Value = { InMemory };
 
-    ghost view = { λ a. record { bytes = drop a.at a.bytes.items; calls = a.calls } };
+    ghost view = { λ a. record { bytes = drop a.at a.bytes.items; calls = a.reads } };
 
     ghost invariant = { λ a. a.at ≤ length a.bytes.items };
 }
@@ -40,7 +40,7 @@ impl MemSource {
         MemSource {
             bytes,
             at: 0,
-            calls: Calls::new(fails),
+            reads: Calls::new(fails),
         }
     }
 
@@ -55,7 +55,7 @@ impl MemSource {
     pub fn faults(&self) -> u64
         ensures { result ≡ self.now.calls.faults }
     {
-        self.calls.faults()
+        self.reads.faults()
     }
 }
 
@@ -76,7 +76,7 @@ impl Source for MemSource {
         ensures err { OnErr result (self.new ≡ after_failure self.old) }
         ensures kept { OnErr result (into.new ≡ into.old) }
     {
-        self.calls.start()?;
+        self.reads.start()?;
         let rest = &self.bytes[self.at..];
         let count = rest.len().min(into.len());
         into[..count].copy_from_slice(&rest[..count]);
@@ -90,7 +90,7 @@ impl Source for MemSource {
 #[derive(Debug, Drop)]
 pub struct MemSink {
     bytes: Vec<u8>,
-    calls: Calls,
+    writes: Calls,
 }
 
 impl Model for MemSink {
@@ -98,7 +98,7 @@ impl Model for MemSink {
 
     ghost Value = { InMemory };
 
-    ghost view = { λ a. record { bytes = a.bytes.items; calls = a.calls } };
+    ghost view = { λ a. record { bytes = a.bytes.items; calls = a.writes } };
 }
 
 impl MemSink {
@@ -109,7 +109,7 @@ impl MemSink {
     {
         MemSink {
             bytes: Vec::new(alloc),
-            calls: Calls::new(fails),
+            writes: Calls::new(fails),
         }
     }
 
@@ -124,7 +124,7 @@ impl MemSink {
     pub fn faults(&self) -> u64
         ensures { result ≡ self.now.calls.faults }
     {
-        self.calls.faults()
+        self.writes.faults()
     }
 }
 
@@ -142,10 +142,10 @@ impl Sink for MemSink {
         ensures ok { OnOk result (self.new ≡ after_write self.old bytes.now) }
         ensures err { OnErr result (self.new ≡ after_failure self.old) }
     {
-        self.calls.start()?;
+        self.writes.start()?;
         match self.bytes.extend_from_slice(bytes) {
             Ok(()) => Ok(()),
-            Err(_) => Err(self.calls.fail()),
+            Err(_) => Err(self.writes.fail()),
         }
     }
 }

@@ -3,7 +3,7 @@ ghost use Rattle.std.specs.Io.KnownBytes.{Keeps};
 ghost use Rattle.dq_base.specs.Faults.{Rose};
 ghost use Rattle.dq_base.specs.Source.{Moves};
 
-use crate::faults::Failed;
+use crate::faults::{Failed, count_fault};
 use crate::source::Source;
 use crate::tries::{RETRIES, Trouble};
 use std::io::Read;
@@ -54,7 +54,7 @@ impl<R: Read> ReadSource<R> {
         match self.reader.read(into) {
             Ok(count) => Ok(count),
             Err(error) => {
-                self.faults = self.faults.saturating_add(1);
+                count_fault(&mut self.faults);
                 Err(Trouble::of(&error))
             }
         }

@@ -2,7 +2,7 @@ ghost use Rattle.std.specs.Prelude.{◌≡◌, ◌≤◌, ◌<◌, length, take,
 ghost use Rattle.std.specs.Io.KnownBytes.{Appends, Keeps};
 ghost use Rattle.dq_base.specs.Faults.{Rose, HasCause};
 
-use crate::faults::Failed;
+use crate::faults::{Failed, count_fault};
 use crate::sink::Sink;
 use crate::tries::{RETRIES, Trouble};
 use std::io::Write;
@@ -58,7 +58,7 @@ impl<W: Write> WriteSink<W> {
             Ok(count) => return Ok(count),
             Err(error) => Trouble::of(&error),
         };
-        self.faults = self.faults.saturating_add(1);
+        count_fault(&mut self.faults);
         Err(trouble)
     }
 

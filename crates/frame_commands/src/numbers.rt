@@ -1,11 +1,9 @@
 ghost use Rattle.std.specs.Prelude.{◌≡◌, ◌≤◌, ◌==◌, length, drop, true, false, Some, MatchOption};
-ghost use Rattle.std.specs.List.{list_all};
-ghost use Rattle.dq_base.specs.Applying.{is_sizes, stated_main, stated_side};
+ghost use Rattle.dq_base.specs.Applying.{is_sizes};
 ghost use Rattle.frame_commands.specs.Numbers.{numbers_fit, frames_fit, ends_with, numbers_ascend, stated_count};
 
 use crate::command::Command;
-use byteorder::{ByteOrder, LittleEndian};
-use dq_base::{LONGEST_FILE, NumberedPage};
+use dq_base::{NumberedPage, PAGE_SIZE, stated_lengths};
 
 /// The most pages of one command.
 const MOST_PAGES: usize = 64;
@@ -62,38 +60,10 @@ fn stated_count(last: &NumberedPage) -> Option<u64>
     ensures { MatchOption result (is_sizes last.now ≡ false)
         (λ count. (is_sizes last.now ≡ true) × (count ≡ stated_count last.now.page)) }
 {
-    let bytes = last.page.bytes();
-    if last.number != 1 || !are_zeros(&bytes[16..]) {
-        return None;
-    }
-    let main = main_length(bytes);
-    let side = side_length(bytes);
-    if main > LONGEST_FILE || side > LONGEST_FILE {
-        return None;
-    }
-    Some(1 + main.div_ceil(4096) + side.div_ceil(4096))
-}
-
-fn are_zeros(bytes: &[u8]) -> bool
-    ensures { result ≡ list_all (λ byte. byte == 0) bytes.now }
-{
-    bytes.iter().all(|byte| *byte == 0)
-}
-
-#[tactic(auto, unfolding(dq_base::specs::Applying::stated_main))]
-fn main_length(bytes: &[u8]) -> u64
-    requires { 8 ≤ length bytes.now }
-    ensures { result ≡ stated_main bytes.now }
-{
-    LittleEndian::read_u64(bytes)
-}
-
-#[tactic(auto, unfolding(dq_base::specs::Applying::stated_side))]
-fn side_length(bytes: &[u8]) -> u64
-    requires { 16 ≤ length bytes.now }
-    ensures { result ≡ stated_side bytes.now }
-{
-    LittleEndian::read_u64(&bytes[8..])
+    let lengths = stated_lengths(last)?;
+    let main = lengths.main.div_ceil(PAGE_SIZE);
+    let side = lengths.side.div_ceil(PAGE_SIZE);
+    Some(1 + main as u64 + side as u64)
 }
 
 /// Whether the numbers ascend, none of them is 1, and none is above 4,294,967,295.

@@ -2,6 +2,7 @@
 use Rattle.std.specs.Prelude.{◌≡◌, ◌<◌, ◌^◌, ◌+◌, ◌-◌, ◌*◌, ◌/◌, ◌%◌, ◌==◌, ℕ, Bool, false, List, [], ◌∷◌, ◌++◌, length, replicate, slice_index, IsUtf8}
 use Rattle.std.specs.List.{list_any}
 use Rattle.byteorder.specs.Endian.{little_bytes}
+use Rattle.dq_base.specs.Names.{has_nul}
 
 -- how many bytes fill n bytes up to a whole word
 abbrev pub gap : ℕ → ℕ
@@ -33,10 +34,6 @@ AreBytes bytes = (i : ℕ) → slice_index bytes i < 256
 
 abbrev pub is_zero : ℕ → Bool
 is_zero b = b == 0
-
--- whether some byte is NUL
-abbrev pub has_nul : List ℕ → Bool
-has_nul bytes = list_any is_zero bytes
 
 -- no byte is NUL
 abbrev pub HasNoNul : List ℕ → Type 0

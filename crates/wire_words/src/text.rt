@@ -1,5 +1,5 @@
 ghost use Rattle.std.specs.Prelude.{◌≡◌, IsUtf8, string_bytes};
-ghost use Rattle.wire_words.specs.Items.{has_nul};
+ghost use Rattle.dq_base.specs.Names.{has_nul};
 
 use std::marker::Model;
 
