@@ -48,9 +48,13 @@ page_at image number =
     else if reaches image number then Some (page_from (file_of image number) (page_start number))
     else None
 
+-- how many pages so many bytes fill, the last of them maybe in part
+abbrev pub pages_of : ℕ → ℕ
+pages_of bytes = (bytes + 4095) / 4096
+
 -- how many pages the bytes of a file fill, the last of them maybe in part
 abbrev pub pages_in : List ℕ → ℕ
-pages_in file = (length file + 4095) / 4096
+pages_in file = pages_of (length file)
 
 -- how many pages an image has, the sizes page included
 abbrev pub page_count : Image → ℕ

@@ -80,7 +80,7 @@ pub fn page_count(image: &Image) -> u64
 fn pages_in(file: &[u8]) -> u64
     ensures { result ≡ pages_in file.now }
 {
-    file.len() as u64 / PAGE_SIZE as u64 + if file.len() % PAGE_SIZE == 0 { 0 } else { 1 }
+    file.len().div_ceil(PAGE_SIZE) as u64
 }
 
 fn sizes_page(main: u64, side: u64) -> Page

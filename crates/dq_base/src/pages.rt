@@ -40,7 +40,7 @@ impl Page {
         }
     }
 
-    /// A copy of these bytes as a page. Takes no memory.
+    /// A copy of these bytes, which have to be 4,096, as a page. Takes no memory.
     pub fn from_slice(bytes: &[u8]) -> Page
         requires { length bytes.now ≡ 4096 }
         ensures { result ≡ bytes.now }
@@ -76,7 +76,7 @@ pub struct NumberedPage {
     pub page: Page,
 }
 
-/// The pages that one transaction changed: numbers in ascending order, and the sizes page last.
+/// Pages that one transaction changed. To be applied their numbers have to ascend, and the sizes page to be last.
 #[derive(Debug, Drop)]
 pub struct PageSet {
     /// The number of the transaction.

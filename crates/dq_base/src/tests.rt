@@ -1,7 +1,7 @@
 use crate::pages::zeroed_bytes;
 use crate::{
-    Bytes, Image, Items, Name, NumberedPage, PAGE_SIZE, Page, PageFault, PageSet, apply, page_at,
-    page_count,
+    Bytes, Image, Items, Lengths, Name, NumberedPage, PAGE_SIZE, Page, PageFault, PageSet, apply,
+    apply_pages, page_at, page_count, stated_lengths,
 };
 use std::alloc::{AllocError, Global};
 use std::test::Fail;
@@ -94,6 +94,8 @@ fn last_pages_are_padded(rt: HostRuntime) -> Result<(), Fail> {
     assert_eq!(rt; page_at(&copy, 4), Some(page_with(&[7])));
     assert_eq!(rt; page_at(&copy, 3), Some(page_with(&[9, 9])));
     let none = Image::new(alloc);
+    assert!(rt; none.main.is_empty());
+    assert!(rt; !image.main.is_empty());
     assert_eq!(rt; page_count(&none), 1);
     assert_eq!(rt; page_at(&none, 1), Some(Page::zeroed()));
     Ok(())
@@ -112,7 +114,7 @@ fn sets_are_applied(rt: HostRuntime) -> Result<(), Fail> {
     assert_eq!(rt; image.side.as_slice(), [0, 0, 0].as_slice());
     // A page replaces what stood there; the main file grows with zeros, and the side file is cut.
     let replaces = set_of(alloc, &[(2, 0xcc)], 4099, 1)?;
-    assert_eq!(rt; apply(&mut image, &replaces), Ok(()));
+    assert_eq!(rt; apply_pages(&mut image, replaces.pages.as_slice()), Ok(()));
     assert_eq!(rt; image.main.len(), 4099);
     assert_eq!(rt; page_at(&image, 2), Some(filled_page(0xcc)));
     assert_eq!(rt; page_at(&image, 4), Some(page_with(&[0xbb, 0xbb, 0])));
@@ -152,7 +154,10 @@ fn the_last_page_has_the_sizes(rt: HostRuntime) -> Result<(), Fail> {
         let (answer, kept) = fault_of(alloc, &PageSet { tx: 1, pages })?;
         assert_eq!(rt; answer, Err(PageFault::NoSizes), "page {number}");
         assert!(rt; kept, "page {number}");
+        assert_eq!(rt; stated_lengths(&NumberedPage { number, page }), None);
     }
+    let lengths = Lengths { main: 3, side: 4 };
+    assert_eq!(rt; stated_lengths(&sizes(3, 4)), Some(lengths));
     let pages = Items::new(Vec::new(alloc));
     let (answer, _) = fault_of(alloc, &PageSet { tx: 1, pages })?;
     assert_eq!(rt; answer, Err(PageFault::NoSizes));
@@ -175,5 +180,10 @@ fn names_are_short_texts(rt: HostRuntime) -> Result<(), Fail> {
     }
     let name = Name::new(String::from_str(alloc, "main")?).ok_or("a name")?;
     assert_eq!(rt; name.as_str(), "main");
+    let copy = name.try_clone(alloc)?;
+    assert!(rt; copy == name);
+    let later = Name::new(String::from_str(alloc, "maine")?).ok_or("a name")?;
+    assert!(rt; copy != later);
+    assert!(rt; copy < later);
     Ok(())
 }

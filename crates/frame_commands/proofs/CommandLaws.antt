@@ -1,23 +1,24 @@
 -- A command is read exactly where the bytes stand for it, and commands stand apart.
-use Rattle.std.proofs.Common.{◌≡◌, ℕ, ◌+◌, ◌*◌, ◌/◌, ◌%◌, Bool, true, false, cond, eqb, leb, ◌⊎◌, inl, inr, List, [], ◌++◌, length, Option, Some, None, Result, Ok, Err, refl, sym, ap, subst, ◌∙◌, arith}
+use Rattle.std.proofs.Common.{◌≡◌, ℕ, ◌+◌, true, cond, eqb, leb, inl, inr, List, [], ◌∷◌, ◌++◌, length, Option, Some, None, Result, Ok, Err, refl, sym, ap, subst, ◌∙◌, append_assoc, arith}
 use Rattle.std.specs.Prelude.{IfOk}
 use Rattle.std.proofs.lemmas.Bool.{eqb-true, leb-true, le-leb}
 use Rattle.std.proofs.lemmas.List.{append-nil, nil_from_length}
 use Rattle.wire_words.specs.declared.fault.WordFault.TheVariants as word_faults
-use Rattle.wire_words.specs.Items.{word, text, AreBytes}
-use Rattle.wire_words.specs.Reading.{◌>>=◌, Unread, unread, text_at}
+use Rattle.wire_words.specs.Items.{text, raw, zeros_after, AreBytes}
+use Rattle.wire_words.specs.Reading.{◌>>=◌, Unread, unread, raw_at, text_at}
+use Rattle.wire_words.proofs.Choices.{one_of, none_of}
 use Rattle.wire_words.proofs.ReadBack.{bind_ok, ok_is, passed}
 use Rattle.frame_commands.specs.declared.command.Command.{Command}
 use Rattle.frame_commands.specs.declared.command.Command.TheVariants.{OpenDb, Frames}
 use Rattle.frame_commands.specs.declared.kind.CommandKind.{CommandKind}
 use Rattle.frame_commands.specs.declared.kind.CommandKind.TheVariants as kinds
 use Rattle.frame_commands.specs.declared.fault.CommandFault.{CommandFault}
-use Rattle.frame_commands.specs.declared.fault.CommandFault.TheVariants.{Format, Word, Tail}
+use Rattle.frame_commands.specs.declared.fault.CommandFault.TheVariants.{Format, Tail}
 use Rattle.frame_commands.specs.Numbers.{numbers_fit}
 use Rattle.frame_commands.specs.Spelling.{head, frames_bytes, command_bytes, IsTextName, IsInRange, Writes}
-use Rattle.frame_commands.specs.Reading.{in_command, command_kind, kind_in, kind_of, kind_at, name_at, command_after, command_at, ended, command_of, Gives}
-use Rattle.frame_commands.proofs.ItemFacts.{in_command_ok, command_is, both_true, is_short, was_head}
-use Rattle.frame_commands.proofs.Passing.{Passed, passed_none, pass_none, passed_both, between, passed_first, passed_second, bytes_after, word_passed, word_stood, text_passed, text_stood}
+use Rattle.frame_commands.specs.Reading.{in_command, command_kind, known, kind_of, kind_at, name_at, command_after, command_at, ended, command_of, Gives}
+use Rattle.frame_commands.proofs.ItemFacts.{in_command_ok, command_is, both_true, is_short}
+use Rattle.frame_commands.proofs.Passing.{Passed, passed_none, pass_none, passed_both, between, passed_first, passed_second, bytes_after, raw_passed, raw_stood, text_passed, text_stood}
 use Rattle.frame_commands.proofs.FrameLaws.{frames_passed, frames_stood}
 use Rattle.frame_commands.proofs.Ranges.{few_pages}
 
@@ -27,17 +28,6 @@ use Rattle.frame_commands.proofs.Ranges.{few_pages}
 abbrev pub kind_number : CommandKind → ℕ
 kind_number kinds.OpenDb = 1
 kind_number kinds.Frames = 2
-
-some_is : {A : Type 0} (x y : A) → Some x ≡ Some y → x ≡ y
-some_is x y e = cc
-
--- one test of a choice among several
-one_of : {A : Type 0} (b : Bool) (x : A) (others : Option A) (y : A) → cond b (Some x) others ≡ Some y → ((b ≡ true) × (x ≡ y)) ⊎ (others ≡ Some y)
-one_of true x others y e = inl (refl, some_is x y e)
-one_of false x others y e = inr e
-
-none_of : {A : Type 0} (x : A) (P : Type 0) → None ≡ Some x → P
-none_of x P e = absurd cc
 
 number_is : (n number : ℕ) (one kind : CommandKind) → (eqb n number ≡ true) × (one ≡ kind) → kind_number one ≡ number → n ≡ kind_number kind
 number_is n number one kind e is = eqb-true n number e.0 ∙ sym is ∙ ap kind_number e.1
@@ -52,35 +42,35 @@ known_number n kind e =
       ]
     ]
 
-kind_in_ok : (at n : ℕ) (known : Option CommandKind) (kind : CommandKind) → kind_in at n known ≡ Ok kind → (known ≡ Some kind) × (n / 65536 ≡ 0)
-kind_in_ok at n None kind e = absurd cc
-kind_in_ok at n (Some one) kind e =
-    let a = passed (eqb (n / 65536) 0) (Word (word_faults.Pad at)) (Ok one) kind e in
-    (ap (λ (k : CommandKind). Some k) (command_is one kind a.1), eqb-true (n / 65536) 0 a.0)
+known_ok : (known_kind : Option CommandKind) (kind : CommandKind) → known known_kind ≡ Ok kind → known_kind ≡ Some kind
+known_ok None kind e = absurd cc
+known_ok (Some one) kind e = ap (λ (k : CommandKind). Some k) (command_is one kind e)
 
-head_number : (at n : ℕ) (kind : CommandKind) → kind_of at n ≡ Ok kind → n ≡ 1 + 256 * kind_number kind
-head_number at n kind e =
-    let a = passed (eqb (n % 256) 1) Format (kind_in at n (command_kind (n / 256 % 256))) kind e in
-    let format : n % 256 ≡ 1 = eqb-true (n % 256) 1 a.0 in
-    let b = kind_in_ok at n (command_kind (n / 256 % 256)) kind a.1 in
-    let number : n / 256 % 256 ≡ kind_number kind = known_number (n / 256 % 256) kind b.0 in
-    let zeros : n / 65536 ≡ 0 = b.1 in
-    omega arith
+-- the first two bytes of a command
+head_bytes : (item rest : List ℕ) (kind : CommandKind) → length item ≡ 2 → kind_of (item ++ rest) ≡ Ok kind → item ≡ 1 ∷ kind_number kind ∷ []
+head_bytes [] rest kind len e = absurd cc
+head_bytes (format ∷ []) rest kind len e = absurd cc
+head_bytes (format ∷ number ∷ []) rest kind len e =
+    let a = passed (eqb format 1) Format (known (command_kind number)) kind e in
+    rw (eqb-true format 1 a.0, known_number number kind (known_ok (command_kind number) kind a.1)) refl
+head_bytes (format ∷ number ∷ other ∷ others) rest kind len e = absurd (omega arith)
 
-head_is : (kind : CommandKind) → word (1 + 256 * kind_number kind) ≡ head (kind_number kind)
-head_is kinds.OpenDb = refl
-head_is kinds.Frames = refl
-
-head_passed : (kind : CommandKind) (old new : Unread) → AreBytes old.bytes → kind_at old ≡ Ok (kind, new) → Passed (head (kind_number kind)) old new
-head_passed kind old new fits e =
-    let h = was_head kind old new e in
-    let w = word_passed old new h.number fits h.word in
-    subst (λ (x : List ℕ). Passed x old new) (ap word (head_number old.at h.number kind h.is_kind) ∙ head_is kind) w.1
+head_passed : (kind : CommandKind) (old new : Unread) → kind_at old ≡ Ok (kind, new) → Passed (head (kind_number kind)) old new
+unfolding kind_at
+head_passed kind old new e =
+    let a = bind_ok (kind_of old.bytes) (λ k. in_command (raw_at 2 old) >>= λ item. Ok (k, item.1)) (kind, new) e in
+    let b = bind_ok (in_command (raw_at 2 old)) (λ item. Ok (a.0, item.1)) (kind, new) a.2 in
+    let made : CommandKind × Unread = (a.0, b.0.1) in
+    let item = b.0.0 in
+    let p = raw_passed 2 old b.0.1 item (in_command_ok (raw_at 2 old) b.0 b.1) in
+    let begins : old.bytes ≡ item ++ (zeros_after (length item) ++ b.0.1.bytes) = p.1.parts ∙ append_assoc item (zeros_after (length item)) b.0.1.bytes in
+    let bytes : item ≡ 1 ∷ kind_number a.0 ∷ [] = head_bytes item (zeros_after (length item) ++ b.0.1.bytes) a.0 p.0 (sym (ap kind_of begins) ∙ a.1) in
+    subst (λ (x : CommandKind × Unread). Passed (head (kind_number x.0)) old x.1) (command_is made (kind, new) b.2) (subst (λ (x : List ℕ). Passed (raw x) old b.0.1) bytes p.1)
 
 head_stood : (kind : CommandKind) (old new : Unread) → Passed (head (kind_number kind)) old new → kind_at old ≡ Ok (kind, new)
 unfolding kind_at
-head_stood kinds.OpenDb old new p = rw (word_stood old new 257 (omega arith) p) refl
-head_stood kinds.Frames old new p = rw (word_stood old new 513 (omega arith) p) refl
+head_stood kinds.OpenDb old new p = rw (ap kind_of p.parts, raw_stood 2 old new (1 ∷ 1 ∷ []) refl p) refl
+head_stood kinds.Frames old new p = rw (ap kind_of p.parts, raw_stood 2 old new (1 ∷ 2 ∷ []) refl p) refl
 
 -- ---- the name
 
@@ -159,7 +149,7 @@ unfolding command_at
 command_passed command old new fits e =
     let a = bind_ok (kind_at old) (λ kind. in_command (name_at kind.1) >>= λ name. command_after kind.0 name.0 name.1) (command, new) e in
     let b = bind_ok (in_command (name_at a.0.1)) (λ name. command_after a.0.0 name.0 name.1) (command, new) a.2 in
-    let head_part = head_passed a.0.0 old a.0.1 fits a.1 in
+    let head_part = head_passed a.0.0 old a.0.1 a.1 in
     let fits1 = bytes_after (head (kind_number a.0.0)) old a.0.1 head_part fits in
     let name = name_passed a.0.1 b.0.1 b.0.0 (in_command_ok (name_at a.0.1) b.0 b.1) in
     let fits2 = bytes_after (text b.0.0) a.0.1 b.0.1 name.1 fits1 in

@@ -1,6 +1,7 @@
 -- Which numbers a command may have.
-use Rattle.std.specs.Prelude.{ℕ, ◌+◌, ◌-◌, ◌/◌, Bool, true, false, not, ◌&&◌, ◌==◌, nat_le, if◌then◌else◌, List, [], ◌∷◌, length, take, Option, Some, None}
+use Rattle.std.specs.Prelude.{ℕ, ◌+◌, ◌-◌, Bool, true, false, not, ◌&&◌, ◌==◌, nat_le, if◌then◌else◌, List, [], ◌∷◌, length, take, Option, Some, None}
 use Rattle.dq_base.specs.declared.pages.NumberedPage.{NumberedPage}
+use Rattle.dq_base.specs.Images.{pages_of}
 use Rattle.dq_base.specs.Applying.{is_sizes, stated_main, stated_side, last_page}
 use Rattle.frame_commands.specs.declared.command.Command.{Command}
 use Rattle.frame_commands.specs.declared.command.Command.TheVariants.{OpenDb, Frames}
@@ -12,10 +13,6 @@ most_pages = 64
 -- the highest number of a page
 abbrev pub highest_number : ℕ
 highest_number = 4294967295
-
--- how many pages so many bytes fill, the last of them maybe in part
-abbrev pub pages_of : ℕ → ℕ
-pages_of bytes = (bytes + 4095) / 4096
 
 -- the page count of an image of the lengths that a sizes page states, the sizes page included
 abbrev pub stated_count : List ℕ → ℕ

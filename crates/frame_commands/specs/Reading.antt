@@ -1,6 +1,6 @@
 -- Reading a command, with the first fault that is met: its format, its type, its items from left to right, the size of
 -- its pages, its numbers, its end.
-use Rattle.std.specs.Prelude.{◌≡◌, ℕ, zero, suc, ◌/◌, ◌%◌, ◌&&◌, ◌==◌, nat_le, if◌then◌else◌, List, [], ◌∷◌, length, drop, slice_index, Option, Some, None, Result, Ok, Err, MatchResult}
+use Rattle.std.specs.Prelude.{◌≡◌, ℕ, zero, suc, ◌&&◌, ◌==◌, nat_le, if◌then◌else◌, List, [], ◌∷◌, length, drop, slice_index, Option, Some, None, Result, Ok, Err, MatchResult}
 use Rattle.byteorder.specs.Endian.{little_number}
 use Rattle.dq_base.specs.declared.pages.NumberedPage.{NumberedPage}
 use Rattle.wire_words.specs.declared.fault.WordFault.{WordFault}
@@ -28,20 +28,26 @@ in_command (Err fault) = Err (of_word fault)
 abbrev pub command_kind : ℕ → Option CommandKind
 command_kind n = if n == 1 then Some kinds.OpenDb else if n == 2 then Some kinds.Frames else None
 
--- what a head says, as a number of 64 bits whose lowest byte is the format, the next one the type, and the rest zeros
-abbrev pub kind_in : ℕ → ℕ → Option CommandKind → Result CommandKind CommandFault
-kind_in at n None = Err Kind
-kind_in at n (Some kind) = if n / 65536 == 0 then Ok kind else Err (Word (word_faults.Pad at))
+abbrev pub known : Option CommandKind → Result CommandKind CommandFault
+known None = Err Kind
+known (Some kind) = Ok kind
 
-abbrev pub kind_of : ℕ → ℕ → Result CommandKind CommandFault
-kind_of at n = if n % 256 == 1 then kind_in at n (command_kind (n / 256 % 256)) else Err Format
+-- the fault where the format or the type isn't there
+abbrev pub no_head : Result CommandKind CommandFault
+no_head = Err (Word (word_faults.Short 0))
 
--- the head: its type of command
+-- the type of the command that begins so: its first byte is the format 1, and its second stands for the type
+abbrev pub kind_of : List ℕ → Result CommandKind CommandFault
+kind_of [] = no_head
+kind_of (format ∷ []) = if format == 1 then no_head else Err Format
+kind_of (format ∷ kind ∷ others) = if format == 1 then known (command_kind kind) else Err Format
+
+-- the head: these two bytes, and zeros to a whole word
 unfoldable pub kind_at : Unread → Result (CommandKind × Unread) CommandFault
 kind_at left = do
-  n ← in_command (word_at left)
-  kind ← kind_of left.at n.0
-  Ok (kind, n.1)
+  kind ← kind_of left.bytes
+  head ← in_command (raw_at 2 left)
+  Ok (kind, head.1)
 
 -- a name: a text of 1 to 255 bytes
 unfoldable pub name_at : Unread → Result (List ℕ × Unread) WordFault

@@ -8,16 +8,16 @@ pub enum Command {
         name: Name,
     },
     /// Pages of a transaction. They stand with the transaction's earlier ones until the last of its commands commits
-    /// them all.
+    /// them all. The fields may hold any numbers; `numbers_fit` tells whether they are those of a command.
     Frames {
         name: Name,
         /// The number of the transaction.
         tx: u64,
-        /// With `commit` the page count of the image after, the sizes page included; else 0.
+        /// With `commit` the page count of the image after, the sizes page included; else to be 0.
         truncate: u32,
         /// Whether the transaction ends with these pages.
         commit: bool,
-        /// 1 to 64 pages in ascending order; with `commit` the sizes page comes last, else there is none.
+        /// To be 1 to 64 pages in ascending order; with `commit` the sizes page comes last, else there is none.
         pages: Items<NumberedPage>,
     },
 }

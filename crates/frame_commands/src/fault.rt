@@ -19,7 +19,8 @@ pub enum CommandFault {
     /// The page size isn't 4,096.
     #[error("the pages have another size")]
     PageSize,
-    /// The number of pages, a page's number, the commit flag or the page count is not as it has to be.
+    /// The number of pages, a page's number, the commit flag or the page count is not as it has to be, or the last page
+    /// of a commit is no sizes page.
     #[error("a number of the command is out of its range")]
     Number,
     /// Bytes follow the command.

@@ -1,11 +1,10 @@
-ghost use Rattle.std.specs.Prelude.{◌≡◌, length, IfOk};
-ghost use Rattle.wire_words.specs.Reading.{Finds, raw_at};
+ghost use Rattle.wire_words.specs.Reading.{Finds};
 ghost use Rattle.frame_commands.specs.Reading.{name_at, flagged_at, sized_at, numbers_at, page_at, pages_at, frame_items_at};
 
 use byteorder::{ByteOrder, LittleEndian};
 use dq_base::{Items, Name, NumberedPage, PAGE_SIZE, Page};
 use std::alloc::Global;
-use wire_words::{WireBytes, WordFault, Words};
+use wire_words::{WordFault, Words};
 
 /// What follows the name of a Frames command, before its numbers are looked at.
 #[derive(Debug, Drop)]
@@ -22,41 +21,31 @@ pub(crate) struct FrameItems {
 /// The name of a database, which follows the head.
 #[tactic(auto, unfolding(crate::specs::Reading::name_at))]
 pub(crate) fn name(alloc: Global, words: &mut Words<'_>) -> Result<Name, WordFault>
-    requires { words.old.at ≡ 8 }
     ensures { Finds (λ name. name) name_at words.old words.new result }
 {
+    let at = words.place();
     let text = words.text(alloc)?;
     let Some(name) = Name::new(text.into_string()) else {
-        return Err(WordFault::Short(8));
+        return Err(WordFault::Short(at));
     };
     Ok(name)
 }
 
-/// That many bytes, and zeros up to a whole word.
-fn raw(alloc: Global, words: &mut Words<'_>, size: u64) -> Result<WireBytes, WordFault>
-    ensures exact { Finds (λ bytes. bytes) (raw_at size) words.old words.new result }
-    ensures size { IfOk result (λ bytes. length bytes ≡ size) }
-{
-    words.raw(alloc, size)
-}
-
 /// A number of 32 bits, a byte, and three zeros.
 #[tactic(auto, unfolding(crate::specs::Reading::flagged_at))]
-fn flagged(alloc: Global, words: &mut Words<'_>) -> Result<(u32, u8), WordFault>
+fn flagged(words: &mut Words<'_>) -> Result<(u32, u8), WordFault>
     ensures { Finds (λ numbers. numbers) flagged_at words.old words.new result }
 {
-    let item = raw(alloc, words, 5)?;
-    let bytes = item.as_slice();
+    let bytes = words.raw_slice(5)?;
     Ok((LittleEndian::read_u32(bytes), bytes[4]))
 }
 
 /// A number of 32 bits, one of 16 bits, and two zeros.
 #[tactic(auto, unfolding(crate::specs::Reading::sized_at))]
-fn sized(alloc: Global, words: &mut Words<'_>) -> Result<(u32, u16), WordFault>
+fn sized(words: &mut Words<'_>) -> Result<(u32, u16), WordFault>
     ensures { Finds (λ numbers. numbers) sized_at words.old words.new result }
 {
-    let item = raw(alloc, words, 6)?;
-    let bytes = item.as_slice();
+    let bytes = words.raw_slice(6)?;
     let count = LittleEndian::read_u32(bytes);
     Ok((count, LittleEndian::read_u16(&bytes[4..])))
 }
@@ -75,11 +64,11 @@ fn numbers(alloc: Global, words: &mut Words<'_>, count: u32) -> Result<Vec<u64>,
 
 /// The page of a number.
 #[tactic(auto, unfolding(crate::specs::Reading::page_at))]
-fn page(alloc: Global, words: &mut Words<'_>, number: u64) -> Result<NumberedPage, WordFault>
+fn page(words: &mut Words<'_>, number: u64) -> Result<NumberedPage, WordFault>
     ensures { Finds (λ page. page) (page_at number) words.old words.new result }
 {
-    let bytes = raw(alloc, words, PAGE_SIZE as u64)?;
-    let page = Page::from_slice(bytes.as_slice());
+    let bytes = words.raw_slice(PAGE_SIZE as u64)?;
+    let page = Page::from_slice(bytes);
     Ok(NumberedPage { number, page })
 }
 
@@ -94,7 +83,7 @@ fn pages(
     let mut pages = Vec::new(alloc);
     for number in numbers {
         let number = *number;
-        let page = page(alloc, words, number)?;
+        let page = page(words, number)?;
         pages.push(page)?;
     }
     Ok(pages)
@@ -106,8 +95,8 @@ pub(crate) fn frame_items(alloc: Global, words: &mut Words<'_>) -> Result<FrameI
     ensures { Finds (λ items. items) frame_items_at words.old words.new result }
 {
     let tx = words.u64()?;
-    let (truncate, flag) = flagged(alloc, words)?;
-    let (count, size) = sized(alloc, words)?;
+    let (truncate, flag) = flagged(words)?;
+    let (count, size) = sized(words)?;
     let numbers = numbers(alloc, words, count)?;
     let pages = pages(alloc, words, &numbers)?;
     Ok(FrameItems {

@@ -10,10 +10,10 @@ pub(crate) enum CommandKind {
 
 impl CommandKind {
     /// The type that a command's second byte stands for.
-    pub(crate) fn of(kind: u64) -> Option<CommandKind>
-        ensures { result ≡ command_kind kind }
+    pub(crate) fn of(byte: u8) -> Option<CommandKind>
+        ensures { result ≡ command_kind byte }
     {
-        match kind {
+        match byte {
             1 => Some(CommandKind::OpenDb),
             2 => Some(CommandKind::Frames),
             _ => None,

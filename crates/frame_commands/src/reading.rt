@@ -1,7 +1,8 @@
 ghost use Rattle.std.specs.Prelude.{◌≡◌, IfOk, Ok};
 ghost use Rattle.frame_commands.specs.declared.command.Command.{Command};
 ghost use Rattle.frame_commands.specs.Spelling.{Writes};
-ghost use Rattle.frame_commands.specs.Reading.{Gives, Finds, kind_at, frames_at, command_at, command_of};
+ghost use Rattle.frame_commands.specs.Reading.{Gives, Finds, kind_of, kind_at, frames_at, command_at, command_of};
+ghost use Rattle.wire_words.specs.Reading.{unread};
 
 use crate::command::Command;
 use crate::fault::CommandFault;
@@ -11,22 +12,26 @@ use dq_base::{Name, PAGE_SIZE};
 use std::alloc::Global;
 use wire_words::{WordFault, Words};
 
-/// The type of the command, from the head that it begins with.
+/// The type of the command that begins so. A first byte that isn't 1 is `Format`, and a second that stands for no type
+/// `Kind`.
+fn kind(bytes: &[u8]) -> Result<CommandKind, CommandFault>
+    ensures { Gives (kind_of bytes.now) result }
+{
+    match bytes {
+        [1, kind, ..] => CommandKind::of(*kind).ok_or(CommandFault::Kind),
+        [] | [1] => Err(CommandFault::Word(WordFault::Short(0))),
+        _ => Err(CommandFault::Format),
+    }
+}
+
+/// The head, which the reader over the bytes is to pass: its type of command.
 #[tactic(auto, unfolding(crate::specs::Reading::kind_at))]
-fn kind(words: &mut Words<'_>) -> Result<CommandKind, CommandFault>
-    requires { words.old.at ≡ 0 }
+fn head(bytes: &[u8], words: &mut Words<'_>) -> Result<CommandKind, CommandFault>
+    requires { words.old ≡ unread bytes.now }
     ensures { Finds kind_at words.old words.new result }
 {
-    let head = words.u64()?;
-    if head % 256 != 1 {
-        return Err(CommandFault::Format);
-    }
-    let Some(kind) = CommandKind::of(head / 256 % 256) else {
-        return Err(CommandFault::Kind);
-    };
-    if head / 65536 != 0 {
-        return Err(CommandFault::Word(WordFault::Pad(0)));
-    }
+    let kind = kind(bytes)?;
+    words.raw_slice(2)?;
     Ok(kind)
 }
 
@@ -52,13 +57,13 @@ fn frames(alloc: Global, name: Name, words: &mut Words<'_>) -> Result<Command, C
     Ok(command)
 }
 
-/// A command, whatever follows it.
+/// A command, whatever follows it. The reader is one over the bytes.
 #[tactic(auto, unfolding(crate::specs::Reading::command_at))]
-fn command(alloc: Global, words: &mut Words<'_>) -> Result<Command, CommandFault>
-    requires { words.old.at ≡ 0 }
+fn command(alloc: Global, bytes: &[u8], words: &mut Words<'_>) -> Result<Command, CommandFault>
+    requires { words.old ≡ unread bytes.now }
     ensures { Finds command_at words.old words.new result }
 {
-    let kind = kind(words)?;
+    let kind = head(bytes, words)?;
     let name = name(alloc, words)?;
     match kind {
         CommandKind::OpenDb => Ok(Command::OpenDb { name }),
@@ -71,7 +76,7 @@ fn whole_command(alloc: Global, bytes: &[u8]) -> Result<Command, CommandFault>
     ensures { Gives (command_of bytes.now) result }
 {
     let mut words = Words::new(bytes);
-    let command = command(alloc, &mut words)?;
+    let command = command(alloc, bytes, &mut words)?;
     if words.left() != 0 {
         return Err(CommandFault::Tail);
     }
@@ -79,9 +84,10 @@ fn whole_command(alloc: Global, bytes: &[u8]) -> Result<Command, CommandFault>
 }
 
 /// Reads a command, which has to be all of the bytes. The first fault comes: `Format` where the first byte isn't 1,
-/// `Kind` where the second stands for no type, `Word` at the first item that isn't there or isn't filled up with zeros,
-/// `PageSize`, `Number` and `Tail`. Fewer than eight bytes are `Word(Short(0))`, and a name that isn't 1 to 255 bytes is
-/// `Word(Short(at))`. Takes memory for what is there, and not for what a count claims.
+/// `Kind` where the second stands for no type, `Word` at the first item that isn't there, isn't filled up with zeros, or
+/// is a name without a NUL or not in UTF-8, then `PageSize`, `Number` and `Tail`. A name that isn't 1 to 255 bytes is
+/// `Word(Short(at))`; no bytes, or a 1 alone, are `Word(Short(0))`. `NoMemory` is want of memory. Each page is copied
+/// once, into the command.
 pub fn read_command(alloc: Global, bytes: &[u8]) -> Result<Command, CommandFault>
     // What is read is what the bytes stand for.
     ensures found { IfOk result (λ command. Writes command bytes.now) }

@@ -116,6 +116,48 @@ fn frames_both_ways(rt: HostRuntime) -> Result<(), Fail> {
 }
 
 #[test]
+fn several_pages_both_ways(rt: HostRuntime) -> Result<(), Fail> {
+    let alloc = rt.alloc();
+    let front =
+        b"\x01\x02\0\0\0\0\0\0d\0\0\0\0\0\0\0\x03\0\0\0\x01\0\0\0\x05\0\0\0\x01\0\0\0\x05\0\0\0\0\x10\0\0";
+    let mut bytes = Vec::from_slice(alloc, front)?;
+    let mut pages = Vec::new(alloc);
+    for (number, byte) in [(2, 0xaa), (3, 0xbb), (4, 0xcc), (6, 0xdd)] {
+        let page = Page::new([byte; 4096]);
+        pages.push(NumberedPage { number, page })?;
+    }
+    let mut sizes = [0; 4096];
+    sizes[1] = 0x30;
+    sizes[9] = 0x10;
+    let page = Page::new(sizes);
+    pages.push(NumberedPage { number: 1, page })?;
+    for page in &pages {
+        bytes.extend_from_slice(&page.number.to_le_bytes())?;
+    }
+    for page in &pages {
+        bytes.extend_from_slice(page.page.bytes())?;
+    }
+    let command = read_command(alloc, &bytes)?;
+    let Command::Frames { pages: read, .. } = &command else {
+        return Err("another command".into());
+    };
+    assert_eq!(rt; read.as_slice(), pages.as_slice());
+    let written = Command::Frames {
+        name: name(alloc, "d")?,
+        tx: 4_294_967_299,
+        truncate: 5,
+        commit: true,
+        pages: Items::new(pages),
+    };
+    assert!(rt; written.numbers_fit());
+    assert_eq!(rt;
+        write_command(alloc, &written)?.as_slice(),
+        bytes.as_slice()
+    );
+    Ok(())
+}
+
+#[test]
 fn faults_of_heads_and_names(rt: HostRuntime) -> Result<(), Fail> {
     let rows = [
         (b"".as_slice(), CommandFault::Word(WordFault::Short(0))),
@@ -123,6 +165,10 @@ fn faults_of_heads_and_names(rt: HostRuntime) -> Result<(), Fail> {
             b"\x01\x01\0\0\0\0\0".as_slice(),
             CommandFault::Word(WordFault::Short(0)),
         ),
+        // What isn't there is looked for after what is.
+        (b"\x01".as_slice(), CommandFault::Word(WordFault::Short(0))),
+        (b"\x02".as_slice(), CommandFault::Format),
+        (b"\x01\x09".as_slice(), CommandFault::Kind),
         (b"\x02\x09\0\0\0\0\0\x01".as_slice(), CommandFault::Format),
         (b"\x01\0\0\0\0\0\0\x01".as_slice(), CommandFault::Kind),
         (b"\x01\x03\0\0\0\0\0\0".as_slice(), CommandFault::Kind),
@@ -301,7 +347,7 @@ fn faults_in_their_order(rt: HostRuntime) -> Result<(), Fail> {
         (0, 9, CommandFault::Format),
     ];
     for (place, byte, fault) in rows {
-        for slot in bytes.get_mut(place) {
+        if let Some(slot) = bytes.get_mut(place) {
             *slot = byte;
         }
         assert_eq!(rt; read_command(rt.alloc(), &bytes).err(), Some(fault));

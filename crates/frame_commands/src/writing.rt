@@ -8,11 +8,11 @@ use dq_base::{Name, NumberedPage, PAGE_SIZE};
 use std::alloc::{AllocError, Global};
 use wire_words::{WireBytes, Writer};
 
-/// The head of an OpenDb command: the format 1, the type 1, and six zeros.
-const OPEN_DB: u64 = 0x0101;
+/// The format and the type of an OpenDb command, which zeros fill up to a word.
+const OPEN_DB: [u8; 2] = [1, 1];
 
-/// The head of a Frames command.
-const FRAMES: u64 = 0x0201;
+/// The same of a Frames command.
+const FRAMES: [u8; 2] = [1, 2];
 
 fn put_name(out: &mut Writer, name: &Name) -> Result<(), AllocError>
     ensures bytes { OnOk result (out.new ≡ out.old ++ text name.now) }
@@ -79,7 +79,7 @@ fn put_command(out: &mut Writer, command: &Command) -> Result<(), AllocError>
 {
     match command {
         Command::OpenDb { name } => {
-            out.word(OPEN_DB)?;
+            out.raw(&OPEN_DB)?;
             put_name(out, name)
         }
         Command::Frames {
@@ -89,7 +89,7 @@ fn put_command(out: &mut Writer, command: &Command) -> Result<(), AllocError>
             commit,
             pages,
         } => {
-            out.word(FRAMES)?;
+            out.raw(&FRAMES)?;
             put_name(out, name)?;
             put_frames(out, *tx, *truncate, *commit, pages.as_slice())
         }

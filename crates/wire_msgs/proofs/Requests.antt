@@ -1,12 +1,13 @@
 -- A request is read exactly where the message stands for it.
-use Rattle.std.proofs.Common.{◌≡◌, ℕ, Bool, true, false, cond, eqb, ◌⊎◌, inl, inr, [], length, Option, Some, None, Result, Ok, Err, refl, sym, ap, subst, ◌∙◌}
+use Rattle.std.proofs.Common.{◌≡◌, ℕ, true, eqb, inl, inr, [], length, Option, Some, None, Result, Ok, Err, refl, sym, ap, subst, ◌∙◌}
 use Rattle.std.proofs.lemmas.Bool.{eqb-true}
 use Rattle.std.proofs.lemmas.List.{nil_from_length}
 use Rattle.wire_words.specs.declared.fault.WordFault.{WordFault}
 use Rattle.wire_words.specs.declared.message.Message.{Message}
 use Rattle.wire_words.specs.Items.{AreBytes, IsWord}
 use Rattle.wire_words.specs.Reading.{◌>>=◌, Unread, unread, word_at, Took}
-use Rattle.wire_words.proofs.ReadBack.{bind_ok, ok_is, word_took, word_again}
+use Rattle.wire_words.proofs.Choices.{one_of, none_of}
+use Rattle.wire_words.proofs.ReadBack.{bind_ok, ok_is, passed, word_took, word_again}
 use Rattle.wire_msgs.specs.declared.fault.MsgFault.{MsgFault}
 use Rattle.wire_msgs.specs.declared.fault.MsgFault.TheVariants.{Schema, Tail}
 use Rattle.wire_msgs.specs.declared.request.Request.{Request}
@@ -18,11 +19,6 @@ use Rattle.wire_msgs.specs.Requests.{request_line, Reads}
 use Rattle.std.specs.Prelude.{IfOk}
 use Rattle.wire_msgs.specs.Reading.{Gives, in_message, ended, words_in, request_kind, request_at, request_in, request_of}
 use Rattle.wire_msgs.proofs.Fields.{AllTook, fields_took, fields_stand}
-
--- a test that did not fail
-chosen : {A : Type 0} (b : Bool) (fault : MsgFault) (r : Result A MsgFault) (y : A) → cond b r (Err fault) ≡ Ok y → (b ≡ true) × (r ≡ Ok y)
-chosen true fault r y e = (refl, e)
-chosen false fault r y e = absurd cc
 
 in_message_ok : {A : Type 0} (r : Result A WordFault) (y : A) → in_message r ≡ Ok y → r ≡ Ok y
 in_message_ok (Ok x) y e = let same : x ≡ y = cc in rw same refl
@@ -40,9 +36,9 @@ pub record WasRead (known : Option RequestKind) (m : Message) (request : Request
 was_read : (known : Option RequestKind) (m : Message) (request : Request) → request_in known m ≡ Ok request → WasRead known m request
 was_read None m request e = absurd cc
 was_read (Some kind) m request e =
-    let a = chosen (eqb m.schema 0) (Schema m.kind m.schema) (in_message (request_at kind (unread m.body)) >>= ended) request e in
+    let a = passed (eqb m.schema 0) (Schema m.kind m.schema) (in_message (request_at kind (unread m.body)) >>= ended) request e in
     let b = bind_ok (in_message (request_at kind (unread m.body))) ended request a.1 in
-    let c = chosen (eqb (length b.0.1.bytes) 0) (Tail (words_in (length b.0.1.bytes))) (Ok b.0.0) request b.2 in
+    let c = passed (eqb (length b.0.1.bytes) 0) (Tail (words_in (length b.0.1.bytes))) (Ok b.0.0) request b.2 in
     let same : b.0.0 ≡ request = cc in
     let fields : request_at kind (unread m.body) ≡ Ok (request, b.0.1) = in_message_ok (request_at kind (unread m.body)) b.0 b.1 ∙ ap (λ (x : Request). Ok (x, b.0.1)) same in
     record { kind = kind; is_known = refl; schema = eqb-true _ _ a.0; left = b.0.1; fields = fields; end = nil_from_length b.0.1.bytes (eqb-true _ _ c.0) }
@@ -53,17 +49,6 @@ read_again known m request w =
     rw (w.is_known, w.schema, w.fields, nothing) refl
 
 -- ---- the lines of the table: each has a case in the four proofs below
-
-some_is : {A : Type 0} (x y : A) → Some x ≡ Some y → x ≡ y
-some_is x y e = cc
-
--- one test of a choice among several
-one_of : {A : Type 0} (b : Bool) (x : A) (others : Option A) (y : A) → cond b (Some x) others ≡ Some y → ((b ≡ true) × (x ≡ y)) ⊎ (others ≡ Some y)
-one_of true x others y e = inl (refl, some_is x y e)
-one_of false x others y e = inr e
-
-none_of : {A : Type 0} (x : A) (P : Type 0) → None ≡ Some x → P
-none_of x P e = absurd cc
 
 -- the number of a type
 kind_number : RequestKind → ℕ

@@ -42,7 +42,8 @@ fn whole_request(alloc: Global, number: u8, schema: u8, body: &[u8]) -> Result<R
 }
 
 /// Reads a request. The first fault comes: `Kind` where no type of request has the message's number, `Schema` where the
-/// schema isn't 0, `Word` at the first item that isn't there, and `Tail` where words are left.
+/// schema isn't 0, `Word` at the first item that isn't there, and `Tail` where words are left. `NoMemory` is want of
+/// memory for the request's texts and bytes.
 pub fn read_request(alloc: Global, message: &Message) -> Result<Request, MsgFault>
     // What is read is what the message stands for.
     ensures found { IfOk result (Reads message.now) }

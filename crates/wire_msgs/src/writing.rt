@@ -37,7 +37,7 @@ fn whole_response(alloc: Global, response: &Response) -> Result<WireBytes, Alloc
 }
 
 /// Writes a whole message: its header and its body. No text of the response may hold a NUL. A body of more than
-/// 4,294,967,295 words is answered as if memory had run out.
+/// 4,294,967,295 words is answered as if memory had run out; any other `Err` is want of memory.
 pub fn write_response(alloc: Global, response: &Response) -> Result<WireBytes, AllocError>
     requires { IsWritable response.now }
     // What is written stands for the response.

@@ -1,6 +1,7 @@
-pub mod Numbers
-pub mod ReadBack
-pub mod Padding
+pub mod Choices
 pub mod Nul
-pub mod Utf8
+pub mod Numbers
+pub mod Padding
 pub mod Prefix
+pub mod ReadBack
+pub mod Utf8

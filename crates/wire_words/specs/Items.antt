@@ -1,6 +1,5 @@
 -- Items of a body: the one spelling of each value, and which bytes spell it. Each fills whole words of eight bytes.
 use Rattle.std.specs.Prelude.{◌≡◌, ◌<◌, ◌^◌, ◌+◌, ◌-◌, ◌*◌, ◌/◌, ◌%◌, ◌==◌, ℕ, Bool, false, List, [], ◌∷◌, ◌++◌, length, replicate, slice_index, IsUtf8}
-use Rattle.std.specs.List.{list_any}
 use Rattle.byteorder.specs.Endian.{little_bytes}
 use Rattle.dq_base.specs.Names.{has_nul}
 

@@ -26,6 +26,7 @@ fn numbers(rt: HostRuntime) {
     assert_eq!(rt; words.u64(), Ok(0x0102_0304_0506_0708));
     assert_eq!(rt; words.u32_pair(), Ok((1, 0x8000_0002)));
     assert_eq!(rt; words.left(), 1);
+    assert_eq!(rt; words.place(), 16);
     assert_eq!(rt; words.u64(), Err(WordFault::Short(16)));
     assert_eq!(rt; words.u32_pair(), Err(WordFault::Short(16)));
     assert_eq!(rt; words.left(), 1);
@@ -72,8 +73,9 @@ fn faulty_texts(rt: HostRuntime) {
 fn raw_bytes(rt: HostRuntime) -> Result<(), Fail> {
     let mut words = Words::new(b"\x01\x02\x03\0\0\0\0\0\x09\0\0\0\0\0\0\x01\0\0\0");
     assert_eq!(rt; words.raw(rt.alloc(), 3)?.as_slice(), [1, 2, 3].as_slice());
-    assert_eq!(rt; words.raw(rt.alloc(), 0)?.len(), 0);
+    assert_eq!(rt; words.raw_slice(0), Ok([].as_slice()));
     assert_eq!(rt; words.raw(rt.alloc(), 1).err(), Some(WordFault::Pad(8)));
+    assert_eq!(rt; words.raw_slice(1), Err(WordFault::Pad(8)));
     assert_eq!(rt; words.raw(rt.alloc(), 8)?.len(), 8);
     assert_eq!(rt; words.raw(rt.alloc(), 1).err(), Some(WordFault::Short(16)));
     assert_eq!(rt;

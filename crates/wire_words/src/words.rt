@@ -1,4 +1,4 @@
-ghost use Rattle.std.specs.Prelude.{◌≡◌, ◌+◌, ◌≤◌, drop, true, false, nat_lt, if◌then◌else◌, length, IsErrOf, MatchOption};
+ghost use Rattle.std.specs.Prelude.{◌≡◌, ◌+◌, ◌≤◌, drop, true, false, nat_lt, if◌then◌else◌, length, IfOk, IsErrOf, MatchOption};
 ghost use Rattle.std.specs.List.{list_all, position};
 ghost use Rattle.std.specs.Str.{is_utf8};
 ghost use Rattle.byteorder.specs.Endian.{little_number};
@@ -75,10 +75,7 @@ fn nul_place(bytes: &[u8]) -> Option<usize>
 fn as_text(bytes: &[u8]) -> Option<&str>
     ensures { MatchOption result (is_utf8 bytes.now ≡ false) (λ text. (text.now ≡ bytes.now) × (is_utf8 bytes.now ≡ true)) }
 {
-    match str::from_utf8(bytes) {
-        Ok(text) => Some(text),
-        Err(_) => None,
-    }
+    str::from_utf8(bytes).ok()
 }
 
 impl<'a> Words<'a> {
@@ -87,6 +84,13 @@ impl<'a> Words<'a> {
         ensures { result ≡ unread body.now }
     {
         Words { body, place: 0 }
+    }
+
+    /// The place of the next item in the body, in bytes. Takes no memory.
+    pub fn place(&self) -> u64
+        ensures { result ≡ self.now.at }
+    {
+        self.place as u64
     }
 
     /// How many bytes are left. Takes no memory.
@@ -127,11 +131,13 @@ impl<'a> Words<'a> {
         Ok(numbers)
     }
 
-    /// Reads that many bytes, and zeros that fill them up to a whole word. `Short` where the bytes and the zeros aren't
-    /// all there, and else `Pad` where a byte in place of a zero isn't one.
+    /// Reads that many bytes, and zeros that fill them up to a whole word, and lends the bytes. `Short` where the bytes and
+    /// the zeros aren't all there, and else `Pad` where a byte in place of a zero isn't one. Takes no memory.
     #[tactic(auto, unfolding(crate::specs::Reading::raw_at))]
-    pub fn raw(&mut self, alloc: Global, size: u64) -> Result<WireBytes, WordFault>
-        ensures exact { Gives (λ bytes. bytes) (raw_at size) self.old self.new result }
+    pub fn raw_slice(&mut self, size: u64) -> Result<&'a [u8], WordFault>
+        ensures exact { Gives (λ bytes. bytes.now) (raw_at size) self.old self.new result }
+        ensures size { IfOk result (λ bytes. length bytes.now ≡ size) }
+        ensures memory { IsErrOf result WordFault.NoMemory → ⊥ }
     {
         let at = self.place as u64;
         let left = &self.body[self.place..];
@@ -142,13 +148,27 @@ impl<'a> Words<'a> {
         if !are_zero(&left[size..len]) {
             return Err(WordFault::Pad(at));
         }
-        let bytes = Vec::from_slice(alloc, &left[..size])?;
         self.place += len;
+        Ok(&left[..size])
+    }
+
+    /// Reads as `raw_slice` does, and copies the bytes. `NoMemory` is want of memory for the copy.
+    pub fn raw(&mut self, alloc: Global, size: u64) -> Result<WireBytes, WordFault>
+        ensures exact { Gives (λ bytes. bytes) (raw_at size) self.old self.new result }
+        ensures size { IfOk result (λ bytes. length bytes ≡ size) }
+    {
+        let mut ahead = Words {
+            body: self.body,
+            place: self.place,
+        };
+        let bytes = Vec::from_slice(alloc, ahead.raw_slice(size)?)?;
+        *self = ahead;
         Ok(WireBytes::new(bytes))
     }
 
     /// Reads a text: UTF-8 up to the first NUL, that NUL, and zeros up to a whole word. `NoNul` where no NUL is left, and
     /// else `Short` where the zeros aren't all there, `NotUtf8`, and `Pad` where a byte in place of a zero isn't one.
+    /// `NoMemory` is want of memory for the text.
     #[tactic(auto, unfolding(crate::specs::Reading::text_at, crate::specs::Reading::text_of))]
     pub fn text(&mut self, alloc: Global) -> Result<WireText, WordFault>
         ensures exact { Gives (λ text. text) text_at self.old self.new result }

@@ -55,7 +55,7 @@ impl Writer {
         }
     }
 
-    /// Writes a number of 64 bits.
+    /// Writes a number of 64 bits. After `Err`, want of memory, nothing more is written; so in all calls that write.
     pub fn word(&mut self, value: u64) -> Result<(), AllocError>
         ensures { AppendsOrKeeps self.old self.new (word value) result }
     {
@@ -85,7 +85,7 @@ impl Writer {
         finished
     }
 
-    /// Writes a text: its UTF-8, one NUL, and zeros to a whole word.
+    /// Writes a text, which may hold no NUL: its UTF-8, one NUL, and zeros to a whole word.
     pub fn text(&mut self, content: &str) -> Result<(), AllocError>
         requires { HasNoNul content.now }
         ensures { AppendsOrKeeps self.old self.new (text content.now) result }
@@ -119,8 +119,8 @@ impl Writer {
         WireBytes::new(self.out)
     }
 
-    /// What was written, with the count of the words after the first eight bytes in the first four of them. An error
-    /// comes exactly where that count is more than 4,294,967,295. Takes no memory.
+    /// What was written, which has to begin with a header, with the count of the words after it in its first four bytes.
+    /// An error comes exactly where that count is more than 4,294,967,295. Takes no memory.
     pub fn finish_message(self) -> Result<WireBytes, AllocError>
         requires { 8 ≤ length self }
         ensures counted { IfOk result (λ bytes. bytes ≡ counted self) }

@@ -1,6 +1,4 @@
-use Rattle.std.proofs.Common.{◌≡◌, ◌∙◌, ap, sym, Some}
 use Rattle.std.proofs.lemmas.Result.{err_from_is_err_and}
-use Rattle.dq_base.specs.Applying.{page_fault}
 use Rattle.dq_base.proofs.PageFaults.{page_fault-refuses}
 use Rattle.dq_base.proofs.applying.apply_pages.Goals as goal
 

@@ -12,4 +12,4 @@ pub returns-in_ok-put_name-in-Frames-clause-bytes : goal.returns-in_ok-put_name-
 returns-in_ok-put_name-in-Frames-clause-bytes c =
     let rest = frames_bytes c.in-Frames.tx c.in-Frames.truncate c.in-Frames.commit c.in-Frames.pages in
     let put = rw c.as_slice.ensures at c.put_frames.ensures.bytes in
-    rw c.in-Frames.is (three c.put_frames.result c.args.out.now c.word-in-Frames.new.self c.put_name-in-Frames.new.out c.put_frames.new.out (head 2) (text c.in-Frames.name) rest c.in_ok-word-in-Frames.ensures c.in_ok-put_name-in-Frames.ensures.bytes put)
+    rw c.in-Frames.is (three c.put_frames.result c.args.out.now c.raw-in-Frames.new.self c.put_name-in-Frames.new.out c.put_frames.new.out (head 2) (text c.in-Frames.name) rest c.in_ok-raw-in-Frames.ensures c.in_ok-put_name-in-Frames.ensures.bytes put)
