@@ -1,10 +1,13 @@
 -- What events do to the node of a script, and what it says.
-use Rattle.std.specs.Prelude.{◌==◌, ◌&&◌, ℕ, Bool, true, false, List, [], ◌∷◌, length, take, drop, codes, is_ok, Option, Some, None, if◌then◌else◌}
+use Rattle.std.specs.Prelude.{◌==◌, ◌&&◌, ℕ, Bool, true, false, List, [], ◌∷◌, length, take, drop, codes, Option, Some, None, Result, Ok, Err, if◌then◌else◌}
 use Rattle.std.specs.Ordering.{nat_cmp}
 use Rattle.std.specs.BTreeMap.{get}
 use Rattle.byteorder.specs.Endian.{little_number}
 use Rattle.wire_words.specs.declared.message.Header.{Header}
 use Rattle.wire_words.specs.Message.{header_of}
+use Rattle.wire_msgs.specs.declared.fault.MsgFault.{MsgFault}
+use Rattle.wire_msgs.specs.declared.request.Request.{Request}
+use Rattle.wire_msgs.specs.declared.request.Request.TheVariants.{Leader}
 use Rattle.wire_msgs.specs.declared.response.Response.{Response}
 use Rattle.wire_msgs.specs.declared.response.Response.TheVariants.{Server}
 use Rattle.wire_msgs.specs.Responses.{response_bytes}
@@ -35,10 +38,15 @@ put table place value q = if q == place then Some value else table q
 abbrev pub leader_known : Bool → Response
 leader_known leads = if leads then Server 1 (codes "n1") else Server 0 []
 
+-- the request was read, and it asks for the leader
+abbrev pub is_leader : Result Request MsgFault → Bool
+is_leader (Ok Leader) = true
+is_leader (Err fault) = false
+
 -- a message of one word that asks for the leader
 abbrev pub asks_leader : Header → List ℕ → Bool
 asks_leader header body =
-    (header.words == 1) && is_ok (request_of (record { kind = header.kind; schema = header.schema; body = body }))
+    (header.words == 1) && is_leader (request_of (record { kind = header.kind; schema = header.schema; body = body }))
 
 -- a client's first bytes: the version word 1, and then that message and nothing else
 unfoldable pub greets : List ℕ → Bool

@@ -10,7 +10,7 @@ use byteorder::{ByteOrder, LittleEndian};
 use dq_base::Bytes;
 use std::alloc::{AllocError, AllocFailed, Global};
 use std::collections::BTreeMap;
-use wire_msgs::{MsgFault, Response, read_request, write_response};
+use wire_msgs::{MsgFault, Request, Response, read_request, write_response};
 use wire_words::{Header, Message, WireBytes, WireText};
 
 /// The version of the protocol, which a client's first word names.
@@ -101,7 +101,7 @@ fn is_leader_request(alloc: Global, header: Header, body: &[u8]) -> Result<bool,
         body: WireBytes::new(Vec::from_slice(alloc, body)?),
     };
     match read_request(alloc, &message) {
-        Ok(_) => Ok(true),
+        Ok(Request::Leader) => Ok(true),
         Err(MsgFault::NoMemory) => Err(AllocError),
         Err(_) => Ok(false),
     }
@@ -162,6 +162,7 @@ impl Cluster {
         Ok(())
     }
 
+    /// Connects a client to the node, where the number was never one of a connection.
     #[tactic(auto, unfolding(crate::specs::World::happens))]
     fn connect(&mut self, node: u32, connection: u32) -> Result<(), EventFault>
         ensures ok { OnOk result (happens (world_of self.old) (Event.Connect node connection) ≡ Some (world_of self.new, [])) }
@@ -182,6 +183,7 @@ impl Cluster {
         matches!(self.clients.get(&connection), Some(Client::Connected))
     }
 
+    /// Answers a client's first bytes, where they ask for the leader.
     #[tactic(auto, unfolding(crate::specs::World::happens))]
     fn greet(&mut self, alloc: Global, connection: u32, bytes: &[u8]) -> Result<Say, EventFault>
         ensures ok { IfOk result (λ said. happens (world_of self.old) (Event.Bytes connection bytes.now) ≡ Some (world_of self.new, said ∷ [])) }
@@ -196,12 +198,13 @@ impl Cluster {
         Ok(Say::Reply { connection, bytes })
     }
 
-    /// Has an event happen, and answers what was said. After `NotThere` nothing has happened; want of memory may come
-    /// after it has.
+    /// Has an event happen, and answers what was said. `NotThere` is an event that names what isn't there, and nothing has
+    /// happened then; want of memory may come after it has.
     #[tactic(auto, unfolding(crate::specs::World::happens))]
     pub fn take(&mut self, alloc: Global, event: Event) -> Result<Vec<Say>, EventFault>
         ensures ok { IfOk result (λ said. happens (world_of self.old) event ≡ Some (world_of self.new, said.items)) }
         ensures fault { IsErrOf result EventFault.NotThere → happens (world_of self.old) event ≡ None }
+        ensures kept { IsErrOf result EventFault.NotThere → world_of self.new ≡ world_of self.old }
     {
         let mut said = Vec::new(alloc);
         match event {
@@ -221,7 +224,7 @@ impl Cluster {
         ensures { result ≡ node_standing (world_of self.now) }
     {
         let digest = digest(&[]);
-        let index = self.leads as u64;
+        let index = u64::from(self.leads);
         Say::Node {
             node: 1,
             term: index,

@@ -1,6 +1,6 @@
 //! A database as a machine holds it.
 
-ghost use Rattle.std.specs.Prelude.{◌≡◌, [], ◌++◌, OnOk, IfOk, false};
+ghost use Rattle.std.specs.Prelude.{◌≡◌, [], ◌++◌, OnOk, OnErr, IfOk, false};
 ghost use Rattle.dq_base.specs.Applying.{applied};
 ghost use Rattle.cluster_runner.specs.Machine.{image_after, pending_of};
 
@@ -17,7 +17,8 @@ pub(crate) struct Database {
 
 /// Applies pages where they can be applied; else the image stays. `Err` is want of memory, and the image stays too.
 fn apply_or_stay(image: &mut Image, pages: &[NumberedPage]) -> Result<(), AllocError>
-    ensures { OnOk result (image.new ≡ image_after image.old pages.now) }
+    ensures ok { OnOk result (image.new ≡ image_after image.old pages.now) }
+    ensures kept { OnErr result (image.new ≡ image.old) }
 {
     match apply_pages(image, pages) {
         Ok(()) => Ok(()),
@@ -66,7 +67,7 @@ impl Database {
     }
 
     /// Takes pages of a transaction, and where it ends with them, brings all of its pages into the image. Costs in the
-    /// order of the pages.
+    /// order of the pages. After `Err`, want of memory, the image is as it was, and pages that were pending may be lost.
     #[tactic(auto, unfolding(crate::specs::Machine::frames))]
     pub fn take_frames(
         &mut self,
@@ -75,7 +76,8 @@ impl Database {
         commit: bool,
         pages: &[NumberedPage],
     ) -> Result<(), AllocError>
-        ensures { OnOk result (self.new ≡ frames tx commit pages.now self.old) }
+        ensures ok { OnOk result (self.new ≡ frames tx commit pages.now self.old) }
+        ensures kept { OnErr result (self.new.image ≡ self.old.image) }
     {
         if commit && !self.awaits(tx) {
             self.pending = None;

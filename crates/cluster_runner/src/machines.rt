@@ -133,6 +133,7 @@ impl Machines {
     fn take_next(&mut self, alloc: Global, number: u32) -> Result<(), EventFault>
         ensures ok { OnOk result (applies (fleet_of self.old) (Event.Take number) ≡ Some (fleet_of self.new, [])) }
         ensures fault { IsErrOf result EventFault.NotThere → applies (fleet_of self.old) (Event.Take number) ≡ None }
+        ensures kept { IsErrOf result EventFault.NotThere → fleet_of self.new ≡ fleet_of self.old }
     {
         let Some(place) = place_of(number, self.machines.len()) else {
             return Err(EventFault::NotThere);
@@ -142,12 +143,13 @@ impl Machines {
         Ok(())
     }
 
-    /// Has an event happen, and answers what was said. After `NotThere` nothing has happened; want of memory may come
-    /// after it has.
+    /// Has an event happen, and answers what was said. `NotThere` is an event that names what isn't there, and nothing has
+    /// happened then; want of memory may come after it has.
     #[tactic(auto, unfolding(crate::specs::Machines::applies))]
     pub fn take(&mut self, alloc: Global, event: Event) -> Result<Vec<Say>, EventFault>
         ensures ok { IfOk result (λ said. applies (fleet_of self.old) event ≡ Some (fleet_of self.new, said.items)) }
         ensures fault { IsErrOf result EventFault.NotThere → applies (fleet_of self.old) event ≡ None }
+        ensures kept { IsErrOf result EventFault.NotThere → fleet_of self.new ≡ fleet_of self.old }
     {
         match event {
             Event::Put { bytes } => {

@@ -19,10 +19,12 @@ pub(crate) enum Scene {
 impl Scene {
     ghost use Rattle.cluster_runner.specs.Scenes.{plays, shown, all_shown, scene_of};
 
-    /// Has an event happen, and answers what was said.
+    /// Has an event happen, and answers what was said. `NotThere` is an event that names what isn't there, and nothing has
+    /// happened then; want of memory may come after it has.
     pub fn take(&mut self, alloc: Global, event: Event) -> Result<Vec<Say>, EventFault>
         ensures ok { IfOk result (λ said. plays (scene_of self.old) event ≡ Some (scene_of self.new, said.items)) }
         ensures fault { IsErrOf result EventFault.NotThere → plays (scene_of self.old) event ≡ None }
+        ensures kept { IsErrOf result EventFault.NotThere → scene_of self.new ≡ scene_of self.old }
     {
         match self {
             Scene::Nodes(cluster) => cluster.take(alloc, event),
