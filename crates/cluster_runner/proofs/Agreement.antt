@@ -27,7 +27,9 @@ use Rattle.cluster_runner.specs.Limits.{may_join}
 use Rattle.cluster_runner.specs.Machines.{Fleet, idle, after_command, after_next, take_at, with_command, joins, refusal, applies, place_named, standing, standings}
 use Rattle.cluster_runner.specs.Scenes.{Scene, Nodes, Pages, plays, shown}
 use Rattle.cluster_runner.specs.Run.{Place, Opening, Within, Next, Fault, Run, idle_fleet, after_event, after_show, opened_at, line_step, said_step, step, onward, closing, ending, run_from, run}
+use Rattle.cluster_runner.specs.ByName.{ChangesOne}
 use Rattle.cluster_runner.specs.Alike.{fleet_in, fleet_at, led, led_from, commands_of, moment, run_until, BeginsWith, Follows, IsDigestOf, Tells, KeepsAlike}
+use Rattle.cluster_runner.proofs.ByName.{files_in_order, files_changed}
 
 -- ---- what holds of each element
 
@@ -81,15 +83,18 @@ tells_grown all commands b (Machine number applied bytes) t = subst (λ (l : Lis
 follows_idle : (commands : List Command) → Follows commands idle
 follows_idle commands = record { within = omega arith; holds = refl }
 
+next_front : (commands : List Command) (count : ℕ) (command : Command) → slice_get commands count ≡ Some command → take (count + 1) commands ≡ take count commands ++ command ∷ []
+next_front commands count command e =
+    let is : get_or commands count command ≡ command = get_or_from_slice_get commands count command command e in
+    take_more commands count command (slice_get_within commands count command e) ∙ ap (λ (c : Command). take count commands ++ c ∷ []) is
+
 follows_next : (commands : List Command) (machine : Holding) (next : Option Command) → slice_get commands machine.applied ≡ next → Follows commands machine → Follows commands (after_command machine next)
 follows_next commands machine None e f = f
 follows_next commands machine (Some command) e f =
     let lt : machine.applied < length commands = slice_get_within commands machine.applied command e in
-    let is : get_or commands machine.applied command ≡ command = get_or_from_slice_get commands machine.applied command command e in
-    let front : take (machine.applied + 1) commands ≡ take machine.applied commands ++ command ∷ [] = take_more commands machine.applied command lt ∙ ap (λ (c : Command). take machine.applied commands ++ c ∷ []) is in
     record {
       within = omega (arith, lt);
-      holds = ap (λ (d : List Database). act d command) f.holds ∙ sym (fold-append act [] (take machine.applied commands) (command ∷ [])) ∙ ap files (sym front);
+      holds = ap (λ (d : List Database). act d command) f.holds ∙ sym (fold-append act [] (take machine.applied commands) (command ∷ [])) ∙ ap files (sym (next_front commands machine.applied command e));
     }
 
 -- ---- all machines
@@ -364,6 +369,11 @@ module _ (script : List ℕ) where
       All-from_recursion (Tells (commands_of script)) said
       (all_weaker (Tells fleet.commands) (Tells (commands_of script)) (tells_grown (commands_of script) fleet.commands (grows_to_end count)) said (run_tells whole Opening 1 (take count (lines_of script)) tt))
 
+  next_changes_one : (count : ℕ) (command : Command) → slice_get (commands_of script) count ≡ Some command → ChangesOne command (files (take count (commands_of script))) (files (take (count + 1) (commands_of script)))
+  next_changes_one count command e =
+      let front = take count (commands_of script) in
+      subst (λ (l : List Command). ChangesOne command (files front) (files l)) (sym (next_front (commands_of script) count command e)) (files_changed front command)
+
   pub keeps_alike : KeepsAlike script
   keeps_alike = record {
     grows = grows_to_end;
@@ -373,4 +383,6 @@ module _ (script : List ℕ) where
     same_digest = same_digests;
     told_until = all_told_until;
     shown = shows Opening 1 (lines_of script);
+    in_order = λ count. files_in_order (take count (commands_of script));
+    changes_one = next_changes_one;
   }

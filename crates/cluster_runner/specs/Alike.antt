@@ -1,5 +1,5 @@
 -- A run has one list of commands, and machines that have applied as many of them hold the same files and pending pages, at whichever moments of the run.
-use Rattle.std.specs.Prelude.{◌≡◌, ◌≤◌, ℕ, suc, Bool, List, [], ◌∷◌, ◌++◌, length, take, All, Contains, None, Ok, Err, ⊤}
+use Rattle.std.specs.Prelude.{◌≡◌, ◌≤◌, ◌+◌, ℕ, suc, Bool, List, [], ◌∷◌, ◌++◌, length, take, slice_get, All, Contains, Some, None, Ok, Err, ⊤}
 use Rattle.frame_commands.specs.declared.command.Command.{Command}
 use Rattle.cluster_runner.specs.declared.cluster.Say.{Say}
 use Rattle.cluster_runner.specs.declared.cluster.Say.TheVariants.{Reply, Refused, Node, Machine}
@@ -7,6 +7,7 @@ use Rattle.cluster_runner.specs.Lines.{lines_of}
 use Rattle.cluster_runner.specs.Machine.{files}
 use Rattle.cluster_runner.specs.Holding.{Holding}
 use Rattle.cluster_runner.specs.Digest.{digest}
+use Rattle.cluster_runner.specs.ByName.{AreInOrder, ChangesOne}
 use Rattle.cluster_runner.specs.Machines.{Fleet}
 use Rattle.cluster_runner.specs.Scenes.{Scene, Nodes, Pages}
 use Rattle.cluster_runner.specs.Run.{Place, Opening, Within, Next, Run, idle_fleet, step, closing, run_from, run}
@@ -84,3 +85,8 @@ pub record KeepsAlike (script : List ℕ) : Type 0 where
   pub told_until : (whole : Bool) (count : ℕ) → All (Tells (commands_of script)) (run_until whole script count).said
   -- The machines where the script has led are what it shows at its end.
   pub shown : (run script).fault ≡ None → (said : List Say) × ((run script).said ≡ said ++ closing (place_after script))
+  -- The databases that a front of the list makes stand in the order of their names.
+  pub in_order : (count : ℕ) → AreInOrder (files (take count (commands_of script)))
+  -- The next command of the list changes the database of its name, and leaves all others.
+  pub changes_one : (count : ℕ) (command : Command) → slice_get (commands_of script) count ≡ Some command
+      → ChangesOne command (files (take count (commands_of script))) (files (take (count + 1) (commands_of script)))
