@@ -1,11 +1,11 @@
 -- Each machine holds what its front of the run's list makes, at every moment, and is shown so.
-use Rattle.std.proofs.Common.{◌≡◌, ℕ, zero, suc, ◌+◌, ◌<◌, Bool, true, false, cond, List, [], ◌∷◌, ◌++◌, Option, Some, None, Ok, Err, length, get_or, take, set, All, Contains, refl, sym, ap, subst, ◌∙◌, append_assoc, append-nil, arith}
+use Rattle.std.proofs.Common.{◌≡◌, ℕ, zero, suc, ◌+◌, ◌<◌, ◌≤◌, Bool, true, false, cond, List, [], ◌∷◌, ◌++◌, Option, Some, None, Ok, Err, length, get_or, take, set, All, Contains, refl, sym, ap, subst, ◌∙◌, append_assoc, append-nil, arith}
 use Rattle.std.specs.Prelude.{slice_get, Result}
 use Rattle.std.specs.List.{AllByRecursion}
 use Rattle.std.specs.Option.{option_map}
 use Rattle.std.proofs.lemmas.Grind.{fold-append}
 use Rattle.std.proofs.lemmas.Option.{slice_get_within, get_or_from_slice_get}
-use Rattle.std.proofs.lemmas.List.{take-append-le, take_more, length-append}
+use Rattle.std.proofs.lemmas.List.{take-append-le, take-take, take_more, length-append}
 use Rattle.std.proofs.lemmas.List.Elements.{All-from_recursion, All-contains}
 use Rattle.frame_commands.specs.declared.command.Command.{Command}
 use Rattle.frame_commands.specs.declared.fault.CommandFault.{CommandFault}
@@ -26,7 +26,7 @@ use Rattle.cluster_runner.specs.Digest.{digest}
 use Rattle.cluster_runner.specs.Limits.{may_join}
 use Rattle.cluster_runner.specs.Machines.{Fleet, idle, after_command, after_next, take_at, with_command, joins, refusal, applies, place_named, standing, standings}
 use Rattle.cluster_runner.specs.Scenes.{Scene, Nodes, Pages, plays, shown}
-use Rattle.cluster_runner.specs.Run.{Place, Opening, Within, Next, Fault, Run, idle_fleet, after_event, after_show, opened_at, line_step, said_step, step, onward, closing, ending, run_from, run}
+use Rattle.cluster_runner.specs.Run.{Place, Opening, Within, Next, Fault, Run, idle_fleet, after_event, after_show, opened_at, line_step, said_step, step, onward, closing, run_from, run}
 use Rattle.cluster_runner.specs.ByName.{ChangesOne}
 use Rattle.cluster_runner.specs.Alike.{fleet_in, fleet_at, led, led_from, commands_of, moment, run_until, BeginsWith, Follows, IsDigestOf, Tells, KeepsAlike}
 use Rattle.cluster_runner.proofs.ByName.{files_in_order, files_changed}
@@ -161,10 +161,6 @@ closing_tells : (place : Place) → AllFollow (fleet_at place) → AllTell (flee
 closing_tells Opening follow = tt
 closing_tells (Within events (Nodes world)) follow = (node_tells [] world, tt)
 closing_tells (Within events (Pages fleet)) follow = all_shown_tell fleet.commands 1 fleet.machines follow
-
-ending_tells : (whole : Bool) (place : Place) → AllFollow (fleet_at place) → AllTell (fleet_at place).commands (ending whole place).said
-ending_tells true place follow = closing_tells place follow
-ending_tells false place follow = tt
 
 -- ---- what events and lines do
 
@@ -303,20 +299,20 @@ lead_on place number (line ∷ lines) (suc count) follow =
     go (step place number line) refl
 
 -- What the run of lines shows is of the list where they lead.
-run_tells : (whole : Bool) (place : Place) (number : ℕ) (lines : List (List ℕ)) → AllFollow (fleet_at place) → AllTell (fleet_at (led_from place number lines)).commands (run_from whole place number lines).said
-run_tells whole place number [] follow = ending_tells whole place follow
-run_tells whole place number (line ∷ lines) follow =
+run_tells : (place : Place) (number : ℕ) (lines : List (List ℕ)) → AllFollow (fleet_at place) → AllTell (fleet_at (led_from place number lines)).commands (run_from true place number lines).said
+run_tells place number [] follow = closing_tells place follow
+run_tells place number (line ∷ lines) follow =
     let P : Next → Type 0 = λ o. step place number line ≡ o
-    → AllTell (fleet_at (led (λ (next : Place). led_from next (suc number) lines) place o)).commands (onward (λ (next : Place × List Say). run_from whole next.0 (suc number) lines) o).said in
+    → AllTell (fleet_at (led (λ (next : Place). led_from next (suc number) lines) place o)).commands (onward (λ (next : Place × List Say). run_from true next.0 (suc number) lines) o).said in
     let go : (o : Next) → P o =
     λ o. elim o as P [
       | Ok next ↦ λ e.
           let goes = step_goes place number line next follow e in
           let leads = lead next.0 (suc number) lines goes.follow in
           let all = (fleet_at (led_from next.0 (suc number) lines)).commands in
-          all_append (Tells all) next.1 (run_from whole next.0 (suc number) lines).said
+          all_append (Tells all) next.1 (run_from true next.0 (suc number) lines).said
           (all_weaker (Tells (fleet_at next.0).commands) (Tells all) (tells_grown all (fleet_at next.0).commands leads.grows) next.1 goes.tells)
-          (run_tells whole next.0 (suc number) lines goes.follow)
+          (run_tells next.0 (suc number) lines goes.follow)
       | Err fault ↦ λ e. tt
     ] in
     go (step place number line) refl
@@ -336,6 +332,11 @@ shows place number (line ∷ lines) =
     go (step place number line)
 
 module _ (script : List ℕ) where
+  grows_later : (early late : ℕ) → early ≤ late → BeginsWith (moment script late).commands (moment script early).commands
+  grows_later early late le =
+      let front : take early (take late (lines_of script)) ≡ take early (lines_of script) = take-take early late (lines_of script) le in
+      subst (λ (lines : List (List ℕ)). BeginsWith (moment script late).commands (fleet_at (led_from Opening 1 lines)).commands) front (lead_on Opening 1 (take late (lines_of script)) early tt)
+
   grows_to_end : (count : ℕ) → BeginsWith (commands_of script) (moment script count).commands
   grows_to_end count = lead_on Opening 1 (lines_of script) count tt
 
@@ -353,7 +354,7 @@ module _ (script : List ℕ) where
       one.holds ∙ ap (λ (n : ℕ). files (take n (commands_of script))) e ∙ sym two.holds
 
   all_told : All (Tells (commands_of script)) (run script).said
-  all_told = All-from_recursion (Tells (commands_of script)) (run script).said (run_tells true Opening 1 (lines_of script) tt)
+  all_told = All-from_recursion (Tells (commands_of script)) (run script).said (run_tells Opening 1 (lines_of script) tt)
 
   same_digests : (number other applied : ℕ) (bytes others : List ℕ) → Contains (run script).said (Machine number applied bytes) → Contains (run script).said (Machine other applied others) → bytes ≡ others
   same_digests number other applied bytes others here there =
@@ -362,12 +363,12 @@ module _ (script : List ℕ) where
       let two : IsDigestOf (commands_of script) applied others = All-contains (Tells (commands_of script)) said (Machine other applied others) all_told there in
       one.bytes_are ∙ sym two.bytes_are
 
-  all_told_until : (whole : Bool) (count : ℕ) → All (Tells (commands_of script)) (run_until whole script count).said
-  all_told_until whole count =
+  all_told_until : (count : ℕ) → All (Tells (commands_of script)) (run_until script count).said
+  all_told_until count =
       let fleet = moment script count in
-      let said = (run_until whole script count).said in
+      let said = (run_until script count).said in
       All-from_recursion (Tells (commands_of script)) said
-      (all_weaker (Tells fleet.commands) (Tells (commands_of script)) (tells_grown (commands_of script) fleet.commands (grows_to_end count)) said (run_tells whole Opening 1 (take count (lines_of script)) tt))
+      (all_weaker (Tells fleet.commands) (Tells (commands_of script)) (tells_grown (commands_of script) fleet.commands (grows_to_end count)) said (run_tells Opening 1 (take count (lines_of script)) tt))
 
   next_changes_one : (count : ℕ) (command : Command) → slice_get (commands_of script) count ≡ Some command → ChangesOne command (files (take count (commands_of script))) (files (take (count + 1) (commands_of script)))
   next_changes_one count command e =
@@ -376,12 +377,14 @@ module _ (script : List ℕ) where
 
   pub keeps_alike : KeepsAlike script
   keeps_alike = record {
-    grows = grows_to_end;
+    grows = grows_later;
+    one_list = grows_to_end;
     follow = all_follow;
     same = same_holding;
     told = all_told;
     same_digest = same_digests;
     told_until = all_told_until;
+    shown_until = λ count. shows Opening 1 (take count (lines_of script));
     shown = shows Opening 1 (lines_of script);
     in_order = λ count. files_in_order (take count (commands_of script));
     changes_one = next_changes_one;

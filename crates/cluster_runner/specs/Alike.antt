@@ -1,5 +1,5 @@
 -- A run has one list of commands, and machines that have applied as many of them hold the same files and pending pages, at whichever moments of the run.
-use Rattle.std.specs.Prelude.{◌≡◌, ◌≤◌, ◌+◌, ℕ, suc, Bool, List, [], ◌∷◌, ◌++◌, length, take, slice_get, All, Contains, Some, None, Ok, Err, ⊤}
+use Rattle.std.specs.Prelude.{◌≡◌, ◌≤◌, ◌+◌, ℕ, suc, true, List, [], ◌∷◌, ◌++◌, length, take, slice_get, All, Contains, Some, None, Ok, Err, ⊤}
 use Rattle.frame_commands.specs.declared.command.Command.{Command}
 use Rattle.cluster_runner.specs.declared.cluster.Say.{Say}
 use Rattle.cluster_runner.specs.declared.cluster.Say.TheVariants.{Reply, Refused, Node, Machine}
@@ -39,13 +39,17 @@ place_after script = led_from Opening 1 (lines_of script)
 abbrev pub commands_of : List ℕ → List Command
 commands_of script = (fleet_at (place_after script)).commands
 
--- a moment of the run: the machines and their list after so many of the script's lines
-abbrev pub moment : List ℕ → ℕ → Fleet
-moment script count = fleet_at (led_from Opening 1 (take count (lines_of script)))
+-- where so many of its lines lead
+abbrev pub place_at : List ℕ → ℕ → Place
+place_at script count = led_from Opening 1 (take count (lines_of script))
 
--- the run of so many of the script's lines, where the script ends there or goes on
-abbrev pub run_until : Bool → List ℕ → ℕ → Run
-run_until whole script count = run_from whole Opening 1 (take count (lines_of script))
+-- a moment of the run: the machines and their list after so many lines
+abbrev pub moment : List ℕ → ℕ → Fleet
+moment script count = fleet_at (place_at script count)
+
+-- the run of so many lines, at the end of which all are shown
+abbrev pub run_until : List ℕ → ℕ → Run
+run_until script count = run_from true Opening 1 (take count (lines_of script))
 
 -- a list of commands begins with these
 abbrev pub BeginsWith : List Command → List Command → Type 0
@@ -70,8 +74,10 @@ Tells commands (Machine number applied bytes) = IsDigestOf commands applied byte
 
 -- What every run of a script keeps, of one list of commands.
 pub record KeepsAlike (script : List ℕ) : Type 0 where
-  -- The list only grows, at its end: that of the run begins with that of each moment.
-  pub grows : (count : ℕ) → BeginsWith (commands_of script) (moment script count).commands
+  -- From a moment to a later one the list only grows, at its end.
+  pub grows : (early late : ℕ) → early ≤ late → BeginsWith (moment script late).commands (moment script early).commands
+  -- So the list of the run begins with that of each moment.
+  pub one_list : (count : ℕ) → BeginsWith (commands_of script) (moment script count).commands
   -- At each moment each machine has applied a front of the run's list, and holds what that front makes.
   pub follow : (count : ℕ) → All (Follows (commands_of script)) (moment script count).machines
   -- So at any two moments machines that have applied as many commands hold the same.
@@ -81,9 +87,10 @@ pub record KeepsAlike (script : List ℕ) : Type 0 where
   pub told : All (Tells (commands_of script)) (run script).said
   -- So two lines that tell of as many commands tell the same digest.
   pub same_digest : (number other applied : ℕ) (bytes others : List ℕ) → Contains (run script).said (Machine number applied bytes) → Contains (run script).said (Machine other applied others) → bytes ≡ others
-  -- What is printed up to each moment is of that list too.
-  pub told_until : (whole : Bool) (count : ℕ) → All (Tells (commands_of script)) (run_until whole script count).said
-  -- The machines where the script has led are what it shows at its end.
+  -- What is printed up to each moment, and how all stand then, is of that list too.
+  pub told_until : (count : ℕ) → All (Tells (commands_of script)) (run_until script count).said
+  -- The machines of a moment are those that are shown where a script ends there, so those where this one leads are shown at its end.
+  pub shown_until : (count : ℕ) → (run_until script count).fault ≡ None → (said : List Say) × ((run_until script count).said ≡ said ++ closing (place_at script count))
   pub shown : (run script).fault ≡ None → (said : List Say) × ((run script).said ≡ said ++ closing (place_after script))
   -- The databases that a front of the list makes stand in the order of their names.
   pub in_order : (count : ℕ) → AreInOrder (files (take count (commands_of script)))
