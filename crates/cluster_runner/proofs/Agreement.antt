@@ -1,91 +1,166 @@
--- Each machine holds what its front of the list makes, wherever a script leads.
-use Rattle.std.proofs.Common.{◌≡◌, ℕ, zero, suc, ◌+◌, ◌<◌, Bool, true, false, cond, List, [], ◌∷◌, ◌++◌, Option, Some, None, Ok, Err, length, get_or, take, set, refl, sym, ap, subst, ◌∙◌, append_assoc, arith, inl, inr}
+-- Each machine holds what its front of the run's list makes, at every moment, and is shown so.
+use Rattle.std.proofs.Common.{◌≡◌, ℕ, zero, suc, ◌+◌, ◌<◌, ◌≤◌, Bool, true, false, cond, List, [], ◌∷◌, ◌++◌, Option, Some, None, Ok, Err, length, get_or, take, set, All, Contains, refl, sym, ap, subst, ◌∙◌, append_assoc, append-nil, arith}
 use Rattle.std.specs.Prelude.{slice_get, Result}
+use Rattle.std.specs.List.{AllByRecursion}
 use Rattle.std.specs.Option.{option_map}
-use Rattle.std.proofs.lemmas.Bool.Decides.{eqb_tells}
 use Rattle.std.proofs.lemmas.Grind.{fold-append}
 use Rattle.std.proofs.lemmas.Option.{slice_get_within, get_or_from_slice_get}
-use Rattle.std.proofs.lemmas.List.{take-append-le, take_more, length-append, length-set, get_or-set_same, get_or-set_other}
+use Rattle.std.proofs.lemmas.List.{take-append-le, take-take, take_more, length-append}
+use Rattle.std.proofs.lemmas.List.Elements.{All-from_recursion, All-contains}
 use Rattle.frame_commands.specs.declared.command.Command.{Command}
 use Rattle.frame_commands.specs.declared.fault.CommandFault.{CommandFault}
 use Rattle.frame_commands.specs.Reading.{command_of}
 use Rattle.cluster_runner.specs.declared.database.Database.{Database}
 use Rattle.cluster_runner.specs.declared.cluster.Say.{Say}
+use Rattle.cluster_runner.specs.declared.cluster.Say.TheVariants.{Reply, Refused, Node, Machine}
 use Rattle.cluster_runner.specs.declared.grammar.Event.{Event}
 use Rattle.cluster_runner.specs.declared.grammar.Event.TheVariants.{Timeout, Connect, Bytes, Put, Take}
 use Rattle.cluster_runner.specs.declared.grammar.ScriptLine.{ScriptLine}
 use Rattle.cluster_runner.specs.declared.grammar.ScriptLine.TheVariants as says
 use Rattle.cluster_runner.specs.Lines.{lines_of}
 use Rattle.cluster_runner.specs.Grammar.{line_of}
+use Rattle.cluster_runner.specs.World.{World, happens, node_standing}
 use Rattle.cluster_runner.specs.Machine.{act, files}
 use Rattle.cluster_runner.specs.Holding.{Holding}
+use Rattle.cluster_runner.specs.Digest.{digest}
 use Rattle.cluster_runner.specs.Limits.{may_join}
-use Rattle.cluster_runner.specs.Machines.{Fleet, idle, idle_machines, after_command, after_next, take_at, with_command, applies, place_named}
+use Rattle.cluster_runner.specs.Machines.{Fleet, idle, after_command, after_next, take_at, with_command, joins, refusal, applies, place_named, standing, standings}
 use Rattle.cluster_runner.specs.Scenes.{Scene, Nodes, Pages, plays, shown}
 use Rattle.cluster_runner.specs.Run.{Place, Opening, Within, Next, Fault, Run, idle_fleet, after_event, after_show, opened_at, line_step, said_step, step, onward, closing, run_from, run}
-use Rattle.cluster_runner.specs.Alike.{Follows, Alike, AreAlike, led, led_from, place_after, KeepsAlike}
+use Rattle.cluster_runner.specs.ByName.{ChangesOne}
+use Rattle.cluster_runner.specs.Alike.{fleet_in, fleet_at, led, led_from, commands_of, moment, run_until, BeginsWith, Follows, IsDigestOf, Tells, KeepsAlike}
+use Rattle.cluster_runner.proofs.ByName.{files_in_order, files_changed}
 
-abbrev Follow : Fleet → Type 0
-Follow fleet = (i : ℕ) → i < length fleet.machines → Follows fleet.commands (get_or fleet.machines i idle)
+-- ---- what holds of each element
 
-alike : (fleet : Fleet) → Follow fleet → Alike fleet
-alike fleet follow = record {
-  follow = follow;
-  same = λ i j here there e.
-      (follow i here).holds ∙ ap (λ (n : ℕ). files (take n fleet.commands)) e ∙ sym (follow j there).holds;
+all_weaker : {X : Type 0} (P Q : X → Type 0) → ((x : X) → P x → Q x) → (xs : List X) → AllByRecursion P xs → AllByRecursion Q xs
+all_weaker P Q weaker [] a = tt
+all_weaker P Q weaker (x ∷ xs) a = (weaker x a.0, all_weaker P Q weaker xs a.1)
+
+all_append : {X : Type 0} (P : X → Type 0) (xs ys : List X) → AllByRecursion P xs → AllByRecursion P ys → AllByRecursion P (xs ++ ys)
+all_append P [] ys a b = b
+all_append P (x ∷ xs) ys a b = (a.0, all_append P xs ys a.1 b)
+
+all_set : {X : Type 0} (P : X → Type 0) (xs : List X) (i : ℕ) (x : X) → P x → AllByRecursion P xs → AllByRecursion P (set xs i x)
+all_set P [] i x p a = tt
+all_set P (y ∷ ys) zero x p a = (p, a.1)
+all_set P (y ∷ ys) (suc i) x p a = (a.0, all_set P ys i x p a.1)
+
+all_get_or : {X : Type 0} (P : X → Type 0) (xs : List X) (i : ℕ) (x : X) → P x → AllByRecursion P xs → P (get_or xs i x)
+all_get_or P [] i x p a = p
+all_get_or P (y ∷ ys) zero x p a = a.0
+all_get_or P (y ∷ ys) (suc i) x p a = all_get_or P ys i x p a.1
+
+-- ---- one machine, and a list that grows
+
+begins_itself : (commands : List Command) → BeginsWith commands commands
+begins_itself commands = ([], append-nil commands)
+
+begins_then : (last more first : List Command) → BeginsWith last more → BeginsWith more first → BeginsWith last first
+begins_then last more first b c = (c.0 ++ b.0, sym (append_assoc first c.0 b.0) ∙ ap (λ (l : List Command). l ++ b.0) c.1 ∙ b.1)
+
+follows_longer : (commands more : List Command) (machine : Holding) → Follows commands machine → Follows (commands ++ more) machine
+follows_longer commands more machine f = record {
+  within = omega (arith, f.within, length-append commands more);
+  holds = f.holds ∙ ap files (sym (take-append-le machine.applied commands more f.within));
 }
 
--- ---- one machine
+follows_grown : (all commands : List Command) → BeginsWith all commands → (machine : Holding) → Follows commands machine → Follows all machine
+follows_grown all commands b machine f = subst (λ (l : List Command). Follows l machine) b.1 (follows_longer commands b.0 machine f)
 
-follows_more : (commands : List Command) (command : Command) (machine : Holding) → Follows commands machine → Follows (commands ++ command ∷ []) machine
-follows_more commands command machine f = record {
-  within = omega (arith, f.within, length-append commands (command ∷ []));
-  holds = f.holds ∙ ap files (sym (take-append-le machine.applied commands (command ∷ []) f.within));
+digest_longer : (commands more : List Command) (applied : ℕ) (bytes : List ℕ) → IsDigestOf commands applied bytes → IsDigestOf (commands ++ more) applied bytes
+digest_longer commands more applied bytes d = record {
+  within = omega (arith, d.within, length-append commands more);
+  bytes_are = d.bytes_are ∙ ap (λ (l : List Command). digest (files l)) (sym (take-append-le applied commands more d.within));
 }
+
+tells_grown : (all commands : List Command) → BeginsWith all commands → (say : Say) → Tells commands say → Tells all say
+tells_grown all commands b (Reply connection bytes) t = tt
+tells_grown all commands b Refused t = tt
+tells_grown all commands b (Node node term leads applied bytes) t = tt
+tells_grown all commands b (Machine number applied bytes) t = subst (λ (l : List Command). IsDigestOf l applied bytes) b.1 (digest_longer commands b.0 applied bytes t)
+
+follows_idle : (commands : List Command) → Follows commands idle
+follows_idle commands = record { within = omega arith; holds = refl }
+
+next_front : (commands : List Command) (count : ℕ) (command : Command) → slice_get commands count ≡ Some command → take (count + 1) commands ≡ take count commands ++ command ∷ []
+next_front commands count command e =
+    let is : get_or commands count command ≡ command = get_or_from_slice_get commands count command command e in
+    take_more commands count command (slice_get_within commands count command e) ∙ ap (λ (c : Command). take count commands ++ c ∷ []) is
 
 follows_next : (commands : List Command) (machine : Holding) (next : Option Command) → slice_get commands machine.applied ≡ next → Follows commands machine → Follows commands (after_command machine next)
 follows_next commands machine None e f = f
 follows_next commands machine (Some command) e f =
     let lt : machine.applied < length commands = slice_get_within commands machine.applied command e in
-    let is : get_or commands machine.applied command ≡ command = get_or_from_slice_get commands machine.applied command command e in
-    let front : take (machine.applied + 1) commands ≡ take machine.applied commands ++ command ∷ [] = take_more commands machine.applied command lt ∙ ap (λ (c : Command). take machine.applied commands ++ c ∷ []) is in
     record {
       within = omega (arith, lt);
-      holds = ap (λ (d : List Database). act d command) f.holds ∙ sym (fold-append act [] (take machine.applied commands) (command ∷ [])) ∙ ap files (sym front);
+      holds = ap (λ (d : List Database). act d command) f.holds ∙ sym (fold-append act [] (take machine.applied commands) (command ∷ [])) ∙ ap files (sym (next_front commands machine.applied command e));
     }
-
-idle_at : (n i : ℕ) → get_or (idle_machines n) i idle ≡ idle
-idle_at zero i = refl
-idle_at (suc n) zero = refl
-idle_at (suc n) (suc i) = idle_at n i
 
 -- ---- all machines
 
-follow_idle : (count : ℕ) → Follow (idle_fleet count)
-follow_idle count i lt = subst (Follows []) (sym (idle_at count i)) (record { within = omega arith; holds = refl })
+abbrev AllFollow : Fleet → Type 0
+AllFollow fleet = AllByRecursion (Follows fleet.commands) fleet.machines
 
-follow_take : (fleet : Fleet) (place : ℕ) → Follow fleet → Follow (take_at fleet place)
-follow_take fleet place follow i lt =
+abbrev AllTell : List Command → List Say → Type 0
+AllTell commands said = AllByRecursion (Tells commands) said
+
+-- One fleet became another, whose list is grown, and this was said of that.
+record Goes (before after : Fleet) (said : List Say) : Type 0 where
+  follow : AllFollow after
+  grows : BeginsWith after.commands before.commands
+  tells : AllTell after.commands said
+
+stays : (fleet : Fleet) (said : List Say) → AllFollow fleet → AllTell fleet.commands said → Goes fleet fleet said
+stays fleet said follow tells = record { follow = follow; grows = begins_itself fleet.commands; tells = tells }
+
+all_follow_idle : (count : ℕ) → AllFollow (idle_fleet count)
+all_follow_idle zero = tt
+all_follow_idle (suc count) = (follows_idle [], all_follow_idle count)
+
+take_goes : (fleet : Fleet) (place : ℕ) → AllFollow fleet → Goes fleet (take_at fleet place) []
+take_goes fleet place follow =
     let old = get_or fleet.machines place idle in
-    let next = after_next fleet.commands old in
-    let here : i < length fleet.machines = omega (arith, lt, length-set fleet.machines place next) in
-    elim (eqb_tells i place) [
-      | inl p ↦
-          let at : i ≡ place = p.1 in
-          let f = subst (λ (n : ℕ). Follows fleet.commands (get_or fleet.machines n idle)) at (follow i here) in
-          subst (Follows fleet.commands) (sym (ap (λ (n : ℕ). get_or (set fleet.machines place next) n idle) at ∙ get_or-set_same fleet.machines place next idle (subst (λ (n : ℕ). n < length fleet.machines) at here)))
-          (follows_next fleet.commands old (slice_get fleet.commands old.applied) refl f)
-      | inr p ↦ subst (Follows fleet.commands) (sym (get_or-set_other fleet.machines place i next idle p.1)) (follow i here)
-    ]
+    let f : Follows fleet.commands old = all_get_or (Follows fleet.commands) fleet.machines place idle (follows_idle fleet.commands) follow in
+    record {
+      follow = all_set (Follows fleet.commands) fleet.machines place (after_next fleet.commands old) (follows_next fleet.commands old (slice_get fleet.commands old.applied) refl f) follow;
+      grows = begins_itself fleet.commands;
+      tells = tt;
+    }
 
-follow_put : (fleet : Fleet) (command : Command) (may : Bool) → Follow fleet
-    → Follow (cond may (record { commands = fleet.commands ++ command ∷ []; machines = fleet.machines }) fleet)
-follow_put fleet command true follow i lt = follows_more fleet.commands command (get_or fleet.machines i idle) (follow i lt)
-follow_put fleet command false follow i lt = follow i lt
+put_goes : (fleet : Fleet) (command : Command) (may : Bool) → AllFollow fleet
+    → Goes fleet (cond may (record { commands = fleet.commands ++ command ∷ []; machines = fleet.machines }) fleet) (refusal may)
+put_goes fleet command true follow = record {
+  follow = all_weaker (Follows fleet.commands) (Follows (fleet.commands ++ command ∷ [])) (follows_longer fleet.commands (command ∷ [])) fleet.machines follow;
+  grows = (command ∷ [], refl);
+  tells = tt;
+}
+put_goes fleet command false follow = stays fleet _ follow (tt, tt)
 
-follow_read : (fleet : Fleet) (read : Result Command CommandFault) → Follow fleet → Follow (with_command fleet read)
-follow_read fleet (Err fault) follow = follow
-follow_read fleet (Ok command) follow = follow_put fleet command (may_join fleet.commands command) follow
+read_goes : (fleet : Fleet) (read : Result Command CommandFault) → AllFollow fleet → Goes fleet (with_command fleet read) (refusal (joins fleet read))
+read_goes fleet (Err fault) follow = stays fleet _ follow (tt, tt)
+read_goes fleet (Ok command) follow = put_goes fleet command (may_join fleet.commands command) follow
+
+-- ---- what is shown
+
+shown_tells : (commands : List Command) (number : ℕ) (machine : Holding) → Follows commands machine → Tells commands (standing number machine)
+shown_tells commands number machine f = record { within = f.within; bytes_are = ap digest f.holds }
+
+all_shown_tell : (commands : List Command) (number : ℕ) (machines : List Holding) → AllByRecursion (Follows commands) machines → AllTell commands (standings number machines)
+all_shown_tell commands number [] follow = tt
+all_shown_tell commands number (machine ∷ machines) follow = (shown_tells commands number machine follow.0, all_shown_tell commands (suc number) machines follow.1)
+
+node_tells_at : (commands : List Command) (leads : Bool) → Tells commands (cond leads (Node 1 1 true 1 (digest [])) (Node 1 0 false 0 (digest [])))
+node_tells_at commands true = tt
+node_tells_at commands false = tt
+
+node_tells : (commands : List Command) (world : World) → Tells commands (node_standing world)
+node_tells commands world = node_tells_at commands world.leads
+
+closing_tells : (place : Place) → AllFollow (fleet_at place) → AllTell (fleet_at place).commands (closing place)
+closing_tells Opening follow = tt
+closing_tells (Within events (Nodes world)) follow = (node_tells [] world, tt)
+closing_tells (Within events (Pages fleet)) follow = all_shown_tell fleet.commands 1 fleet.machines follow
 
 -- ---- what events and lines do
 
@@ -98,88 +173,147 @@ same_next a b = a ≡ b
 ok_is : (x y : Place × List Say) → same_next (Ok x) (Ok y) → x ≡ y
 ok_is x y e = cc
 
-abbrev SceneFollows : Scene → Type 0
-SceneFollows (Nodes world) = Unit {0}
-SceneFollows (Pages fleet) = Follow fleet
+where_some : {A : Type 0} (P : A → Type 0) (may : Bool) (x next : A) → P x → cond may (Some x) None ≡ Some next → P next
+where_some P true x next p e = subst P (some_is x next e) p
+where_some P false x next p e = absurd cc
 
-abbrev PlaceFollows : Place → Type 0
-PlaceFollows Opening = Unit {0}
-PlaceFollows (Within events scene) = SceneFollows scene
+where_mapped : {A B : Type 0} (P : B → Type 0) (f : A → B) (o : Option A) (next : B) → ((a : A) → o ≡ Some a → P (f a)) → option_map f o ≡ Some next → P next
+where_mapped P f None next holds e = absurd cc
+where_mapped P f (Some a) next holds e = subst P (some_is (f a) next e) (holds a refl)
 
-take_keeps : (fleet : Fleet) (place : Option ℕ) (next : Fleet × List Say) → Follow fleet → option_map (λ (place : ℕ). (take_at fleet place, [])) place ≡ Some next → Follow next.0
-take_keeps fleet None next follow e = absurd cc
-take_keeps fleet (Some place) next follow e = subst (λ (n : Fleet × List Say). Follow n.0) (some_is _ next e) (follow_take fleet place follow)
+happens_tells : (world : World) (event : Event) (next : World × List Say) → happens world event ≡ Some next → AllTell [] next.1
+unfolding happens
+happens_tells world (Timeout node) next e = where_some (λ (n : World × List Say). AllTell [] n.1) _ _ next tt e
+happens_tells world (Connect node connection) next e = where_some (λ (n : World × List Say). AllTell [] n.1) _ _ next tt e
+happens_tells world (Bytes connection bytes) next e = where_some (λ (n : World × List Say). AllTell [] n.1) _ _ next (tt, tt) e
+happens_tells world (Put bytes) next e = absurd cc
+happens_tells world (Take machine) next e = absurd cc
 
-event_keeps : (fleet : Fleet) (event : Event) (next : Fleet × List Say) → Follow fleet → applies fleet event ≡ Some next → Follow next.0
+abbrev FleetGoes : Fleet → Fleet × List Say → Type 0
+FleetGoes fleet next = Goes fleet next.0 next.1
+
+abbrev SceneGoes : Scene → Scene × List Say → Type 0
+SceneGoes scene next = Goes (fleet_in scene) (fleet_in next.0) next.1
+
+abbrev PlaceGoes : Place → Place × List Say → Type 0
+PlaceGoes place next = Goes (fleet_at place) (fleet_at next.0) next.1
+
+event_goes : (fleet : Fleet) (event : Event) (next : Fleet × List Say) → AllFollow fleet → applies fleet event ≡ Some next → FleetGoes fleet next
 unfolding applies
-event_keeps fleet (Put bytes) next follow e = subst (λ (n : Fleet × List Say). Follow n.0) (some_is _ next e) (follow_read fleet (command_of bytes) follow)
-event_keeps fleet (Take number) next follow e = take_keeps fleet (place_named number (length fleet.machines)) next follow e
-event_keeps fleet (Timeout node) next follow e = absurd cc
-event_keeps fleet (Connect node connection) next follow e = absurd cc
-event_keeps fleet (Bytes connection bytes) next follow e = absurd cc
+event_goes fleet (Put bytes) next follow e = subst (FleetGoes fleet) (some_is _ next e) (read_goes fleet (command_of bytes) follow)
+event_goes fleet (Take number) next follow e =
+    where_mapped (FleetGoes fleet) (λ (place : ℕ). (take_at fleet place, [])) (place_named number (length fleet.machines)) next (λ place h. take_goes fleet place follow) e
+event_goes fleet (Timeout node) next follow e = absurd cc
+event_goes fleet (Connect node connection) next follow e = absurd cc
+event_goes fleet (Bytes connection bytes) next follow e = absurd cc
 
-pages_keep : (fleet : Fleet) (o : Option (Fleet × List Say)) (next : Scene × List Say) → ((n : Fleet × List Say) → o ≡ Some n → Follow n.0)
-    → option_map (λ (n : Fleet × List Say). (Pages n.0, n.1)) o ≡ Some next → SceneFollows next.0
-pages_keep fleet None next keeps e = absurd cc
-pages_keep fleet (Some n) next keeps e = subst (λ (s : Scene × List Say). SceneFollows s.0) (some_is _ next e) (keeps n refl)
+scene_goes : (scene : Scene) (event : Event) (next : Scene × List Say) → AllFollow (fleet_in scene) → plays scene event ≡ Some next → SceneGoes scene next
+scene_goes (Nodes world) event next follow e =
+    where_mapped (SceneGoes (Nodes world)) (λ (n : World × List Say). (Nodes n.0, n.1)) (happens world event) next
+    (λ n h. record { follow = tt; grows = begins_itself []; tells = happens_tells world event n h }) e
+scene_goes (Pages fleet) event next follow e = where_mapped (SceneGoes (Pages fleet)) (λ (n : Fleet × List Say). (Pages n.0, n.1)) (applies fleet event) next (λ n h. event_goes fleet event n follow h) e
 
-nodes_keep : {W : Type 0} (f : W → Scene × List Say) (o : Option W) (next : Scene × List Say) → ((w : W) → SceneFollows (f w).0) → option_map f o ≡ Some next → SceneFollows next.0
-nodes_keep f None next keeps e = absurd cc
-nodes_keep f (Some w) next keeps e = subst (λ (s : Scene × List Say). SceneFollows s.0) (some_is _ next e) (keeps w)
+scene_shows : (scene : Scene) (number : ℕ) (say : Say) → AllFollow (fleet_in scene) → shown scene number ≡ Some say → Tells (fleet_in scene).commands say
+scene_shows (Nodes world) number say follow e = where_some (Tells []) _ (node_standing world) say (node_tells [] world) e
+scene_shows (Pages fleet) number say follow e =
+    where_mapped (Tells fleet.commands) (λ (place : ℕ). standing number (get_or fleet.machines place idle)) (place_named number (length fleet.machines)) say
+    (λ place h. shown_tells fleet.commands number (get_or fleet.machines place idle) (all_get_or (Follows fleet.commands) fleet.machines place idle (follows_idle fleet.commands) follow)) e
 
-scene_keeps : (scene : Scene) (event : Event) (next : Scene × List Say) → SceneFollows scene → plays scene event ≡ Some next → SceneFollows next.0
-scene_keeps (Nodes world) event next follow e = nodes_keep _ _ next (λ w. tt) e
-scene_keeps (Pages fleet) event next follow e = pages_keep fleet (applies fleet event) next (λ n h. event_keeps fleet event n follow h) e
+opening_goes : (number : ℕ) (may : Bool) (scene : Scene) (next : Place × List Say) → PlaceGoes Opening (Within 0 scene, []) → opened_at number may scene ≡ Ok next → PlaceGoes Opening next
+opening_goes number true scene next goes e = subst (PlaceGoes Opening) (ok_is _ next e) goes
+opening_goes number false scene next goes e = absurd cc
 
-opening_keeps : (number : ℕ) (may : Bool) (scene : Scene) (next : Place × List Say) → SceneFollows scene → opened_at number may scene ≡ Ok next → PlaceFollows next.0
-opening_keeps number true scene next follow e = subst (λ (n : Place × List Say). PlaceFollows n.0) (ok_is _ next e) follow
-opening_keeps number false scene next follow e = absurd cc
+count_goes : (events : ℕ) (few : Bool) (scene : Scene) (n : Scene × List Say) (next : Place × List Say) → SceneGoes scene n → cond few (Ok (Within (events + 1) n.0, n.1)) (Err Fault.Large) ≡ Ok next
+    → PlaceGoes (Within events scene) next
+count_goes events true scene n next goes e = subst (PlaceGoes (Within events scene)) (ok_is _ next e) goes
+count_goes events false scene n next goes e = absurd cc
 
-count_keeps : (events : ℕ) (few : Bool) (n : Scene × List Say) (next : Place × List Say) → SceneFollows n.0 → cond few (Ok (Within (events + 1) n.0, n.1)) (Err Fault.Large) ≡ Ok next → PlaceFollows next.0
-count_keeps events true n next follow e = subst (λ (p : Place × List Say). PlaceFollows p.0) (ok_is _ next e) follow
-count_keeps events false n next follow e = absurd cc
+after_goes : (number events : ℕ) (scene : Scene) (o : Option (Scene × List Say)) (next : Place × List Say) → ((n : Scene × List Say) → o ≡ Some n → SceneGoes scene n) → after_event number events o ≡ Ok next
+    → PlaceGoes (Within events scene) next
+after_goes number events scene None next goes e = absurd cc
+after_goes number events scene (Some n) next goes e = count_goes events _ scene n next (goes n refl) e
 
-after_keeps : (number events : ℕ) (o : Option (Scene × List Say)) (next : Place × List Say) → ((n : Scene × List Say) → o ≡ Some n → SceneFollows n.0) → after_event number events o ≡ Ok next → PlaceFollows next.0
-after_keeps number events None next keeps e = absurd cc
-after_keeps number events (Some n) next keeps e = count_keeps events _ n next (keeps n refl) e
+show_goes : (number : ℕ) (place : Place) (o : Option Say) (next : Place × List Say) → AllFollow (fleet_at place) → ((say : Say) → o ≡ Some say → Tells (fleet_at place).commands say) → after_show number place o ≡ Ok next
+    → PlaceGoes place next
+show_goes number place None next follow tells e = absurd cc
+show_goes number place (Some say) next follow tells e = subst (PlaceGoes place) (ok_is _ next e) (stays (fleet_at place) (say ∷ []) follow (tells say refl, tt))
 
-show_keeps : (number : ℕ) (place : Place) (o : Option Say) (next : Place × List Say) → PlaceFollows place → after_show number place o ≡ Ok next → PlaceFollows next.0
-show_keeps number place None next follow e = absurd cc
-show_keeps number place (Some say) next follow e = subst (λ (p : Place × List Say). PlaceFollows p.0) (ok_is _ next e) follow
-
-line_keeps : (place : Place) (number : ℕ) (line : ScriptLine) (next : Place × List Say) → PlaceFollows place → line_step place number line ≡ Ok next → PlaceFollows next.0
+line_goes : (place : Place) (number : ℕ) (line : ScriptLine) (next : Place × List Say) → AllFollow (fleet_at place) → line_step place number line ≡ Ok next → PlaceGoes place next
 unfolding line_step
-line_keeps place number says.Blank next follow e = subst (λ (p : Place × List Say). PlaceFollows p.0) (ok_is _ next e) follow
-line_keeps Opening number (says.Nodes voters) next follow e = opening_keeps number _ _ next tt e
-line_keeps Opening number (says.Pages machines) next follow e = opening_keeps number _ _ next (follow_idle machines) e
-line_keeps Opening number (says.Show shows) next follow e = absurd cc
-line_keeps Opening number (says.Event event) next follow e = absurd cc
-line_keeps (Within events scene) number (says.Nodes voters) next follow e = absurd cc
-line_keeps (Within events scene) number (says.Pages machines) next follow e = absurd cc
-line_keeps (Within events scene) number (says.Show shows) next follow e = show_keeps number (Within events scene) (shown scene shows) next follow e
-line_keeps (Within events scene) number (says.Event event) next follow e = after_keeps number events (plays scene event) next (λ n h. scene_keeps scene event n follow h) e
+line_goes place number says.Blank next follow e = subst (PlaceGoes place) (ok_is _ next e) (stays (fleet_at place) [] follow tt)
+line_goes Opening number (says.Nodes voters) next follow e = opening_goes number _ _ next (stays (idle_fleet 0) [] tt tt) e
+line_goes Opening number (says.Pages machines) next follow e = opening_goes number _ _ next (record { follow = all_follow_idle machines; grows = begins_itself []; tells = tt }) e
+line_goes Opening number (says.Show shows) next follow e = absurd cc
+line_goes Opening number (says.Event event) next follow e = absurd cc
+line_goes (Within events scene) number (says.Nodes voters) next follow e = absurd cc
+line_goes (Within events scene) number (says.Pages machines) next follow e = absurd cc
+line_goes (Within events scene) number (says.Show shows) next follow e = show_goes number (Within events scene) (shown scene shows) next follow (λ say h. scene_shows scene shows say follow h) e
+line_goes (Within events scene) number (says.Event event) next follow e = after_goes number events scene (plays scene event) next (λ n h. scene_goes scene event n follow h) e
 
-said_keeps : (place : Place) (number : ℕ) (line : Option ScriptLine) (next : Place × List Say) → PlaceFollows place → said_step place number line ≡ Ok next → PlaceFollows next.0
-said_keeps place number None next follow e = absurd cc
-said_keeps place number (Some line) next follow e = line_keeps place number line next follow e
+said_goes : (place : Place) (number : ℕ) (line : Option ScriptLine) (next : Place × List Say) → AllFollow (fleet_at place) → said_step place number line ≡ Ok next → PlaceGoes place next
+said_goes place number None next follow e = absurd cc
+said_goes place number (Some line) next follow e = line_goes place number line next follow e
 
-few_keeps : (few : Bool) (place : Place) (o : Next) (next : Place × List Say) → (o ≡ Ok next → PlaceFollows next.0) → cond few o (Err Fault.Large) ≡ Ok next → PlaceFollows next.0
-few_keeps true place o next keeps e = keeps e
-few_keeps false place o next keeps e = absurd cc
+few_goes : (few : Bool) (place : Place) (o : Next) (next : Place × List Say) → (o ≡ Ok next → PlaceGoes place next) → cond few o (Err Fault.Large) ≡ Ok next → PlaceGoes place next
+few_goes true place o next goes e = goes e
+few_goes false place o next goes e = absurd cc
 
-step_keeps : (place : Place) (number : ℕ) (line : List ℕ) (next : Place × List Say) → PlaceFollows place → step place number line ≡ Ok next → PlaceFollows next.0
+step_goes : (place : Place) (number : ℕ) (line : List ℕ) (next : Place × List Say) → AllFollow (fleet_at place) → step place number line ≡ Ok next → PlaceGoes place next
 unfolding step
-step_keeps place number line next follow e = few_keeps _ place _ next (said_keeps place number (line_of line) next follow) e
+step_goes place number line next follow e = few_goes _ place _ next (said_goes place number (line_of line) next follow) e
 
 -- ---- scripts
 
-lead : (place : Place) (number : ℕ) (lines : List (List ℕ)) → PlaceFollows place → PlaceFollows (led_from place number lines)
-lead place number [] follow = follow
+-- The machines of a place follow, and its list begins with an earlier one.
+record Leads (before after : Fleet) : Type 0 where
+  follow : AllFollow after
+  grows : BeginsWith after.commands before.commands
+
+lead : (place : Place) (number : ℕ) (lines : List (List ℕ)) → AllFollow (fleet_at place) → Leads (fleet_at place) (fleet_at (led_from place number lines))
+lead place number [] follow = record { follow = follow; grows = begins_itself (fleet_at place).commands }
 lead place number (line ∷ lines) follow =
-    let go : (o : Next) → step place number line ≡ o → PlaceFollows (led (λ (next : Place). led_from next (suc number) lines) place o) =
-    λ o. elim o as (λ (o : Next). step place number line ≡ o → PlaceFollows (led (λ (next : Place). led_from next (suc number) lines) place o)) [
-      | Ok next ↦ λ e. lead next.0 (suc number) lines (step_keeps place number line next follow e)
-      | Err fault ↦ λ e. follow
+    let P : Next → Type 0 = λ o. step place number line ≡ o → Leads (fleet_at place) (fleet_at (led (λ (next : Place). led_from next (suc number) lines) place o)) in
+    let go : (o : Next) → P o =
+    λ o. elim o as P [
+      | Ok next ↦ λ e.
+          let goes = step_goes place number line next follow e in
+          let leads = lead next.0 (suc number) lines goes.follow in
+          record { follow = leads.follow; grows = begins_then _ _ _ leads.grows goes.grows }
+      | Err fault ↦ λ e. record { follow = follow; grows = begins_itself (fleet_at place).commands }
+    ] in
+    go (step place number line) refl
+
+-- The list at a moment is where that of the end begins.
+lead_on : (place : Place) (number : ℕ) (lines : List (List ℕ)) (count : ℕ) → AllFollow (fleet_at place)
+    → BeginsWith (fleet_at (led_from place number lines)).commands (fleet_at (led_from place number (take count lines))).commands
+lead_on place number lines zero follow = (lead place number lines follow).grows
+lead_on place number [] (suc count) follow = begins_itself (fleet_at place).commands
+lead_on place number (line ∷ lines) (suc count) follow =
+    let P : Next → Type 0 = λ o. step place number line ≡ o
+    → BeginsWith (fleet_at (led (λ (next : Place). led_from next (suc number) lines) place o)).commands (fleet_at (led (λ (next : Place). led_from next (suc number) (take count lines)) place o)).commands in
+    let go : (o : Next) → P o =
+    λ o. elim o as P [
+      | Ok next ↦ λ e. lead_on next.0 (suc number) lines count (step_goes place number line next follow e).follow
+      | Err fault ↦ λ e. begins_itself (fleet_at place).commands
+    ] in
+    go (step place number line) refl
+
+-- What the run of lines shows is of the list where they lead.
+run_tells : (place : Place) (number : ℕ) (lines : List (List ℕ)) → AllFollow (fleet_at place) → AllTell (fleet_at (led_from place number lines)).commands (run_from true place number lines).said
+run_tells place number [] follow = closing_tells place follow
+run_tells place number (line ∷ lines) follow =
+    let P : Next → Type 0 = λ o. step place number line ≡ o
+    → AllTell (fleet_at (led (λ (next : Place). led_from next (suc number) lines) place o)).commands (onward (λ (next : Place × List Say). run_from true next.0 (suc number) lines) o).said in
+    let go : (o : Next) → P o =
+    λ o. elim o as P [
+      | Ok next ↦ λ e.
+          let goes = step_goes place number line next follow e in
+          let leads = lead next.0 (suc number) lines goes.follow in
+          let all = (fleet_at (led_from next.0 (suc number) lines)).commands in
+          all_append (Tells all) next.1 (run_from true next.0 (suc number) lines).said
+          (all_weaker (Tells (fleet_at next.0).commands) (Tells all) (tells_grown all (fleet_at next.0).commands leads.grows) next.1 goes.tells)
+          (run_tells next.0 (suc number) lines goes.follow)
+      | Err fault ↦ λ e. tt
     ] in
     go (step place number line) refl
 
@@ -197,13 +331,61 @@ shows place number (line ∷ lines) =
     ] in
     go (step place number line)
 
-are_alike : (place : Place) → PlaceFollows place → AreAlike place
-are_alike Opening follow = tt
-are_alike (Within events (Nodes world)) follow = tt
-are_alike (Within events (Pages fleet)) follow = alike fleet follow
+module _ (script : List ℕ) where
+  grows_later : (early late : ℕ) → early ≤ late → BeginsWith (moment script late).commands (moment script early).commands
+  grows_later early late le =
+      let front : take early (take late (lines_of script)) ≡ take early (lines_of script) = take-take early late (lines_of script) le in
+      subst (λ (lines : List (List ℕ)). BeginsWith (moment script late).commands (fleet_at (led_from Opening 1 lines)).commands) front (lead_on Opening 1 (take late (lines_of script)) early tt)
 
-pub keeps_alike : (script : List ℕ) → KeepsAlike script
-keeps_alike script = record {
-  alike = are_alike (place_after script) (lead Opening 1 (lines_of script) tt);
-  shown = shows Opening 1 (lines_of script);
-}
+  grows_to_end : (count : ℕ) → BeginsWith (commands_of script) (moment script count).commands
+  grows_to_end count = lead_on Opening 1 (lines_of script) count tt
+
+  all_follow : (count : ℕ) → All (Follows (commands_of script)) (moment script count).machines
+  all_follow count =
+      let fleet = moment script count in
+      All-from_recursion (Follows (commands_of script)) fleet.machines
+      (all_weaker (Follows fleet.commands) (Follows (commands_of script)) (follows_grown (commands_of script) fleet.commands (grows_to_end count)) fleet.machines
+      (lead Opening 1 (take count (lines_of script)) tt).follow)
+
+  same_holding : (early late : ℕ) (machine other : Holding) → Contains (moment script early).machines machine → Contains (moment script late).machines other → machine.applied ≡ other.applied → machine.databases ≡ other.databases
+  same_holding early late machine other here there e =
+      let one = All-contains (Follows (commands_of script)) (moment script early).machines machine (all_follow early) here in
+      let two = All-contains (Follows (commands_of script)) (moment script late).machines other (all_follow late) there in
+      one.holds ∙ ap (λ (n : ℕ). files (take n (commands_of script))) e ∙ sym two.holds
+
+  all_told : All (Tells (commands_of script)) (run script).said
+  all_told = All-from_recursion (Tells (commands_of script)) (run script).said (run_tells Opening 1 (lines_of script) tt)
+
+  same_digests : (number other applied : ℕ) (bytes others : List ℕ) → Contains (run script).said (Machine number applied bytes) → Contains (run script).said (Machine other applied others) → bytes ≡ others
+  same_digests number other applied bytes others here there =
+      let said = (run script).said in
+      let one : IsDigestOf (commands_of script) applied bytes = All-contains (Tells (commands_of script)) said (Machine number applied bytes) all_told here in
+      let two : IsDigestOf (commands_of script) applied others = All-contains (Tells (commands_of script)) said (Machine other applied others) all_told there in
+      one.bytes_are ∙ sym two.bytes_are
+
+  all_told_until : (count : ℕ) → All (Tells (commands_of script)) (run_until script count).said
+  all_told_until count =
+      let fleet = moment script count in
+      let said = (run_until script count).said in
+      All-from_recursion (Tells (commands_of script)) said
+      (all_weaker (Tells fleet.commands) (Tells (commands_of script)) (tells_grown (commands_of script) fleet.commands (grows_to_end count)) said (run_tells Opening 1 (take count (lines_of script)) tt))
+
+  next_changes_one : (count : ℕ) (command : Command) → slice_get (commands_of script) count ≡ Some command → ChangesOne command (files (take count (commands_of script))) (files (take (count + 1) (commands_of script)))
+  next_changes_one count command e =
+      let front = take count (commands_of script) in
+      subst (λ (l : List Command). ChangesOne command (files front) (files l)) (sym (next_front (commands_of script) count command e)) (files_changed front command)
+
+  pub keeps_alike : KeepsAlike script
+  keeps_alike = record {
+    grows = grows_later;
+    one_list = grows_to_end;
+    follow = all_follow;
+    same = same_holding;
+    told = all_told;
+    same_digest = same_digests;
+    told_until = all_told_until;
+    shown_until = λ count. shows Opening 1 (take count (lines_of script));
+    shown = shows Opening 1 (lines_of script);
+    in_order = λ count. files_in_order (take count (commands_of script));
+    changes_one = next_changes_one;
+  }

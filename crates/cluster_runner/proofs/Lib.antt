@@ -7,4 +7,5 @@ pub mod Databases
 pub mod Tables
 pub mod CommandSizes
 pub mod Standings
+pub mod ByName
 pub mod Agreement

@@ -1,30 +1,25 @@
--- Machines that have applied the same number of commands hold the same files and pending pages.
-use Rattle.std.specs.Prelude.{◌≡◌, ◌<◌, ◌≤◌, ℕ, suc, List, [], ◌∷◌, ◌++◌, length, get_or, take, None, Ok, Err, ⊤}
+-- A run has one list of commands, and machines that have applied as many of them hold the same files and pending pages, at whichever moments of the run.
+use Rattle.std.specs.Prelude.{◌≡◌, ◌≤◌, ◌+◌, ℕ, suc, true, List, [], ◌∷◌, ◌++◌, length, take, slice_get, All, Contains, Some, None, Ok, Err, ⊤}
 use Rattle.frame_commands.specs.declared.command.Command.{Command}
 use Rattle.cluster_runner.specs.declared.cluster.Say.{Say}
+use Rattle.cluster_runner.specs.declared.cluster.Say.TheVariants.{Reply, Refused, Node, Machine}
 use Rattle.cluster_runner.specs.Lines.{lines_of}
 use Rattle.cluster_runner.specs.Machine.{files}
 use Rattle.cluster_runner.specs.Holding.{Holding}
-use Rattle.cluster_runner.specs.Machines.{Fleet, idle}
-use Rattle.cluster_runner.specs.Scenes.{Nodes, Pages}
-use Rattle.cluster_runner.specs.Run.{Place, Opening, Within, Next, step, closing, run}
+use Rattle.cluster_runner.specs.Digest.{digest}
+use Rattle.cluster_runner.specs.ByName.{AreInOrder, ChangesOne}
+use Rattle.cluster_runner.specs.Machines.{Fleet}
+use Rattle.cluster_runner.specs.Scenes.{Scene, Nodes, Pages}
+use Rattle.cluster_runner.specs.Run.{Place, Opening, Within, Next, Run, idle_fleet, step, closing, run_from, run}
 
--- A machine has applied a front of the list, and holds what that front makes.
-pub record Follows (commands : List Command) (machine : Holding) : Type 0 where
-  pub within : machine.applied ≤ length commands
-  pub holds : machine.databases ≡ files (take machine.applied commands)
+-- the machines of a place and their list of commands; before the mode line and among nodes there are none
+abbrev pub fleet_in : Scene → Fleet
+fleet_in (Nodes world) = idle_fleet 0
+fleet_in (Pages fleet) = fleet
 
--- Each machine holds what its front of the list makes, so two that have applied as many commands hold the same.
-pub record Alike (fleet : Fleet) : Type 0 where
-  pub follow : (i : ℕ) → i < length fleet.machines → Follows fleet.commands (get_or fleet.machines i idle)
-  pub same : (i j : ℕ) → i < length fleet.machines → j < length fleet.machines → (get_or fleet.machines i idle).applied ≡ (get_or fleet.machines j idle).applied
-      → (get_or fleet.machines i idle).databases ≡ (get_or fleet.machines j idle).databases
-
--- where there are machines, they are alike
-abbrev pub AreAlike : Place → Type 0
-AreAlike Opening = ⊤
-AreAlike (Within events (Nodes world)) = ⊤
-AreAlike (Within events (Pages fleet)) = Alike fleet
+abbrev pub fleet_at : Place → Fleet
+fleet_at Opening = idle_fleet 0
+fleet_at (Within events scene) = fleet_in scene
 
 -- where a script stands after a line; one that leads nowhere leaves it
 abbrev pub led : (Place → Place) → Place → Next → Place
@@ -36,11 +31,69 @@ abbrev pub led_from : Place → ℕ → List (List ℕ) → Place
 led_from place number [] = place
 led_from place number (line ∷ lines) = led (λ (next : Place). led_from next (suc number) lines) place (step place number line)
 
--- where a script leads
+-- where a script leads: behind all of its lines, or behind those before its first fault
 abbrev pub place_after : List ℕ → Place
 place_after script = led_from Opening 1 (lines_of script)
 
--- The machines of a script are alike wherever it has led, and they are what it shows at its end.
+-- the list of commands of a script's run, which is the one at its end
+abbrev pub commands_of : List ℕ → List Command
+commands_of script = (fleet_at (place_after script)).commands
+
+-- where so many of its lines lead
+abbrev pub place_at : List ℕ → ℕ → Place
+place_at script count = led_from Opening 1 (take count (lines_of script))
+
+-- a moment of the run: the machines and their list after so many lines
+abbrev pub moment : List ℕ → ℕ → Fleet
+moment script count = fleet_at (place_at script count)
+
+-- the run of so many lines, at the end of which all are shown
+abbrev pub run_until : List ℕ → ℕ → Run
+run_until script count = run_from true Opening 1 (take count (lines_of script))
+
+-- a list of commands begins with these
+abbrev pub BeginsWith : List Command → List Command → Type 0
+BeginsWith commands front = (rest : List Command) × (front ++ rest ≡ commands)
+
+-- A machine has applied a front of the list, and holds what that front makes.
+pub record Follows (commands : List Command) (machine : Holding) : Type 0 where
+  pub within : machine.applied ≤ length commands
+  pub holds : machine.databases ≡ files (take machine.applied commands)
+
+-- So many commands of the list are there, and this is the digest of the files that they make.
+pub record IsDigestOf (commands : List Command) (applied : ℕ) (bytes : List ℕ) : Type 0 where
+  pub within : applied ≤ length commands
+  pub bytes_are : bytes ≡ digest (files (take applied commands))
+
+-- where a machine is shown, it is with how many commands of the list it has applied, and the digest of what those make
+abbrev pub Tells : List Command → Say → Type 0
+Tells commands (Reply connection bytes) = ⊤
+Tells commands Refused = ⊤
+Tells commands (Node node term leads applied bytes) = ⊤
+Tells commands (Machine number applied bytes) = IsDigestOf commands applied bytes
+
+-- What every run of a script keeps, of one list of commands.
 pub record KeepsAlike (script : List ℕ) : Type 0 where
-  pub alike : AreAlike (place_after script)
+  -- From a moment to a later one the list only grows, at its end.
+  pub grows : (early late : ℕ) → early ≤ late → BeginsWith (moment script late).commands (moment script early).commands
+  -- So the list of the run begins with that of each moment.
+  pub one_list : (count : ℕ) → BeginsWith (commands_of script) (moment script count).commands
+  -- At each moment each machine has applied a front of the run's list, and holds what that front makes.
+  pub follow : (count : ℕ) → All (Follows (commands_of script)) (moment script count).machines
+  -- So at any two moments machines that have applied as many commands hold the same.
+  pub same : (early late : ℕ) (machine other : Holding) → Contains (moment script early).machines machine → Contains (moment script late).machines other → machine.applied ≡ other.applied
+      → machine.databases ≡ other.databases
+  -- Each line that is printed of a machine is of that list, also in a script that has a fault.
+  pub told : All (Tells (commands_of script)) (run script).said
+  -- So two lines that tell of as many commands tell the same digest.
+  pub same_digest : (number other applied : ℕ) (bytes others : List ℕ) → Contains (run script).said (Machine number applied bytes) → Contains (run script).said (Machine other applied others) → bytes ≡ others
+  -- What is printed up to each moment, and how all stand then, is of that list too.
+  pub told_until : (count : ℕ) → All (Tells (commands_of script)) (run_until script count).said
+  -- The machines of a moment are those that are shown where a script ends there, so those where this one leads are shown at its end.
+  pub shown_until : (count : ℕ) → (run_until script count).fault ≡ None → (said : List Say) × ((run_until script count).said ≡ said ++ closing (place_at script count))
   pub shown : (run script).fault ≡ None → (said : List Say) × ((run script).said ≡ said ++ closing (place_after script))
+  -- The databases that a front of the list makes stand in the order of their names.
+  pub in_order : (count : ℕ) → AreInOrder (files (take count (commands_of script)))
+  -- The next command of the list changes the database of its name, and leaves all others.
+  pub changes_one : (count : ℕ) (command : Command) → slice_get (commands_of script) count ≡ Some command
+      → ChangesOne command (files (take count (commands_of script))) (files (take (count + 1) (commands_of script)))

@@ -7,6 +7,7 @@ pub mod Machines
 pub mod Scenes
 pub mod Run
 pub mod Steps
+pub mod ByName
 pub mod Alike
 pub mod Outcome
 pub mod Stops
