@@ -27,8 +27,8 @@ IsBroken code = (code ≡ 3) ⊎ (code ≡ 4) ⊎ (code ≡ 7)
 abbrev pub ScriptEnds : Status → Option (List ℕ) → Option (List ℕ) → Option (List ℕ) → Option (List ℕ) → Type 0
 ScriptEnds Done left left' written written' = Completes left left' written written'
 ScriptEnds Words left left' written written' = ⊥
-ScriptEnds Script left left' written written' = (line : ℕ) × Faults (script.Line line) left written written'
-ScriptEnds ReadFault left left' written written' = BreaksOff left written written'
-ScriptEnds WriteFault left left' written written' = BreaksOff left written written'
-ScriptEnds NoMemory left left' written written' = BreaksOff left written written'
-ScriptEnds Large left left' written written' = Faults script.Large left written written'
+ScriptEnds Script left left' written written' = (line : ℕ) × Faults (script.Line line) left left' written written'
+ScriptEnds ReadFault left left' written written' = BreaksOff left left' written written'
+ScriptEnds WriteFault left left' written written' = BreaksOff left left' written written'
+ScriptEnds NoMemory left left' written written' = BreaksOff left left' written written'
+ScriptEnds Large left left' written written' = Faults script.Large left left' written written'

@@ -76,4 +76,4 @@ returns-in-TooLong-clause-goes g c = λ first written r.
     let left = g.S.Source.left in
     let now = to_come c.args.lines.now (left c.args.source.now) in
     let ends = rw c.in-TooLong.is at c.in_ok-next_line.ensures.ok in
-    refuses_long first now written (g.K.Sink.written c.args.sink.now) (place_of c.args.stage.now) c.args.number r (to_come c.next_line.new.self (left c.next_line.new.source)) c.next_line.new.self.line c.requires ends.0 ends.1
+    refuses_long first now written (g.K.Sink.written c.args.sink.now) (place_of c.args.stage.now) c.args.number r c.next_line.new.self (left c.next_line.new.source) c.next_line.new.self.line c.requires ends.0 ends.1

@@ -5,13 +5,13 @@ pub returns-in-Script-clause-ended : goal.returns-in-Script-clause-ended
 returns-in-Script-clause-ended g c =
     let left = g.S.Source.left in
     let written = g.K.Sink.written in
-    line_refused (left c.args.input.now) (written c.args.output.now) (written c.run_script.new.sink) (written c.refuse_line.new.output) c.in-Script.line c.in-Script.ensures.ended (left c.run_script.new.source) c.refuse_line.result c.refuse_line.ensures.script c.refuse_line.ensures.broken c.refuse_line.ensures.others
+    line_refused (left c.args.input.now) (left c.run_script.new.source) (written c.args.output.now) (written c.run_script.new.sink) (written c.refuse_line.new.output) c.in-Script.line c.in-Script.ensures.ended c.refuse_line.result c.refuse_line.ensures.script c.refuse_line.ensures.broken c.refuse_line.ensures.others
 
 pub returns-in-Large-clause-ended : goal.returns-in-Large-clause-ended
 returns-in-Large-clause-ended g c =
     let left = g.S.Source.left in
     let written = g.K.Sink.written in
-    large_refused (left c.args.input.now) (written c.args.output.now) (written c.run_script.new.sink) (written c.refuse_large.new.output) c.in-Large.ensures.ended (left c.run_script.new.source) c.refuse_large.result c.refuse_large.ensures.large c.refuse_large.ensures.broken c.refuse_large.ensures.others
+    large_refused (left c.args.input.now) (left c.run_script.new.source) (written c.args.output.now) (written c.run_script.new.sink) (written c.refuse_large.new.output) c.in-Large.ensures.ended c.refuse_large.result c.refuse_large.ensures.large c.refuse_large.ensures.broken c.refuse_large.ensures.others
 
 pub returns-in-ReadFault-clause-ended : goal.returns-in-ReadFault-clause-ended
 returns-in-ReadFault-clause-ended g c =
