@@ -1,6 +1,6 @@
 -- Running a script line by line gives the run that its bytes make.
 use Rattle.std.proofs.Common.{◌≡◌, ◌≢◌, ℕ, zero, suc, ◌<◌, ◌≤◌, false, eqb, List, [], ◌∷◌, ◌++◌, Option, Some, None, Ok, Err, length, refl, sym, ap, subst, ◌∙◌, append_assoc, arith, inl, inr}
-use Rattle.std.specs.Prelude.{Result, OnOk, OnErr, IfErr, MatchResult}
+use Rattle.std.specs.Prelude.{Result, OnOk, OnErr, IfErr, IsErrOf, MatchResult}
 use Rattle.std.specs.Io.KnownBytes.{Appends, Consumes, Keeps, IsAtEnd}
 use Rattle.std.proofs.lemmas.List.{append-nil, length-append, nil_from_length}
 use Rattle.dq_base.specs.Sink.{AppendsFront}
@@ -10,11 +10,12 @@ use Rattle.cluster_runner.specs.declared.cluster.Say.{Say}
 use Rattle.cluster_runner.specs.declared.lines.LineFault.{LineFault}
 use Rattle.cluster_runner.specs.declared.lines.LineFault.TheVariants as line
 use Rattle.cluster_runner.specs.declared.run.Stop.{Stop}
+use Rattle.cluster_runner.specs.declared.run.Stop.TheVariants as stop
 use Rattle.cluster_runner.specs.Stops.{line_stop, fault_of}
 use Rattle.cluster_runner.specs.Lines.{with_byte, lines_of, HasNoFeed, Cursor, to_come, TakesLine}
 use Rattle.cluster_runner.specs.Grammar.{line_of}
 use Rattle.cluster_runner.specs.Run.{Place, Opening, Next, Fault, Line, Large, step, step_text, next_text, Run, said_before, onward, closing, ending, run_from, run, text_of, printed}
-use Rattle.cluster_runner.specs.Outcome.{MayFollow, Completes, Refuses, StopsShort, Reached, ReadWhole, StoppedBy, Stopped}
+use Rattle.cluster_runner.specs.Outcome.{MayFollow, Anything, FollowsAfter, Completes, Refuses, StopsShort, Reached, ReadWhole, StoppedBy, Stopped}
 use Rattle.cluster_runner.proofs.Reading.{Consumes-none}
 use Rattle.cluster_runner.proofs.Printed.{text_of-append}
 use Rattle.std.proofs.lemmas.Bool.{lt-leb, le-leb}
@@ -251,9 +252,9 @@ module _ (first now written printed_now : Option (List ℕ)) (place : Place) (nu
       ap (run_from place number) (ap lines_of (append_assoc (b ∷ line) cursor.ahead more) ∙ w.lines)
       ∙ run_fault place number ((b ∷ line) ++ w.rest) w.others (Line number) (step_long place number ((b ∷ line) ++ w.rest) few (omega (arith, length-append (b ∷ line) w.rest)))) (Appends-nothing printed_now)
 
-  stops_short : (left printed_later : Option (List ℕ)) (bytes : List ℕ) → Consumes first left (r.read ++ bytes)
-      → ((more : List ℕ) → MayFollow left more → AppendsFront printed_now printed_later (text_of (run_from place number (lines_of (bytes ++ more))).said)) → StopsShort first left written printed_later
-  stops_short left printed_later bytes taken front = record {
+  stops_short : (follows : List ℕ → Type 0) (left printed_later : Option (List ℕ)) (bytes : List ℕ) → Consumes first left (r.read ++ bytes)
+      → ((more : List ℕ) → follows more → AppendsFront printed_now printed_later (text_of (run_from place number (lines_of (bytes ++ more))).said)) → StopsShort follows first left written printed_later
+  stops_short follows left printed_later bytes taken front = record {
     read = r.read ++ bytes;
     taken = taken;
     text = λ more may.
@@ -267,24 +268,24 @@ module _ (first now written printed_now : Option (List ℕ)) (place : Place) (nu
   whole_past cursor left kept end = whole_none cursor left [] (record { taken = Consumes-none now (to_come cursor left) kept; no_feed = tt }) end refl
 
   -- Nothing more was printed.
-  pub short_reading : (cursor : Cursor) (left : Option (List ℕ)) (line : List ℕ) → TakesLine now (to_come cursor left) line [] → StopsShort first left written printed_now
+  pub short_reading : (cursor : Cursor) (left : Option (List ℕ)) (line : List ℕ) → TakesLine now (to_come cursor left) line [] → StopsShort Anything first left written printed_now
   short_reading cursor left line t =
-      stops_short left printed_now (line ++ cursor.ahead) (taken_so cursor left line (without_separator now (to_come cursor left) line t)) (λ more may. AppendsFront-nothing printed_now _)
+      stops_short Anything left printed_now (line ++ cursor.ahead) (taken_so cursor left line (without_separator now (to_come cursor left) line t)) (λ more may. AppendsFront-nothing printed_now _)
 
   -- A line that ends with LF printed a front of its text.
-  short_feed : (printed_later : Option (List ℕ)) (cursor : Cursor) (left : Option (List ℕ)) (line : List ℕ) → TakesLine now (to_come cursor left) line (10 ∷ []) → AppendsFront printed_now printed_later (step_text place number line)
-      → StopsShort first left written printed_later
-  short_feed printed_later cursor left line t front =
-      stops_short left printed_later ((line ++ 10 ∷ []) ++ cursor.ahead) (taken_so cursor left (line ++ 10 ∷ []) t.taken)
+  short_feed : (follows : List ℕ → Type 0) (printed_later : Option (List ℕ)) (cursor : Cursor) (left : Option (List ℕ)) (line : List ℕ) → TakesLine now (to_come cursor left) line (10 ∷ []) → AppendsFront printed_now printed_later (step_text place number line)
+      → StopsShort follows first left written printed_later
+  short_feed follows printed_later cursor left line t front =
+      stops_short follows left printed_later ((line ++ 10 ∷ []) ++ cursor.ahead) (taken_so cursor left (line ++ 10 ∷ []) t.taken)
       (λ more may. subst (λ (l : List (List ℕ)). AppendsFront printed_now printed_later (text_of (run_from place number l).said)) (sym (feed_first line cursor.ahead more t.no_feed)) (step_front printed_now printed_later place number line (lines_of (cursor.ahead ++ more)) front))
 
   -- A last line that lacks its LF printed a front of its text.
-  short_last : (printed_later : Option (List ℕ)) (cursor : Cursor) (left : Option (List ℕ)) (line : List ℕ) → TakesLine now (to_come cursor left) line [] → IsAtEnd (to_come cursor left) → 0 < length line
-      → AppendsFront printed_now printed_later (step_text place number line) → StopsShort first left written printed_later
-  short_last printed_later cursor left [] t end some front = absurd (omega arith)
-  short_last printed_later cursor left (b ∷ line) t end some front =
-      stops_short left printed_later (b ∷ line) (taken_all cursor left (b ∷ line) t end)
-      (λ more may. subst (λ (l : List (List ℕ)). AppendsFront printed_now printed_later (text_of (run_from place number l).said)) (sym (last_first b line more t.no_feed (may (end_left cursor left end)))) (step_front printed_now printed_later place number (b ∷ line) [] front))
+  short_last : (follows : List ℕ → Type 0) (printed_later : Option (List ℕ)) (cursor : Cursor) (left : Option (List ℕ)) (line : List ℕ) → ((more : List ℕ) → follows more → MayFollow left more) → TakesLine now (to_come cursor left) line [] → IsAtEnd (to_come cursor left) → 0 < length line
+      → AppendsFront printed_now printed_later (step_text place number line) → StopsShort follows first left written printed_later
+  short_last follows printed_later cursor left [] ends t end some front = absurd (omega arith)
+  short_last follows printed_later cursor left (b ∷ line) ends t end some front =
+      stops_short follows left printed_later (b ∷ line) (taken_all cursor left (b ∷ line) t end)
+      (λ more may. subst (λ (l : List (List ℕ)). AppendsFront printed_now printed_later (text_of (run_from place number l).said)) (sym (last_first b line more t.no_feed (ends more may (end_left cursor left end)))) (step_front printed_now printed_later place number (b ∷ line) [] front))
 
   -- There is a line past the last that a script may have.
   pub refuses_past : (cursor : Cursor) (left : Option (List ℕ)) → Keeps now (to_come cursor left) → 0 < length cursor.ahead → LINE_COUNT_LIMIT < number → Refuses Large first left written printed_now
@@ -292,23 +293,23 @@ module _ (first now written printed_now : Option (List ℕ)) (place : Place) (nu
       refuses left printed_now cursor.ahead Large (taken_so cursor left [] (Consumes-none now (to_come cursor left) kept))
       (λ more may. let w = some_line cursor.ahead more some in ap (run_from place number) w.2 ∙ run_fault place number w.0 w.1 Large (step_past place number w.0 past)) (Appends-nothing printed_now)
 
-  pub short_past : (cursor : Cursor) (left : Option (List ℕ)) → Keeps now (to_come cursor left) → StopsShort first left written printed_now
+  pub short_past : (cursor : Cursor) (left : Option (List ℕ)) → Keeps now (to_come cursor left) → StopsShort Anything first left written printed_now
   short_past cursor left kept =
-      stops_short left printed_now cursor.ahead (taken_so cursor left [] (Consumes-none now (to_come cursor left) kept)) (λ more may. AppendsFront-nothing printed_now _)
+      stops_short Anything left printed_now cursor.ahead (taken_so cursor left [] (Consumes-none now (to_come cursor left) kept)) (λ more may. AppendsFront-nothing printed_now _)
 
   -- A line that ends with LF stopped the script.
-  pub stopped_feed : (printed_later : Option (List ℕ)) (cursor : Cursor) (left : Option (List ℕ)) (line : List ℕ) (stop : Option Fault) → TakesLine now (to_come cursor left) line (10 ∷ []) → AppendsFront printed_now printed_later (step_text place number line)
-      → ((fault : Fault) → stop ≡ Some fault → step place number line ≡ Err fault) → StoppedBy stop first left written printed_later
-  stopped_feed printed_later cursor left line None t front refused = short_feed printed_later cursor left line t front
-  stopped_feed printed_later cursor left line (Some fault) t front refused =
+  pub stopped_feed : (printed_later : Option (List ℕ)) (cursor : Cursor) (left : Option (List ℕ)) (line : List ℕ) (stop : Option Fault) (follows : List ℕ → Type 0) → TakesLine now (to_come cursor left) line (10 ∷ []) → AppendsFront printed_now printed_later (step_text place number line)
+      → ((fault : Fault) → stop ≡ Some fault → step place number line ≡ Err fault) → StoppedBy stop follows first left written printed_later
+  stopped_feed printed_later cursor left line None follows t front refused = short_feed follows printed_later cursor left line t front
+  stopped_feed printed_later cursor left line (Some fault) follows t front refused =
       let e = refused fault refl in
       refuses_feed printed_later cursor left line fault t e (nothing_printed printed_now printed_later place number line fault e front)
 
   -- A last line that lacks its LF stopped the script.
-  pub stopped_last : (printed_later : Option (List ℕ)) (cursor : Cursor) (left : Option (List ℕ)) (line : List ℕ) (stop : Option Fault) → TakesLine now (to_come cursor left) line [] → IsAtEnd (to_come cursor left) → 0 < length line
-      → AppendsFront printed_now printed_later (step_text place number line) → ((fault : Fault) → stop ≡ Some fault → step place number line ≡ Err fault) → StoppedBy stop first left written printed_later
-  stopped_last printed_later cursor left line None t end some front refused = short_last printed_later cursor left line t end some front
-  stopped_last printed_later cursor left line (Some fault) t end some front refused =
+  pub stopped_last : (printed_later : Option (List ℕ)) (cursor : Cursor) (left : Option (List ℕ)) (line : List ℕ) (stop : Option Fault) (follows : List ℕ → Type 0) → ((more : List ℕ) → follows more → MayFollow left more) → TakesLine now (to_come cursor left) line [] → IsAtEnd (to_come cursor left) → 0 < length line
+      → AppendsFront printed_now printed_later (step_text place number line) → ((fault : Fault) → stop ≡ Some fault → step place number line ≡ Err fault) → StoppedBy stop follows first left written printed_later
+  stopped_last printed_later cursor left line None follows ends t end some front refused = short_last follows printed_later cursor left line ends t end some front
+  stopped_last printed_later cursor left line (Some fault) follows ends t end some front refused =
       let e = refused fault refl in
       refuses_last printed_later cursor left line fault t end some e (nothing_printed printed_now printed_later place number line fault e front)
 
@@ -324,36 +325,46 @@ module _ (first now written printed_now later : Option (List ℕ)) (place : Plac
   }
 
   -- Showing them at the end stopped short.
-  pub short_closing : AppendsFront printed_now later (text_of (closing place)) → StopsShort first now written later
-  short_closing a = record {
+  short_closing : (follows : List ℕ → Type 0) → ((more : List ℕ) → follows more → MayFollow now more) → AppendsFront printed_now later (text_of (closing place)) → StopsShort follows first now written later
+  short_closing follows ends a = record {
     read = r.read;
     taken = r.taken;
     text = λ more may.
-        let none : run (r.read ++ more) ≡ run r.read = ap (λ (m : List ℕ). run (r.read ++ m)) (may r.end) ∙ ap run (append-nil r.read) in
+        let none : run (r.read ++ more) ≡ run r.read = ap (λ (m : List ℕ). run (r.read ++ m)) (ends more may r.end) ∙ ap run (append-nil r.read) in
         rw (ap printed (none ∙ r.ends) ∙ text_of-append r.said (closing place)) (AppendsFront-then written printed_now later (text_of r.said) (text_of (closing place)) r.told a);
   }
 
 -- Where no fault of the script stopped it, it stopped short.
-pub stopped_short : (stop : Option Fault) (left left' written written' : Option (List ℕ)) → stop ≡ None → StopsShort left left' written written' → StoppedBy stop left left' written written'
-stopped_short None left left' written written' e short = short
-stopped_short (Some fault) left left' written written' e short = absurd cc
+stopped_short : (stop : Option Fault) (follows : List ℕ → Type 0) (left left' written written' : Option (List ℕ)) → stop ≡ None → StopsShort follows left left' written written' → StoppedBy stop follows left left' written written'
+stopped_short None follows left left' written written' e short = short
+stopped_short (Some fault) follows left left' written written' e short = absurd cc
+
+-- Where it was not the source that failed, nothing follows at its end.
+pub not_reading : (why : Stop) (left : Option (List ℕ)) → why ≢ stop.ReadFault → (more : List ℕ) → FollowsAfter why left more → MayFollow left more
+not_reading (stop.Script line) left other more may = may
+not_reading stop.Large left other more may = may
+not_reading stop.ReadFault left other more may = absurd (other refl)
+not_reading stop.WriteFault left other more may = may
+not_reading stop.NoMemory left other more may = may
 
 -- A script that was read to its end closes by showing all.
 pub closed : {X : Type 0} (result : Result X Stop) (first now written printed_now later : Option (List ℕ)) (place : Place) → ReadWhole first now written printed_now place
     → OnOk result (Appends printed_now later (text_of (closing place))) → OnErr result (AppendsFront printed_now later (text_of (closing place))) → IfErr result (λ stop. fault_of stop ≡ None)
-    → MatchResult result (λ _. Completes first now written later) (λ stop. Stopped stop first now written later)
-closed (Ok x) first now written printed_now later place r ok err none = completes first now written printed_now later place r ok
-closed (Err stop) first now written printed_now later place r ok err none = stopped_short (fault_of stop) first now written later none (short_closing first now written printed_now later place r err)
+    → (IsErrOf result stop.ReadFault → ⊥) → MatchResult result (λ _. Completes first now written later) (λ stop. Stopped stop first now written later)
+closed (Ok x) first now written printed_now later place r ok err none other = completes first now written printed_now later place r ok
+closed (Err why) first now written printed_now later place r ok err none other =
+    let follows = FollowsAfter why now in
+    stopped_short (fault_of why) follows first now written later none (short_closing first now written printed_now later place r follows (not_reading why now (λ e. other (ap Err e))) err)
 
 -- Reading a line stopped the script.
-pub stopped_reading : (fault : LineFault) (left left' written written' : Option (List ℕ)) → StopsShort left left' written written' → Stopped (line_stop fault) left left' written written'
+pub stopped_reading : (fault : LineFault) (left left' written written' : Option (List ℕ)) → StopsShort Anything left left' written written' → Stopped (line_stop fault) left left' written written'
 stopped_reading line.Source left left' written written' short = short
-stopped_reading line.NoMemory left left' written written' short = short
+stopped_reading line.NoMemory left left' written written' short = record { read = short.read; taken = short.taken; text = λ more may. short.text more tt }
 
 pub some_bytes : (n : ℕ) → eqb n 0 ≡ false → 0 < n
 some_bytes zero e = absurd cc
 some_bytes (suc n) e = omega arith
 
 -- A script that was not begun.
-pub short_start : (left written : Option (List ℕ)) → StopsShort left left written written
+pub short_start : (left written : Option (List ℕ)) → StopsShort (MayFollow left) left left written written
 short_start left written = record { read = []; taken = Consumes-nothing left; text = λ more may. AppendsFront-nothing written _ }

@@ -11,8 +11,8 @@ use Rattle.dqnode.specs.Program.{line_error, large_error, fault_text, run_text, 
 use Rattle.dqnode.specs.Status.{ScriptEnds}
 
 -- A script that stopped short breaks off.
-pub breaks_off : (left left' written written' : Option (List ℕ)) → StopsShort left left' written written' → BreaksOff left left' written written'
-breaks_off left left' written written' s = record {
+pub breaks_off : (follows : List ℕ → Type 0) (left left' written written' : Option (List ℕ)) → StopsShort follows left left' written written' → BreaksOff follows left left' written written'
+breaks_off follows left left' written written' s = record {
   read = s.read;
   taken = s.taken;
   text = λ more may.
@@ -32,7 +32,7 @@ module _ (left left' written printed_now later : Option (List ℕ)) (fault : Fau
     text = λ more may. rw (text_is more may) (Appends-then written printed_now later (printed (run (r.read ++ more))) (fault_text (Some fault)) (r.text more may) a);
   }
 
-  not_told : AppendsFront printed_now later (fault_text (Some fault)) → BreaksOff left left' written later
+  not_told : AppendsFront printed_now later (fault_text (Some fault)) → BreaksOff (MayFollow left') left left' written later
   not_told a = record {
     read = r.read;
     taken = r.taken;

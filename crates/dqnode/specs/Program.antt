@@ -39,8 +39,8 @@ pub record Faults (fault : Fault) (left left' written written' : Option (List �
   pub faulty : (more : List ℕ) → MayFollow left' more → (run (read ++ more)).fault ≡ Some fault
   pub text : (more : List ℕ) → MayFollow left' more → Appends written written' (run_text (run (read ++ more)))
 
--- Whatever may follow the bytes read, a front of the script's text was written: nothing of a line that was read in part.
-pub record BreaksOff (left left' written written' : Option (List ℕ)) : Type 0 where
+-- A front of the script's text was written, whatever of this follows the bytes read: so nothing of a line that was read in part.
+pub record BreaksOff (follows : List ℕ → Type 0) (left left' written written' : Option (List ℕ)) : Type 0 where
   pub read : List ℕ
   pub taken : Consumes left left' read
-  pub text : (more : List ℕ) → MayFollow left' more → AppendsFront written written' (run_text (run (read ++ more)))
+  pub text : (more : List ℕ) → follows more → AppendsFront written written' (run_text (run (read ++ more)))

@@ -3,7 +3,7 @@
 ghost use Rattle.std.specs.Prelude.{◌≡◌, ◌≢◌, ◌≤◌, ◌↔◌, ◌⊎◌, ℕ, List, IsTrue};
 ghost use Rattle.std.specs.Io.KnownBytes.{Appends, Keeps};
 ghost use Rattle.dq_base.specs.Faults.{Rose};
-ghost use Rattle.cluster_runner.specs.Outcome.{Completes};
+ghost use Rattle.cluster_runner.specs.Outcome.{MayFollow, Anything, Completes};
 ghost use Rattle.dq_base.specs.Sink.{AppendsFront};
 ghost use Rattle.cluster_runner.specs.Run.{Line, Large};
 ghost use Rattle.cluster_runner.specs.Alike.{KeepsAlike};
@@ -96,9 +96,9 @@ fn refuse_words<K: Sink>(output: &mut K) -> Status
 /// the millionth and the event behind the twenty thousandth give status 9 and `error large`. 3 is a fault of the input
 /// and 4 one of the output, an error line that could not be written included; 7 is want of memory.
 ///
-/// A refused script was read at least as far as its fault shows, whatever may follow. After a fault of the outside and
-/// want of memory nothing was written but a front of what the script gives, whatever may follow what was read. After
-/// words other than `script` the input is as it was.
+/// What was read decides this: whatever may follow, a refused script has the fault that is named, and after a fault of
+/// the outside or want of memory a front of what the script gives was written, with nothing of a line that was read in
+/// part. After words other than `script` the input is as it was.
 pub fn dqnode<S: Source, K: Sink>(
     alloc: Global,
     words: &[String],
@@ -121,9 +121,10 @@ pub fn dqnode<S: Source, K: Sink>(
     // The input, the output failed in this call.
     ensures read_fault { result ≡ 3 → IsScript words.now × Rose (S.faults input.old) (S.faults input.new) }
     ensures write_fault { result ≡ 4 → Rose (K.faults output.old) (K.faults output.new) }
-    // After a fault of the outside and want of memory a front was written of what the script gives, whatever may follow
-    // the bytes read.
-    ensures broken { IsScript words.now → IsBroken result → BreaksOff (S.left input.old) (S.left input.new) (K.written output.old) (K.written output.new) }
+    // After a fault of the input a front was written of what the script gives, whatever bytes follow those read.
+    ensures cut { result ≡ 3 → BreaksOff Anything (S.left input.old) (S.left input.new) (K.written output.old) (K.written output.new) }
+    // So it is after a fault of the output and want of memory; but where the input is at its end nothing follows.
+    ensures broken { IsScript words.now → IsBroken result → BreaksOff (MayFollow (S.left input.new)) (S.left input.old) (S.left input.new) (K.written output.old) (K.written output.new) }
     ensures words_broken { ¬ (IsScript words.now) → result ≡ 4 → AppendsFront (K.written output.old) (K.written output.new) words_error }
     // There is no other status.
     ensures known { IsStatus result }

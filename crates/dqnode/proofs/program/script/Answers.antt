@@ -1,3 +1,4 @@
+use Rattle.cluster_runner.specs.Outcome.{MayFollow, Anything}
 use Rattle.dqnode.proofs.Endings.{breaks_off, line_refused, large_refused}
 use Rattle.dqnode.proofs.program.script.Goals as goal
 
@@ -15,12 +16,12 @@ returns-in-Large-clause-ended g c =
 
 pub returns-in-ReadFault-clause-ended : goal.returns-in-ReadFault-clause-ended
 returns-in-ReadFault-clause-ended g c =
-    breaks_off (g.S.Source.left c.args.input.now) (g.S.Source.left c.run_script.new.source) (g.K.Sink.written c.args.output.now) (g.K.Sink.written c.run_script.new.sink) c.in-ReadFault.ensures.ended
+    breaks_off Anything (g.S.Source.left c.args.input.now) (g.S.Source.left c.run_script.new.source) (g.K.Sink.written c.args.output.now) (g.K.Sink.written c.run_script.new.sink) c.in-ReadFault.ensures.ended
 
 pub returns-in-WriteFault-clause-ended : goal.returns-in-WriteFault-clause-ended
 returns-in-WriteFault-clause-ended g c =
-    breaks_off (g.S.Source.left c.args.input.now) (g.S.Source.left c.run_script.new.source) (g.K.Sink.written c.args.output.now) (g.K.Sink.written c.run_script.new.sink) c.in-WriteFault.ensures.ended
+    breaks_off (MayFollow (g.S.Source.left c.run_script.new.source)) (g.S.Source.left c.args.input.now) (g.S.Source.left c.run_script.new.source) (g.K.Sink.written c.args.output.now) (g.K.Sink.written c.run_script.new.sink) c.in-WriteFault.ensures.ended
 
 pub returns-in-NoMemory-clause-ended : goal.returns-in-NoMemory-clause-ended
 returns-in-NoMemory-clause-ended g c =
-    breaks_off (g.S.Source.left c.args.input.now) (g.S.Source.left c.run_script.new.source) (g.K.Sink.written c.args.output.now) (g.K.Sink.written c.run_script.new.sink) c.in-NoMemory.ensures.ended
+    breaks_off (MayFollow (g.S.Source.left c.run_script.new.source)) (g.S.Source.left c.args.input.now) (g.S.Source.left c.run_script.new.source) (g.K.Sink.written c.args.output.now) (g.K.Sink.written c.run_script.new.sink) c.in-NoMemory.ensures.ended
