@@ -320,10 +320,10 @@ run_tells place number (line ∷ lines) follow =
 abbrev ShowsAtEnd : Run → Place → Type 0
 ShowsAtEnd run place = run.fault ≡ None → (said : List Say) × (run.said ≡ said ++ closing place)
 
-shows : (place : Place) (number : ℕ) (lines : List (List ℕ)) → ShowsAtEnd (run_from true place number lines) (led_from place number lines)
+shows : (place : Place) (number : ℕ) (lines : List (List ℕ)) → ShowsAtEnd (run_from place number lines) (led_from place number lines)
 shows place number [] = λ e. ([], refl)
 shows place number (line ∷ lines) =
-    let P : Next → Type 0 = λ o. ShowsAtEnd (onward (λ (next : Place × List Say). run_from true next.0 (suc number) lines) o) (led (λ (next : Place). led_from next (suc number) lines) place o) in
+    let P : Next → Type 0 = λ o. ShowsAtEnd (onward (λ (next : Place × List Say). run_from next.0 (suc number) lines) o) (led (λ (next : Place). led_from next (suc number) lines) place o) in
     let go : (o : Next) → P o =
     λ o. elim o as P [
       | Ok next ↦ λ e. let w = shows next.0 (suc number) lines e in (next.1 ++ w.0, ap (λ (s : List Say). next.1 ++ s) w.1 ∙ sym (append_assoc next.1 w.0 _))

@@ -1,20 +1,21 @@
 -- Running a script line by line gives the run that its bytes make.
-use Rattle.std.proofs.Common.{◌≡◌, ◌≢◌, ℕ, zero, suc, ◌<◌, ◌≤◌, Bool, true, false, eqb, List, [], ◌∷◌, ◌++◌, Option, Some, None, Ok, Err, length, refl, sym, ap, subst, ◌∙◌, append_assoc, arith, inl, inr}
-use Rattle.std.specs.Prelude.{unwrap_or, Result, OnOk, OnErr, IfErr, MatchResult}
+use Rattle.std.proofs.Common.{◌≡◌, ◌≢◌, ℕ, zero, suc, ◌<◌, ◌≤◌, false, eqb, List, [], ◌∷◌, ◌++◌, Option, Some, None, Ok, Err, length, refl, sym, ap, subst, ◌∙◌, append_assoc, arith, inl, inr}
+use Rattle.std.specs.Prelude.{Result, OnOk, OnErr, IfErr, IsErrOf, MatchResult}
 use Rattle.std.specs.Io.KnownBytes.{Appends, Consumes, Keeps, IsAtEnd}
 use Rattle.std.proofs.lemmas.List.{append-nil, length-append, nil_from_length}
 use Rattle.dq_base.specs.Sink.{AppendsFront}
-use Rattle.dq_base.proofs.ContentLaws.{Consumes-nothing, Consumes-then, Consumes-kept, Appends-nothing, Appends-then, AppendsFront-nothing, AppendsFront-longer, AppendsFront-then, Consumes-all}
+use Rattle.dq_base.proofs.ContentLaws.{Consumes-nothing, Consumes-then, Appends-nothing, Appends-then, AppendsFront-nothing, AppendsFront-longer, AppendsFront-then, Consumes-all}
 use Rattle.cluster_runner.specs.declared.lines.TheConstants.{LINE_LIMIT, LINE_COUNT_LIMIT}
 use Rattle.cluster_runner.specs.declared.cluster.Say.{Say}
 use Rattle.cluster_runner.specs.declared.lines.LineFault.{LineFault}
 use Rattle.cluster_runner.specs.declared.lines.LineFault.TheVariants as line
 use Rattle.cluster_runner.specs.declared.run.Stop.{Stop}
+use Rattle.cluster_runner.specs.declared.run.Stop.TheVariants as stop
 use Rattle.cluster_runner.specs.Stops.{line_stop, fault_of}
 use Rattle.cluster_runner.specs.Lines.{with_byte, lines_of, HasNoFeed, Cursor, to_come, TakesLine}
 use Rattle.cluster_runner.specs.Grammar.{line_of}
-use Rattle.cluster_runner.specs.Run.{Place, Opening, Next, Fault, Line, Large, step, step_text, next_text, Run, said_before, onward, closing, ending, run_from, run_so_far, run, text_of, printed}
-use Rattle.cluster_runner.specs.Outcome.{IsInput, Completes, Refuses, StopsShort, Reached, ReadWhole, StoppedBy, Stopped}
+use Rattle.cluster_runner.specs.Run.{Place, Opening, Next, Fault, Line, Large, step, step_text, next_text, Run, said_before, onward, closing, ending, run_from, run, text_of, printed}
+use Rattle.cluster_runner.specs.Outcome.{MayFollow, Anything, FollowsAfter, Completes, Refuses, StopsShort, Reached, ReadWhole, StoppedBy, Stopped}
 use Rattle.cluster_runner.proofs.Reading.{Consumes-none}
 use Rattle.cluster_runner.proofs.Printed.{text_of-append}
 use Rattle.std.proofs.lemmas.Bool.{lt-leb, le-leb}
@@ -34,6 +35,13 @@ lines_feed (b ∷ line) rest h = lines_next b (line ++ 10 ∷ rest) h.0 ∙ ap (
 lines_last : (b : ℕ) (line : List ℕ) → HasNoFeed (b ∷ line) → lines_of (b ∷ line) ≡ (b ∷ line) ∷ []
 lines_last b [] h = lines_next b [] h.0
 lines_last b (c ∷ line) h = lines_next b (c ∷ line) h.0 ∙ ap (with_byte b) (lines_last c line h.1)
+
+-- the same with what a reader holds, and what may follow
+feed_first : (line ahead more : List ℕ) → HasNoFeed line → lines_of (((line ++ 10 ∷ []) ++ ahead) ++ more) ≡ line ∷ lines_of (ahead ++ more)
+feed_first line ahead more h = ap lines_of (append_assoc (line ++ 10 ∷ []) ahead more ∙ append_assoc line (10 ∷ []) (ahead ++ more)) ∙ lines_feed line (ahead ++ more) h
+
+last_first : (b : ℕ) (line more : List ℕ) → HasNoFeed (b ∷ line) → more ≡ [] → lines_of ((b ∷ line) ++ more) ≡ (b ∷ line) ∷ []
+last_first b line more h none = ap (λ (m : List ℕ). lines_of ((b ∷ line) ++ m)) none ∙ ap lines_of (append-nil (b ∷ line)) ∙ lines_last b line h
 
 -- a line of which this is a front
 record Begins (line more : List ℕ) : Type 0 where
@@ -55,12 +63,12 @@ line_begins b (c ∷ line) more h =
 
 -- ---- steps
 
-run_step : (whole : Bool) (place : Place) (number : ℕ) (line : List ℕ) (lines : List (List ℕ)) (next : Place) (said : List Say) → step place number line ≡ Ok (next, said)
-    → run_from whole place number (line ∷ lines) ≡ said_before said (run_from whole next (suc number) lines)
-run_step whole place number line lines next said e = rw e refl
+run_step : (place : Place) (number : ℕ) (line : List ℕ) (lines : List (List ℕ)) (next : Place) (said : List Say) → step place number line ≡ Ok (next, said)
+    → run_from place number (line ∷ lines) ≡ said_before said (run_from next (suc number) lines)
+run_step place number line lines next said e = rw e refl
 
-run_fault : (whole : Bool) (place : Place) (number : ℕ) (line : List ℕ) (lines : List (List ℕ)) (fault : Fault) → step place number line ≡ Err fault → run_from whole place number (line ∷ lines) ≡ record { said = []; fault = Some fault }
-run_fault whole place number line lines fault e = rw e refl
+run_fault : (place : Place) (number : ℕ) (line : List ℕ) (lines : List (List ℕ)) (fault : Fault) → step place number line ≡ Err fault → run_from place number (line ∷ lines) ≡ record { said = []; fault = Some fault }
+run_fault place number line lines fault e = rw e refl
 
 line_long : (line : List ℕ) → LINE_LIMIT < length line → line_of line ≡ None
 unfolding line_of
@@ -86,7 +94,7 @@ starts None = tt
 starts (Some all) = refl
 
 pub reached_start : (left written : Option (List ℕ)) → Reached left (to_come (record { line = []; ahead = [] }) left) written written Opening 1
-reached_start left written = record { read = []; said = []; taken = starts left; told = Appends-nothing written; goes_on = λ whole more. refl }
+reached_start left written = record { read = []; said = []; taken = starts left; told = Appends-nothing written; goes_on = λ more. refl }
 
 -- A line that is in the grammar leads on.
 pub reached_line : (first now later written printed_now printed_later : Option (List ℕ)) (place next : Place) (number : ℕ) (line : List ℕ) (said : List Say)
@@ -97,12 +105,12 @@ reached_line first now later written printed_now printed_later place next number
   said = r.said ++ said;
   taken = Consumes-then first now later r.read (line ++ 10 ∷ []) r.taken t.taken;
   told = rw (text_of-append r.said said) (Appends-then written printed_now printed_later (text_of r.said) (text_of said) r.told a);
-  goes_on = λ whole more.
-      ap (run_so_far whole) (append_assoc r.read (line ++ 10 ∷ []) more ∙ ap (λ (bytes : List ℕ). r.read ++ bytes) (append_assoc line (10 ∷ []) more))
-      ∙ r.goes_on whole (line ++ 10 ∷ more)
-      ∙ ap (λ (lines : List (List ℕ)). said_before r.said (run_from whole place number lines)) (lines_feed line more t.no_feed)
-      ∙ ap (said_before r.said) (run_step whole place number line (lines_of more) next said e)
-      ∙ said_twice r.said said (run_from whole next (suc number) (lines_of more));
+  goes_on = λ more.
+      ap run (append_assoc r.read (line ++ 10 ∷ []) more ∙ ap (λ (bytes : List ℕ). r.read ++ bytes) (append_assoc line (10 ∷ []) more))
+      ∙ r.goes_on (line ++ 10 ∷ more)
+      ∙ ap (λ (lines : List (List ℕ)). said_before r.said (run_from place number lines)) (lines_feed line more t.no_feed)
+      ∙ ap (said_before r.said) (run_step place number line (lines_of more) next said e)
+      ∙ said_twice r.said said (run_from next (suc number) (lines_of more));
 }
 
 -- ---- what a reader holds
@@ -127,23 +135,13 @@ held_end None cursor left bytes taken end = tt
 held_end (Some all) cursor None bytes taken end = absurd taken
 held_end (Some all) cursor (Some rest) bytes taken end = taken ∙ ap (λ (ahead : List ℕ). bytes ++ (ahead ++ rest)) (nothing_behind cursor.ahead rest end).0
 
--- all that there was: what was taken, and then what is to come
-input_is : (first now : Option (List ℕ)) (read : List ℕ) → Consumes first now read → IsInput first (read ++ unwrap_or now [])
-input_is None now read taken = tt
-input_is (Some all) None read taken = absurd taken
-input_is (Some all) (Some rest) read taken = taken
-
-nothing_to_come : (now : Option (List ℕ)) → IsAtEnd now → unwrap_or now [] ≡ []
-nothing_to_come None end = refl
-nothing_to_come (Some rest) end = end
-
 without_separator : (first now : Option (List ℕ)) (line : List ℕ) → TakesLine first now line [] → Consumes first now line
 without_separator first now line t = rw (append-nil line) at t.taken
 
 -- what a line printed is a front of the text of the run from there on
-step_front : (a b : Option (List ℕ)) (whole : Bool) (place : Place) (number : ℕ) (line : List ℕ) (lines : List (List ℕ)) → AppendsFront a b (step_text place number line) → AppendsFront a b (text_of (run_from whole place number (line ∷ lines)).said)
-step_front a b whole place number line lines front =
-    let go : Place × List Say → Run = λ next. run_from whole next.0 (suc number) lines in
+step_front : (a b : Option (List ℕ)) (place : Place) (number : ℕ) (line : List ℕ) (lines : List (List ℕ)) → AppendsFront a b (step_text place number line) → AppendsFront a b (text_of (run_from place number (line ∷ lines)).said)
+step_front a b place number line lines front =
+    let go : Place × List Say → Run = λ next. run_from next.0 (suc number) lines in
     let P : Next → Type 0 = λ o. AppendsFront a b (next_text o) → AppendsFront a b (text_of (onward go o).said) in
     let by_cases : (o : Next) → P o =
     λ o. elim o as P [
@@ -173,11 +171,16 @@ nothing_printed a b place number line fault e front =
 -- ---- how a script ends
 
 module _ (first now written printed_now : Option (List ℕ)) (place : Place) (number : ℕ) (r : Reached first now written printed_now place number) where
-  ends_so : (later : Option (List ℕ)) (tail : List ℕ) (said : List Say) (fault : Option Fault) → run_from true place number (lines_of tail) ≡ record { said = said; fault = fault } → Appends printed_now later (text_of said)
-      → ((run (r.read ++ tail)).fault ≡ fault) × Appends written later (printed (run (r.read ++ tail)))
-  ends_so later tail said fault h a =
-      let e = r.goes_on true tail ∙ ap (said_before r.said) h in
-      (ap (λ (x : Run). x.fault) e, rw (ap printed e ∙ text_of-append r.said said) (Appends-then written printed_now later (text_of r.said) (text_of said) r.told a))
+  -- what was taken off the front, and what the reader holds, came from the source
+  taken_so : (cursor : Cursor) (left : Option (List ℕ)) (bytes : List ℕ) → Consumes now (to_come cursor left) bytes → Consumes first left (r.read ++ (bytes ++ cursor.ahead))
+  taken_so cursor left bytes taken = rw (append_assoc r.read bytes cursor.ahead) at (held first cursor left (r.read ++ bytes) (Consumes-then first now (to_come cursor left) r.read bytes r.taken taken))
+
+  taken_all : (cursor : Cursor) (left : Option (List ℕ)) (line : List ℕ) → TakesLine now (to_come cursor left) line [] → IsAtEnd (to_come cursor left) → Consumes first left (r.read ++ line)
+  taken_all cursor left line t end = held_end first cursor left (r.read ++ line) (Consumes-then first now (to_come cursor left) r.read line r.taken (without_separator now (to_come cursor left) line t)) end
+
+  -- the run of what was read and of what follows: what was said, and then the run from here
+  goes_behind : (bytes more : List ℕ) → run ((r.read ++ bytes) ++ more) ≡ said_before r.said (run_from place number (lines_of (bytes ++ more)))
+  goes_behind bytes more = ap run (append_assoc r.read bytes more) ∙ r.goes_on (bytes ++ more)
 
   -- No line was left.
   pub whole_none : (cursor : Cursor) (left : Option (List ℕ)) (line : List ℕ) → TakesLine now (to_come cursor left) line [] → IsAtEnd (to_come cursor left) → length line ≡ 0 → ReadWhole first left written printed_now place
@@ -186,10 +189,10 @@ module _ (first now written printed_now : Option (List ℕ)) (place : Place) (nu
       record {
         read = r.read ++ line;
         said = r.said;
-        taken = held_end first cursor left (r.read ++ line) (Consumes-then first now (to_come cursor left) r.read line r.taken (without_separator now (to_come cursor left) line t)) end;
+        taken = taken_all cursor left line t end;
         end = end_left cursor left end;
         told = r.told;
-        ends = λ whole. r.goes_on whole line ∙ ap (λ (l : List ℕ). said_before r.said (run_from whole place number (lines_of l))) nil;
+        ends = r.goes_on line ∙ ap (λ (l : List ℕ). said_before r.said (run_from place number (lines_of l))) nil;
       }
 
   -- A last line that lacks its LF leads on.
@@ -199,117 +202,116 @@ module _ (first now written printed_now : Option (List ℕ)) (place : Place) (nu
   whole_last later cursor left (b ∷ line) next said t end some e a = record {
     read = r.read ++ b ∷ line;
     said = r.said ++ said;
-    taken = held_end first cursor left (r.read ++ b ∷ line) (Consumes-then first now (to_come cursor left) r.read (b ∷ line) r.taken (without_separator now (to_come cursor left) (b ∷ line) t)) end;
+    taken = taken_all cursor left (b ∷ line) t end;
     end = end_left cursor left end;
     told = rw (text_of-append r.said said) (Appends-then written printed_now later (text_of r.said) (text_of said) r.told a);
-    ends = λ whole.
-        r.goes_on whole (b ∷ line)
-        ∙ ap (λ (lines : List (List ℕ)). said_before r.said (run_from whole place number lines)) (lines_last b line t.no_feed)
-        ∙ ap (said_before r.said) (run_step whole place number (b ∷ line) [] next said e)
-        ∙ said_twice r.said said (ending whole next);
+    ends = r.goes_on (b ∷ line)
+        ∙ ap (λ (lines : List (List ℕ)). said_before r.said (run_from place number lines)) (lines_last b line t.no_feed)
+        ∙ ap (said_before r.said) (run_step place number (b ∷ line) [] next said e)
+        ∙ said_twice r.said said (ending next);
   }
 
-  refuses : (later printed_later : Option (List ℕ)) (bytes line : List ℕ) (others : List (List ℕ)) (fault : Fault) → Consumes now later bytes → lines_of (bytes ++ unwrap_or later []) ≡ line ∷ others → step place number line ≡ Err fault
-      → Appends printed_now printed_later [] → Refuses fault first written printed_later
-  refuses later printed_later bytes line others fault taken lines e a =
-      let tail = bytes ++ unwrap_or later [] in
-      let w = ends_so printed_later tail [] (Some fault) (ap (run_from true place number) lines ∙ run_fault true place number line others fault e) a in
-      record {
-        script = r.read ++ tail;
-        input = rw (append_assoc r.read bytes (unwrap_or later [])) at (input_is first later (r.read ++ bytes) (Consumes-then first now later r.read bytes r.taken taken));
-        faulty = w.0;
-        text = w.1;
-      }
+  -- nothing more is printed where the rest has a fault at once
+  text_so : (printed_later : Option (List ℕ)) (bytes more : List ℕ) (fault : Fault) → run_from place number (lines_of (bytes ++ more)) ≡ record { said = []; fault = Some fault } → Appends printed_now printed_later []
+      → Appends written printed_later (printed (run ((r.read ++ bytes) ++ more)))
+  text_so printed_later bytes more fault e a =
+      let text : printed (run ((r.read ++ bytes) ++ more)) ≡ text_of r.said ++ [] = ap printed (goes_behind bytes more ∙ ap (said_before r.said) e) ∙ text_of-append r.said [] in
+      rw text (Appends-then written printed_now printed_later (text_of r.said) [] r.told a)
+
+  refuses : (left printed_later : Option (List ℕ)) (bytes : List ℕ) (fault : Fault) → Consumes first left (r.read ++ bytes)
+      → ((more : List ℕ) → MayFollow left more → run_from place number (lines_of (bytes ++ more)) ≡ record { said = []; fault = Some fault }) → Appends printed_now printed_later [] → Refuses fault first left written printed_later
+  refuses left printed_later bytes fault taken faulty a = record {
+    read = r.read ++ bytes;
+    taken = taken;
+    faulty = λ more may. ap (λ (x : Run). x.fault) (goes_behind bytes more ∙ ap (said_before r.said) (faulty more may));
+    text = λ more may. text_so printed_later bytes more fault (faulty more may) a;
+  }
 
   -- A line that ends with LF isn't in the grammar.
-  pub refuses_feed : (later printed_later : Option (List ℕ)) (line : List ℕ) (fault : Fault) → TakesLine now later line (10 ∷ []) → step place number line ≡ Err fault → Appends printed_now printed_later [] → Refuses fault first written printed_later
-  refuses_feed later printed_later line fault t e a =
-      let rest = unwrap_or later [] in
-      refuses later printed_later (line ++ 10 ∷ []) line (lines_of rest) fault t.taken (ap lines_of (append_assoc line (10 ∷ []) rest) ∙ lines_feed line rest t.no_feed) e a
+  refuses_feed : (printed_later : Option (List ℕ)) (cursor : Cursor) (left : Option (List ℕ)) (line : List ℕ) (fault : Fault) → TakesLine now (to_come cursor left) line (10 ∷ []) → step place number line ≡ Err fault → Appends printed_now printed_later []
+      → Refuses fault first left written printed_later
+  refuses_feed printed_later cursor left line fault t e a =
+      refuses left printed_later ((line ++ 10 ∷ []) ++ cursor.ahead) fault (taken_so cursor left (line ++ 10 ∷ []) t.taken)
+      (λ more may. ap (run_from place number) (feed_first line cursor.ahead more t.no_feed) ∙ run_fault place number line (lines_of (cursor.ahead ++ more)) fault e) a
 
   -- A last line that lacks its LF isn't in the grammar.
-  pub refuses_last : (later printed_later : Option (List ℕ)) (line : List ℕ) (fault : Fault) → TakesLine now later line [] → IsAtEnd later → 0 < length line → step place number line ≡ Err fault → Appends printed_now printed_later []
-      → Refuses fault first written printed_later
-  refuses_last later printed_later [] fault t end some e a = absurd (omega arith)
-  refuses_last later printed_later (b ∷ line) fault t end some e a =
-      let bytes : (b ∷ line) ++ unwrap_or later [] ≡ b ∷ line = ap (λ (rest : List ℕ). (b ∷ line) ++ rest) (nothing_to_come later end) ∙ append-nil (b ∷ line) in
-      refuses later printed_later (b ∷ line) (b ∷ line) [] fault (without_separator now later (b ∷ line) t) (ap lines_of bytes ∙ lines_last b line t.no_feed) e a
+  refuses_last : (printed_later : Option (List ℕ)) (cursor : Cursor) (left : Option (List ℕ)) (line : List ℕ) (fault : Fault) → TakesLine now (to_come cursor left) line [] → IsAtEnd (to_come cursor left) → 0 < length line → step place number line ≡ Err fault
+      → Appends printed_now printed_later [] → Refuses fault first left written printed_later
+  refuses_last printed_later cursor left [] fault t end some e a = absurd (omega arith)
+  refuses_last printed_later cursor left (b ∷ line) fault t end some e a =
+      refuses left printed_later (b ∷ line) fault (taken_all cursor left (b ∷ line) t end)
+      (λ more may. ap (run_from place number) (last_first b line more t.no_feed (may (end_left cursor left end))) ∙ run_fault place number (b ∷ line) [] fault e) a
 
   -- A line is too long.
-  pub refuses_long : (later : Option (List ℕ)) (line : List ℕ) → number ≤ LINE_COUNT_LIMIT → TakesLine now later line [] → LINE_LIMIT < length line → Refuses (Line number) first written printed_now
-  refuses_long later [] few t long = absurd (omega arith)
-  refuses_long later (b ∷ line) few t long =
-      let w = line_begins b line (unwrap_or later []) t.no_feed in
-      refuses later printed_now (b ∷ line) ((b ∷ line) ++ w.rest) w.others (Line number) (without_separator now later (b ∷ line) t) w.lines
-      (step_long place number ((b ∷ line) ++ w.rest) few (omega (arith, length-append (b ∷ line) w.rest))) (Appends-nothing printed_now)
+  pub refuses_long : (cursor : Cursor) (left : Option (List ℕ)) (line : List ℕ) → number ≤ LINE_COUNT_LIMIT → TakesLine now (to_come cursor left) line [] → LINE_LIMIT < length line → Refuses (Line number) first left written printed_now
+  refuses_long cursor left [] few t long = absurd (omega arith)
+  refuses_long cursor left (b ∷ line) few t long =
+      refuses left printed_now ((b ∷ line) ++ cursor.ahead) (Line number) (taken_so cursor left (b ∷ line) (without_separator now (to_come cursor left) (b ∷ line) t))
+      (λ more may.
+      let w = line_begins b line (cursor.ahead ++ more) t.no_feed in
+      ap (run_from place number) (ap lines_of (append_assoc (b ∷ line) cursor.ahead more) ∙ w.lines)
+      ∙ run_fault place number ((b ∷ line) ++ w.rest) w.others (Line number) (step_long place number ((b ∷ line) ++ w.rest) few (omega (arith, length-append (b ∷ line) w.rest)))) (Appends-nothing printed_now)
 
-  stops_short : (left printed_later : Option (List ℕ)) (tail : List ℕ) → Consumes first left (r.read ++ tail) → AppendsFront printed_now printed_later (text_of (run_from false place number (lines_of tail)).said) → StopsShort first left written printed_later
-  stops_short left printed_later tail taken front =
-      let said = (run_from false place number (lines_of tail)).said in
-      let text : printed (run_so_far false (r.read ++ tail)) ≡ text_of r.said ++ text_of said = ap printed (r.goes_on false tail) ∙ text_of-append r.said said in
-      record {
-        read = r.read ++ tail;
-        taken = taken;
-        whole = false;
-        ended = λ e. absurd cc;
-        text = rw text (AppendsFront-then written printed_now printed_later (text_of r.said) (text_of said) r.told front);
-      }
+  stops_short : (follows : List ℕ → Type 0) (left printed_later : Option (List ℕ)) (bytes : List ℕ) → Consumes first left (r.read ++ bytes)
+      → ((more : List ℕ) → follows more → AppendsFront printed_now printed_later (text_of (run_from place number (lines_of (bytes ++ more))).said)) → StopsShort follows first left written printed_later
+  stops_short follows left printed_later bytes taken front = record {
+    read = r.read ++ bytes;
+    taken = taken;
+    text = λ more may.
+        let said = (run_from place number (lines_of (bytes ++ more))).said in
+        let text : printed (run ((r.read ++ bytes) ++ more)) ≡ text_of r.said ++ text_of said = ap printed (goes_behind bytes more) ∙ text_of-append r.said said in
+        rw text (AppendsFront-then written printed_now printed_later (text_of r.said) (text_of said) r.told (front more may));
+  }
 
   -- Nothing is left behind the last line that a script may have.
   pub whole_past : (cursor : Cursor) (left : Option (List ℕ)) → Keeps now (to_come cursor left) → IsAtEnd (to_come cursor left) → ReadWhole first left written printed_now place
   whole_past cursor left kept end = whole_none cursor left [] (record { taken = Consumes-none now (to_come cursor left) kept; no_feed = tt }) end refl
 
   -- Nothing more was printed.
-  pub short_reading : (cursor : Cursor) (left : Option (List ℕ)) (line : List ℕ) → TakesLine now (to_come cursor left) line [] → StopsShort first left written printed_now
+  pub short_reading : (cursor : Cursor) (left : Option (List ℕ)) (line : List ℕ) → TakesLine now (to_come cursor left) line [] → StopsShort Anything first left written printed_now
   short_reading cursor left line t =
-      let taken = held first cursor left (r.read ++ line) (Consumes-then first now (to_come cursor left) r.read line r.taken (without_separator now (to_come cursor left) line t)) in
-      stops_short left printed_now (line ++ cursor.ahead) (rw (append_assoc r.read line cursor.ahead) at taken) (AppendsFront-nothing printed_now _)
+      stops_short Anything left printed_now (line ++ cursor.ahead) (taken_so cursor left line (without_separator now (to_come cursor left) line t)) (λ more may. AppendsFront-nothing printed_now _)
 
   -- A line that ends with LF printed a front of its text.
-  pub short_feed : (printed_later : Option (List ℕ)) (cursor : Cursor) (left : Option (List ℕ)) (line : List ℕ) → TakesLine now (to_come cursor left) line (10 ∷ []) → AppendsFront printed_now printed_later (step_text place number line)
-      → StopsShort first left written printed_later
-  short_feed printed_later cursor left line t front =
-      let taken = held first cursor left (r.read ++ (line ++ 10 ∷ [])) (Consumes-then first now (to_come cursor left) r.read (line ++ 10 ∷ []) r.taken t.taken) in
-      let lines : lines_of ((line ++ 10 ∷ []) ++ cursor.ahead) ≡ line ∷ lines_of cursor.ahead = ap lines_of (append_assoc line (10 ∷ []) cursor.ahead) ∙ lines_feed line cursor.ahead t.no_feed in
-      stops_short left printed_later ((line ++ 10 ∷ []) ++ cursor.ahead) (rw (append_assoc r.read (line ++ 10 ∷ []) cursor.ahead) at taken)
-      (subst (λ (l : List (List ℕ)). AppendsFront printed_now printed_later (text_of (run_from false place number l).said)) (sym lines) (step_front printed_now printed_later false place number line (lines_of cursor.ahead) front))
+  short_feed : (follows : List ℕ → Type 0) (printed_later : Option (List ℕ)) (cursor : Cursor) (left : Option (List ℕ)) (line : List ℕ) → TakesLine now (to_come cursor left) line (10 ∷ []) → AppendsFront printed_now printed_later (step_text place number line)
+      → StopsShort follows first left written printed_later
+  short_feed follows printed_later cursor left line t front =
+      stops_short follows left printed_later ((line ++ 10 ∷ []) ++ cursor.ahead) (taken_so cursor left (line ++ 10 ∷ []) t.taken)
+      (λ more may. subst (λ (l : List (List ℕ)). AppendsFront printed_now printed_later (text_of (run_from place number l).said)) (sym (feed_first line cursor.ahead more t.no_feed)) (step_front printed_now printed_later place number line (lines_of (cursor.ahead ++ more)) front))
 
   -- A last line that lacks its LF printed a front of its text.
-  pub short_last : (printed_later : Option (List ℕ)) (cursor : Cursor) (left : Option (List ℕ)) (line : List ℕ) → TakesLine now (to_come cursor left) line [] → IsAtEnd (to_come cursor left) → 0 < length line
-      → AppendsFront printed_now printed_later (step_text place number line) → StopsShort first left written printed_later
-  short_last printed_later cursor left [] t end some front = absurd (omega arith)
-  short_last printed_later cursor left (b ∷ line) t end some front =
-      let taken = held_end first cursor left (r.read ++ b ∷ line) (Consumes-then first now (to_come cursor left) r.read (b ∷ line) r.taken (without_separator now (to_come cursor left) (b ∷ line) t)) end in
-      stops_short left printed_later (b ∷ line) taken
-      (subst (λ (l : List (List ℕ)). AppendsFront printed_now printed_later (text_of (run_from false place number l).said)) (sym (lines_last b line t.no_feed)) (step_front printed_now printed_later false place number (b ∷ line) [] front))
+  short_last : (follows : List ℕ → Type 0) (printed_later : Option (List ℕ)) (cursor : Cursor) (left : Option (List ℕ)) (line : List ℕ) → ((more : List ℕ) → follows more → MayFollow left more) → TakesLine now (to_come cursor left) line [] → IsAtEnd (to_come cursor left) → 0 < length line
+      → AppendsFront printed_now printed_later (step_text place number line) → StopsShort follows first left written printed_later
+  short_last follows printed_later cursor left [] ends t end some front = absurd (omega arith)
+  short_last follows printed_later cursor left (b ∷ line) ends t end some front =
+      stops_short follows left printed_later (b ∷ line) (taken_all cursor left (b ∷ line) t end)
+      (λ more may. subst (λ (l : List (List ℕ)). AppendsFront printed_now printed_later (text_of (run_from place number l).said)) (sym (last_first b line more t.no_feed (ends more may (end_left cursor left end)))) (step_front printed_now printed_later place number (b ∷ line) [] front))
 
   -- There is a line past the last that a script may have.
-  pub refuses_past : (cursor : Cursor) (left : Option (List ℕ)) → Keeps now (to_come cursor left) → 0 < length cursor.ahead → LINE_COUNT_LIMIT < number → Refuses Large first written printed_now
+  pub refuses_past : (cursor : Cursor) (left : Option (List ℕ)) → Keeps now (to_come cursor left) → 0 < length cursor.ahead → LINE_COUNT_LIMIT < number → Refuses Large first left written printed_now
   refuses_past cursor left kept some past =
-      let all = held now cursor left [] (Consumes-none now (to_come cursor left) kept) in
-      let w = some_line cursor.ahead (unwrap_or left []) some in
-      refuses left printed_now cursor.ahead w.0 w.1 Large all w.2 (step_past place number w.0 past) (Appends-nothing printed_now)
+      refuses left printed_now cursor.ahead Large (taken_so cursor left [] (Consumes-none now (to_come cursor left) kept))
+      (λ more may. let w = some_line cursor.ahead more some in ap (run_from place number) w.2 ∙ run_fault place number w.0 w.1 Large (step_past place number w.0 past)) (Appends-nothing printed_now)
 
-  pub short_past : (cursor : Cursor) (left : Option (List ℕ)) → Keeps now (to_come cursor left) → StopsShort first left written printed_now
+  pub short_past : (cursor : Cursor) (left : Option (List ℕ)) → Keeps now (to_come cursor left) → StopsShort Anything first left written printed_now
   short_past cursor left kept =
-      let taken = held first cursor left (r.read ++ []) (rw (append-nil r.read) (Consumes-kept first now (to_come cursor left) r.read r.taken kept)) in
-      stops_short left printed_now cursor.ahead (rw (append-nil r.read) at taken) (AppendsFront-nothing printed_now _)
+      stops_short Anything left printed_now cursor.ahead (taken_so cursor left [] (Consumes-none now (to_come cursor left) kept)) (λ more may. AppendsFront-nothing printed_now _)
 
   -- A line that ends with LF stopped the script.
-  pub stopped_feed : (printed_later : Option (List ℕ)) (cursor : Cursor) (left : Option (List ℕ)) (line : List ℕ) (stop : Option Fault) → TakesLine now (to_come cursor left) line (10 ∷ []) → AppendsFront printed_now printed_later (step_text place number line)
-      → ((fault : Fault) → stop ≡ Some fault → step place number line ≡ Err fault) → StoppedBy stop first left written printed_later
-  stopped_feed printed_later cursor left line None t front refused = short_feed printed_later cursor left line t front
-  stopped_feed printed_later cursor left line (Some fault) t front refused =
+  pub stopped_feed : (printed_later : Option (List ℕ)) (cursor : Cursor) (left : Option (List ℕ)) (line : List ℕ) (stop : Option Fault) (follows : List ℕ → Type 0) → TakesLine now (to_come cursor left) line (10 ∷ []) → AppendsFront printed_now printed_later (step_text place number line)
+      → ((fault : Fault) → stop ≡ Some fault → step place number line ≡ Err fault) → StoppedBy stop follows first left written printed_later
+  stopped_feed printed_later cursor left line None follows t front refused = short_feed follows printed_later cursor left line t front
+  stopped_feed printed_later cursor left line (Some fault) follows t front refused =
       let e = refused fault refl in
-      refuses_feed (to_come cursor left) printed_later line fault t e (nothing_printed printed_now printed_later place number line fault e front)
+      refuses_feed printed_later cursor left line fault t e (nothing_printed printed_now printed_later place number line fault e front)
 
   -- A last line that lacks its LF stopped the script.
-  pub stopped_last : (printed_later : Option (List ℕ)) (cursor : Cursor) (left : Option (List ℕ)) (line : List ℕ) (stop : Option Fault) → TakesLine now (to_come cursor left) line [] → IsAtEnd (to_come cursor left) → 0 < length line
-      → AppendsFront printed_now printed_later (step_text place number line) → ((fault : Fault) → stop ≡ Some fault → step place number line ≡ Err fault) → StoppedBy stop first left written printed_later
-  stopped_last printed_later cursor left line None t end some front refused = short_last printed_later cursor left line t end some front
-  stopped_last printed_later cursor left line (Some fault) t end some front refused =
+  pub stopped_last : (printed_later : Option (List ℕ)) (cursor : Cursor) (left : Option (List ℕ)) (line : List ℕ) (stop : Option Fault) (follows : List ℕ → Type 0) → ((more : List ℕ) → follows more → MayFollow left more) → TakesLine now (to_come cursor left) line [] → IsAtEnd (to_come cursor left) → 0 < length line
+      → AppendsFront printed_now printed_later (step_text place number line) → ((fault : Fault) → stop ≡ Some fault → step place number line ≡ Err fault) → StoppedBy stop follows first left written printed_later
+  stopped_last printed_later cursor left line None follows ends t end some front refused = short_last follows printed_later cursor left line ends t end some front
+  stopped_last printed_later cursor left line (Some fault) follows ends t end some front refused =
       let e = refused fault refl in
-      refuses_last (to_come cursor left) printed_later line fault t end some e (nothing_printed printed_now printed_later place number line fault e front)
+      refuses_last printed_later cursor left line fault t end some e (nothing_printed printed_now printed_later place number line fault e front)
 
 module _ (first now written printed_now later : Option (List ℕ)) (place : Place) (r : ReadWhole first now written printed_now place) where
   -- All were shown at the end.
@@ -318,41 +320,51 @@ module _ (first now written printed_now later : Option (List ℕ)) (place : Plac
     script = r.read;
     input = Consumes-all first now r.read r.taken r.end;
     read = r.end;
-    sound = ap (λ (x : Run). x.fault) (r.ends true);
-    text = rw (ap printed (r.ends true) ∙ text_of-append r.said (closing place)) (Appends-then written printed_now later (text_of r.said) (text_of (closing place)) r.told a);
+    sound = ap (λ (x : Run). x.fault) r.ends;
+    text = rw (ap printed r.ends ∙ text_of-append r.said (closing place)) (Appends-then written printed_now later (text_of r.said) (text_of (closing place)) r.told a);
   }
 
   -- Showing them at the end stopped short.
-  pub short_closing : AppendsFront printed_now later (text_of (closing place)) → StopsShort first now written later
-  short_closing a = record {
+  short_closing : (follows : List ℕ → Type 0) → ((more : List ℕ) → follows more → MayFollow now more) → AppendsFront printed_now later (text_of (closing place)) → StopsShort follows first now written later
+  short_closing follows ends a = record {
     read = r.read;
     taken = r.taken;
-    whole = true;
-    ended = λ _. r.end;
-    text = rw (ap printed (r.ends true) ∙ text_of-append r.said (closing place)) (AppendsFront-then written printed_now later (text_of r.said) (text_of (closing place)) r.told a);
+    text = λ more may.
+        let none : run (r.read ++ more) ≡ run r.read = ap (λ (m : List ℕ). run (r.read ++ m)) (ends more may r.end) ∙ ap run (append-nil r.read) in
+        rw (ap printed (none ∙ r.ends) ∙ text_of-append r.said (closing place)) (AppendsFront-then written printed_now later (text_of r.said) (text_of (closing place)) r.told a);
   }
 
 -- Where no fault of the script stopped it, it stopped short.
-pub stopped_short : (stop : Option Fault) (left left' written written' : Option (List ℕ)) → stop ≡ None → StopsShort left left' written written' → StoppedBy stop left left' written written'
-stopped_short None left left' written written' e short = short
-stopped_short (Some fault) left left' written written' e short = absurd cc
+stopped_short : (stop : Option Fault) (follows : List ℕ → Type 0) (left left' written written' : Option (List ℕ)) → stop ≡ None → StopsShort follows left left' written written' → StoppedBy stop follows left left' written written'
+stopped_short None follows left left' written written' e short = short
+stopped_short (Some fault) follows left left' written written' e short = absurd cc
+
+-- Where it was not the source that failed, nothing follows at its end.
+pub not_reading : (why : Stop) (left : Option (List ℕ)) → why ≢ stop.ReadFault → (more : List ℕ) → FollowsAfter why left more → MayFollow left more
+not_reading (stop.Script line) left other more may = may
+not_reading stop.Large left other more may = may
+not_reading stop.ReadFault left other more may = absurd (other refl)
+not_reading stop.WriteFault left other more may = may
+not_reading stop.NoMemory left other more may = may
 
 -- A script that was read to its end closes by showing all.
 pub closed : {X : Type 0} (result : Result X Stop) (first now written printed_now later : Option (List ℕ)) (place : Place) → ReadWhole first now written printed_now place
     → OnOk result (Appends printed_now later (text_of (closing place))) → OnErr result (AppendsFront printed_now later (text_of (closing place))) → IfErr result (λ stop. fault_of stop ≡ None)
-    → MatchResult result (λ _. Completes first now written later) (λ stop. Stopped stop first now written later)
-closed (Ok x) first now written printed_now later place r ok err none = completes first now written printed_now later place r ok
-closed (Err stop) first now written printed_now later place r ok err none = stopped_short (fault_of stop) first now written later none (short_closing first now written printed_now later place r err)
+    → (IsErrOf result stop.ReadFault → ⊥) → MatchResult result (λ _. Completes first now written later) (λ stop. Stopped stop first now written later)
+closed (Ok x) first now written printed_now later place r ok err none other = completes first now written printed_now later place r ok
+closed (Err why) first now written printed_now later place r ok err none other =
+    let follows = FollowsAfter why now in
+    stopped_short (fault_of why) follows first now written later none (short_closing first now written printed_now later place r follows (not_reading why now (λ e. other (ap Err e))) err)
 
 -- Reading a line stopped the script.
-pub stopped_reading : (fault : LineFault) (left left' written written' : Option (List ℕ)) → StopsShort left left' written written' → Stopped (line_stop fault) left left' written written'
+pub stopped_reading : (fault : LineFault) (left left' written written' : Option (List ℕ)) → StopsShort Anything left left' written written' → Stopped (line_stop fault) left left' written written'
 stopped_reading line.Source left left' written written' short = short
-stopped_reading line.NoMemory left left' written written' short = short
+stopped_reading line.NoMemory left left' written written' short = record { read = short.read; taken = short.taken; text = λ more may. short.text more tt }
 
 pub some_bytes : (n : ℕ) → eqb n 0 ≡ false → 0 < n
 some_bytes zero e = absurd cc
 some_bytes (suc n) e = omega arith
 
 -- A script that was not begun.
-pub short_start : (left written : Option (List ℕ)) → StopsShort left left written written
-short_start left written = record { read = []; taken = Consumes-nothing left; whole = false; ended = λ e. absurd cc; text = AppendsFront-nothing written _ }
+pub short_start : (left written : Option (List ℕ)) → StopsShort (MayFollow left) left left written written
+short_start left written = record { read = []; taken = Consumes-nothing left; text = λ more may. AppendsFront-nothing written _ }

@@ -1,5 +1,5 @@
 -- The run that a script makes, and the text that it prints.
-use Rattle.std.specs.Prelude.{◌==◌, ◌+◌, ◌&&◌, ℕ, suc, Bool, true, List, [], ◌∷◌, ◌++◌, codes, nat_le, nat_lt, Option, Some, None, Result, Ok, Err, if◌then◌else◌}
+use Rattle.std.specs.Prelude.{◌==◌, ◌+◌, ◌&&◌, ℕ, suc, Bool, List, [], ◌∷◌, ◌++◌, codes, nat_le, nat_lt, Option, Some, None, Result, Ok, Err, if◌then◌else◌}
 use Rattle.std.specs.List.{flat_map}
 use Rattle.std.specs.Fmt.{decimal}
 use Rattle.hex.specs.Hex.{encode_lower}
@@ -87,22 +87,18 @@ abbrev pub closing : Place → List Say
 closing Opening = []
 closing (Within events scene) = all_shown scene
 
--- the run of no more lines, where the script ends there or goes on
-abbrev pub ending : Bool → Place → Run
-ending whole place = record { said = if whole then closing place else []; fault = None }
+-- the run of no more lines
+abbrev pub ending : Place → Run
+ending place = record { said = closing place; fault = None }
 
 -- the run of these lines from a place on, the first of which has this number
-abbrev pub run_from : Bool → Place → ℕ → List (List ℕ) → Run
-run_from whole place number [] = ending whole place
-run_from whole place number (line ∷ lines) = onward (λ (next : Place × List Say). run_from whole next.0 (suc number) lines) (step place number line)
-
--- the run that the bytes of a script make, which are the whole of it or a front
-abbrev pub run_so_far : Bool → List ℕ → Run
-run_so_far whole read = run_from whole Opening 1 (lines_of read)
+abbrev pub run_from : Place → ℕ → List (List ℕ) → Run
+run_from place number [] = ending place
+run_from place number (line ∷ lines) = onward (λ (next : Place × List Say). run_from next.0 (suc number) lines) (step place number line)
 
 -- the run that a script makes
 abbrev pub run : List ℕ → Run
-run script = run_so_far true script
+run script = run_from Opening 1 (lines_of script)
 
 abbrev pub role : Bool → List ℕ
 role leads = if leads then codes "leader" else codes "follower"

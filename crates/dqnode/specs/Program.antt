@@ -1,11 +1,11 @@
 -- What the program does: its words, its input, what it writes and the status that it ends with.
-use Rattle.std.specs.Prelude.{◌≡◌, ◌++◌, ℕ, Bool, true, List, [], ◌∷◌, map, codes, string_bytes, String, Option, Some, None, IfSome}
+use Rattle.std.specs.Prelude.{◌≡◌, ◌++◌, ℕ, List, [], ◌∷◌, map, codes, string_bytes, String, Option, Some, None}
 use Rattle.std.specs.declared.alloc.Global.{Global}
 use Rattle.std.specs.Fmt.{decimal}
-use Rattle.std.specs.Io.KnownBytes.{Appends}
+use Rattle.std.specs.Io.KnownBytes.{Appends, Consumes}
 use Rattle.dq_base.specs.Sink.{AppendsFront}
-use Rattle.cluster_runner.specs.Run.{Run, Fault, Line, Large, run_so_far, run, printed}
-use Rattle.cluster_runner.specs.Outcome.{IsInput}
+use Rattle.cluster_runner.specs.Run.{Run, Fault, Line, Large, run, printed}
+use Rattle.cluster_runner.specs.Outcome.{MayFollow}
 
 -- the words ask for a script to be run
 abbrev pub IsScript : List (String Global) → Type 0
@@ -32,21 +32,15 @@ fault_text (Some Large) = large_error
 abbrev pub run_text : Run → List ℕ
 run_text run = printed run ++ fault_text run.fault
 
--- The script has this fault, its first, and all of its text was written.
-pub record Faults (fault : Fault) (left written written' : Option (List ℕ)) : Type 0 where
-  pub script : List ℕ
-  pub input : IsInput left script
-  pub faulty : (run script).fault ≡ Some fault
-  pub text : Appends written written' (run_text (run script))
-
--- these bytes are a front of what the source has left, where that is told
-abbrev pub IsFrontOf : List ℕ → Option (List ℕ) → Type 0
-IsFrontOf front left = IfSome left (λ all. (rest : List ℕ) × (front ++ rest ≡ all))
-
--- A front was written of the text that a front of the script gives, which is the whole script only where all of it is.
-pub record BreaksOff (left written written' : Option (List ℕ)) : Type 0 where
+-- Whatever may follow the bytes read, the script has this fault, its first, and all of its text was written.
+pub record Faults (fault : Fault) (left left' written written' : Option (List ℕ)) : Type 0 where
   pub read : List ℕ
-  pub front : IsFrontOf read left
-  pub whole : Bool
-  pub ended : whole ≡ true → IsInput left read
-  pub text : AppendsFront written written' (run_text (run_so_far whole read))
+  pub taken : Consumes left left' read
+  pub faulty : (more : List ℕ) → MayFollow left' more → (run (read ++ more)).fault ≡ Some fault
+  pub text : (more : List ℕ) → MayFollow left' more → Appends written written' (run_text (run (read ++ more)))
+
+-- A front of the script's text was written, whatever of this follows the bytes read: so nothing of a line that was read in part.
+pub record BreaksOff (follows : List ℕ → Type 0) (left left' written written' : Option (List ℕ)) : Type 0 where
+  pub read : List ℕ
+  pub taken : Consumes left left' read
+  pub text : (more : List ℕ) → follows more → AppendsFront written written' (run_text (run (read ++ more)))

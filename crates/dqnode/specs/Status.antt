@@ -1,7 +1,7 @@
 -- The numbers of the ways in which the program ends.
 use Rattle.std.specs.Prelude.{◌≡◌, ◌⊎◌, ℕ, Option, List}
 use Rattle.cluster_runner.specs.Run as script
-use Rattle.cluster_runner.specs.Outcome.{Completes}
+use Rattle.cluster_runner.specs.Outcome.{MayFollow, Anything, Completes}
 use Rattle.dqnode.specs.Program.{Faults, BreaksOff}
 use Rattle.dqnode.specs.declared.status.Status.{Status}
 use Rattle.dqnode.specs.declared.status.Status.TheVariants.{Done, Words, Script, ReadFault, WriteFault, NoMemory, Large}
@@ -19,16 +19,16 @@ status_code Large = 9
 abbrev pub IsStatus : ℕ → Type 0
 IsStatus code = (code ≡ 0) ⊎ (code ≡ 1) ⊎ (code ≡ 2) ⊎ (code ≡ 3) ⊎ (code ≡ 4) ⊎ (code ≡ 7) ⊎ (code ≡ 9)
 
--- those of a fault of the outside, and of want of memory
+-- those of a fault of the output, and of want of memory
 abbrev pub IsBroken : ℕ → Type 0
-IsBroken code = (code ≡ 3) ⊎ (code ≡ 4) ⊎ (code ≡ 7)
+IsBroken code = (code ≡ 4) ⊎ (code ≡ 7)
 
 -- what a script did that ended with this status
 abbrev pub ScriptEnds : Status → Option (List ℕ) → Option (List ℕ) → Option (List ℕ) → Option (List ℕ) → Type 0
 ScriptEnds Done left left' written written' = Completes left left' written written'
 ScriptEnds Words left left' written written' = ⊥
-ScriptEnds Script left left' written written' = (line : ℕ) × Faults (script.Line line) left written written'
-ScriptEnds ReadFault left left' written written' = BreaksOff left written written'
-ScriptEnds WriteFault left left' written written' = BreaksOff left written written'
-ScriptEnds NoMemory left left' written written' = BreaksOff left written written'
-ScriptEnds Large left left' written written' = Faults script.Large left written written'
+ScriptEnds Script left left' written written' = (line : ℕ) × Faults (script.Line line) left left' written written'
+ScriptEnds ReadFault left left' written written' = BreaksOff Anything left left' written written'
+ScriptEnds WriteFault left left' written written' = BreaksOff (MayFollow left') left left' written written'
+ScriptEnds NoMemory left left' written written' = BreaksOff (MayFollow left') left left' written written'
+ScriptEnds Large left left' written written' = Faults script.Large left left' written written'

@@ -1,9 +1,9 @@
 //! All that the program does.
 
 ghost use Rattle.std.specs.Prelude.{◌≡◌, ◌≢◌, ◌≤◌, ◌↔◌, ◌⊎◌, ℕ, List, IsTrue};
-ghost use Rattle.std.specs.Io.KnownBytes.{Appends};
+ghost use Rattle.std.specs.Io.KnownBytes.{Appends, Keeps};
 ghost use Rattle.dq_base.specs.Faults.{Rose};
-ghost use Rattle.cluster_runner.specs.Outcome.{Completes};
+ghost use Rattle.cluster_runner.specs.Outcome.{MayFollow, Anything, Completes};
 ghost use Rattle.dq_base.specs.Sink.{AppendsFront};
 ghost use Rattle.cluster_runner.specs.Run.{Line, Large};
 ghost use Rattle.cluster_runner.specs.Alike.{KeepsAlike};
@@ -95,6 +95,10 @@ fn refuse_words<K: Sink>(output: &mut K) -> Status
 /// script, gives status 2, behind the text of the lines before it, and `error line` with its number. So the line behind
 /// the millionth and the event behind the twenty thousandth give status 9 and `error large`. 3 is a fault of the input
 /// and 4 one of the output, an error line that could not be written included; 7 is want of memory.
+///
+/// What was read decides this: whatever may follow, a refused script has the fault that is named, and after a fault of
+/// the outside or want of memory a front of what the script gives was written, with nothing of a line that was read in
+/// part. After words other than `script` the input is as it was.
 pub fn dqnode<S: Source, K: Sink>(
     alloc: Global,
     words: &[String],
@@ -106,17 +110,21 @@ pub fn dqnode<S: Source, K: Sink>(
     // The words are refused exactly where they are not `script`, unless their line can't be written.
     ensures words { result ≡ 1 → ¬ (IsScript words.now) × Appends (K.written output.old) (K.written output.new) words_error }
     ensures only_words { ¬ (IsScript words.now) → (result ≡ 1) ⊎ (result ≡ 4) }
-    // The script's first fault is a line that isn't in the grammar there, and it is named.
-    ensures script { result ≡ 2 → IsScript words.now × ((line : ℕ) × Faults (Line line) (S.left input.old) (K.written output.old) (K.written output.new)) }
-    // The script's first fault is that it has too many lines or events, and it is said.
-    ensures large { result ≡ 9 → IsScript words.now × Faults Large (S.left input.old) (K.written output.old) (K.written output.new) }
+    // For such words the input is not touched.
+    ensures words_input { ¬ (IsScript words.now) → Keeps (S.left input.old) (S.left input.new) × (S.faults input.old ≡ S.faults input.new) }
+    // The script's first fault is a line that isn't in the grammar there; the bytes read show it, and it is named.
+    ensures script { result ≡ 2 → IsScript words.now × ((line : ℕ) × Faults (Line line) (S.left input.old) (S.left input.new) (K.written output.old) (K.written output.new)) }
+    // The script's first fault is that it has too many lines or events; the bytes read show it, and it is said.
+    ensures large { result ≡ 9 → IsScript words.now × Faults Large (S.left input.old) (S.left input.new) (K.written output.old) (K.written output.new) }
     // Machines of a script that have applied as many commands hold the same files and pending pages.
     ensures alike { (script : List ℕ) → KeepsAlike script }
     // The input, the output failed in this call.
     ensures read_fault { result ≡ 3 → IsScript words.now × Rose (S.faults input.old) (S.faults input.new) }
     ensures write_fault { result ≡ 4 → Rose (K.faults output.old) (K.faults output.new) }
-    // After a fault of the outside and want of memory a front was written of what a front of the script gives.
-    ensures broken { IsScript words.now → IsBroken result → BreaksOff (S.left input.old) (K.written output.old) (K.written output.new) }
+    // After a fault of the input a front was written of what the script gives, whatever bytes follow those read.
+    ensures cut { result ≡ 3 → BreaksOff Anything (S.left input.old) (S.left input.new) (K.written output.old) (K.written output.new) }
+    // So it is after a fault of the output and want of memory; but where the input is at its end nothing follows.
+    ensures broken { IsScript words.now → IsBroken result → BreaksOff (MayFollow (S.left input.new)) (S.left input.old) (S.left input.new) (K.written output.old) (K.written output.new) }
     ensures words_broken { ¬ (IsScript words.now) → result ≡ 4 → AppendsFront (K.written output.old) (K.written output.new) words_error }
     // There is no other status.
     ensures known { IsStatus result }

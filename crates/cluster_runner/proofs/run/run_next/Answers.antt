@@ -1,10 +1,11 @@
-use Rattle.std.proofs.Common.{sym, ◌∙◌, add-one, length}
+use Rattle.std.proofs.Common.{sym, ap, ◌∙◌, Err, add-one, length}
 use Rattle.std.proofs.lemmas.Bool.{eqb-true}
 use Rattle.std.proofs.lemmas.Result.{err_from_is_err_and}
 use Rattle.cluster_runner.specs.Lines.{to_come}
 use Rattle.cluster_runner.specs.Run.{place_of}
 use Rattle.cluster_runner.specs.Stops.{fault_of}
-use Rattle.cluster_runner.proofs.Running.{reached_line, whole_none, whole_last, refuses_long, short_reading, stopped_feed, stopped_last, stopped_reading, some_bytes}
+use Rattle.cluster_runner.specs.Outcome.{FollowsAfter}
+use Rattle.cluster_runner.proofs.Running.{reached_line, whole_none, whole_last, refuses_long, short_reading, stopped_feed, stopped_last, stopped_reading, not_reading, some_bytes}
 use Rattle.cluster_runner.proofs.run.run_next.Goals as goal
 
 pub returns-in_err-next_line-clause-goes : goal.returns-in_err-next_line-clause-goes
@@ -26,7 +27,7 @@ returns-in_err-run_line-in-Feed-clause-goes g c = λ first written r.
     let ends = rw c.in-Feed.is at c.in_ok-next_line.ensures.ok in
     let err = rw line at c.in_err-run_line-in-Feed.ensures.err in
     let script = rw line at c.in_err-run_line-in-Feed.ensures.script in
-    rw (p.1, p.2) (stopped_feed first now written printed (place_of c.args.stage.now) c.args.number r (g.K.Sink.written c.run_line.new.sink) c.next_line.new.self (left c.next_line.new.source) c.next_line.new.self.line (fault_of c.in_err-run_line-in-Feed.field-0.0) ends.0 err script)
+    rw (p.1, p.2) (stopped_feed first now written printed (place_of c.args.stage.now) c.args.number r (g.K.Sink.written c.run_line.new.sink) c.next_line.new.self (left c.next_line.new.source) c.next_line.new.self.line (fault_of c.in_err-run_line-in-Feed.field-0.0) (FollowsAfter c.in_err-run_line-in-Feed.field-0.0 (left c.next_line.new.source)) ends.0 err script)
 
 pub returns-in_ok-run_line-in-Feed-clause-goes : goal.returns-in_ok-run_line-in-Feed-clause-goes
 returns-in_ok-run_line-in-Feed-clause-goes g c = λ first written r.
@@ -49,7 +50,9 @@ returns-in_err-run_line-in-Input-clause-goes g c = λ first written r.
     let some = some_bytes (length c.next_line.new.self.line) (sym empty ∙ c.if-not-is_empty.true) in
     let err = rw line at c.in_err-run_line-in-Input.ensures.err in
     let script = rw line at c.in_err-run_line-in-Input.ensures.script in
-    rw (p.1, p.2) (stopped_last first now written (g.K.Sink.written c.args.sink.now) (place_of c.args.stage.now) c.args.number r (g.K.Sink.written c.run_line-then-not-is_empty.new.sink) c.next_line.new.self (left c.next_line.new.source) c.next_line.new.self.line (fault_of c.in_err-run_line-in-Input.field-0.0) ends.0 ends.2 some err script)
+    let stop = c.in_err-run_line-in-Input.field-0.0 in
+    let later = left c.next_line.new.source in
+    rw (p.1, p.2) (stopped_last first now written (g.K.Sink.written c.args.sink.now) (place_of c.args.stage.now) c.args.number r (g.K.Sink.written c.run_line-then-not-is_empty.new.sink) c.next_line.new.self later c.next_line.new.self.line (fault_of stop) (FollowsAfter stop later) (not_reading stop later (λ e. c.in_err-run_line-in-Input.ensures.read (ap Err e))) ends.0 ends.2 some err script)
 
 pub returns-in_ok-run_line-in-Input-clause-goes : goal.returns-in_ok-run_line-in-Input-clause-goes
 returns-in_ok-run_line-in-Input-clause-goes g c = λ first written r.
@@ -76,4 +79,4 @@ returns-in-TooLong-clause-goes g c = λ first written r.
     let left = g.S.Source.left in
     let now = to_come c.args.lines.now (left c.args.source.now) in
     let ends = rw c.in-TooLong.is at c.in_ok-next_line.ensures.ok in
-    refuses_long first now written (g.K.Sink.written c.args.sink.now) (place_of c.args.stage.now) c.args.number r (to_come c.next_line.new.self (left c.next_line.new.source)) c.next_line.new.self.line c.requires ends.0 ends.1
+    refuses_long first now written (g.K.Sink.written c.args.sink.now) (place_of c.args.stage.now) c.args.number r c.next_line.new.self (left c.next_line.new.source) c.next_line.new.self.line c.requires ends.0 ends.1

@@ -11,4 +11,4 @@ returns-in_err-run_lines-clause-goes g c = λ first written r.
 pub returns-clause-goes : goal.returns-clause-goes
 returns-clause-goes g c = λ first written r.
     let whole = c.in_ok-run_lines.ensures.goes first written r in
-    closed c.close.result first (g.S.Source.left c.run_lines.new.source) written (g.K.Sink.written c.run_lines.new.sink) (g.K.Sink.written c.close.new.sink) (place_of c.run_lines.new.stage) whole c.close.ensures.ok c.close.ensures.err c.close.ensures.script
+    closed c.close.result first (g.S.Source.left c.run_lines.new.source) written (g.K.Sink.written c.run_lines.new.sink) (g.K.Sink.written c.close.new.sink) (place_of c.run_lines.new.stage) whole c.close.ensures.ok c.close.ensures.err c.close.ensures.script c.close.ensures.read
