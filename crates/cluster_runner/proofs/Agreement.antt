@@ -299,18 +299,18 @@ lead_on place number (line ∷ lines) (suc count) follow =
     go (step place number line) refl
 
 -- What the run of lines shows is of the list where they lead.
-run_tells : (place : Place) (number : ℕ) (lines : List (List ℕ)) → AllFollow (fleet_at place) → AllTell (fleet_at (led_from place number lines)).commands (run_from true place number lines).said
+run_tells : (place : Place) (number : ℕ) (lines : List (List ℕ)) → AllFollow (fleet_at place) → AllTell (fleet_at (led_from place number lines)).commands (run_from place number lines).said
 run_tells place number [] follow = closing_tells place follow
 run_tells place number (line ∷ lines) follow =
     let P : Next → Type 0 = λ o. step place number line ≡ o
-    → AllTell (fleet_at (led (λ (next : Place). led_from next (suc number) lines) place o)).commands (onward (λ (next : Place × List Say). run_from true next.0 (suc number) lines) o).said in
+    → AllTell (fleet_at (led (λ (next : Place). led_from next (suc number) lines) place o)).commands (onward (λ (next : Place × List Say). run_from next.0 (suc number) lines) o).said in
     let go : (o : Next) → P o =
     λ o. elim o as P [
       | Ok next ↦ λ e.
           let goes = step_goes place number line next follow e in
           let leads = lead next.0 (suc number) lines goes.follow in
           let all = (fleet_at (led_from next.0 (suc number) lines)).commands in
-          all_append (Tells all) next.1 (run_from true next.0 (suc number) lines).said
+          all_append (Tells all) next.1 (run_from next.0 (suc number) lines).said
           (all_weaker (Tells (fleet_at next.0).commands) (Tells all) (tells_grown all (fleet_at next.0).commands leads.grows) next.1 goes.tells)
           (run_tells next.0 (suc number) lines goes.follow)
       | Err fault ↦ λ e. tt

@@ -49,7 +49,7 @@ moment script count = fleet_at (place_at script count)
 
 -- the run of so many lines, at the end of which all are shown
 abbrev pub run_until : List ℕ → ℕ → Run
-run_until script count = run_from true Opening 1 (take count (lines_of script))
+run_until script count = run_from Opening 1 (take count (lines_of script))
 
 -- a list of commands begins with these
 abbrev pub BeginsWith : List Command → List Command → Type 0
