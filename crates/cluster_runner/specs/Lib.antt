@@ -1,3 +1,4 @@
+pub mod ScriptSize
 pub mod Lines
 pub mod Grammar
 pub mod World
