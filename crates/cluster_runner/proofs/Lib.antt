@@ -1,4 +1,8 @@
 pub mod Numbers
+pub mod Choices
+pub mod HexWords
+pub mod Halves
+pub mod SpelledLines
 pub mod Pieces
 pub mod Reading
 pub mod Printed

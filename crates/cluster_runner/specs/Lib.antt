@@ -1,6 +1,7 @@
 pub mod ScriptSize
 pub mod Lines
 pub mod Grammar
+pub mod Spelling
 pub mod World
 pub mod Holding
 pub mod Digest
