@@ -10,5 +10,7 @@ pub mod Running
 pub mod Databases
 pub mod Tables
 pub mod CommandSizes
+pub mod NameLists
+pub mod StatedTables
 pub mod Standings
 pub mod Agreement

@@ -14,3 +14,4 @@ pub mod Outcome
 pub mod Stops
 pub mod Machine
 pub mod Limits
+pub mod StatedLengths

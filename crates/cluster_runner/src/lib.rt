@@ -20,5 +20,5 @@ mod tests;
 
 pub use cluster::Say;
 pub use grammar::{Event, ScriptLine};
-pub use laws::lines_read_back;
+pub use laws::{limits_bound_what_is_stated, lines_read_back};
 pub use run::{Outcome, run_script};
