@@ -1,4 +1,8 @@
 pub mod Numbers
+pub mod Choices
+pub mod HexWords
+pub mod Halves
+pub mod SpelledLines
 pub mod Pieces
 pub mod Reading
 pub mod Printed
@@ -6,6 +10,8 @@ pub mod Running
 pub mod Databases
 pub mod Tables
 pub mod CommandSizes
+pub mod NameLists
+pub mod StatedTables
 pub mod Standings
 pub mod ByName
 pub mod Agreement

@@ -5,7 +5,7 @@ use Rattle.std.specs.Io.KnownBytes.{Appends, Consumes, Keeps, IsAtEnd}
 use Rattle.std.proofs.lemmas.List.{append-nil, length-append, nil_from_length}
 use Rattle.dq_base.specs.Sink.{AppendsFront}
 use Rattle.dq_base.proofs.ContentLaws.{Consumes-nothing, Consumes-then, Appends-nothing, Appends-then, AppendsFront-nothing, AppendsFront-longer, AppendsFront-then, Consumes-all}
-use Rattle.cluster_runner.specs.declared.lines.TheConstants.{LINE_LIMIT, LINE_COUNT_LIMIT}
+use Rattle.cluster_runner.specs.ScriptSize.{line_limit, line_count_limit}
 use Rattle.cluster_runner.specs.declared.cluster.Say.{Say}
 use Rattle.cluster_runner.specs.declared.lines.LineFault.{LineFault}
 use Rattle.cluster_runner.specs.declared.lines.LineFault.TheVariants as line
@@ -70,19 +70,19 @@ run_step place number line lines next said e = rw e refl
 run_fault : (place : Place) (number : ℕ) (line : List ℕ) (lines : List (List ℕ)) (fault : Fault) → step place number line ≡ Err fault → run_from place number (line ∷ lines) ≡ record { said = []; fault = Some fault }
 run_fault place number line lines fault e = rw e refl
 
-line_long : (line : List ℕ) → LINE_LIMIT < length line → line_of line ≡ None
+line_long : (line : List ℕ) → line_limit < length line → line_of line ≡ None
 unfolding line_of
-line_long line long = rw (lt-leb (length line) LINE_LIMIT long) refl
+line_long line long = rw (lt-leb (length line) line_limit long) refl
 
 -- a line that is too long, whatever follows it
-step_long : (place : Place) (number : ℕ) (line : List ℕ) → number ≤ LINE_COUNT_LIMIT → LINE_LIMIT < length line → step place number line ≡ Err (Line number)
+step_long : (place : Place) (number : ℕ) (line : List ℕ) → number ≤ line_count_limit → line_limit < length line → step place number line ≡ Err (Line number)
 unfolding step
-step_long place number line few long = rw (le-leb number LINE_COUNT_LIMIT few, line_long line long) refl
+step_long place number line few long = rw (le-leb number line_count_limit few, line_long line long) refl
 
 -- a line past the last that a script may have
-step_past : (place : Place) (number : ℕ) (line : List ℕ) → LINE_COUNT_LIMIT < number → step place number line ≡ Err Large
+step_past : (place : Place) (number : ℕ) (line : List ℕ) → line_count_limit < number → step place number line ≡ Err Large
 unfolding step
-step_past place number line past = rw (lt-leb number LINE_COUNT_LIMIT past) refl
+step_past place number line past = rw (lt-leb number line_count_limit past) refl
 
 said_twice : (a b : List Say) (r : Run) → said_before a (said_before b r) ≡ said_before (a ++ b) r
 said_twice a b r = ap (λ (s : List Say). record { said = s; fault = r.fault }) (sym (append_assoc a b r.said))
@@ -243,7 +243,7 @@ module _ (first now written printed_now : Option (List ℕ)) (place : Place) (nu
       (λ more may. ap (run_from place number) (last_first b line more t.no_feed (may (end_left cursor left end))) ∙ run_fault place number (b ∷ line) [] fault e) a
 
   -- A line is too long.
-  pub refuses_long : (cursor : Cursor) (left : Option (List ℕ)) (line : List ℕ) → number ≤ LINE_COUNT_LIMIT → TakesLine now (to_come cursor left) line [] → LINE_LIMIT < length line → Refuses (Line number) first left written printed_now
+  pub refuses_long : (cursor : Cursor) (left : Option (List ℕ)) (line : List ℕ) → number ≤ line_count_limit → TakesLine now (to_come cursor left) line [] → line_limit < length line → Refuses (Line number) first left written printed_now
   refuses_long cursor left [] few t long = absurd (omega arith)
   refuses_long cursor left (b ∷ line) few t long =
       refuses left printed_now ((b ∷ line) ++ cursor.ahead) (Line number) (taken_so cursor left (b ∷ line) (without_separator now (to_come cursor left) (b ∷ line) t))
@@ -288,7 +288,7 @@ module _ (first now written printed_now : Option (List ℕ)) (place : Place) (nu
       (λ more may. subst (λ (l : List (List ℕ)). AppendsFront printed_now printed_later (text_of (run_from place number l).said)) (sym (last_first b line more t.no_feed (ends more may (end_left cursor left end)))) (step_front printed_now printed_later place number (b ∷ line) [] front))
 
   -- There is a line past the last that a script may have.
-  pub refuses_past : (cursor : Cursor) (left : Option (List ℕ)) → Keeps now (to_come cursor left) → 0 < length cursor.ahead → LINE_COUNT_LIMIT < number → Refuses Large first left written printed_now
+  pub refuses_past : (cursor : Cursor) (left : Option (List ℕ)) → Keeps now (to_come cursor left) → 0 < length cursor.ahead → line_count_limit < number → Refuses Large first left written printed_now
   refuses_past cursor left kept some past =
       refuses left printed_now cursor.ahead Large (taken_so cursor left [] (Consumes-none now (to_come cursor left) kept))
       (λ more may. let w = some_line cursor.ahead more some in ap (run_from place number) w.2 ∙ run_fault place number w.0 w.1 Large (step_past place number w.0 past)) (Appends-nothing printed_now)

@@ -7,7 +7,7 @@ use Rattle.std.specs.Str.{bytes_eq}
 use Rattle.std.specs.Str.Parse.{digits_value}
 use Rattle.std.specs.Fmt.{decimal}
 use Rattle.hex.specs.Hex.{decode_of}
-use Rattle.cluster_runner.specs.declared.lines.TheConstants.{LINE_LIMIT}
+use Rattle.cluster_runner.specs.ScriptSize.{line_limit}
 use Rattle.cluster_runner.specs.declared.grammar.Event.TheVariants.{Timeout, Connect, Bytes, Put, Take}
 use Rattle.cluster_runner.specs.declared.grammar.ScriptLine.{ScriptLine}
 use Rattle.cluster_runner.specs.declared.grammar.ScriptLine.TheVariants as says
@@ -82,7 +82,7 @@ words_line line =
 
 -- ASCII, and no longer than a line may be
 abbrev pub is_fit : List ℕ → Bool
-is_fit line = nat_le (length line) LINE_LIMIT && list_all (λ b. nat_lt b 128) line
+is_fit line = nat_le (length line) line_limit && list_all (λ b. nat_lt b 128) line
 
 -- an empty line, or a comment
 abbrev pub is_blank : List ℕ → Bool

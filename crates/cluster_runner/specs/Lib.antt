@@ -1,5 +1,7 @@
+pub mod ScriptSize
 pub mod Lines
 pub mod Grammar
+pub mod Spelling
 pub mod World
 pub mod Holding
 pub mod Digest
@@ -13,3 +15,4 @@ pub mod Outcome
 pub mod Stops
 pub mod Machine
 pub mod Limits
+pub mod StatedLengths

@@ -2,7 +2,7 @@
 use Rattle.std.specs.Prelude.{◌≡◌, ◌+◌, ◌&&◌, ℕ, max, Bool, List, [], ◌∷◌, ◌++◌, fold, length, get_or, set, sum_by, nat_le, ◌<◌, Option, Some, None, if◌then◌else◌}
 use Rattle.std.specs.Str.{bytes_eq}
 use Rattle.dq_base.specs.declared.pages.NumberedPage.{NumberedPage}
-use Rattle.dq_base.specs.Applying.{stated_main, stated_side, last_page}
+use Rattle.dq_base.specs.Applying.{is_sizes, stated_main, stated_side, last_page}
 use Rattle.frame_commands.specs.declared.command.Command.{Command}
 use Rattle.frame_commands.specs.declared.command.Command.TheVariants.{OpenDb, Frames}
 use Rattle.cluster_runner.specs.declared.stated.Stated.{Stated}
@@ -12,10 +12,10 @@ abbrev pub name_of : Command → List ℕ
 name_of (OpenDb name) = name
 name_of (Frames name tx truncate commit pages) = name
 
--- the length that a sizes page states, of both files together
+-- the length that a sizes page states, of both files together; another page states none
 abbrev pub length_stated_by : Option NumberedPage → ℕ
 length_stated_by None = 0
-length_stated_by (Some sizes) = stated_main sizes.page + stated_side sizes.page
+length_stated_by (Some page) = if is_sizes page then stated_main page.page + stated_side page.page else 0
 
 -- the length that a command states: that of the sizes page with which it commits
 abbrev pub stated_length : Command → ℕ

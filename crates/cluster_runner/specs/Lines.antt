@@ -2,7 +2,7 @@
 use Rattle.std.specs.Prelude.{◌≡◌, ◌≢◌, ◌==◌, ◌<◌, ◌≤◌, ◌++◌, ℕ, List, [], ◌∷◌, length, Option, if◌then◌else◌}
 use Rattle.std.specs.List.{AllByRecursion}
 use Rattle.std.specs.Io.KnownBytes.{Consumes, IsAtEnd, prepend_known}
-use Rattle.cluster_runner.specs.declared.lines.TheConstants.{LINE_LIMIT}
+use Rattle.cluster_runner.specs.ScriptSize.{line_limit}
 use Rattle.cluster_runner.specs.declared.lines.LineEnd.{LineEnd}
 use Rattle.cluster_runner.specs.declared.lines.LineEnd.TheVariants.{Feed, Input, TooLong}
 
@@ -42,6 +42,6 @@ pub record TakesLine (before after : Option (List ℕ)) (line separator : List �
 
 -- how a line of these bytes ended: behind it stood an LF, nothing more, or more than a line may have
 abbrev pub EndsSo : Option (List ℕ) → Option (List ℕ) → List ℕ → LineEnd → Type 0
-EndsSo before after line Feed = TakesLine before after line (10 ∷ []) × (length line ≤ LINE_LIMIT)
-EndsSo before after line Input = TakesLine before after line [] × (length line ≤ LINE_LIMIT) × IsAtEnd after
-EndsSo before after line TooLong = TakesLine before after line [] × (LINE_LIMIT < length line)
+EndsSo before after line Feed = TakesLine before after line (10 ∷ []) × (length line ≤ line_limit)
+EndsSo before after line Input = TakesLine before after line [] × (length line ≤ line_limit) × IsAtEnd after
+EndsSo before after line TooLong = TakesLine before after line [] × (line_limit < length line)

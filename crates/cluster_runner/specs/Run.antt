@@ -3,8 +3,7 @@ use Rattle.std.specs.Prelude.{◌==◌, ◌+◌, ◌&&◌, ℕ, suc, Bool, List,
 use Rattle.std.specs.List.{flat_map}
 use Rattle.std.specs.Fmt.{decimal}
 use Rattle.hex.specs.Hex.{encode_lower}
-use Rattle.cluster_runner.specs.declared.lines.TheConstants.{LINE_COUNT_LIMIT}
-use Rattle.cluster_runner.specs.declared.stage.TheConstants.{EVENT_LIMIT}
+use Rattle.cluster_runner.specs.ScriptSize.{line_count_limit, event_limit}
 use Rattle.cluster_runner.specs.declared.cluster.Say.{Say}
 use Rattle.cluster_runner.specs.declared.cluster.Say.TheVariants.{Reply, Refused, Node, Machine}
 use Rattle.cluster_runner.specs.declared.grammar.ScriptLine.{ScriptLine}
@@ -42,7 +41,7 @@ idle_fleet count = record { commands = []; machines = idle_machines count }
 -- an event is one more; of too many there is none
 abbrev pub after_event : ℕ → ℕ → Option (Scene × List Say) → Next
 after_event number events None = Err (Line number)
-after_event number events (Some next) = if nat_lt events EVENT_LIMIT then Ok (Within (events + 1) next.0, next.1) else Err Large
+after_event number events (Some next) = if nat_lt events event_limit then Ok (Within (events + 1) next.0, next.1) else Err Large
 
 -- showing changes nothing
 abbrev pub after_show : ℕ → Place → Option Say → Next
@@ -67,7 +66,7 @@ said_step place number (Some line) = line_step place number line
 
 -- the same for the bytes of a line; a script has no more than a million lines
 unfoldable pub step : Place → ℕ → List ℕ → Next
-step place number line = if nat_le number LINE_COUNT_LIMIT then said_step place number (line_of line) else Err Large
+step place number line = if nat_le number line_count_limit then said_step place number (line_of line) else Err Large
 
 -- a run: what was said, in order, and the fault at which it ends, where it has one
 pub record Run : Type 0 where

@@ -1,13 +1,12 @@
 //! The list of commands that machines apply, within its limits.
 
-ghost use Rattle.std.specs.Prelude.{◌≡◌, ◌<◌, ◌+◌, ◌^◌, ◌++◌, ◌∷◌, [], length, vec_len, set, get_or, slice_get, IfOk, OnSome, OnErr, MatchOption, true, false, option_copied};
-ghost use Rattle.dq_base.specs.Applying.{stated_main, stated_side, last_page};
+ghost use Rattle.std.specs.Prelude.{◌≡◌, ◌<◌, ◌+◌, ◌^◌, ◌++◌, ◌∷◌, [], length, vec_len, set, get_or, slice_get, IfOk, OnSome, OnErr, Some, MatchOption, true, false, option_copied};
+ghost use Rattle.dq_base.specs.Applying.{last_page};
 ghost use Rattle.cluster_runner.specs.declared.stated.Stated.{Stated};
-ghost use Rattle.cluster_runner.specs.Limits.{name_of, stated_length, note, is_allowed, IsNotedAt, IsNew};
+ghost use Rattle.cluster_runner.specs.Limits.{name_of, length_stated_by, stated_length, note, is_allowed, IsNotedAt, IsNew};
 
 use crate::stated::Stated;
-use byteorder::{ByteOrder, LittleEndian};
-use dq_base::{Name, NumberedPage};
+use dq_base::{Name, NumberedPage, stated_lengths};
 use frame_commands::Command;
 use std::alloc::{AllocError, Global};
 use std::marker::Model;
@@ -53,13 +52,19 @@ fn put_length(table: &mut Vec<Stated>, place: usize, size: u64)
 
 /// Notes a length for a name where the table stays within the limits, and else leaves the table as it was. Answers
 /// whether it did.
-fn try_note(table: &mut Vec<Stated>, name: Name, length: u64) -> Result<bool, AllocError>
-    ensures allowed { IfOk result (λ noted. noted ≡ is_allowed (note table.old.items name length)) }
-    ensures noted { IfOk result (λ noted. noted ≡ true → table.new.items ≡ note table.old.items name length) }
+fn try_note(
+    alloc: Global,
+    table: &mut Vec<Stated>,
+    name: &Name,
+    length: u64,
+) -> Result<bool, AllocError>
+    ensures allowed { IfOk result (λ noted. noted ≡ is_allowed (note table.old.items name.now length)) }
+    ensures noted { IfOk result (λ noted. noted ≡ true → table.new.items ≡ note table.old.items name.now length) }
     ensures kept { IfOk result (λ noted. noted ≡ false → table.new.items ≡ table.old.items) }
     ensures err { OnErr result (table.new.items ≡ table.old.items) }
 {
-    let Some(place) = place_of(table.as_slice(), &name) else {
+    let Some(place) = place_of(table.as_slice(), name) else {
+        let name = name.try_clone(alloc)?;
         table.push(Stated { name, length })?;
         let within = is_within(table.as_slice());
         if !within {
@@ -76,19 +81,19 @@ fn try_note(table: &mut Vec<Stated>, name: Name, length: u64) -> Result<bool, Al
     Ok(within)
 }
 
-/// The length that a sizes page states, of both files together.
-#[tactic(auto, unfolding(dq_base::specs::Applying::stated_main, dq_base::specs::Applying::stated_side))]
-fn length_in(sizes: &NumberedPage) -> u64
-    requires { stated_main sizes.now.page + stated_side sizes.now.page < 2 ^ 64 }
-    ensures { result ≡ stated_main sizes.now.page + stated_side sizes.now.page }
+/// The length that a page states, of both files together: 0 where it is no sizes page.
+#[tactic(auto, using(crate::proofs::CommandSizes::small_files))]
+fn length_in(page: &NumberedPage) -> u64
+    ensures { result ≡ length_stated_by (Some page.now) }
 {
-    let bytes = sizes.page.bytes();
-    LittleEndian::read_u64(bytes) + LittleEndian::read_u64(&bytes[8..])
+    match stated_lengths(page) {
+        Some(lengths) => lengths.main as u64 + lengths.side as u64,
+        None => 0,
+    }
 }
 
 /// The length that a command states for its database: that of the sizes page with which it commits, else 0.
 fn length_stated(command: &Command) -> u64
-    requires { stated_length command.now < 2 ^ 64 }
     ensures { result ≡ stated_length command.now }
 {
     match command {
@@ -97,7 +102,7 @@ fn length_stated(command: &Command) -> u64
             pages,
             ..
         } => match pages.as_slice().last() {
-            Some(sizes) => length_in(sizes),
+            Some(page) => length_in(page),
             None => 0,
         },
         _ => 0,
@@ -152,21 +157,20 @@ impl CommandList {
         self.commands.get(place)
     }
 
-    /// Adds a command where the limits allow it, and answers whether it did. After `Err`, which is want of memory, the
-    /// list is not to be used.
+    /// Adds a command where the limits allow it, and answers whether it did. Where they don't, and after `Err`, which is
+    /// want of memory, the list is as before.
     pub fn try_push(&mut self, alloc: Global, command: Command) -> Result<bool, AllocError>
-        requires { stated_length command < 2 ^ 64 }
         ensures allowed { IfOk result (λ joined. joined ≡ may_join self.old command) }
         ensures joined { IfOk result (λ joined. joined ≡ true → self.new ≡ self.old ++ command ∷ []) }
         ensures refused { IfOk result (λ joined. joined ≡ false → self.new ≡ self.old) }
+        ensures err { OnErr result (self.new ≡ self.old) }
     {
+        self.commands.reserve(1)?;
         let length = length_stated(&command);
-        let name = name(&command).try_clone(alloc)?;
-        self.commands.push(command)?;
-        let noted = try_note(&mut self.table, name, length);
-        if !matches!(noted, Ok(true)) {
-            self.commands.pop();
+        let joins = try_note(alloc, &mut self.table, name(&command), length)?;
+        if joins {
+            self.commands.push(command)?;
         }
-        noted
+        Ok(joins)
     }
 }

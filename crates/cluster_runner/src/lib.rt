@@ -6,6 +6,7 @@ mod command_list;
 mod database;
 mod digest;
 mod grammar;
+mod laws;
 mod lines;
 mod machine;
 mod machines;
@@ -19,4 +20,5 @@ mod tests;
 
 pub use cluster::Say;
 pub use grammar::{Event, ScriptLine};
+pub use laws::{limits_bound_what_is_stated, lines_read_back};
 pub use run::{Outcome, run_script};

@@ -4,6 +4,7 @@ ghost use Rattle.std.specs.Prelude.{◌≡◌, ◌≢◌, ◌+◌, ◌<◌, ◌�
 ghost use Rattle.std.specs.Io.KnownBytes.{Consumes, IsAtEnd, Keeps};
 ghost use Rattle.dq_base.specs.Faults.{HasCause, Rose};
 ghost use Rattle.cluster_runner.specs.Lines.{HasNoFeed};
+ghost use Rattle.cluster_runner.specs.ScriptSize.{line_limit};
 
 use dq_base::{Failed, Source};
 use std::alloc::{AllocError, Global};
@@ -145,9 +146,9 @@ impl LineReader {
 
     /// Moves what is held to the line, up to an LF, and says how the line ended, if it did.
     fn take_ahead(&mut self) -> Result<Option<LineEnd>, AllocError>
-        ensures on { IfOk result (λ end. end ≡ None → TakesPart self.old self.new self.old.ahead [] × (length self.new.line ≤ LINE_LIMIT)) }
-        ensures feed { IfOk result (λ end. end ≡ Some Feed → (part : List ℕ) × TakesPart self.old self.new part (10 ∷ []) × (length self.new.line ≤ LINE_LIMIT)) }
-        ensures too_long { IfOk result (λ end. end ≡ Some TooLong → (part : List ℕ) × TakesPart self.old self.new part [] × (LINE_LIMIT < length self.new.line)) }
+        ensures on { IfOk result (λ end. end ≡ None → TakesPart self.old self.new self.old.ahead [] × (length self.new.line ≤ line_limit)) }
+        ensures feed { IfOk result (λ end. end ≡ Some Feed → (part : List ℕ) × TakesPart self.old self.new part (10 ∷ []) × (length self.new.line ≤ line_limit)) }
+        ensures too_long { IfOk result (λ end. end ≡ Some TooLong → (part : List ℕ) × TakesPart self.old self.new part [] × (line_limit < length self.new.line)) }
         ensures input { IfOk result (λ end. end ≢ Some Input) }
         ensures err { OnErr result (self.new ≡ self.old) }
     {

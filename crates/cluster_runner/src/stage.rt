@@ -1,7 +1,7 @@
 //! Where a script is, and what its lines do there.
 
 ghost use Rattle.std.specs.Prelude.{◌≡◌, ◌≤◌, ℕ, [], Ok, Err, IfOk, OnOk, OnErr, IsErrOf};
-ghost use Rattle.cluster_runner.specs.declared.lines.TheConstants.{LINE_COUNT_LIMIT};
+ghost use Rattle.cluster_runner.specs.ScriptSize.{line_count_limit};
 
 use crate::cluster::{Cluster, EventFault, Say};
 use crate::grammar::{Event, ScriptLine, line_in};
@@ -149,7 +149,7 @@ impl Stage {
     /// Does what the bytes of a line say, and answers what was said then. A fault ends the script.
     #[tactic(auto, unfolding(crate::specs::Run::step))]
     pub fn take(&mut self, alloc: Global, line: &[u8]) -> Result<Vec<Say>, StepFault>
-        ensures { (number : ℕ) → number ≤ LINE_COUNT_LIMIT → IsAnswer number result (place_of self.new) (step (place_of self.old) number line.now) }
+        ensures { (number : ℕ) → number ≤ line_count_limit → IsAnswer number result (place_of self.new) (step (place_of self.old) number line.now) }
     {
         match line_in(alloc, line)? {
             Some(said) => self.take_line(alloc, said),
