@@ -1,4 +1,4 @@
-//! Runs a whole cluster from a script of events.
+//! Runs a script: events at a node of a cluster, or at machines that apply one list of commands.
 #![tactic(auto)]
 
 mod cluster;

@@ -239,8 +239,8 @@ fn run<S: Source, K: Sink>(alloc: Global, source: &mut S, sink: &mut K) -> Resul
 /// Runs the script that the source gives, and prints to the sink what the script's run says.
 ///
 /// The input is read in pieces. Held are one piece, one line, and what the script makes: a few bytes for each
-/// connection, or the list of commands with each machine's databases. It returns on every input: after a million lines,
-/// or within a line that is too long, it reads no further.
+/// connection, or the list of commands with each machine's databases. It returns on every input, as far as the calls of
+/// the source and the sink return.
 ///
 /// - `Done`: the script was read to its end, it has no fault, and its text was printed.
 /// - `Script(line)`: that line is the first that isn't in the grammar or that names what isn't there; the text of the

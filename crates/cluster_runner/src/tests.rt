@@ -216,6 +216,22 @@ fn last_lines_may_be_cut(rt: HostRuntime) -> Result<(), Fail> {
 }
 
 #[test]
+fn a_line_cut_by_a_failed_read_is_not_run(rt: HostRuntime) -> Result<(), Fail> {
+    let alloc = rt.alloc();
+    // The first read gives 65,536 bytes, which end within the last line.
+    let mut script = Vec::from_slice(alloc, b"pages 2\n")?;
+    script.resize(65_529, b'#')?;
+    script.extend_from_slice(b"\nshow 11")?;
+    let rows = [(2, Outcome::ReadFault), (0, Outcome::Script(3))];
+    for (read, outcome) in rows {
+        let ended = run(alloc, script.as_slice(), &[read], &[])?;
+        assert_eq!(rt; ended.outcome, outcome, "read {read}");
+        assert!(rt; ended.text.is_empty(), "read {read}");
+    }
+    Ok(())
+}
+
+#[test]
 fn lines_have_a_limit(rt: HostRuntime) -> Result<(), Fail> {
     let alloc = rt.alloc();
     let rows = [
@@ -420,6 +436,8 @@ fn failing_streams_are_told(rt: HostRuntime) -> Result<(), Fail> {
         // The first read gives the whole script, and the second is to tell that it has ended.
         (2, 0, Outcome::ReadFault, NO_LEADER),
         (0, 1, Outcome::WriteFault, ""),
+        // The line at the end can't be written.
+        (0, 2, Outcome::WriteFault, NO_LEADER),
         (1, 1, Outcome::ReadFault, ""),
     ];
     for (read, write, outcome, text) in rows {

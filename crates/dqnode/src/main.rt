@@ -1,4 +1,5 @@
-//! `dqnode`: a node of dqlite, SQLite replicated over a Raft cluster, and a runner of whole clusters from scripts.
+//! `dqnode` runs scripts. A script drives a node of dqlite, which is SQLite replicated over a Raft cluster, or machines
+//! that apply one list of replicated commands.
 #![tactic(auto)]
 
 mod program;

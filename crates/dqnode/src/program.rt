@@ -77,7 +77,8 @@ fn script<S: Source, K: Sink>(alloc: Global, input: &mut S, output: &mut K) -> S
 /// Refuses the words.
 fn refuse_words<K: Sink>(output: &mut K) -> Status
     ensures words { result ≡ Status.Words → Appends (K.written output.old) (K.written output.new) words_error }
-    ensures write_fault { result ≡ Status.WriteFault → Rose (K.faults output.old) (K.faults output.new) × AppendsFront (K.written output.old) (K.written output.new) words_error }
+    ensures write_fault { result ≡ Status.WriteFault → Rose (K.faults output.old) (K.faults output.new) }
+    ensures broken { result ≢ Status.Words → AppendsFront (K.written output.old) (K.written output.new) words_error }
     ensures others { (result ≡ Status.Words) ⊎ (result ≡ Status.WriteFault) }
     ensures count { K.faults output.old ≤ K.faults output.new }
 {
@@ -92,9 +93,9 @@ fn refuse_words<K: Sink>(output: &mut K) -> Status
 ///
 /// The words are exactly `script`: the input is a script, whose text goes to the output. Other words give status 1 and
 /// the line `error words`. A line that isn't in the grammar, or that names what isn't there, the first fault of the
-/// script, gives status 2, behind the text of the lines before it, and `error line` with its number. So the line behind
-/// the millionth and the event behind the twenty thousandth give status 9 and `error large`. 3 is a fault of the input
-/// and 4 one of the output, an error line that could not be written included; 7 is want of memory.
+/// script, gives status 2, behind the text of the lines before it, and `error line` with its number. A line behind the
+/// millionth, or an event behind the twenty thousandth, as the first fault gives 9 and `error large` instead. 3 is a
+/// fault of the input and 4 one of the output, an error line that could not be written included; 7 is want of memory.
 ///
 /// What was read decides this: whatever may follow, a refused script has the fault that is named, and after a fault of
 /// the outside or want of memory a front of what the script gives was written, with nothing of a line that was read in
@@ -116,7 +117,8 @@ pub fn dqnode<S: Source, K: Sink>(
     ensures script { result ≡ 2 → IsScript words.now × ((line : ℕ) × Faults (Line line) (S.left input.old) (S.left input.new) (K.written output.old) (K.written output.new)) }
     // The script's first fault is that it has too many lines or events; the bytes read show it, and it is said.
     ensures large { result ≡ 9 → IsScript words.now × Faults Large (S.left input.old) (S.left input.new) (K.written output.old) (K.written output.new) }
-    // Machines of a script that have applied as many commands hold the same files and pending pages.
+    // A run has one list of commands: at every moment machines that have applied as many of them hold the same files and
+    // pending pages, and are shown so.
     ensures alike { (script : List ℕ) → KeepsAlike script }
     // The input, the output failed in this call.
     ensures read_fault { result ≡ 3 → IsScript words.now × Rose (S.faults input.old) (S.faults input.new) }

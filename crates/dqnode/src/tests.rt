@@ -28,6 +28,8 @@ const LONGEST_LINE: usize = 1_048_576;
 struct Ended {
     status: u8,
     text: Vec<u8>,
+    /// How many reads failed.
+    faults: u64,
 }
 
 /// Runs the program in memory with the words that stand one a line, where the reads and the writes of these numbers,
@@ -50,7 +52,12 @@ fn run(
     let mut output = MemSink::new(alloc, Vec::from_slice(alloc, writes)?);
     let status = dqnode(alloc, all.as_slice(), &mut input, &mut output);
     let text = Vec::from_slice(alloc, output.bytes())?;
-    Ok(Ended { status, text })
+    let faults = input.faults();
+    Ok(Ended {
+        status,
+        text,
+        faults,
+    })
 }
 
 /// Runs a script whose reads and writes all succeed.
@@ -202,7 +209,7 @@ fn other_words_are_refused(rt: HostRuntime) -> Result<(), Fail> {
     ] {
         // Nothing is read: the first read would fail.
         let ended = run(alloc, words, b"", &[1], &[])?;
-        assert_eq!(rt; ended.status, 1, "{words:?}");
+        assert_eq!(rt; (ended.status, ended.faults), (1, 0), "{words:?}");
         assert_eq!(rt;
             ended.text.as_slice(),
             b"error words\n".as_slice(),
@@ -223,6 +230,8 @@ fn failing_streams_give_3_and_4(rt: HostRuntime) -> Result<(), Fail> {
         ("script", known, 2, 0, 3, NO_LEADER),
         ("script", "", 1, 0, 3, ""),
         ("script", known, 0, 1, 4, ""),
+        // The line at the end can't be written.
+        ("script", known, 0, 2, 4, NO_LEADER),
         ("script", "", 0, 1, 0, ""),
         // An error line that can't be written.
         ("script", "nodes", 0, 1, 4, ""),
