@@ -1,5 +1,5 @@
 -- A run has one list of commands, and machines that have applied as many of them hold the same files and pending pages, at whichever moments of the run.
-use Rattle.std.specs.Prelude.{◌≡◌, ◌≤◌, ◌+◌, ℕ, suc, true, List, [], ◌∷◌, ◌++◌, length, take, slice_get, All, Contains, Some, None, Ok, Err, ⊤}
+use Rattle.std.specs.Prelude.{◌≡◌, ◌≤◌, ◌+◌, ℕ, suc, List, [], ◌∷◌, ◌++◌, length, take, slice_get, All, Contains, Some, None, Ok, Err, ⊤}
 use Rattle.frame_commands.specs.declared.command.Command.{Command}
 use Rattle.cluster_runner.specs.declared.cluster.Say.{Say}
 use Rattle.cluster_runner.specs.declared.cluster.Say.TheVariants.{Reply, Refused, Node, Machine}

@@ -1,3 +1,5 @@
+//! What commands state.
+
 use dq_base::Name;
 
 /// The greatest length that commands state for a database, its two files together.

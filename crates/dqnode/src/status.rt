@@ -1,3 +1,5 @@
+//! The statuses that the program ends with.
+
 ghost use Rattle.std.specs.Prelude.{◌≡◌};
 
 /// How the program ends.
