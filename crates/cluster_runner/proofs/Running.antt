@@ -4,7 +4,7 @@ use Rattle.std.specs.Prelude.{Result, OnOk, OnErr, IfErr, IsErrOf, MatchResult}
 use Rattle.std.specs.Io.KnownBytes.{Appends, Consumes, Keeps, IsAtEnd}
 use Rattle.std.proofs.lemmas.List.{append-nil, length-append, nil_from_length}
 use Rattle.dq_base.specs.Sink.{AppendsFront}
-use Rattle.dq_base.proofs.ContentLaws.{Consumes-nothing, Consumes-then, Appends-nothing, Appends-then, AppendsFront-nothing, AppendsFront-longer, AppendsFront-then, Consumes-all}
+use Rattle.dq_base.proofs.ContentLaws.{Consumes-nothing, Consumes-then, Appends-nothing, Appends-then, AppendsFront-nothing, AppendsFront-longer, AppendsFront-then}
 use Rattle.cluster_runner.specs.ScriptSize.{line_limit, line_count_limit}
 use Rattle.cluster_runner.specs.declared.cluster.Say.{Say}
 use Rattle.cluster_runner.specs.declared.lines.LineFault.{LineFault}
@@ -318,7 +318,7 @@ module _ (first now written printed_now later : Option (List ℕ)) (place : Plac
   pub completes : Appends printed_now later (text_of (closing place)) → Completes first now written later
   completes a = record {
     script = r.read;
-    input = Consumes-all first now r.read r.taken r.end;
+    taken = r.taken;
     read = r.end;
     sound = ap (λ (x : Run). x.fault) r.ends;
     text = rw (ap printed r.ends ∙ text_of-append r.said (closing place)) (Appends-then written printed_now later (text_of r.said) (text_of (closing place)) r.told a);

@@ -12,7 +12,7 @@ use Rattle.cluster_runner.specs.declared.grammar.Event.TheVariants.{Timeout, Con
 use Rattle.cluster_runner.specs.declared.grammar.ScriptLine.{ScriptLine}
 use Rattle.cluster_runner.specs.declared.grammar.ScriptLine.TheVariants as says
 use Rattle.cluster_runner.specs.Grammar.{number, hex_bytes, halves, behind, ◌>>=◌, connect_of, bytes_of, event_line, words_line, is_fit, is_blank, line_of}
-use Rattle.cluster_runner.specs.Spelling.{AreHex, IsNumbered, IsEvent, IsNothing, IsText, Spells}
+use Rattle.cluster_runner.specs.Spelling.{AreHex, IsNumbered, IsEvent, IsNothing, IsLineText, Spells}
 use Rattle.cluster_runner.proofs.Numbers.{IsNumber, number_some}
 use Rattle.cluster_runner.proofs.Choices.{some_is, passed, mapped, bound, chosen}
 use Rattle.cluster_runner.proofs.HexWords.{hex_spelled, hex_read}
@@ -49,15 +49,15 @@ behind_is word line text e =
     sym (take-append-drop (length word) line) ∙ ap (λ (x : List ℕ). x ++ drop (length word) line) front ∙ ap (λ (x : List ℕ). word ++ x) (some_is (drop (length word) line) text a.1)
 
 -- a word with a number behind it
-numbered : (word line text : List ℕ) (make : ℕ → ScriptLine) (said : ScriptLine) → ((n : ℕ) → IsNumbered word n line → IsText (make n) line) → behind word line ≡ Some text
-    → option_map make (number text) ≡ Some said → IsText said line
+numbered : (word line text : List ℕ) (make : ℕ → ScriptLine) (said : ScriptLine) → ((n : ℕ) → IsNumbered word n line → IsLineText (make n) line) → behind word line ≡ Some text
+    → option_map make (number text) ≡ Some said → IsLineText said line
 numbered word line text make said texts at e =
     let a = mapped make (number text) said e in
     let n = number_is text a.0 a.1 in
-    subst (λ (s : ScriptLine). IsText s line) a.2
+    subst (λ (s : ScriptLine). IsLineText s line) a.2
     (texts a.0 (record { in_range = n.small; parts = behind_is word line text at ∙ ap (λ (x : List ℕ). word ++ x) n.written }))
 
-connect_is : (line text : List ℕ) (said : ScriptLine) → behind (codes "connect ") line ≡ Some text → connect_of text ≡ Some said → IsText said line
+connect_is : (line text : List ℕ) (said : ScriptLine) → behind (codes "connect ") line ≡ Some text → connect_of text ≡ Some said → IsLineText said line
 unfolding connect_of
 connect_is line text said at e =
     let a = bound (halves text) (λ both. number both.0 >>= λ node. number both.1 >>= λ connection. Some (says.Event (Connect node connection))) said e in
@@ -66,13 +66,13 @@ connect_is line text said at e =
     let node = number_is a.0.0 b.0 b.1 in
     let connection = number_is a.0.1 c.0 c.1 in
     let front : List ℕ → List ℕ → List ℕ = λ x y. codes "connect " ++ (x ++ (codes " " ++ y)) in
-    subst (λ (s : ScriptLine). IsText s line) (some_is (says.Event (Connect b.0 c.0)) said c.2) (record {
+    subst (λ (s : ScriptLine). IsLineText s line) (some_is (says.Event (Connect b.0 c.0)) said c.2) (record {
       node_in_range = node.small;
       connection_in_range = connection.small;
       parts = behind_is (codes "connect ") line text at ∙ ap (λ (x : List ℕ). codes "connect " ++ x) (halves_cut text a.0 a.1) ∙ ap (λ (x : List ℕ). front x a.0.1) node.written ∙ ap (front (decimal b.0)) connection.written;
     })
 
-bytes_are : (line text : List ℕ) (said : ScriptLine) → behind (codes "bytes ") line ≡ Some text → bytes_of text ≡ Some said → IsText said line
+bytes_are : (line text : List ℕ) (said : ScriptLine) → behind (codes "bytes ") line ≡ Some text → bytes_of text ≡ Some said → IsLineText said line
 unfolding bytes_of
 bytes_are line text said at e =
     let a = bound (halves text) (λ both. number both.0 >>= λ connection. hex_bytes both.1 >>= λ bytes. Some (says.Event (Bytes connection bytes))) said e in
@@ -80,7 +80,7 @@ bytes_are line text said at e =
     let c = bound (hex_bytes a.0.1) (λ bytes. Some (says.Event (Bytes b.0 bytes))) said b.2 in
     let connection = number_is a.0.0 b.0 b.1 in
     let hex = hex_spelled a.0.1 c.0 c.1 in
-    subst (λ (s : ScriptLine). IsText s line) (some_is (says.Event (Bytes b.0 c.0)) said c.2) (record {
+    subst (λ (s : ScriptLine). IsLineText s line) (some_is (says.Event (Bytes b.0 c.0)) said c.2) (record {
       digits = a.0.1;
       in_range = connection.small;
       some = hex.1;
@@ -88,16 +88,16 @@ bytes_are line text said at e =
       parts = behind_is (codes "bytes ") line text at ∙ ap (λ (x : List ℕ). codes "bytes " ++ x) (halves_cut text a.0 a.1) ∙ ap (λ (x : List ℕ). codes "bytes " ++ (x ++ (codes " " ++ a.0.1))) connection.written;
     })
 
-put_is : (line text : List ℕ) (said : ScriptLine) → behind (codes "put ") line ≡ Some text → option_map (λ bytes. says.Event (Put bytes)) (hex_bytes text) ≡ Some said → IsText said line
+put_is : (line text : List ℕ) (said : ScriptLine) → behind (codes "put ") line ≡ Some text → option_map (λ bytes. says.Event (Put bytes)) (hex_bytes text) ≡ Some said → IsLineText said line
 put_is line text said at e =
     let a = mapped (λ bytes. says.Event (Put bytes)) (hex_bytes text) said e in
     let hex = hex_spelled text a.0 a.1 in
-    subst (λ (s : ScriptLine). IsText s line) a.2 (record { digits = text; some = hex.1; hex = hex.0; parts = behind_is (codes "put ") line text at })
+    subst (λ (s : ScriptLine). IsLineText s line) a.2 (record { digits = text; some = hex.1; hex = hex.0; parts = behind_is (codes "put ") line text at })
 
 none_is : {P : Type 0} (said : ScriptLine) → None ≡ Some said → P
 none_is said e = absurd cc
 
-event_is : (line : List ℕ) (said : ScriptLine) → event_line line ≡ Some said → IsText said line
+event_is : (line : List ℕ) (said : ScriptLine) → event_line line ≡ Some said → IsLineText said line
 unfolding event_line
 event_is line said e =
     elim (chosen (behind (codes "timeout ") line) (λ text. option_map (λ n. says.Event (Timeout n)) (number text)) _ said e) [
@@ -117,7 +117,7 @@ event_is line said e =
       ]
     ]
 
-words_are : (line : List ℕ) (said : ScriptLine) → words_line line ≡ Some said → IsText said line
+words_are : (line : List ℕ) (said : ScriptLine) → words_line line ≡ Some said → IsLineText said line
 unfolding words_line
 words_are line said e =
     elim (chosen (behind (codes "nodes ") line) (λ text. option_map says.Nodes (number text)) _ said e) [
@@ -135,8 +135,8 @@ nothing_is : (line : List ℕ) → is_blank line ≡ true → IsNothing line
 nothing_is [] e = inl refl
 nothing_is (b ∷ line) e = inr (line, ap (λ (c : ℕ). c ∷ line) (eqb-true b 35 e))
 
-text_is : (line : List ℕ) (blank : Bool) (said : ScriptLine) → is_blank line ≡ blank → cond blank (Some says.Blank) (words_line line) ≡ Some said → IsText said line
-text_is line true said is e = subst (λ (s : ScriptLine). IsText s line) (some_is says.Blank said e) (nothing_is line is)
+text_is : (line : List ℕ) (blank : Bool) (said : ScriptLine) → is_blank line ≡ blank → cond blank (Some says.Blank) (words_line line) ≡ Some said → IsLineText said line
+text_is line true said is e = subst (λ (s : ScriptLine). IsLineText s line) (some_is says.Blank said e) (nothing_is line is)
 text_is line false said is e = words_are line said e
 
 pub line_spelled : (said : ScriptLine) (line : List ℕ) → line_of line ≡ Some said → Spells said line
@@ -209,7 +209,7 @@ event_read (Put bytes) line h =
     ap said_by h.parts ∙ put_read h.digits ∙ ap (option_map (λ bytes. says.Event (Put bytes))) (hex_read h.digits bytes h.hex h.some)
 event_read (Take machine) line h = ap said_by h.parts ∙ take_read (decimal machine) ∙ read_number (λ n. says.Event (Take n)) machine h.in_range
 
-text_read : (said : ScriptLine) (line : List ℕ) → IsText said line → said_by line ≡ Some said
+text_read : (said : ScriptLine) (line : List ℕ) → IsLineText said line → said_by line ≡ Some said
 text_read says.Blank line (inl e) = ap said_by e
 text_read says.Blank line (inr (comment, e)) = ap said_by e
 text_read (says.Nodes voters) line h = ap said_by h.parts ∙ nodes_read (decimal voters) ∙ read_number says.Nodes voters h.in_range

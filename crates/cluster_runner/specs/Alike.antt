@@ -1,4 +1,5 @@
--- A run has one list of commands, and machines that have applied as many of them hold the same files and pending pages, at whichever moments of the run.
+-- A run has one list of commands, and machines that have applied as many of them hold the same files and pending pages, at
+-- whichever moments of the run.
 use Rattle.std.specs.Prelude.{◌≡◌, ◌≤◌, ◌+◌, ℕ, suc, List, [], ◌∷◌, ◌++◌, length, take, slice_get, All, Contains, Some, None, Ok, Err, ⊤}
 use Rattle.frame_commands.specs.declared.command.Command.{Command}
 use Rattle.cluster_runner.specs.declared.cluster.Say.{Say}
@@ -65,7 +66,7 @@ pub record IsDigestOf (commands : List Command) (applied : ℕ) (bytes : List �
   pub within : applied ≤ length commands
   pub bytes_are : bytes ≡ digest (files (take applied commands))
 
--- where a machine is shown, it is with how many commands of the list it has applied, and the digest of what those make
+-- what is said of a machine names a number of commands of the list, and the digest of the files that so many make
 abbrev pub Tells : List Command → Say → Type 0
 Tells commands (Reply connection bytes) = ⊤
 Tells commands Refused = ⊤
@@ -89,7 +90,8 @@ pub record KeepsAlike (script : List ℕ) : Type 0 where
   pub same_digest : (number other applied : ℕ) (bytes others : List ℕ) → Contains (run script).said (Machine number applied bytes) → Contains (run script).said (Machine other applied others) → bytes ≡ others
   -- What is printed up to each moment, and how all stand then, is of that list too.
   pub told_until : (count : ℕ) → All (Tells (commands_of script)) (run_until script count).said
-  -- The machines of a moment are those that are shown where a script ends there, so those where this one leads are shown at its end.
+  -- Where a script ends after so many lines, the machines of that moment are shown. So this script shows at its end those
+  -- to which it leads.
   pub shown_until : (count : ℕ) → (run_until script count).fault ≡ None → (said : List Say) × ((run_until script count).said ≡ said ++ closing (place_at script count))
   pub shown : (run script).fault ≡ None → (said : List Say) × ((run script).said ≡ said ++ closing (place_after script))
   -- The databases that a front of the list makes stand in the order of their names.

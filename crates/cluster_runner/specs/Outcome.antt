@@ -1,5 +1,5 @@
 -- How running a script goes and ends, in terms of what the source had left and of what the sink holds, before and after.
-use Rattle.std.specs.Prelude.{◌≡◌, ◌++◌, ℕ, List, [], Option, Some, None, IfSome, ⊤}
+use Rattle.std.specs.Prelude.{◌≡◌, ◌++◌, ℕ, List, [], Option, Some, None, ⊤}
 use Rattle.std.specs.Io.KnownBytes.{Appends, Consumes, IsAtEnd}
 use Rattle.dq_base.specs.Sink.{AppendsFront}
 use Rattle.cluster_runner.specs.declared.cluster.Say.{Say}
@@ -11,11 +11,8 @@ use Rattle.cluster_runner.specs.Lines.{lines_of}
 use Rattle.cluster_runner.specs.Run.{Place, Fault, Line, Large, said_before, ending, run_from, run, text_of, printed}
 use Rattle.cluster_runner.specs.Stops.{fault_of}
 
--- The script is all that the source has left, where that is told.
-abbrev pub IsInput : Option (List ℕ) → List ℕ → Type 0
-IsInput left script = IfSome left (λ all. all ≡ script)
-
--- These bytes may follow those that were read: none where the source is at its end. What it has left is among them.
+-- These bytes may follow those that were read: none where the source is at its end or tells nothing. What it tells to be
+-- left is among them.
 abbrev pub MayFollow : Option (List ℕ) → List ℕ → Type 0
 MayFollow left more = IsAtEnd left → more ≡ []
 
@@ -26,19 +23,21 @@ Anything more = ⊤
 -- The script was read to its end, it has no fault, and its text was printed.
 pub record Completes (left left' written written' : Option (List ℕ)) : Type 0 where
   pub script : List ℕ
-  pub input : IsInput left script
+  pub taken : Consumes left left' script
   pub read : IsAtEnd left'
   pub sound : (run script).fault ≡ None
   pub text : Appends written written' (printed (run script))
 
--- Whatever may follow the bytes read, the script has this fault, its first, and the text of the lines before it was printed.
+-- Whatever may follow the bytes read, the script has this fault, its first, and the text of the lines before it was
+-- printed.
 pub record Refuses (fault : Fault) (left left' written written' : Option (List ℕ)) : Type 0 where
   pub read : List ℕ
   pub taken : Consumes left left' read
   pub faulty : (more : List ℕ) → MayFollow left' more → (run (read ++ more)).fault ≡ Some fault
   pub text : (more : List ℕ) → MayFollow left' more → Appends written written' (printed (run (read ++ more)))
 
--- A front of the script's text was printed, whatever of this follows the bytes read: so nothing of a line that was read in part.
+-- Whichever bytes of `follows` stand behind those read, a front of the script's text was printed: so nothing of a line that
+-- was read in part.
 pub record StopsShort (follows : List ℕ → Type 0) (left left' written written' : Option (List ℕ)) : Type 0 where
   pub read : List ℕ
   pub taken : Consumes left left' read
@@ -69,7 +68,7 @@ FollowsAfter stop.ReadFault left = Anything
 FollowsAfter stop.WriteFault left = MayFollow left
 FollowsAfter stop.NoMemory left = MayFollow left
 
--- what a stop before the end leaves: the script has a fault, or it was not read to where it shows
+-- what a stop before the end leaves: the script has this fault, or a front of its text was printed
 abbrev pub StoppedBy : Option Fault → (List ℕ → Type 0) → Option (List ℕ) → Option (List ℕ) → Option (List ℕ) → Option (List ℕ) → Type 0
 StoppedBy None follows left left' written written' = StopsShort follows left left' written written'
 StoppedBy (Some fault) follows left left' written written' = Refuses fault left left' written written'

@@ -58,15 +58,16 @@ abbrev pub IsNothing : List ℕ → Type 0
 IsNothing text = (text ≡ []) ⊎ ((comment : List ℕ) × (text ≡ codes "#" ++ comment))
 
 -- the text of a line
-abbrev pub IsText : ScriptLine → List ℕ → Type 0
-IsText says.Blank text = IsNothing text
-IsText (says.Nodes voters) text = IsNumbered (codes "nodes ") voters text
-IsText (says.Pages machines) text = IsNumbered (codes "pages ") machines text
-IsText (says.Show number) text = IsNumbered (codes "show ") number text
-IsText (says.Event event) text = IsEvent event text
+abbrev pub IsLineText : ScriptLine → List ℕ → Type 0
+IsLineText says.Blank text = IsNothing text
+IsLineText (says.Nodes voters) text = IsNumbered (codes "nodes ") voters text
+IsLineText (says.Pages machines) text = IsNumbered (codes "pages ") machines text
+IsLineText (says.Show number) text = IsNumbered (codes "show ") number text
+IsLineText (says.Event event) text = IsEvent event text
 
--- The bytes, in which no LF stands, spell the line: they are its text, in ASCII, and no more than a line may have.
+-- The bytes spell the line: they are its text, in ASCII, and no more than a line may have. That no LF is among them is in
+-- how a script is cut into lines.
 pub record Spells (line : ScriptLine) (bytes : List ℕ) : Type 0 where
   pub short : length bytes ≤ line_limit
   pub ascii : AllByRecursion (λ b. b < 128) bytes
-  pub text : IsText line bytes
+  pub text : IsLineText line bytes

@@ -247,11 +247,11 @@ fn run<S: Source, K: Sink>(alloc: Global, source: &mut S, sink: &mut K) -> Resul
 ///   lines before it was printed.
 /// - `Large`: the line behind the millionth, or the event behind the twenty thousandth, is the first fault; the text of
 ///   the lines before it was printed.
-/// - `ReadFault`, `WriteFault`: the source, the sink failed; a front of the script's text was printed. So it is after
-///   `NoMemory`, which alone has no cause in a count.
+/// - `ReadFault`, `WriteFault`: the source, the sink failed, and its count of faults rose; a front of the script's text
+///   was printed. So it is after `NoMemory`, which has no such cause.
 ///
-/// What was read decides this: the fault and the text are the script's, whatever may follow. So nothing was printed of a
-/// line that was read in part.
+/// What was read decides this: unless the source is at its end, the fault and the text are those of every script that
+/// begins with the bytes read. So nothing was printed of a line that was read in part.
 pub fn run_script<S: Source, K: Sink>(alloc: Global, source: &mut S, sink: &mut K) -> Outcome
     ensures ended { Ended result (S.left source.old) (S.left source.new) (K.written sink.old) (K.written sink.new) }
     ensures read_fault { result ≡ Outcome.ReadFault → Rose (S.faults source.old) (S.faults source.new) }

@@ -39,7 +39,8 @@ pub record Faults (fault : Fault) (left left' written written' : Option (List �
   pub faulty : (more : List ℕ) → MayFollow left' more → (run (read ++ more)).fault ≡ Some fault
   pub text : (more : List ℕ) → MayFollow left' more → Appends written written' (run_text (run (read ++ more)))
 
--- A front of the script's text was written, whatever of this follows the bytes read: so nothing of a line that was read in part.
+-- Whichever bytes of `follows` stand behind those read, a front of the script's text was written, its error line counted
+-- in: so nothing of a line that was read in part.
 pub record BreaksOff (follows : List ℕ → Type 0) (left left' written written' : Option (List ℕ)) : Type 0 where
   pub read : List ℕ
   pub taken : Consumes left left' read

@@ -97,9 +97,9 @@ fn refuse_words<K: Sink>(output: &mut K) -> Status
 /// millionth, or an event behind the twenty thousandth, as the first fault gives 9 and `error large` instead. 3 is a
 /// fault of the input and 4 one of the output, an error line that could not be written included; 7 is want of memory.
 ///
-/// What was read decides this: whatever may follow, a refused script has the fault that is named, and after a fault of
-/// the outside or want of memory a front of what the script gives was written, with nothing of a line that was read in
-/// part. After words other than `script` the input is as it was.
+/// What was read decides this. Unless the input is at its end, every script that begins with the bytes read has the fault
+/// that is named; and after a fault of the outside or want of memory a front was written of what each of them gives, so
+/// nothing of a line that was read in part. After words other than `script` the input is as it was.
 pub fn dqnode<S: Source, K: Sink>(
     alloc: Global,
     words: &[String],

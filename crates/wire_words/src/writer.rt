@@ -55,7 +55,7 @@ impl Writer {
         }
     }
 
-    /// Writes a number of 64 bits. After `Err`, want of memory, nothing more is written; so in all calls that write.
+    /// Writes a number of 64 bits. `Err` is want of memory, and leaves what was written; so in all calls that write.
     pub fn word(&mut self, value: u64) -> Result<(), AllocError>
         ensures { AppendsOrKeeps self.old self.new (word value) result }
     {
