@@ -1,8 +1,7 @@
 -- Each machine holds what its front of the run's list makes, at every moment, and is shown so.
-use Rattle.std.proofs.Common.{◌≡◌, ℕ, zero, suc, ◌+◌, ◌<◌, ◌≤◌, Bool, true, false, cond, List, [], ◌∷◌, ◌++◌, Option, Some, None, Ok, Err, length, get_or, take, set, All, Contains, refl, sym, ap, subst, ◌∙◌, append_assoc, append-nil, arith}
+use Rattle.std.proofs.Common.{◌≡◌, ℕ, zero, suc, ◌+◌, ◌<◌, ◌≤◌, Bool, true, false, cond, List, [], ◌∷◌, ◌++◌, Option, Some, None, Ok, Err, length, get_or, take, All, Contains, refl, sym, ap, subst, ◌∙◌, append_assoc, append-nil, arith}
 use Rattle.std.specs.Prelude.{slice_get, Result}
 use Rattle.std.specs.List.{AllByRecursion}
-use Rattle.std.specs.Option.{option_map}
 use Rattle.std.proofs.lemmas.Grind.{fold-append}
 use Rattle.std.proofs.lemmas.Option.{slice_get_within, get_or_from_slice_get}
 use Rattle.std.proofs.lemmas.List.{take-append-le, take-take, take_more, length-append}
@@ -30,26 +29,9 @@ use Rattle.cluster_runner.specs.Run.{Place, Opening, Within, Next, Fault, Run, i
 use Rattle.cluster_runner.specs.ByName.{ChangesOne}
 use Rattle.cluster_runner.specs.Alike.{fleet_in, fleet_at, led, led_from, commands_of, moment, run_until, BeginsWith, Follows, IsDigestOf, Tells, KeepsAlike}
 use Rattle.cluster_runner.proofs.ByName.{files_in_order, files_changed}
-
--- ---- what holds of each element
-
-all_weaker : {X : Type 0} (P Q : X → Type 0) → ((x : X) → P x → Q x) → (xs : List X) → AllByRecursion P xs → AllByRecursion Q xs
-all_weaker P Q weaker [] a = tt
-all_weaker P Q weaker (x ∷ xs) a = (weaker x a.0, all_weaker P Q weaker xs a.1)
-
-all_append : {X : Type 0} (P : X → Type 0) (xs ys : List X) → AllByRecursion P xs → AllByRecursion P ys → AllByRecursion P (xs ++ ys)
-all_append P [] ys a b = b
-all_append P (x ∷ xs) ys a b = (a.0, all_append P xs ys a.1 b)
-
-all_set : {X : Type 0} (P : X → Type 0) (xs : List X) (i : ℕ) (x : X) → P x → AllByRecursion P xs → AllByRecursion P (set xs i x)
-all_set P [] i x p a = tt
-all_set P (y ∷ ys) zero x p a = (p, a.1)
-all_set P (y ∷ ys) (suc i) x p a = (a.0, all_set P ys i x p a.1)
-
-all_get_or : {X : Type 0} (P : X → Type 0) (xs : List X) (i : ℕ) (x : X) → P x → AllByRecursion P xs → P (get_or xs i x)
-all_get_or P [] i x p a = p
-all_get_or P (y ∷ ys) zero x p a = a.0
-all_get_or P (y ∷ ys) (suc i) x p a = all_get_or P ys i x p a.1
+use Rattle.cluster_runner.proofs.Elements.{all_weaker, all_append, all_set, all_get_or, where_some, where_mapped}
+use Rattle.cluster_runner.proofs.Choices.{some_is}
+use Rattle.cluster_runner.proofs.Sightings.{ok_is, all_seen}
 
 -- ---- one machine, and a list that grows
 
@@ -163,23 +145,6 @@ closing_tells (Within events (Nodes world)) follow = (node_tells [] world, tt)
 closing_tells (Within events (Pages fleet)) follow = all_shown_tell fleet.commands 1 fleet.machines follow
 
 -- ---- what events and lines do
-
-some_is : {A : Type 0} (x y : A) → Some x ≡ Some y → x ≡ y
-some_is x y e = cc
-
-abbrev same_next : Next → Next → Type 0
-same_next a b = a ≡ b
-
-ok_is : (x y : Place × List Say) → same_next (Ok x) (Ok y) → x ≡ y
-ok_is x y e = cc
-
-where_some : {A : Type 0} (P : A → Type 0) (may : Bool) (x next : A) → P x → cond may (Some x) None ≡ Some next → P next
-where_some P true x next p e = subst P (some_is x next e) p
-where_some P false x next p e = absurd cc
-
-where_mapped : {A B : Type 0} (P : B → Type 0) (f : A → B) (o : Option A) (next : B) → ((a : A) → o ≡ Some a → P (f a)) → option_map f o ≡ Some next → P next
-where_mapped P f None next holds e = absurd cc
-where_mapped P f (Some a) next holds e = subst P (some_is (f a) next e) (holds a refl)
 
 happens_tells : (world : World) (event : Event) (next : World × List Say) → happens world event ≡ Some next → AllTell [] next.1
 unfolding happens
@@ -385,6 +350,7 @@ module _ (script : List ℕ) where
     same_digest = same_digests;
     told_until = all_told_until;
     shown_until = λ count. shows Opening 1 (take count (lines_of script));
+    seen = all_seen script;
     shown = shows Opening 1 (lines_of script);
     in_order = λ count. files_in_order (take count (commands_of script));
     changes_one = next_changes_one;

@@ -9,7 +9,7 @@ use Rattle.cluster_runner.specs.Machine.{files}
 use Rattle.cluster_runner.specs.Holding.{Holding}
 use Rattle.cluster_runner.specs.Digest.{digest}
 use Rattle.cluster_runner.specs.ByName.{AreInOrder, ChangesOne}
-use Rattle.cluster_runner.specs.Machines.{Fleet}
+use Rattle.cluster_runner.specs.Machines.{Fleet, standing_of}
 use Rattle.cluster_runner.specs.Scenes.{Scene, Nodes, Pages}
 use Rattle.cluster_runner.specs.Run.{Place, Opening, Within, Next, Run, idle_fleet, step, closing, run_from, run}
 
@@ -73,6 +73,17 @@ Tells commands Refused = ⊤
 Tells commands (Node node term leads applied bytes) = ⊤
 Tells commands (Machine number applied bytes) = IsDigestOf commands applied bytes
 
+-- what is said of a machine is how the machine of its number stands
+abbrev pub IsSeenIn : Fleet → Say → Type 0
+IsSeenIn fleet (Reply connection bytes) = ⊤
+IsSeenIn fleet Refused = ⊤
+IsSeenIn fleet (Node node term leads applied bytes) = ⊤
+IsSeenIn fleet (Machine number applied bytes) = standing_of fleet number ≡ Some (Machine number applied bytes)
+
+-- so it is at some moment of the run
+abbrev pub IsSeen : List ℕ → Say → Type 0
+IsSeen script say = (count : ℕ) × IsSeenIn (moment script count) say
+
 -- What every run of a script keeps, of one list of commands.
 pub record KeepsAlike (script : List ℕ) : Type 0 where
   -- From a moment to a later one the list only grows, at its end.
@@ -86,6 +97,8 @@ pub record KeepsAlike (script : List ℕ) : Type 0 where
       → machine.databases ≡ other.databases
   -- Each line that is printed of a machine is of that list, also in a script that has a fault.
   pub told : All (Tells (commands_of script)) (run script).said
+  -- And it is how the machine of its number stands at some moment.
+  pub seen : All (IsSeen script) (run script).said
   -- So two lines that tell of as many commands tell the same digest.
   pub same_digest : (number other applied : ℕ) (bytes others : List ℕ) → Contains (run script).said (Machine number applied bytes) → Contains (run script).said (Machine other applied others) → bytes ≡ others
   -- What is printed up to each moment, and how all stand then, is of that list too.
