@@ -18,7 +18,7 @@ unfolding accept
 accept_moves n log es prev a lt x =
     ap (λ l. take prev log ++ l) (merged_moves n (drop prev log) es a lt x) ∙ sym (append_assoc (take prev log) (take n (drop prev log)) (drop n es)) ∙ ap (λ l. l ++ drop n es) (sym (take-add prev n log))
 
-nth_dropped : (p : ℕ) (xs : List Entry) (k : ℕ) → nth_term (drop p xs) k ≡ nth_term xs (p + k)
+pub nth_dropped : (p : ℕ) (xs : List Entry) (k : ℕ) → nth_term (drop p xs) k ≡ nth_term xs (p + k)
 nth_dropped zero xs k = let e : k ≡ 0 + k = omega arith in ap (nth_term xs) e
 nth_dropped (suc p) [] k = refl
 nth_dropped (suc p) (x ∷ xs) k = let e : suc (p + k) ≡ suc p + k = omega arith in nth_dropped p xs k ∙ ap (nth_term (x ∷ xs)) e

@@ -4,3 +4,4 @@ pub mod ProgressRows
 pub mod NodeValues
 pub mod AcceptPlaces
 pub mod ProgressPeers
+pub mod Meanings

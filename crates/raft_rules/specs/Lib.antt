@@ -14,3 +14,4 @@ pub mod Todo
 pub mod Votes
 pub mod Progress
 pub mod NodeValues
+pub mod Laws
