@@ -1,12 +1,12 @@
 -- What the rules of logs and of the commit index mean.
-use Rattle.std.proofs.Common.{◌≡◌, ◌≢◌, ◌⊎◌, inl, inr, ℕ, zero, suc, ◌+◌, ◌-◌, ◌<◌, ◌≤◌, Bool, true, false, cond, List, [], ◌∷◌, ◌++◌, length, take, drop, refl, sym, ap, ◌∙◌, subst, ⊎_elim, arith}
+use Rattle.std.proofs.Common.{◌≡◌, ◌≢◌, inl, inr, ℕ, zero, suc, ◌+◌, ◌-◌, ◌<◌, ◌≤◌, true, List, [], ◌∷◌, ◌++◌, length, take, drop, refl, sym, ap, ◌∙◌, ⊎_elim, arith}
 use Rattle.std.specs.Prelude.{◌==◌, nat_lt}
 use Rattle.std.proofs.lemmas.Bool.{cond_both, cond-false, cases_lt, eqb-true, eqb-false, ne_eqb, ltb-true, ltb-false}
 use Rattle.std.proofs.lemmas.List.{take-append-drop, length-take-le, length-drop, length-append}
 use Rattle.std.proofs.Math.Seq.{take-length, take-append_seam, take-append-add}
 use Rattle.raft_rules.specs.Log.{Entry, nth_term, term_at, merged, accept}
 use Rattle.raft_rules.specs.Commitment.{is_stored_by_majority, commit_up_to}
-use Rattle.raft_rules.specs.Laws.{SameTerm, AcceptTakes, CommitIsGreatest, IsGreatest}
+use Rattle.raft_rules.specs.Laws.{AcceptTakes, CommitIsGreatest, IsGreatest}
 use Rattle.raft_rules.proofs.NodeValues.{nth_past}
 use Rattle.raft_rules.proofs.AcceptPlaces.{nth_dropped}
 
