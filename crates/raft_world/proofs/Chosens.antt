@@ -1,5 +1,5 @@
 -- What is applied is one list.
-use Rattle.std.proofs.Common.{◌≡◌, ◌≢◌, ℕ, Bool, true, false, ◌<◌, ◌≤◌, max, List, [], ◌∷◌, ◌++◌, length, take, drop, refl, sym, ap, ◌∙◌, subst, ⊎_elim, arith, length-append, append_assoc}
+use Rattle.std.proofs.Common.{◌≡◌, ◌≢◌, ◌⊎◌, inl, inr, ℕ, Bool, true, false, ◌<◌, ◌≤◌, max, List, [], ◌∷◌, ◌++◌, length, take, drop, refl, sym, ap, ◌∙◌, subst, ⊎_elim, arith, length-append, append_assoc}
 use Rattle.std.specs.Prelude.{◌==◌}
 use Rattle.std.proofs.lemmas.List.{append-nil, take-append-drop, take-take, length-take-le, length-take, take_all, drop_all, take_at}
 use Rattle.std.proofs.lemmas.Bool.{cases_eq, cases_lt, cond_both, cond-true, cond-false, eq-eqb, ne_eqb}
@@ -30,7 +30,7 @@ happens_other vs w (Crash n) k e = put_other w n _ [] k e
 happens_other vs w (Start n servers) k e = cond_both (w.nodes n).up w (put w n (loaded true servers (stored_of (w.nodes n))) []) (λ x. x.nodes k ≡ w.nodes k) (λ u. refl) (λ u. put_other w n _ [] k e)
 
 -- what the node's commit index is by the acts of the event
-put_here : (w : World) (n : ℕ) (s : Node) (out : List Message) → (put w n s out).nodes n ≡ s
+pub put_here : (w : World) (n : ℕ) (s : Node) (out : List Message) → (put w n s out).nodes n ≡ s
 unfolding put
 put_here w n s out = cond-true (n == n) s (w.nodes n) (eq-eqb n n refl)
 
@@ -53,6 +53,22 @@ record Grown (vs : Setup) (h : Hist) (new : List Entry) (k : ℕ) : Type 0 where
   bound : ℕ
   settled : Committed vs h new bound (length new)
   covers : k ≤ length new
+
+-- an event's node adds nothing to the list, or the list is the front of its log then
+pub chosen_cases : {vs : Setup} {h : Hist} (c : List Entry) (b : ℕ) (n : ℕ) (x : Stored) → HistOk vs h → Committed vs h c b (length c) → StoredOk vs h n x → (chosen_more c x ≡ c) ⊎ (chosen_more c x ≡ take (max x.applied x.snapshot.index) x.log)
+chosen_cases {vs} {h} c b n x ok settled a =
+    let k = max x.applied x.snapshot.index in
+    let both : Committed vs h x.log x.term k = committed_max x.applied x.snapshot.index a.base.settled a.settled in
+    ⊎_elim
+    (λ (l : length c < k).
+    let within = committed_within both in
+    let agree = committed_agree ok settled (committed_down (length c) (omega arith) both) in
+    let front : c ≡ take (length c) (take k x.log) = sym (take_all (length c) c (omega arith)) ∙ agree.same ∙ sym (take-take (length c) k x.log (omega arith)) in
+    inr (ap (λ y. y ++ drop (length c) (take k x.log)) front ∙ take-append-drop (length c) (take k x.log)))
+    (λ (l : k ≤ length c).
+    let nil : drop (length c) (take k x.log) ≡ [] = drop_all (length c) (take k x.log) (omega (arith, length-take k x.log)) in
+    inl (ap (λ y. c ++ y) nil ∙ append-nil c))
+    (cases_lt (length c) k)
 
 grown : {vs : Setup} {h : Hist} (c : List Entry) (b : ℕ) (n : ℕ) (x : Stored) → HistOk vs h → Committed vs h c b (length c) → StoredOk vs h n x → Grown vs h (chosen_more c x) (max x.applied x.snapshot.index)
 grown {vs} {h} c b n x ok settled a =
