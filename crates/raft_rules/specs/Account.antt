@@ -12,6 +12,7 @@ pub record Stored : Type 0 where
   pub base : ℕ
   pub applied : ℕ
 
+-- What a node has stored, and its commit index as applied.
 abbrev pub stored_of : Node → Stored
 stored_of s = record { term = s.term; vote = s.vote; log = s.log; snapshot = s.snapshot; base = s.base; applied = s.commit }
 
@@ -36,6 +37,7 @@ enact x (Apply index) = record x { applied = index }
 enact x (Restore index) = record x { applied = index }
 enact x (Send m) = x
 
+-- What is stored and applied after several acts.
 abbrev pub enacted : Stored → List Act → Stored
 enacted x [] = x
 enacted x (a ∷ acts) = enacted (enact x a) acts

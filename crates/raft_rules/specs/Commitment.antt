@@ -21,6 +21,7 @@ commit_up_to log term ids has commit (suc k) =
 unfoldable pub majority_stores : (List Entry → List ℕ) → ℕ → Node → ℕ → Bool
 majority_stores voters_of me s k = is_stored_by_majority s.log s.term (voters_of s.log) (has me s) k
 
+-- A leader's commit index by the indexes up to the last argument.
 unfoldable pub commit_below : (List Entry → List ℕ) → ℕ → Node → ℕ → ℕ
 commit_below voters_of me s k = commit_up_to s.log s.term (voters_of s.log) (has me s) s.commit k
 

@@ -43,6 +43,7 @@ with_whole_log s log = record s { log = log }
 abbrev pub compact : Node → Node
 compact s = with_whole_log s (compacted s.snapshot s.base ++ drop s.base s.log)
 
+-- What a message says, where a snapshot tells only its end.
 abbrev pub compact_what : What → What
 compact_what (Install last front) = Install last (compacted last last.index)
 compact_what (AskVote last) = AskVote last

@@ -36,6 +36,7 @@ start_election voters_of me s = cond (may_start_election voters_of me s)
 unfoldable pub may_grant : ℕ → ℕ → LogEnd → LogEnd → Bool
 may_grant vote from last own = ((vote == 0) || (vote == from)) && is_up_to_date last own
 
+-- The rule of votes at a node, with the end of its log.
 abbrev pub grants_vote : Node → ℕ → LogEnd → Bool
 grants_vote s from last = may_grant s.vote from last (log_end s.log)
 

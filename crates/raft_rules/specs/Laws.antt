@@ -18,6 +18,7 @@ pub record Taken (log : List Entry) (prev : ℕ) (entries : List Entry) (new : L
   -- where one conflicts, nothing follows those that came
   pub ends : (k : ℕ) → k < length entries → prev + k < length log → term_at log (suc (prev + k)) ≢ nth_term entries k → length new ≡ prev + length entries
 
+-- So it is with each log and all entries, from a place within the log on.
 abbrev pub AcceptTakes : Type 0
 AcceptTakes = (log entries : List Entry) (prev : ℕ) → prev ≤ length log → Taken log prev entries (accept log prev entries)
 
@@ -26,5 +27,6 @@ pub record IsGreatest (log : List Entry) (term : ℕ) (ids : List ℕ) (has : �
   pub is : (new ≡ commit) ⊎ ((commit < new) × (new ≤ last) × (is_stored_by_majority log term ids has new ≡ true))
   pub greatest : (k : ℕ) → new < k → commit < k → k ≤ last → is_stored_by_majority log term ids has k ≡ false
 
+-- So it is with each log, all voters and whatever they have.
 abbrev pub CommitIsGreatest : Type 0
 CommitIsGreatest = (log : List Entry) (term : ℕ) (ids : List ℕ) (has : ℕ → ℕ) (commit last : ℕ) → IsGreatest log term ids has commit last (commit_up_to log term ids has commit last)

@@ -16,6 +16,7 @@ pub record LogEnd : Type 0 where
   pub index : ℕ
   pub term : ℕ
 
+-- The term of the k-th entry, from 0; 0 where there is none.
 abbrev pub nth_term : List Entry → ℕ → ℕ
 nth_term [] k = 0
 nth_term (e ∷ es) zero = e.term

@@ -12,9 +12,11 @@ gained old new = filter (λ p. not (among old p)) new
 abbrev pub next_among : ℕ → Node → List Server → ℕ → ℕ
 next_among me s servers p = cond (among (peers servers me) p) (cond (among (peers s.servers me) p) (s.next_of p) (suc (length s.log))) 1
 
+-- The match of each node among these servers.
 abbrev pub match_among : ℕ → Node → List Server → ℕ → ℕ
 match_among me s servers p = cond (among (peers servers me) p && among (peers s.servers me) p) (s.match_of p) 0
 
+-- The node with these servers, and next and match of its peers.
 abbrev pub with_servers : ℕ → Node → List Server → Node
 with_servers me s servers = record s { servers = servers; next_of = next_among me s servers; match_of = match_among me s servers }
 

@@ -24,6 +24,7 @@ pub record Message : Type 0 where
   pub term : ℕ
   pub what : What
 
+-- A node leads, stands for election, or follows.
 pub data Role : Type 0 where
   Leader Candidate Follower : Role
 
@@ -59,6 +60,7 @@ pub record Node : Type 0 where
   -- the entries up to this index are cut off
   pub base : ℕ
 
+-- The id is in the list.
 abbrev pub among : List ℕ → ℕ → Bool
 among xs x = list_any (λ y. y == x) xs
 
@@ -78,11 +80,13 @@ peers servers own = others (map (λ s. s.id) (filter (λ s. nat_lt s.role 2) ser
 unfoldable pub majority : List ℕ → (ℕ → Bool) → Bool
 majority ids test = nat_lt (length ids) (2 * count_by test ids)
 
+-- The role is that of a leader.
 abbrev pub is_leader : Role → Bool
 is_leader Leader = true
 is_leader Candidate = false
 is_leader Follower = false
 
+-- The role is that of a candidate.
 abbrev pub is_candidate : Role → Bool
 is_candidate Leader = false
 is_candidate Candidate = true

@@ -27,15 +27,19 @@ in_newer_term s t = record s { term = t; vote = 0; role = Follower; leader = 0; 
 abbrev pub as_follower : Node → ℕ → Node
 as_follower s leader = record s { role = Follower; leader = leader }
 
+-- The node with this log and commit index.
 abbrev pub with_log : Node → List Entry → ℕ → Node
 with_log s log commit = record s { log = log; commit = commit }
 
+-- The node with this vote.
 abbrev pub with_vote : Node → ℕ → Node
 with_vote s vote = record s { vote = vote }
 
+-- The candidate with these grants.
 abbrev pub with_grants : Node → List ℕ → Node
 with_grants s grants = record s { grants = grants }
 
+-- The leader with this progress of its peers.
 abbrev pub with_progress : Node → (ℕ → ℕ) → (ℕ → ℕ) → Node
 with_progress s next_of match_of = record s { next_of = next_of; match_of = match_of }
 

@@ -21,6 +21,7 @@ abbrev pub match_in : List PeerProgress → ℕ → ℕ
 match_in [] p = 0
 match_in (r ∷ rs) p = cond (p == r.id) r.matched (match_in rs p)
 
+-- The ids of the rows.
 abbrev pub ids_in : List PeerProgress → List ℕ
 ids_in [] = []
 ids_in (r ∷ rs) = r.id ∷ ids_in rs
@@ -31,6 +32,7 @@ pub record ProgressTable : Type 0 where
   pub next_of : ℕ → ℕ
   pub match_of : ℕ → ℕ
 
+-- The rows as such look-ups.
 abbrev pub progress_of : List PeerProgress → ProgressTable
 progress_of rs = record { ids = ids_in rs; next_of = next_in rs; match_of = match_in rs }
 

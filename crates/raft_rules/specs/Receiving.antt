@@ -29,6 +29,7 @@ on_older_term me s from TimeoutNow = quiet s
 abbrev pub fits_the_wire : ℕ → Bool
 fits_the_wire n = nat_le n 4294967295
 
+-- All terms of these entries can be carried.
 abbrev pub terms_fit_the_wire : List Entry → Bool
 terms_fit_the_wire [] = true
 terms_fit_the_wire (e ∷ es) = fits_the_wire e.term && terms_fit_the_wire es

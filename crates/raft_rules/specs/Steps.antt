@@ -21,6 +21,7 @@ message_to me s p = record {
       (Append (record { index = s.next_of p - 1; term = term_at s.log (s.next_of p - 1) }) s.commit (take 16 (drop (s.next_of p - 1) s.log)));
 }
 
+-- The ids of the recipients.
 abbrev pub receivers : ℕ → Node → Recipients → List ℕ
 receivers me s Nobody = []
 receivers me s Everyone = peers s.servers me
@@ -46,6 +47,7 @@ finish voters_of me d = cond (is_leader d.node.role) (sends me (advance_commit v
 unfoldable pub serve : ℕ → Outcome → Outcome
 serve me d = cond (is_leader d.node.role) (sends me d) d
 
+-- A step of something that happens at the node, with the step's end.
 abbrev pub on_local_event : (List Entry → List ℕ) → ℕ → Node → LocalEvent → Outcome
 on_local_event voters_of me s Timeout = finish voters_of me (start_election voters_of me s)
 on_local_event voters_of me s Beat = finish voters_of me (on_beat s)

@@ -11,6 +11,7 @@ pub record Votes : Type 0 where
   pub vote : ℕ
   pub grants : List ℕ
 
+-- The votes of a node of the rules.
 abbrev pub votes_of : ℕ → Node → Votes
 votes_of me s = record { id = me; term = s.term; vote = s.vote; grants = s.grants }
 

@@ -18,11 +18,13 @@ Serves i = ⊥
 
 -- a leader's commit index after each step is exact; a step that tells it other servers leaves it
 abbrev pub LeaderCommit : Type 0
-LeaderCommit = (voters_of : List Entry → List ℕ) (me : ℕ) (s : Node) (i : Input) → is_leader (raft_step voters_of me s i).node.role ≡ true → Exact voters_of me s.commit (raft_step voters_of me s i).node ⊎ (Serves i × ((raft_step voters_of me s i).node.commit ≡ s.commit))
+LeaderCommit =
+    (voters_of : List Entry → List ℕ) (me : ℕ) (s : Node) (i : Input) → is_leader (raft_step voters_of me s i).node.role ≡ true →
+    Exact voters_of me s.commit (raft_step voters_of me s i).node ⊎ (Serves i × ((raft_step voters_of me s i).node.commit ≡ s.commit))
 
 -- what a message may make of another node's commit index: an Append the smaller of its commit and its last index, an Install its index
 abbrev pub CommitBy : What → ℕ → ℕ → Type 0
-CommitBy (Append prev commit es) old new = (new ≡ old) ⊎ (new ≡ max old (min commit (prev.index + length es)))
+CommitBy (Append prev commit entries) old new = (new ≡ old) ⊎ (new ≡ max old (min commit (prev.index + length entries)))
 CommitBy (Install last front) old new = (new ≡ old) ⊎ ((old < last.index) × (new ≡ last.index))
 CommitBy (AskVote last) old new = new ≡ old
 CommitBy (Vote granted) old new = new ≡ old
@@ -35,8 +37,13 @@ CommitOf (Receive m) old new = CommitBy m.what old new
 
 -- the commit index of a node that doesn't lead is moved by an Append or an Install alone
 abbrev pub OtherCommit : Type 0
-OtherCommit = (voters_of : List Entry → List ℕ) (me : ℕ) (s : Node) (i : Input) → is_leader (raft_step voters_of me s i).node.role ≡ false → CommitOf i s.commit (raft_step voters_of me s i).node.commit
+OtherCommit =
+    (voters_of : List Entry → List ℕ) (me : ℕ) (s : Node) (i : Input) → is_leader (raft_step voters_of me s i).node.role ≡ false →
+    CommitOf i s.commit (raft_step voters_of me s i).node.commit
 
 -- a leader that is the only voter commits what it proposes in the same step
 abbrev pub AloneCommits : Type 0
-AloneCommits = (voters_of : List Entry → List ℕ) (me : ℕ) (s : Node) (es : List Entry) → is_leader s.role ≡ true → 0 < length es → s.commit ≤ length s.log → voters_of (s.log ++ with_term s.term es) ≡ me ∷ [] → (raft_step voters_of me s (Local (Propose es))).node.commit ≡ length s.log + length es
+AloneCommits =
+    (voters_of : List Entry → List ℕ) (me : ℕ) (s : Node) (entries : List Entry) → is_leader s.role ≡ true → 0 < length entries →
+    s.commit ≤ length s.log → voters_of (s.log ++ with_term s.term entries) ≡ me ∷ [] →
+    (raft_step voters_of me s (Local (Propose entries))).node.commit ≡ length s.log + length entries

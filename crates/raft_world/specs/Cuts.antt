@@ -25,7 +25,7 @@ abbrev pub AlikeWhat : What → What → Type 0
 AlikeWhat (Install last front) w = (front' : List Entry) × (w ≡ Install last front') × Same last.index last.index front front'
 AlikeWhat (AskVote last) w = w ≡ AskVote last
 AlikeWhat (Vote granted) w = w ≡ Vote granted
-AlikeWhat (Append prev commit es) w = w ≡ Append prev commit es
+AlikeWhat (Append prev commit entries) w = w ≡ Append prev commit entries
 AlikeWhat (Ack good index) w = w ≡ Ack good index
 AlikeWhat TimeoutNow w = w ≡ TimeoutNow
 
@@ -49,26 +49,30 @@ AlikeInputs (i ∷ is) js = (j : Input) × (rest : List Input) × (js ≡ j ∷ 
 
 -- the voters that the node was told are those of its log: before a proposal, those that it will give; when it is told others, none
 abbrev pub ToldAt : Setup → Node → Input → Type 0
-ToldAt vs s (Local (UseServers servers)) = Unit {0}
-ToldAt vs s (Local (Propose es)) = voters s.servers ≡ voters_after vs (s.log ++ with_term s.term es)
-ToldAt vs s (Local Timeout) = voters s.servers ≡ voters_after vs s.log
-ToldAt vs s (Local Beat) = voters s.servers ≡ voters_after vs s.log
-ToldAt vs s (Local (Transfer to)) = voters s.servers ≡ voters_after vs s.log
-ToldAt vs s (Local (Snapped i)) = voters s.servers ≡ voters_after vs s.log
-ToldAt vs s (Receive m) = voters s.servers ≡ voters_after vs s.log
+ToldAt setup s (Local (UseServers servers)) = Unit {0}
+ToldAt setup s (Local (Propose es)) = voters s.servers ≡ voters_after setup (s.log ++ with_term s.term es)
+ToldAt setup s (Local Timeout) = voters s.servers ≡ voters_after setup s.log
+ToldAt setup s (Local Beat) = voters s.servers ≡ voters_after setup s.log
+ToldAt setup s (Local (Transfer to)) = voters s.servers ≡ voters_after setup s.log
+ToldAt setup s (Local (Snapped i)) = voters s.servers ≡ voters_after setup s.log
+ToldAt setup s (Receive m) = voters s.servers ≡ voters_after setup s.log
 
 -- so it is at each of these steps, and each may be made
 abbrev pub Told : Setup → ℕ → Node → List Input → Type 0
-Told vs n s [] = Unit {0}
-Told vs n s (i ∷ is) = (may_take vs s i ≡ true) × ToldAt vs s i × Told vs n (member_step vs n s i).node is
+Told setup n s [] = Unit {0}
+Told setup n s (i ∷ is) = (may_take setup s i ≡ true) × ToldAt setup s i × Told setup n (member_step setup n s i).node is
 
 -- a node of a run and what it hasn't cut off are twins
 abbrev pub ForgetsNothing : Type 0
-ForgetsNothing = (vs : Setup) (es : List Event) (n : ℕ) → Twin ((run vs es).nodes n) (compact ((run vs es).nodes n))
+ForgetsNothing = (setup : Setup) (events : List Event) (n : ℕ) → Twin ((run setup events).nodes n) (compact ((run setup events).nodes n))
 
 -- the steps of an event at a node and at its twin leave twins, and say the same but for what snapshots stand for
 abbrev pub CutSteps : Type 0
-CutSteps = (vs : Setup) (es : List Event) (n : ℕ) (causes : List Cause) (v : Node) (js : List Input) → Twin ((run vs es).nodes n) v → AlikeInputs (inputs n (run vs es).messages causes) js → Told vs n ((run vs es).nodes n) (inputs n (run vs es).messages causes) → Twin (steps (member_step vs n) ((run vs es).nodes n) (inputs n (run vs es).messages causes)) (steps (compacted_step n) v js) × AlikeAll (said (member_step vs n) ((run vs es).nodes n) (inputs n (run vs es).messages causes)) (said (compacted_step n) v js)
+CutSteps =
+    (setup : Setup) (events : List Event) (n : ℕ) (causes : List Cause) (v : Node) (js : List Input) → Twin ((run setup events).nodes n) v →
+    AlikeInputs (inputs n (run setup events).messages causes) js →
+    Told setup n ((run setup events).nodes n) (inputs n (run setup events).messages causes) →
+    Twin (steps (member_step setup n) ((run setup events).nodes n) (inputs n (run setup events).messages causes)) (steps (compacted_step n) v js) × AlikeAll (said (member_step setup n) ((run setup events).nodes n) (inputs n (run setup events).messages causes)) (said (compacted_step n) v js)
 
 -- the inputs tell no other voters
 abbrev pub SameVoters : List ℕ → List Input → Type 0
@@ -83,4 +87,6 @@ SameVoters ids (Receive m ∷ is) = SameVoters ids is
 
 -- with fixed voters, a node that was told them, and is told no others, was told as each step needs it; and it still was after the steps
 abbrev pub FixedTold : Type 0
-FixedTold = (servers : List Server) (n : ℕ) (s : Node) (is : List Input) → voters s.servers ≡ voters servers → SameVoters (voters servers) is → Told (fixed servers) n s is × (voters (steps (member_step (fixed servers) n) s is).servers ≡ voters servers)
+FixedTold =
+    (servers : List Server) (n : ℕ) (s : Node) (is : List Input) → voters s.servers ≡ voters servers → SameVoters (voters servers) is →
+    Told (fixed servers) n s is × (voters (steps (member_step (fixed servers) n) s is).servers ≡ voters servers)

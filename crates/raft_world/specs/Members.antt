@@ -33,67 +33,67 @@ voters_read r = voters (servers_read r)
 
 -- a change entry that reads
 abbrev pub changes : Setup → Entry → Bool
-changes vs e = is_change e.kind && reads (vs.read e.bytes)
+changes setup e = is_change e.kind && reads (setup.read e.bytes)
 
 abbrev pub nth_change : Setup → List Entry → ℕ → Bool
-nth_change vs [] k = false
-nth_change vs (e ∷ es) zero = changes vs e
-nth_change vs (e ∷ es) (suc k) = nth_change vs es k
+nth_change setup [] k = false
+nth_change setup (e ∷ es) zero = changes setup e
+nth_change setup (e ∷ es) (suc k) = nth_change setup es k
 
 -- whether the entry at the index changes the configuration
 unfoldable pub change_at : Setup → List Entry → ℕ → Bool
-change_at vs log zero = false
-change_at vs log (suc k) = nth_change vs log k
+change_at setup log zero = false
+change_at setup log (suc k) = nth_change setup log k
 
 abbrev pub configuration_from : Setup → List Server → List Entry → List Server
-configuration_from vs servers [] = servers
-configuration_from vs servers (e ∷ es) = configuration_from vs (cond (changes vs e) (servers_read (vs.read e.bytes)) servers) es
+configuration_from setup servers [] = servers
+configuration_from setup servers (e ∷ es) = configuration_from setup (cond (changes setup e) (servers_read (setup.read e.bytes)) servers) es
 
 -- the configuration after these entries: that of the last change that reads, else the opening one
 unfoldable pub configuration : Setup → List Entry → List Server
-configuration vs log = configuration_from vs vs.opening log
+configuration setup log = configuration_from setup setup.opening log
 
 -- its voters
 unfoldable pub voters_after : Setup → List Entry → List ℕ
-voters_after vs log = voters (configuration vs log)
+voters_after setup log = voters (configuration setup log)
 
 abbrev pub same_ids : List ℕ → List ℕ → Bool
 same_ids [] [] = true
 same_ids [] (w ∷ ws) = false
-same_ids (v ∷ vs) [] = false
-same_ids (v ∷ vs) (w ∷ ws) = (v == w) && same_ids vs ws
+same_ids (v ∷ ids) [] = false
+same_ids (v ∷ ids) (w ∷ ws) = (v == w) && same_ids ids ws
 
 -- the second list has one id more
 abbrev pub one_more : List ℕ → List ℕ → Bool
-one_more vs [] = false
+one_more ids [] = false
 one_more [] (w ∷ ws) = same_ids [] ws
-one_more (v ∷ vs) (w ∷ ws) = cond (v == w) (one_more vs ws) (same_ids (v ∷ vs) ws)
+one_more (v ∷ ids) (w ∷ ws) = cond (v == w) (one_more ids ws) (same_ids (v ∷ ids) ws)
 
 abbrev pub any_change : Setup → List Entry → Bool
-any_change vs es = list_any (λ e. changes vs e) es
+any_change setup es = list_any (λ e. changes setup e) es
 
 -- a leader that has applied its barrier and every earlier change may propose one whose voters are those now, or one more or less
 unfoldable pub may_change : Setup → Node → Entry → Bool
-may_change vs s e = (term_at s.log s.commit == s.term) && not (any_change vs (drop s.commit s.log)) && (same_ids (voters_after vs s.log) (voters_read (vs.read e.bytes)) || one_more (voters_after vs s.log) (voters_read (vs.read e.bytes)) || one_more (voters_read (vs.read e.bytes)) (voters_after vs s.log))
+may_change setup s e = (term_at s.log s.commit == s.term) && not (any_change setup (drop s.commit s.log)) && (same_ids (voters_after setup s.log) (voters_read (setup.read e.bytes)) || one_more (voters_after setup s.log) (voters_read (setup.read e.bytes)) || one_more (voters_read (setup.read e.bytes)) (voters_after setup s.log))
 
 -- a change stands alone
 abbrev pub may_propose : Setup → Node → List Entry → Bool
-may_propose vs s [] = true
-may_propose vs s (e ∷ []) = not (changes vs e) || may_change vs s e
-may_propose vs s (e ∷ f ∷ es) = not (any_change vs (e ∷ f ∷ es))
+may_propose setup s [] = true
+may_propose setup s (e ∷ []) = not (changes setup e) || may_change setup s e
+may_propose setup s (e ∷ f ∷ es) = not (any_change setup (e ∷ f ∷ es))
 
 abbrev pub may_take : Setup → Node → Input → Bool
-may_take vs s (Local (Propose es)) = may_propose vs s es
-may_take vs s (Local Timeout) = true
-may_take vs s (Local Beat) = true
-may_take vs s (Local (Transfer to)) = true
-may_take vs s (Local (Snapped i)) = true
-may_take vs s (Local (UseServers servers)) = true
-may_take vs s (Receive m) = true
+may_take setup s (Local (Propose es)) = may_propose setup s es
+may_take setup s (Local Timeout) = true
+may_take setup s (Local Beat) = true
+may_take setup s (Local (Transfer to)) = true
+may_take setup s (Local (Snapped i)) = true
+may_take setup s (Local (UseServers servers)) = true
+may_take setup s (Receive m) = true
 
 -- one step of a running node, by the voters that its log gives
 unfoldable pub member_step : Setup → ℕ → Node → Input → Outcome
-member_step vs me s i = cond (may_take vs s i) (raft_step (voters_after vs) me s i) (quiet s)
+member_step setup me s i = cond (may_take setup s i) (raft_step (voters_after setup) me s i) (quiet s)
 
 -- where nothing reads, every log gives the opening configuration
 abbrev pub FixedServers : Type 0

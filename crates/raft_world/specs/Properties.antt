@@ -34,6 +34,7 @@ ProposalsKeep Q setup n s (i ∷ is) = ProposalKeeps Q s i × ProposalsKeep Q se
 abbrev pub EventKeeps : (List Entry → Type 0) → Setup → World → Event → Type 0
 EventKeeps Q setup w e = (w.nodes (actor e)).up ≡ true → ProposalsKeep Q setup (actor e) (w.nodes (actor e)) (intake w e)
 
+-- So in each of these events.
 abbrev pub EventsKeep : (List Entry → Type 0) → Setup → World → List Event → Type 0
 EventsKeep Q setup w [] = Unit {0}
 EventsKeep Q setup w (e ∷ es) = EventKeeps Q setup w e × EventsKeep Q setup (happens setup w e) es

@@ -47,31 +47,31 @@ put w n s out = record { nodes = λ k. cond (k == n) s (w.nodes k); messages = w
 
 -- the node after its steps, and what they say
 abbrev pub after : Setup → World → ℕ → List Cause → Node
-after vs w n causes = steps (member_step vs n) (w.nodes n) (inputs n w.messages causes)
+after setup w n causes = steps (member_step setup n) (w.nodes n) (inputs n w.messages causes)
 
 abbrev pub outs : Setup → World → ℕ → List Cause → List Message
-outs vs w n causes = said (member_step vs n) (w.nodes n) (inputs n w.messages causes)
+outs setup w n causes = said (member_step setup n) (w.nodes n) (inputs n w.messages causes)
 
 -- what the node has stored and applied after so many acts
 abbrev pub stopped : Setup → World → ℕ → List Cause → ℕ → Stored
-stopped vs w n causes acts = cond (w.nodes n).up
-    (enacted (stored_of (w.nodes n)) (take acts (account (member_step vs n) (w.nodes n) (inputs n w.messages causes))))
+stopped setup w n causes acts = cond (w.nodes n).up
+    (enacted (stored_of (w.nodes n)) (take acts (account (member_step setup n) (w.nodes n) (inputs n w.messages causes))))
     (stored_of (w.nodes n))
 
 abbrev pub happens : Setup → World → Event → World
-happens vs w (Acts n causes places) = cond (w.nodes n).up (put w n (after vs w n causes) (picked (outs vs w n causes) places)) w
-happens vs w (Stops n causes acts applied base) = put w n (loaded false [] (older base (stopped vs w n causes acts))) []
-happens vs w (Crash n) = put w n (loaded false [] (stored_of (w.nodes n))) []
-happens vs w (Start n servers) = cond (w.nodes n).up w (put w n (loaded true servers (stored_of (w.nodes n))) [])
+happens setup w (Acts n causes places) = cond (w.nodes n).up (put w n (after setup w n causes) (picked (outs setup w n causes) places)) w
+happens setup w (Stops n causes acts applied base) = put w n (loaded false [] (older base (stopped setup w n causes acts))) []
+happens setup w (Crash n) = put w n (loaded false [] (stored_of (w.nodes n))) []
+happens setup w (Start n servers) = cond (w.nodes n).up w (put w n (loaded true servers (stored_of (w.nodes n))) [])
 
 -- all nodes are up, have kept nothing, and were told the opening configuration
 abbrev pub start : Setup → World
-start vs = record { nodes = λ n. fresh vs.opening; messages = [] }
+start setup = record { nodes = λ n. fresh setup.opening; messages = [] }
 
 abbrev pub run_from : Setup → World → List Event → World
-run_from vs w [] = w
-run_from vs w (e ∷ es) = run_from vs (happens vs w e) es
+run_from setup w [] = w
+run_from setup w (e ∷ events) = run_from setup (happens setup w e) events
 
 -- the world after these events
 unfoldable pub run : Setup → List Event → World
-run vs es = run_from vs (start vs) es
+run setup events = run_from setup (start setup) events
