@@ -25,6 +25,7 @@ reached setup w (Start n servers) = stored_of (w.nodes n)
 abbrev pub chosen_more : List Entry → Stored → List Entry
 chosen_more c x = c ++ drop (length c) (take (max x.applied x.snapshot.index) x.log)
 
+-- the chosen entries after these events, from a world and what was chosen by then
 abbrev pub chosen_from : Setup → World → List Entry → List Event → List Entry
 chosen_from setup w c [] = c
 chosen_from setup w c (e ∷ events) = chosen_from setup (happens setup w e) (chosen_more c (reached setup w e)) events
@@ -66,4 +67,5 @@ WithinWhat k TimeoutNow = Unit {0}
 abbrev pub SnapshotsChosen : Type 0
 SnapshotsChosen =
     (setup : Setup) (events : List Event) →
-    ((n : ℕ) → (node_at setup events n).snapshot.index ≤ length (chosen setup events)) × ((k : ℕ) (m : Message) → slice_get (run setup events).messages k ≡ Some m → WithinWhat (length (chosen setup events)) m.what)
+    ((n : ℕ) → (node_at setup events n).snapshot.index ≤ length (chosen setup events))
+    × ((k : ℕ) (m : Message) → slice_get (run setup events).messages k ≡ Some m → WithinWhat (length (chosen setup events)) m.what)

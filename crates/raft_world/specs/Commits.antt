@@ -11,7 +11,7 @@ pub record Exact (voters_of : List Entry → List ℕ) (me : ℕ) (old : ℕ) (t
   pub is : (t.commit ≡ old) ⊎ ((old < t.commit) × (t.commit ≤ length t.log) × (majority_stores voters_of me t t.commit ≡ true))
   pub greatest : (k : ℕ) → t.commit < k → k ≤ length t.log → majority_stores voters_of me t k ≡ false
 
--- an input that isn't other servers
+-- an input that tells other servers
 abbrev pub Serves : Input → Type 0
 Serves (Local (UseServers servers)) = Unit {0}
 Serves i = ⊥
@@ -31,6 +31,7 @@ CommitBy (Vote granted) old new = new ≡ old
 CommitBy (Ack good index) old new = new ≡ old
 CommitBy TimeoutNow old new = new ≡ old
 
+-- what an input may make of it: only a message moves it
 abbrev pub CommitOf : Input → ℕ → ℕ → Type 0
 CommitOf (Local local) old new = new ≡ old
 CommitOf (Receive m) old new = CommitBy m.what old new

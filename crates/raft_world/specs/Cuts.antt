@@ -29,20 +29,24 @@ AlikeWhat (Append prev commit entries) w = w ≡ Append prev commit entries
 AlikeWhat (Ack good index) w = w ≡ Ack good index
 AlikeWhat TimeoutNow w = w ≡ TimeoutNow
 
+-- so of messages with sender, receiver and term
 pub record AlikeMessage (m k : Message) : Type 0 where
   pub from : k.from ≡ m.from
   pub to : k.to ≡ m.to
   pub term : k.term ≡ m.term
   pub what : AlikeWhat m.what k.what
 
+-- so of lists of messages, one by one
 abbrev pub AlikeAll : List Message → List Message → Type 0
 AlikeAll [] ks = ks ≡ []
 AlikeAll (m ∷ ms) ks = (k : Message) × (rest : List Message) × (ks ≡ k ∷ rest) × AlikeMessage m k × AlikeAll ms rest
 
+-- so of what a step takes in
 abbrev pub AlikeInput : Input → Input → Type 0
 AlikeInput (Local local) j = j ≡ Local local
 AlikeInput (Receive m) j = (w : What) × (j ≡ Receive (record { from = m.from; to = m.to; term = m.term; what = w })) × AlikeWhat m.what w
 
+-- and of several, one by one
 abbrev pub AlikeInputs : List Input → List Input → Type 0
 AlikeInputs [] js = js ≡ []
 AlikeInputs (i ∷ is) js = (j : Input) × (rest : List Input) × (js ≡ j ∷ rest) × AlikeInput i j × AlikeInputs is rest
@@ -72,7 +76,8 @@ CutSteps =
     (setup : Setup) (events : List Event) (n : ℕ) (causes : List Cause) (v : Node) (js : List Input) → Twin ((run setup events).nodes n) v →
     AlikeInputs (inputs n (run setup events).messages causes) js →
     Told setup n ((run setup events).nodes n) (inputs n (run setup events).messages causes) →
-    Twin (steps (member_step setup n) ((run setup events).nodes n) (inputs n (run setup events).messages causes)) (steps (compacted_step n) v js) × AlikeAll (said (member_step setup n) ((run setup events).nodes n) (inputs n (run setup events).messages causes)) (said (compacted_step n) v js)
+    Twin (steps (member_step setup n) ((run setup events).nodes n) (inputs n (run setup events).messages causes)) (steps (compacted_step n) v js)
+    × AlikeAll (said (member_step setup n) ((run setup events).nodes n) (inputs n (run setup events).messages causes)) (said (compacted_step n) v js)
 
 -- the inputs tell no other voters
 abbrev pub SameVoters : List ℕ → List Input → Type 0

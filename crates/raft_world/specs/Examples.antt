@@ -42,7 +42,8 @@ pub record Sight : Type 0 where
 abbrev pub sight : Node → Sight
 sight s = record { role = s.role; term = s.term; last = length s.log; commit = s.commit; snapshot = s.snapshot.index; base = s.base }
 
--- Node 1 stands, 2 votes for it, 1 leads and appends its barrier, which 2 takes. 1 commits it and appends a request in the same event; 2 takes that too, and 1 commits it.
+-- Node 1 stands, 2 votes for it, 1 leads and appends its barrier, which 2 takes.
+-- 1 commits it and appends a request in the same event; 2 takes that too, and 1 commits it.
 unfoldable pub elected_and_committed : List Event
 elected_and_committed =
     Acts 1 (Does Timeout ∷ []) (0 ∷ 1 ∷ [])

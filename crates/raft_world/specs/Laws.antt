@@ -9,6 +9,7 @@ use Rattle.raft_world.specs.World.{Event, run}
 abbrev pub node_at : Setup → List Event → ℕ → Node
 node_at setup events n = (run setup events).nodes n
 
+-- its whole log
 abbrev pub log_at : Setup → List Event → ℕ → List Entry
 log_at setup events n = ((run setup events).nodes n).log
 

@@ -15,19 +15,23 @@ pub record Setup : Type 0 where
 abbrev pub fixed : List Server → Setup
 fixed servers = record { read = λ b. None; opening = servers }
 
+-- the entry is a change of the servers
 abbrev pub is_change : EntryKind → Bool
 is_change Command = false
 is_change Barrier = false
 is_change Change = true
 
+-- the bytes read as a configuration
 abbrev pub reads : Option (List Server) → Bool
 reads None = false
 reads (Some servers) = true
 
+-- the servers that were read; none where nothing reads
 abbrev pub servers_read : Option (List Server) → List Server
 servers_read None = []
 servers_read (Some servers) = servers
 
+-- the voters among them
 abbrev pub voters_read : Option (List Server) → List ℕ
 voters_read r = voters (servers_read r)
 
@@ -35,6 +39,7 @@ voters_read r = voters (servers_read r)
 abbrev pub changes : Setup → Entry → Bool
 changes setup e = is_change e.kind && reads (setup.read e.bytes)
 
+-- whether the k-th entry, from 0, is a change that reads
 abbrev pub nth_change : Setup → List Entry → ℕ → Bool
 nth_change setup [] k = false
 nth_change setup (e ∷ es) zero = changes setup e
@@ -45,6 +50,7 @@ unfoldable pub change_at : Setup → List Entry → ℕ → Bool
 change_at setup log zero = false
 change_at setup log (suc k) = nth_change setup log k
 
+-- the configuration after these entries, where these servers were before
 abbrev pub configuration_from : Setup → List Server → List Entry → List Server
 configuration_from setup servers [] = servers
 configuration_from setup servers (e ∷ es) = configuration_from setup (cond (changes setup e) (servers_read (setup.read e.bytes)) servers) es
@@ -57,6 +63,7 @@ configuration setup log = configuration_from setup setup.opening log
 unfoldable pub voters_after : Setup → List Entry → List ℕ
 voters_after setup log = voters (configuration setup log)
 
+-- two lists of ids are the same
 abbrev pub same_ids : List ℕ → List ℕ → Bool
 same_ids [] [] = true
 same_ids [] (w ∷ ws) = false
@@ -69,12 +76,16 @@ one_more ids [] = false
 one_more [] (w ∷ ws) = same_ids [] ws
 one_more (v ∷ ids) (w ∷ ws) = cond (v == w) (one_more ids ws) (same_ids (v ∷ ids) ws)
 
+-- one of these entries is a change that reads
 abbrev pub any_change : Setup → List Entry → Bool
 any_change setup es = list_any (λ e. changes setup e) es
 
 -- a leader that has applied its barrier and every earlier change may propose one whose voters are those now, or one more or less
 unfoldable pub may_change : Setup → Node → Entry → Bool
-may_change setup s e = (term_at s.log s.commit == s.term) && not (any_change setup (drop s.commit s.log)) && (same_ids (voters_after setup s.log) (voters_read (setup.read e.bytes)) || one_more (voters_after setup s.log) (voters_read (setup.read e.bytes)) || one_more (voters_read (setup.read e.bytes)) (voters_after setup s.log))
+may_change setup s e = (term_at s.log s.commit == s.term) && not (any_change setup (drop s.commit s.log))
+    && (same_ids (voters_after setup s.log) (voters_read (setup.read e.bytes))
+    || one_more (voters_after setup s.log) (voters_read (setup.read e.bytes))
+    || one_more (voters_read (setup.read e.bytes)) (voters_after setup s.log))
 
 -- a change stands alone
 abbrev pub may_propose : Setup → Node → List Entry → Bool
@@ -82,6 +93,7 @@ may_propose setup s [] = true
 may_propose setup s (e ∷ []) = not (changes setup e) || may_change setup s e
 may_propose setup s (e ∷ f ∷ es) = not (any_change setup (e ∷ f ∷ es))
 
+-- all else may be taken at any time
 abbrev pub may_take : Setup → Node → Input → Bool
 may_take setup s (Local (Propose es)) = may_propose setup s es
 may_take setup s (Local Timeout) = true

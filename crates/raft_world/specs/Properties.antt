@@ -45,8 +45,11 @@ LogsHave Q = IsFrontClosed Q → (setup : Setup) (events : List Event) → Event
 
 -- So do they after each step of each event.
 abbrev pub LogsMidwayHave : (List Entry → Type 0) → Type 0
-LogsMidwayHave Q = IsFrontClosed Q → (setup : Setup) (events : List Event) (e : Event) → EventsKeep Q setup (start setup) events → EventKeeps Q setup (run setup events) e → ((run setup events).nodes (actor e)).up ≡ true → (k : ℕ) → Q (midway setup (run setup events) e k).log
+LogsMidwayHave Q = IsFrontClosed Q → (setup : Setup) (events : List Event) (e : Event) →
+    EventsKeep Q setup (start setup) events → EventKeeps Q setup (run setup events) e →
+    ((run setup events).nodes (actor e)).up ≡ true → (k : ℕ) → Q (midway setup (run setup events) e k).log
 
 -- And what was applied has it: the chosen entries, and what each node applied of them.
 abbrev pub AppliedHas : (List Entry → Type 0) → Type 0
-AppliedHas Q = IsFrontClosed Q → (setup : Setup) (events : List Event) → EventsKeep Q setup (start setup) events → Q (chosen setup events) × ((n : ℕ) → Q (take (node_at setup events n).commit (log_at setup events n)))
+AppliedHas Q = IsFrontClosed Q → (setup : Setup) (events : List Event) → EventsKeep Q setup (start setup) events →
+    Q (chosen setup events) × ((n : ℕ) → Q (take (node_at setup events n).commit (log_at setup events n)))

@@ -9,6 +9,7 @@ use Rattle.raft_world.specs.World.{World, Cause, Event, Acts, Stops, Crash, Star
 use Rattle.raft_world.specs.Laws.{Leads, node_at, log_at, SameUpTo}
 use Rattle.raft_world.specs.Chosen.{actor, chosen}
 
+-- what lets the node of an event make its steps
 abbrev pub causes_of : Event → List Cause
 causes_of (Acts n causes places) = causes
 causes_of (Stops n causes acts applied base) = causes
@@ -44,6 +45,7 @@ AllLed setup events entries = (i : ℕ) → 0 < i → i ≤ length entries → L
 abbrev pub EntriesLed : Type 0
 EntriesLed = (setup : Setup) (events : List Event) (n : ℕ) → AllLed setup events (log_at setup events n)
 
+-- what a message brings, and all before it, stood in the log of a leader of its term
 abbrev pub WhatLed : Setup → List Event → What → Type 0
 WhatLed setup events (AskVote last) = Unit {0}
 WhatLed setup events (Vote granted) = Unit {0}
@@ -64,6 +66,7 @@ pub data Adds (s : Node) (i : Input) (d : Node) : Type 0 where
   a_barrier : d.log ≡ s.log ++ barrier d.term ∷ [] → Adds s i d
   proposed : (new : List Entry) → i ≡ Local (Propose new) → is_leader s.role ≡ true → d.term ≡ s.term → d.log ≡ s.log ++ with_term d.term new → Adds s i d
 
+-- so is each step of each node
 abbrev pub LeadersAdd : Type 0
 LeadersAdd =
     (setup : Setup) (n : ℕ) (s : Node) (i : Input) → s.snapshot.index ≤ length s.log → is_leader (member_step setup n s i).node.role ≡ true →
@@ -88,7 +91,8 @@ WhatFront c TimeoutNow = Unit {0}
 abbrev pub SnapshotFronts : Type 0
 SnapshotFronts =
     (setup : Setup) (events : List Event) →
-    ((n : ℕ) → SameUpTo (node_at setup events n).snapshot.index (log_at setup events n) (chosen setup events)) × ((k : ℕ) (m : Message) → slice_get (run setup events).messages k ≡ Some m → WhatFront (chosen setup events) m.what)
+    ((n : ℕ) → SameUpTo (node_at setup events n).snapshot.index (log_at setup events n) (chosen setup events))
+    × ((k : ℕ) (m : Message) → slice_get (run setup events).messages k ≡ Some m → WhatFront (chosen setup events) m.what)
 
 -- in the midst of an event too, each step keeps what the node had applied
 abbrev pub AppliedKept : Type 0
