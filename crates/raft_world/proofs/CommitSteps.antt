@@ -12,7 +12,8 @@ use Rattle.raft_rules.specs.Membership.{on_servers}
 use Rattle.raft_rules.specs.Commitment.{has, majority_stores, commit_below, commit_index, is_stored_by_majority, commit_up_to}
 use Rattle.raft_rules.specs.Receiving.{on_own_term, on_older_term, in_range, on_message}
 use Rattle.raft_rules.specs.Steps.{advance_commit, sends, finish, serve, raft_step}
-use Rattle.raft_world.specs.Commits.{AloneCommits, Exact, LeaderCommit, CommitBy, CommitOf, OtherCommit}
+use Rattle.raft_world.specs.Members.{voters_after, may_take, member_step}
+use Rattle.raft_world.specs.Commits.{CurrentVotersCommit, Serves, AloneCommits, Exact, LeaderCommit, CommitBy, CommitOf, OtherCommit}
 use Rattle.std.proofs.lemmas.List.{length-map}
 use Rattle.raft_world.proofs.Logs.{term_at-new}
 use Rattle.raft_world.proofs.Majorities.{count_yes}
@@ -206,3 +207,10 @@ alone_commits_holds voters_of me s es lead some low alone =
   where
     of_one : ℕ → Entry → Entry
     of_one t e = record { term = t; kind = e.kind; bytes = e.bytes }
+
+-- the same of a step of the world that may be made
+pub current_voters_commit_holds : CurrentVotersCommit
+unfolding member_step
+current_voters_commit_holds setup n s i ok l =
+    let e : member_step setup n s i ≡ raft_step (voters_after setup) n s i = cond-true (may_take setup s i) (raft_step (voters_after setup) n s i) (quiet s) ok in
+    subst (λ (d : Outcome). is_leader d.node.role ≡ true → Exact (voters_after setup) n s.commit d.node ⊎ (Serves i × (d.node.commit ≡ s.commit))) (sym e) (leader_commit_holds (voters_after setup) n s i) l

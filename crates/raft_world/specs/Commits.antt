@@ -5,6 +5,7 @@ use Rattle.raft_rules.specs.Node.{What, AskVote, Vote, Append, Ack, Install, Tim
 use Rattle.raft_rules.specs.Outcomes.{with_term}
 use Rattle.raft_rules.specs.Commitment.{majority_stores}
 use Rattle.raft_rules.specs.Steps.{raft_step}
+use Rattle.raft_world.specs.Members.{Setup, voters_after, may_take, member_step}
 
 -- the greatest index that a majority has with an entry of the leader's term, or the old one where that isn't greater
 pub record Exact (voters_of : List Entry → List ℕ) (me : ℕ) (old : ℕ) (t : Node) : Type 0 where
@@ -48,3 +49,9 @@ AloneCommits =
     (voters_of : List Entry → List ℕ) (me : ℕ) (s : Node) (entries : List Entry) → is_leader s.role ≡ true → 0 < length entries →
     s.commit ≤ length s.log → voters_of (s.log ++ with_term s.term entries) ≡ me ∷ [] →
     (raft_step voters_of me s (Local (Propose entries))).node.commit ≡ length s.log + length entries
+
+-- so it is at each step of the world, by the voters of the last configuration in the leader's log
+abbrev pub CurrentVotersCommit : Type 0
+CurrentVotersCommit =
+    (setup : Setup) (n : ℕ) (s : Node) (i : Input) → may_take setup s i ≡ true → is_leader (member_step setup n s i).node.role ≡ true →
+    Exact (voters_after setup) n s.commit (member_step setup n s i).node ⊎ (Serves i × ((member_step setup n s i).node.commit ≡ s.commit))
