@@ -35,16 +35,26 @@ fn run(
     Ok(Ended { status, text })
 }
 
+/// A script of which the first read gives 65,536 bytes, and the second the digit that ends its last line.
+fn long_script(alloc: Global) -> Result<String, AllocError> {
+    let comment = "#".repeat(alloc, 65_521)?;
+    format!(in alloc; "pages 2\n{comment}\nshow 11")
+}
+
 #[test]
 fn failing_streams_give_3_and_4(rt: HostRuntime) -> Result<(), Fail> {
     let alloc = rt.alloc();
     let known = format!(in alloc; "nodes 1\nconnect 1 1\n{GREETING}")?;
-    let known = known.as_str();
+    let long = long_script(alloc)?;
+    let (known, long) = (known.as_str(), long.as_str());
     let rows = [
         ("script", known, 1, 0, 3, ""),
         // The first read gives the whole script, and the second is to tell that it has ended.
         ("script", known, 2, 0, 3, NO_LEADER),
         ("script", "", 1, 0, 3, ""),
+        // A line that is cut by a failed read is not run.
+        ("script", long, 2, 0, 3, ""),
+        ("script", long, 0, 0, 2, "error line 3\n"),
         ("script", known, 0, 1, 4, ""),
         // The line at the end can't be written.
         ("script", known, 0, 2, 4, NO_LEADER),
