@@ -134,7 +134,8 @@ fn faults_of_heads_and_names(rt: HostRuntime) -> Result<(), Fail> {
 }
 
 // Bytes that begin as an OpenDb command and have a name of one byte, so many times.
-fn named(alloc: Global, len: usize, byte: u8) -> Result<Vec<u8>, AllocError> {
+fn named(alloc: Global, len: u16, byte: u8) -> Result<Vec<u8>, AllocError> {
+    let len = usize::from(len);
     let mut bytes = Vec::from_slice(alloc, &OPEN_D[..8])?;
     bytes.resize(8 + len, byte)?;
     bytes.resize(8 + (len / 8 + 1) * 8, 0)?;
