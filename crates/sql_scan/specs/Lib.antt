@@ -1,0 +1,4 @@
+pub mod Bytes
+pub mod Lengths
+pub mod Tokens
+pub mod Words
