@@ -97,9 +97,9 @@ behind_last text front after utf8 is h =
     subst (λ (n : ℕ). IsCharBoundary text n) e (IsCharBoundary-after_ascii text (length h.front) utf8 (omega arith) (omega arith))
 
 -- a text may be cut behind a token
-token_boundary : (text front token after : List ℕ) (kind : TokenKind) → IsUtf8 text → text ≡ (front ++ token) ++ after → IsToken kind token after → IsCharBoundary text (length (front ++ token))
+pub token_boundary : (text front token after : List ℕ) (kind : TokenKind) → IsUtf8 text → text ≡ (front ++ token) ++ after → IsToken kind token after → IsCharBoundary text (length (front ++ token))
 token_boundary text front token after kind utf8 is h = elim (edge kind token after h) [
-    | inl l ↦ behind_last text (front ++ token) after utf8 is
-        (record { front = front ++ l.front; last = l.last; is = ap (λ (xs : List ℕ). front ++ xs) l.is ∙ sym (append_assoc front l.front (l.last ∷ [])); ascii = l.ascii })
-    | inr r ↦ before_next text (front ++ token) after is r
-  ]
+  | inl l ↦ behind_last text (front ++ token) after utf8 is
+      (record { front = front ++ l.front; last = l.last; is = ap (λ (xs : List ℕ). front ++ xs) l.is ∙ sym (append_assoc front l.front (l.last ∷ [])); ascii = l.ascii })
+  | inr r ↦ before_next text (front ++ token) after is r
+]

@@ -14,8 +14,8 @@ unfolding is_space
 space_cases P b e space lf tab cr ff =
     either (P b) (eqb b 32 || eqb b 10 || eqb b 9 || eqb b 13) (eqb b 12)
     (either (P b) (eqb b 32 || eqb b 10 || eqb b 9) (eqb b 13)
-      (either (P b) (eqb b 32 || eqb b 10) (eqb b 9) (either (P b) (eqb b 32) (eqb b 10) (pick P b 32 space) (pick P b 10 lf)) (pick P b 9 tab))
-      (pick P b 13 cr))
+    (either (P b) (eqb b 32 || eqb b 10) (eqb b 9) (either (P b) (eqb b 32) (eqb b 10) (pick P b 32 space) (pick P b 10 lf)) (pick P b 9 tab))
+    (pick P b 13 cr))
     (pick P b 12 ff) e
 
 pub quote_cases : (P : ℕ → Type 0) (b : ℕ) → is_quote b ≡ true → P 39 → P 34 → P 96 → P b
@@ -32,9 +32,9 @@ sigil_cases P b e colon at dollar =
 pub word-no-space : (b : ℕ) → is_word_start b ≡ true → is_space b ≡ false
 unfolding is_word_start is_letter is_digit
 word-no-space b e = elim (cases_Bool (is_space b)) [
-    | inl space ↦ absurd (space_cases (λ (c : ℕ). is_word_start c ≡ true → ⊥) b space (λ h. cc) (λ h. cc) (λ h. cc) (λ h. cc) (λ h. cc) e)
-    | inr none ↦ none
-  ]
+  | inl space ↦ absurd (space_cases (λ (c : ℕ). is_word_start c ≡ true → ⊥) b space (λ h. cc) (λ h. cc) (λ h. cc) (λ h. cc) (λ h. cc) e)
+  | inr none ↦ none
+]
 
 -- what is no part of a word is ASCII
 pub ends-word : (b : ℕ) → is_word_part b ≡ false → b < 128
@@ -44,9 +44,9 @@ ends-word b e = leb-false 128 b (or_parts (is_letter b || is_digit b || eqb b 95
 pub ends-line : (b : ℕ) → is_in_line b ≡ false → b < 128
 unfolding is_in_line
 ends-line b e = elim (cases_Bool (eqb b 10)) [
-    | inl lf ↦ let is : b ≡ 10 = eqb-true b 10 lf in omega arith
-    | inr other ↦ absurd (let h : true ≡ false = sym (ap not other) ∙ e in cc)
-  ]
+  | inl lf ↦ let is : b ≡ 10 = eqb-true b 10 lf in omega arith
+  | inr other ↦ absurd (let h : true ≡ false = sym (ap not other) ∙ e in cc)
+]
 
 -- what begins no word is ASCII
 pub word-end : (b : ℕ) → is_word_start b ≡ false → b < 128

@@ -75,9 +75,10 @@ cut_within (suc n) (b ∷ bytes) le =
     let rest : List ℕ = drop k text in
     let later : (joined (tokens_of rest) ≡ rest) × AreTokens (tokens_of rest) = cut_within n rest (shorter k n text (token_pos b bytes) le) in
     let first : Token = record { kind = kind; bytes = take k text } in
-    subst (λ (ts : List Token). (joined ts ≡ text) × AreTokens ts) (sym (tokens_more b bytes (token_pos b bytes)))
-    (ap (λ (xs : List ℕ). take k text ++ xs) later.0 ∙ take-append-drop k text,
-     (subst (λ (after : List ℕ). IsToken kind (take k text) after) (sym later.0) (token_front b bytes), later.1))
+    subst (λ (ts : List Token). (joined ts ≡ text) × AreTokens ts) (sym (tokens_more b bytes (token_pos b bytes))) (
+      ap (λ (xs : List ℕ). take k text ++ xs) later.0 ∙ take-append-drop k text,
+      (subst (λ (after : List ℕ). IsToken kind (take k text) after) (sym later.0) (token_front b bytes), later.1),
+    )
 
 pub cuts : (text : List ℕ) → Cuts text (tokens_of text)
 cuts text = let h = cut_within (length text) text (omega arith) in record { together = h.0; each = h.1 }

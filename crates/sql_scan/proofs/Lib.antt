@@ -13,3 +13,4 @@ pub mod Cutting
 pub mod Boundaries
 pub mod Standing
 pub mod Public
+pub mod KindLaw

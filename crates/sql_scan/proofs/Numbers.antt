@@ -37,9 +37,9 @@ too_great n ge =
 pub in_range_capped : (n : ℕ) → in_range (min n 32767) ≡ in_range n
 unfolding in_range
 in_range_capped n = elim (cases_lt n 32767) [
-    | inl lt ↦ ap in_range (let e : min n 32767 ≡ n = omega arith in e)
-    | inr ge ↦ ap in_range (let e : min n 32767 ≡ 32767 = omega arith in e) ∙ too_great n ge
-  ]
+  | inl lt ↦ ap in_range (let e : min n 32767 ≡ n = omega arith in e)
+  | inr ge ↦ ap in_range (let e : min n 32767 ≡ 32767 = omega arith in e) ∙ too_great n ge
+]
 
 pub parameter_none : (greatest : ℕ) (digits : List ℕ) (found : Option ℕ) → length digits ≡ 0 → found ≡ in_range (greatest + 1) → found ≡ parameter greatest digits
 unfolding parameter

@@ -54,6 +54,7 @@ quoted_back q (c ∷ others) after stops =
   where
     two : (n : ℕ) → n + 1 + 1 + 1 ≡ suc (suc n) + 1
     two n = omega arith
+
     one : (n : ℕ) → n + 1 + 1 ≡ suc n + 1
     one n = omega arith
 

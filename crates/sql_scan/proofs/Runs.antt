@@ -21,9 +21,9 @@ run-le p (x ∷ xs) =
 
 chosen : (n len : ℕ) → n ≤ len → unwrap_or (cond (ltb n len) (Some n) None) len ≡ n
 chosen n len le = elim (cases_lt n len) [
-    | inl lt ↦ rw (lt-ltb n len lt) refl
-    | inr ge ↦ rw (le-ltb n len ge) (omega arith)
-  ]
+  | inl lt ↦ rw (lt-ltb n len lt) refl
+  | inr ge ↦ rw (le-ltb n len ge) (omega arith)
+]
 
 pub run_is : (p : ℕ → Bool) (xs : List ℕ) → run p xs ≡ prefix_len p xs
 run_is p xs = rw (counted p xs) (chosen (prefix_len p xs) (length xs) (run-le p xs))

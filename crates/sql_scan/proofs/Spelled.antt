@@ -29,9 +29,9 @@ prefix_each p xs k d lt =
 
 prefix_ends : (p : ℕ → Bool) (xs : List ℕ) → StopsAt p (drop (prefix_len p xs) xs)
 prefix_ends p xs = elim (cases_lt (prefix_len p xs) (length xs)) [
-    | inl lt ↦ subst (λ (ys : List ℕ). StopsAt p ys) (sym (drop_more xs (prefix_len p xs) 0 lt)) (prefix_len_stops p xs 0 lt)
-    | inr ge ↦ subst (λ (ys : List ℕ). StopsAt p ys) (sym (drop_all (prefix_len p xs) xs ge)) tt
-  ]
+  | inl lt ↦ subst (λ (ys : List ℕ). StopsAt p ys) (sym (drop_more xs (prefix_len p xs) 0 lt)) (prefix_len_stops p xs 0 lt)
+  | inr ge ↦ subst (λ (ys : List ℕ). StopsAt p ys) (sym (drop_all (prefix_len p xs) xs ge)) tt
+]
 
 pub prefix_split : (p : ℕ → Bool) (xs : List ℕ) → Runs p (take (prefix_len p xs) xs) (drop (prefix_len p xs) xs)
 prefix_split p xs = record { each = prefix_each p xs; stops = prefix_ends p xs }
@@ -71,9 +71,11 @@ closed_case q b bytes n true true same later e =
     let m : ℕ = found.0 in
     let c : Closed q false bytes m = later false m found.1 in
     subst (λ (k : ℕ). Closed q true (b ∷ bytes) k) (sym found.2)
-    (record { content = q ∷ c.content;
+    (record {
+      content = q ∷ c.content;
       is = ap (λ (a : ℕ). q ∷ a ∷ take m bytes) (eqb-true b q same) ∙ ap (λ (ys : List ℕ). q ∷ q ∷ ys) c.is ∙ sym (ap (λ (ys : List ℕ). ys ++ q ∷ []) (spelled-quote q c.content));
-      stops = c.stops })
+      stops = c.stops;
+    })
 closed_case q b bytes n false true same later e =
     let found = longer_some (quoted q true bytes) n e in
     let m : ℕ = found.0 in
@@ -98,8 +100,10 @@ unclosed_case : (q b : ℕ) (bytes : List ℕ) (odd t : Bool) → eqb b q ≡ t 
 unclosed_case q b bytes true false other later e = absurd cc
 unclosed_case q b bytes true true same later e =
     let c : Unclosed q false bytes = later false (longer_none (quoted q false bytes) e) in
-    record { content = q ∷ c.content;
-      is = ap (λ (a : ℕ). q ∷ a ∷ bytes) (eqb-true b q same) ∙ ap (λ (ys : List ℕ). q ∷ q ∷ ys) c.is ∙ sym (spelled-quote q c.content) }
+    record {
+      content = q ∷ c.content;
+      is = ap (λ (a : ℕ). q ∷ a ∷ bytes) (eqb-true b q same) ∙ ap (λ (ys : List ℕ). q ∷ q ∷ ys) c.is ∙ sym (spelled-quote q c.content);
+    }
 unclosed_case q b bytes false true same later e =
     let c : Unclosed q true bytes = later true (longer_none (quoted q true bytes) e) in
     record { content = c.content; is = ap (λ (a : ℕ). a ∷ bytes) (eqb-true b q same) ∙ c.is }
@@ -150,7 +154,7 @@ ended_from : (star : Bool) (b : ℕ) (bytes : List ℕ) (m : ℕ) (inside : List
 ended_from star b bytes m inside is free safe = record {
   inside = lead star ++ inside;
   is = lead_first star b (take m bytes) inside is;
-  free = lead_free star inside (free_more b (take m bytes) inside is free star safe)
+  free = lead_free star inside (free_more b (take m bytes) inside is free star safe);
 }
 
 ended_later : (star : Bool) (b : ℕ) (bytes : List ℕ) (m : ℕ) (t : Bool) → eqb b 42 ≡ t → (star && eqb b 47) ≡ false → Ended t bytes m → Ended star (b ∷ bytes) (suc m)

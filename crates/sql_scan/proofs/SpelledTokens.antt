@@ -48,9 +48,9 @@ quote_front b bytes q = subst (Front (b ∷ bytes)) (sym (quote_back b bytes q))
 
 bracket_is : (x : ℕ) → is_bracket_inside x ≡ false → x ≡ 93
 bracket_is x e = elim (cases_Bool (eqb x 93)) [
-    | inl same ↦ eqb-true x 93 same
-    | inr other ↦ absurd (let h : true ≡ false = sym (ap not other) ∙ e in cc)
-  ]
+  | inl same ↦ eqb-true x 93 same
+  | inr other ↦ absurd (let h : true ≡ false = sym (ap not other) ∙ e in cc)
+]
 
 bracket_front : (bytes : List ℕ) → Front (91 ∷ bytes) (token_of 91 bytes)
 bracket_front bytes =
@@ -60,14 +60,14 @@ bracket_front bytes =
       | inl lt ↦
           let found : bracketed bytes ≡ Some (m + 1) = ap longer (cond-true (ltb m (length bytes)) (Some m) None (lt-ltb m (length bytes) lt)) in
           let last : take (m + 1) bytes ≡ take m bytes ++ 93 ∷ [] =
-            take_more bytes m 0 lt ∙ ap (λ (x : ℕ). take m bytes ++ x ∷ []) (bracket_is (get_or bytes m 0) (prefix_len_stops is_bracket_inside bytes 0 lt)) in
+          take_more bytes m 0 lt ∙ ap (λ (x : ℕ). take m bytes ++ x ∷ []) (bracket_is (get_or bytes m 0) (prefix_len_stops is_bracket_inside bytes 0 lt)) in
           subst (λ (o : Option ℕ). Front (91 ∷ bytes) (closed 1 Quoted OpenQuote bytes o)) (sym found)
           (one_more (91 ∷ bytes) Quoted (m + 1) (inr (take m bytes, runs.each, ap (λ (ys : List ℕ). 91 ∷ ys) last)))
       | inr ge ↦
           let none : bracketed bytes ≡ None = ap longer (cond-false (ltb m (length bytes)) (Some m) None (le-ltb m (length bytes) ge)) in
           subst (λ (o : Option ℕ). Front (91 ∷ bytes) (closed 1 Quoted OpenQuote bytes o)) (sym none)
           (one_more (91 ∷ bytes) OpenQuote (length bytes)
-            (inr (bytes, subst (AllPass is_bracket_inside) (take_all m bytes ge) runs.each, ap (λ (ys : List ℕ). 91 ∷ ys) (all_taken bytes)), none_left bytes))
+          (inr (bytes, subst (AllPass is_bracket_inside) (take_all m bytes ge) runs.each, ap (λ (ys : List ℕ). 91 ∷ ys) (all_taken bytes)), none_left bytes))
     ])
 
 -- ---- comments
@@ -79,13 +79,13 @@ dash_alone bytes h = record { space = refl; word = refl; quote = refl; bracket =
 dash_front : (bytes : List ℕ) → Front (45 ∷ bytes) (token_of 45 bytes)
 dash_front [] = alone_front 45 [] (dash_alone [] tt)
 dash_front (c ∷ bytes) = elim (cases_Bool (eqb c 45)) [
-    | inl same ↦
-        let is : 45 ≡ c = sym (eqb-true c 45 same) in
-        subst (λ (x : ℕ). Front (45 ∷ x ∷ bytes) (token_of 45 (x ∷ bytes))) is
-        (subst (Front (45 ∷ 45 ∷ bytes)) (sym (dash_sign (45 ∷ bytes) ∙ line_back bytes))
-          (two_more (45 ∷ 45 ∷ bytes) Comment (run is_in_line bytes) (inl (take (run is_in_line bytes) bytes, run_split is_in_line bytes, refl))))
-    | inr other ↦ alone_front 45 (c ∷ bytes) (dash_alone (c ∷ bytes) other)
-  ]
+  | inl same ↦
+      let is : 45 ≡ c = sym (eqb-true c 45 same) in
+      subst (λ (x : ℕ). Front (45 ∷ x ∷ bytes) (token_of 45 (x ∷ bytes))) is
+      (subst (Front (45 ∷ 45 ∷ bytes)) (sym (dash_sign (45 ∷ bytes) ∙ line_back bytes))
+      (two_more (45 ∷ 45 ∷ bytes) Comment (run is_in_line bytes) (inl (take (run is_in_line bytes) bytes, run_split is_in_line bytes, refl))))
+  | inr other ↦ alone_front 45 (c ∷ bytes) (dash_alone (c ∷ bytes) other)
+]
 
 slash_alone : (bytes : List ℕ) → StopsAt (λ c. eqb c 42) bytes → IsAlone 47 bytes
 unfolding is_space is_word_start is_letter is_digit is_quote is_sigil
@@ -101,12 +101,12 @@ star_found bytes None e =
 slash_front : (bytes : List ℕ) → Front (47 ∷ bytes) (token_of 47 bytes)
 slash_front [] = alone_front 47 [] (slash_alone [] tt)
 slash_front (c ∷ bytes) = elim (cases_Bool (eqb c 42)) [
-    | inl same ↦
-        let is : 42 ≡ c = sym (eqb-true c 42 same) in
-        subst (λ (x : ℕ). Front (47 ∷ x ∷ bytes) (token_of 47 (x ∷ bytes))) is
-        (subst (Front (47 ∷ 42 ∷ bytes)) (sym (slash_sign (42 ∷ bytes) ∙ star_back bytes)) (star_found bytes (starred false bytes) refl))
-    | inr other ↦ alone_front 47 (c ∷ bytes) (slash_alone (c ∷ bytes) other)
-  ]
+  | inl same ↦
+      let is : 42 ≡ c = sym (eqb-true c 42 same) in
+      subst (λ (x : ℕ). Front (47 ∷ x ∷ bytes) (token_of 47 (x ∷ bytes))) is
+      (subst (Front (47 ∷ 42 ∷ bytes)) (sym (slash_sign (42 ∷ bytes) ∙ star_back bytes)) (star_found bytes (starred false bytes) refl))
+  | inr other ↦ alone_front 47 (c ∷ bytes) (slash_alone (c ∷ bytes) other)
+]
 
 -- ---- parameters
 
@@ -125,11 +125,11 @@ sigil_alone b bytes s h =
 sigil_front : (b : ℕ) (bytes : List ℕ) → is_sigil b ≡ true → Front (b ∷ bytes) (token_of b bytes)
 sigil_front b [] s = alone_front b [] (sigil_alone b [] s tt)
 sigil_front b (c ∷ bytes) s = elim (cases_Bool (is_word_start c)) [
-    | inl word ↦
-        subst (Front (b ∷ c ∷ bytes)) (sym (sigil_back b (c ∷ bytes) s ∙ named_back c bytes word))
-        (two_more (b ∷ c ∷ bytes) Named (run is_word_part bytes) (b, c, take (run is_word_part bytes) bytes, s, word, run_split is_word_part bytes, refl))
-    | inr other ↦ alone_front b (c ∷ bytes) (sigil_alone b (c ∷ bytes) s other)
-  ]
+  | inl word ↦
+      subst (Front (b ∷ c ∷ bytes)) (sym (sigil_back b (c ∷ bytes) s ∙ named_back c bytes word))
+      (two_more (b ∷ c ∷ bytes) Named (run is_word_part bytes) (b, c, take (run is_word_part bytes) bytes, s, word, run_split is_word_part bytes, refl))
+  | inr other ↦ alone_front b (c ∷ bytes) (sigil_alone b (c ∷ bytes) s other)
+]
 
 -- ---- signs
 
@@ -145,38 +145,44 @@ end_front bytes = subst (Front (59 ∷ bytes)) (sym (end_sign bytes)) refl
 
 sign_front : (b : ℕ) (bytes : List ℕ) → is_space b ≡ false → is_word_start b ≡ false → is_quote b ≡ false → is_sigil b ≡ false → Front (b ∷ bytes) (token_of b bytes)
 sign_front b bytes space word quote sigil = elim (cases_Bool (eqb b 63)) [
-    | inl e ↦ at_byte b 63 bytes (parameter_front bytes) e
-    | inr n63 ↦ elim (cases_Bool (eqb b 59)) [
-        | inl e ↦ at_byte b 59 bytes (end_front bytes) e
-        | inr n59 ↦ elim (cases_Bool (eqb b 91)) [
-            | inl e ↦ at_byte b 91 bytes (bracket_front bytes) e
-            | inr n91 ↦ elim (cases_Bool (eqb b 45)) [
-                | inl e ↦ at_byte b 45 bytes (dash_front bytes) e
-                | inr n45 ↦ elim (cases_Bool (eqb b 47)) [
-                    | inl e ↦ at_byte b 47 bytes (slash_front bytes) e
-                    | inr n47 ↦ alone_front b bytes (record {
-                        space = space; word = word; quote = quote;
-                        bracket = eqb-false b 91 n91; end = eqb-false b 59 n59; parameter = eqb-false b 63 n63;
-                        named = λ s. absurd (let h : true ≡ false = sym s ∙ sigil in cc);
-                        line = λ e. absurd (eqb-false b 45 n45 e); star = λ e. absurd (eqb-false b 47 n47 e) })
-                  ]
-              ]
-          ]
+  | inl e ↦ at_byte b 63 bytes (parameter_front bytes) e
+  | inr n63 ↦ elim (cases_Bool (eqb b 59)) [
+    | inl e ↦ at_byte b 59 bytes (end_front bytes) e
+    | inr n59 ↦ elim (cases_Bool (eqb b 91)) [
+      | inl e ↦ at_byte b 91 bytes (bracket_front bytes) e
+      | inr n91 ↦ elim (cases_Bool (eqb b 45)) [
+        | inl e ↦ at_byte b 45 bytes (dash_front bytes) e
+        | inr n45 ↦ elim (cases_Bool (eqb b 47)) [
+          | inl e ↦ at_byte b 47 bytes (slash_front bytes) e
+          | inr n47 ↦ alone_front b bytes (record {
+            space = space;
+            word = word;
+            quote = quote;
+            bracket = eqb-false b 91 n91;
+            end = eqb-false b 59 n59;
+            parameter = eqb-false b 63 n63;
+            named = λ s. absurd (let h : true ≡ false = sym s ∙ sigil in cc);
+            line = λ e. absurd (eqb-false b 45 n45 e);
+            star = λ e. absurd (eqb-false b 47 n47 e);
+          })
+        ]
       ]
+    ]
   ]
+]
 
 -- the first token of a text is one
 pub token_front : (b : ℕ) (bytes : List ℕ) → IsToken (token_of b bytes).0 (take (token_of b bytes).1 (b ∷ bytes)) (drop (token_of b bytes).1 (b ∷ bytes))
 token_front b bytes = elim (cases_Bool (is_space b)) [
-    | inl e ↦ subst (Front (b ∷ bytes)) (sym (space_back b bytes e)) (b, e, refl)
-    | inr space ↦ elim (cases_Bool (is_word_start b)) [
-        | inl e ↦ subst (Front (b ∷ bytes)) (sym (word_back b bytes e)) (one_more (b ∷ bytes) Word (run is_word_part bytes) (b, take (run is_word_part bytes) bytes, e, run_split is_word_part bytes, refl))
-        | inr word ↦ elim (cases_Bool (is_quote b)) [
-            | inl e ↦ quote_front b bytes e
-            | inr quote ↦ elim (cases_Bool (is_sigil b)) [
-                | inl e ↦ sigil_front b bytes e
-                | inr sigil ↦ sign_front b bytes space word quote sigil
-              ]
-          ]
+  | inl e ↦ subst (Front (b ∷ bytes)) (sym (space_back b bytes e)) (b, e, refl)
+  | inr space ↦ elim (cases_Bool (is_word_start b)) [
+    | inl e ↦ subst (Front (b ∷ bytes)) (sym (word_back b bytes e)) (one_more (b ∷ bytes) Word (run is_word_part bytes) (b, take (run is_word_part bytes) bytes, e, run_split is_word_part bytes, refl))
+    | inr word ↦ elim (cases_Bool (is_quote b)) [
+      | inl e ↦ quote_front b bytes e
+      | inr quote ↦ elim (cases_Bool (is_sigil b)) [
+        | inl e ↦ sigil_front b bytes e
+        | inr sigil ↦ sign_front b bytes space word quote sigil
       ]
+    ]
   ]
+]

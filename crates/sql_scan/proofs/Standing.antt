@@ -58,10 +58,12 @@ solid_progress : (text : List ℕ) (from at : ℕ) (d : Draft) (kind : TokenKind
     → Progress text from (at + length bytes) (solid d at kind bytes)
 unfolding solid
 solid_progress text from at d kind bytes progress here there pos =
-    let end : ℕ = at + length bytes in
-    (omega arith, λ _. cond_both (is_blank d.heading) at d.start (λ (s : ℕ). (from ≤ s) × (s < end) × (end ≤ end) × IsCharBoundary text s × IsCharBoundary text end)
-      (λ none. (progress.0, omega arith, omega arith, here, there))
-      (λ some. let p = progress.1 some in (p.0, omega arith, omega arith, p.3, there)))
+    let end : ℕ = at + length bytes in (
+      omega arith,
+      λ _. cond_both (is_blank d.heading) at d.start (λ (s : ℕ). (from ≤ s) × (s < end) × (end ≤ end) × IsCharBoundary text s × IsCharBoundary text end)
+          (λ none. (progress.0, omega arith, omega arith, here, there))
+          (λ some. let p = progress.1 some in (p.0, omega arith, omega arith, p.3, there)),
+    )
 
 -- the draft of a parameter stands as the one without its number
 counted_progress : (text : List ℕ) (from at end : ℕ) (s : Draft) (o : Option ℕ) (next : Draft) → Progress text from end s → counted at s o ≡ Ok next → Progress text from end next
@@ -93,14 +95,14 @@ still_goes text from end (Ok next) m progress e =
     (record { from' = from; progress = progress next refl; behind = λ others h. h })
 still_goes text from end (Err fault) m progress e = absurd cc
 
-end_goes : (text : List ℕ) (from at end : ℕ) (d : Draft) (m : List Piece × Draft) → Progress text from end d → IsCharBoundary text end → end ≤ length text → Ok (option_to_list (finished d end), blank end) ≡ Ok m → Goes text from end m.0 m.1
-end_goes text from at end d m progress there within e =
-    subst (λ (x : List Piece × Draft). Goes text from end x.0 x.1) (pair_is (option_to_list (finished d end), blank end) m (Ok (option_to_list (finished d end), blank end)) refl e)
+end_goes : (text : List ℕ) (from end : ℕ) (d : Draft) (m : List Piece × Draft) (r : Result (List Piece × Draft) ScanFault) → Progress text from end d → IsCharBoundary text end → end ≤ length text → r ≡ Ok (option_to_list (finished d end), blank end) → r ≡ Ok m → Goes text from end m.0 m.1
+end_goes text from end d m r progress there within is e =
+    subst (λ (x : List Piece × Draft). Goes text from end x.0 x.1) (pair_is (option_to_list (finished d end), blank end) m r is e)
     (record { from' = end; progress = (omega arith, λ some. absurd cc); behind = λ others h. finished_then text from end d others progress there within h })
 
 goes : (text : List ℕ) (from at : ℕ) (d : Draft) (kind : TokenKind) (bytes : List ℕ) (m : List Piece × Draft) → Progress text from at d → IsCharBoundary text at → IsCharBoundary text (at + length bytes) → at + length bytes ≤ length text → 0 < length bytes
     → moved d at kind bytes ≡ Ok m → Goes text from (at + length bytes) m.0 m.1
-goes text from at d End bytes m progress here there within pos e = end_goes text from at (at + length bytes) d m (later text from at (length bytes) d progress) there within e
+goes text from at d End bytes m progress here there within pos e = end_goes text from (at + length bytes) d m (moved d at End bytes) (later text from at (length bytes) d progress) there within refl e
 goes text from at d kind bytes m progress here there within pos e =
     still_goes text from (at + length bytes) (extended d at kind bytes) m (λ next is. extended_progress text from at d kind bytes next progress here there pos is) e
 
@@ -130,10 +132,10 @@ stand (t ∷ tokens) text front utf8 is (token, each) from d ps progress here e 
     let moves = bind_ok (moved d (length front) t.kind t.bytes) (λ (m : List Piece × Draft). with_front m.0 (statements_from (length front + length t.bytes) m.1 tokens)) ps e in
     let found = front_ok moves.0.0 ps (statements_from (length front + length t.bytes) moves.0.1 tokens) moves.2 in
     let g : Goes text from (length front + length t.bytes) moves.0.0 moves.0.1 =
-      goes text from (length front) d t.kind t.bytes moves.0 progress here (subst (IsCharBoundary text) len there) within (token_some t.kind t.bytes (joined tokens) token) moves.1 in
+    goes text from (length front) d t.kind t.bytes moves.0 progress here (subst (IsCharBoundary text) len there) within (token_some t.kind t.bytes (joined tokens) token) moves.1 in
     let others : Stand text g.from' found.0 =
-      stand tokens text (front ++ t.bytes) utf8 split each g.from' moves.0.1 found.0 (subst (λ (n : ℕ). Progress text g.from' n moves.0.1) (sym len) g.progress) there
-      (ap (λ (n : ℕ). statements_from n moves.0.1 tokens) len ∙ found.1) in
+    stand tokens text (front ++ t.bytes) utf8 split each g.from' moves.0.1 found.0 (subst (λ (n : ℕ). Progress text g.from' n moves.0.1) (sym len) g.progress) there
+    (ap (λ (n : ℕ). statements_from n moves.0.1 tokens) len ∙ found.1) in
     subst (Stand text from) found.2 (g.behind found.0 others)
 
 -- ---- each, and any two

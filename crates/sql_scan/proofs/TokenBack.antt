@@ -104,16 +104,16 @@ alone_sign b after h =
     elim (cases_Bool (eqb b 45)) [
       | inl line ↦ rw (parameter, end, bracket, line) (alone_dash after (h.line (eqb-true b 45 line)))
       | inr no_line ↦ elim (cases_Bool (eqb b 47)) [
-          | inl star ↦ rw (parameter, end, bracket, no_line, star) (alone_slash after (h.star (eqb-true b 47 star)))
-          | inr no_star ↦ rw (parameter, end, bracket, no_line, no_star) refl
-        ]
+        | inl star ↦ rw (parameter, end, bracket, no_line, star) (alone_slash after (h.star (eqb-true b 47 star)))
+        | inr no_star ↦ rw (parameter, end, bracket, no_line, no_star) refl
+      ]
     ]
 
 pub alone_back : (b : ℕ) (after : List ℕ) → IsAlone b after → token_of b after ≡ sized Other 1
 alone_back b after h = elim (cases_Bool (is_sigil b)) [
-    | inl sigil ↦ sigil_back b after sigil ∙ alone_sigil after (h.named sigil)
-    | inr none ↦ sign_back b after h.space h.word h.quote none ∙ alone_sign b after h
-  ]
+  | inl sigil ↦ sigil_back b after sigil ∙ alone_sigil after (h.named sigil)
+  | inr none ↦ sign_back b after h.space h.word h.quote none ∙ alone_sign b after h
+]
 
 -- ---- the kinds
 
@@ -148,46 +148,46 @@ token_back Parameter token after (digits, runs, is) =
 token_back Named token after (b, first, bytes, sigil, e, runs, is) =
     subst (λ (t : List ℕ). First t Named after) (sym is)
     (whole b (first ∷ bytes) after Named (2 + run is_word_part (bytes ++ after)) (sigil_back b (first ∷ (bytes ++ after)) sigil ∙ named_back first (bytes ++ after) e)
-      (ap (λ (n : ℕ). 2 + n) (run_back is_word_part bytes after runs) ∙ two-plus (length bytes)))
+    (ap (λ (n : ℕ). 2 + n) (run_back is_word_part bytes after runs) ∙ two-plus (length bytes)))
 token_back End token after is = subst (λ (t : List ℕ). First t End after) (sym is) (whole 59 [] after End 1 (end_sign after) refl)
 token_back Other token after (b, alone, is) = subst (λ (t : List ℕ). First t Other after) (sym is) (whole b [] after Other 1 (alone_back b after alone) refl)
 token_back Comment token after (inl (bytes, runs, is)) =
     subst (λ (t : List ℕ). First t Comment after) (sym is)
     (whole 45 (45 ∷ bytes) after Comment (2 + run is_in_line (bytes ++ after)) (dash_sign (45 ∷ (bytes ++ after)) ∙ line_back (bytes ++ after))
-      (ap (λ (n : ℕ). 2 + n) (run_back is_in_line bytes after runs) ∙ two-plus (length bytes)))
+    (ap (λ (n : ℕ). 2 + n) (run_back is_in_line bytes after runs) ∙ two-plus (length bytes)))
 token_back Comment token after (inr (inside, free, is)) =
     subst (λ (t : List ℕ). First t Comment after) (sym is)
     (whole 47 (42 ∷ (inside ++ 42 ∷ 47 ∷ [])) after Comment (2 + (length inside + 2))
-      (slash_sign (42 ∷ ((inside ++ 42 ∷ 47 ∷ []) ++ after)) ∙ star_back ((inside ++ 42 ∷ 47 ∷ []) ++ after)
-        ∙ ap (closed 2 Comment OpenComment ((inside ++ 42 ∷ 47 ∷ []) ++ after)) (ap (starred false) (append_assoc inside (42 ∷ 47 ∷ []) after) ∙ starred_back false inside after free))
-      (omega (arith, length-append inside (42 ∷ 47 ∷ []))))
+    (slash_sign (42 ∷ ((inside ++ 42 ∷ 47 ∷ []) ++ after)) ∙ star_back ((inside ++ 42 ∷ 47 ∷ []) ++ after)
+    ∙ ap (closed 2 Comment OpenComment ((inside ++ 42 ∷ 47 ∷ []) ++ after)) (ap (starred false) (append_assoc inside (42 ∷ 47 ∷ []) after) ∙ starred_back false inside after free))
+    (omega (arith, length-append inside (42 ∷ 47 ∷ []))))
 token_back OpenComment token after (inside, free, is, none) =
     subst (λ (t : List ℕ). First t OpenComment after) (sym is) (subst (λ (a : List ℕ). First (47 ∷ 42 ∷ inside) OpenComment a) (sym none)
     (whole 47 (42 ∷ inside) [] OpenComment (2 + length (inside ++ []))
-      (slash_sign (42 ∷ (inside ++ [])) ∙ star_back (inside ++ [])
-        ∙ ap (closed 2 Comment OpenComment (inside ++ [])) (ap (starred false) (append-nil inside) ∙ starred_open_back false inside free))
-      (omega (arith, length-append inside []))))
+    (slash_sign (42 ∷ (inside ++ [])) ∙ star_back (inside ++ [])
+    ∙ ap (closed 2 Comment OpenComment (inside ++ [])) (ap (starred false) (append-nil inside) ∙ starred_open_back false inside free))
+    (omega (arith, length-append inside []))))
 token_back Quoted token after (inl (quote, content, e, is, stops)) =
     subst (λ (t : List ℕ). First t Quoted after) (sym is)
     (whole quote (spelled quote content ++ quote ∷ []) after Quoted (1 + (length (spelled quote content) + 1))
-      (quote_back quote ((spelled quote content ++ quote ∷ []) ++ after) e
-        ∙ ap (closed 1 Quoted OpenQuote ((spelled quote content ++ quote ∷ []) ++ after)) (ap (quoted quote false) (append_assoc (spelled quote content) (quote ∷ []) after) ∙ quoted_back quote content after stops))
-      (omega (arith, length-append (spelled quote content) (quote ∷ []))))
+    (quote_back quote ((spelled quote content ++ quote ∷ []) ++ after) e
+    ∙ ap (closed 1 Quoted OpenQuote ((spelled quote content ++ quote ∷ []) ++ after)) (ap (quoted quote false) (append_assoc (spelled quote content) (quote ∷ []) after) ∙ quoted_back quote content after stops))
+    (omega (arith, length-append (spelled quote content) (quote ∷ []))))
 token_back Quoted token after (inr (inside, each, is)) =
     subst (λ (t : List ℕ). First t Quoted after) (sym is)
     (whole 91 (inside ++ 93 ∷ []) after Quoted (1 + (length inside + 1))
-      (bracket_sign ((inside ++ 93 ∷ []) ++ after)
-        ∙ ap (closed 1 Quoted OpenQuote ((inside ++ 93 ∷ []) ++ after)) (ap bracketed (append_assoc inside (93 ∷ []) after) ∙ bracketed_back inside after (record { each = each; stops = refl })))
-      (omega (arith, length-append inside (93 ∷ []))))
+    (bracket_sign ((inside ++ 93 ∷ []) ++ after)
+    ∙ ap (closed 1 Quoted OpenQuote ((inside ++ 93 ∷ []) ++ after)) (ap bracketed (append_assoc inside (93 ∷ []) after) ∙ bracketed_back inside after (record { each = each; stops = refl })))
+    (omega (arith, length-append inside (93 ∷ []))))
 token_back OpenQuote token after (inl (quote, content, e, is), none) =
     subst (λ (t : List ℕ). First t OpenQuote after) (sym is) (subst (λ (a : List ℕ). First (quote ∷ spelled quote content) OpenQuote a) (sym none)
     (whole quote (spelled quote content) [] OpenQuote (1 + length (spelled quote content ++ []))
-      (quote_back quote (spelled quote content ++ []) e
-        ∙ ap (closed 1 Quoted OpenQuote (spelled quote content ++ [])) (ap (quoted quote false) (append-nil (spelled quote content)) ∙ quoted_open_back quote content))
-      (omega (arith, length-append (spelled quote content) []))))
+    (quote_back quote (spelled quote content ++ []) e
+    ∙ ap (closed 1 Quoted OpenQuote (spelled quote content ++ [])) (ap (quoted quote false) (append-nil (spelled quote content)) ∙ quoted_open_back quote content))
+    (omega (arith, length-append (spelled quote content) []))))
 token_back OpenQuote token after (inr (inside, each, is), none) =
     subst (λ (t : List ℕ). First t OpenQuote after) (sym is) (subst (λ (a : List ℕ). First (91 ∷ inside) OpenQuote a) (sym none)
     (whole 91 inside [] OpenQuote (1 + length (inside ++ []))
-      (bracket_sign (inside ++ [])
-        ∙ ap (closed 1 Quoted OpenQuote (inside ++ [])) (ap bracketed (append-nil inside) ∙ bracketed_open_back inside (record { each = each; stops = tt })))
-      (omega (arith, length-append inside []))))
+    (bracket_sign (inside ++ [])
+    ∙ ap (closed 1 Quoted OpenQuote (inside ++ [])) (ap bracketed (append-nil inside) ∙ bracketed_open_back inside (record { each = each; stops = tt })))
+    (omega (arith, length-append inside []))))

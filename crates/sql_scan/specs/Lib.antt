@@ -5,3 +5,4 @@ pub mod Words
 pub mod Statements
 pub mod Grammar
 pub mod Places
+pub mod Kinds

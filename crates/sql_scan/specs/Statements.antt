@@ -52,7 +52,7 @@ solid draft at kind bytes = record {
   start = if is_blank draft.heading then at else draft.start;
   end = at + length bytes;
   params = draft.params;
-  heading = followed_by draft.heading (keyword_in kind bytes)
+  heading = followed_by draft.heading (keyword_in kind bytes);
 }
 
 -- with a parameter, whose number is in range: the count is the greatest number

@@ -46,7 +46,11 @@ fn solid(draft: Draft, at: u64, kind: TokenKind, bytes: &[u8]) -> Draft
     ensures params { result.params ≡ draft.params }
 {
     Draft {
-        start: if is_blank(draft.heading) { at } else { draft.start },
+        start: if is_blank(draft.heading) {
+            at
+        } else {
+            draft.start
+        },
         end: at + bytes.len() as u64,
         params: draft.params,
         heading: draft.heading.followed_by(keyword_in(kind, bytes)),

@@ -4,9 +4,12 @@ use Rattle.sql_scan.proofs.Closing.{quoted_stop, quoted_more, quoted_whole, quot
 use Rattle.sql_scan.proofs.lengths.quoted_length.Goals as goal
 
 pub returns-then-is_past_quote : goal.returns-then-is_past_quote
-returns-then-is_past_quote c = record { exact =
-    quoted_stop c.args.quote c.loop-i.odd c.args.bytes.now c.loop-i.i (get_or c.args.bytes.now c.loop-i.i 0) (quoted c.args.quote false c.args.bytes.now) (omega arith) refl
-    (sym c.is_past_quote.ensures ∙ c.if-is_past_quote.true) c.loop-i.invariant; within = omega arith }
+returns-then-is_past_quote c = record {
+  exact =
+      quoted_stop c.args.quote c.loop-i.odd c.args.bytes.now c.loop-i.i (get_or c.args.bytes.now c.loop-i.i 0) (quoted c.args.quote false c.args.bytes.now) (omega arith) refl
+      (sym c.is_past_quote.ensures ∙ c.if-is_past_quote.true) c.loop-i.invariant;
+  within = omega arith;
+}
 
 pub loop-i-preserved : goal.loop-i-preserved
 loop-i-preserved c =
