@@ -1,24 +1,15 @@
 -- Statements stand where the text may be cut.
-use Rattle.std.proofs.Common.{◌≡◌, ℕ, zero, suc, ◌+◌, ◌-◌, ◌<◌, ◌≤◌, Bool, true, false, cond, leb, ◌||◌, eqb, ◌⊎◌, inl, inr, List, [], ◌∷◌, ◌++◌, length, get_or, drop, Option, Some, None, Result, Ok, Err, refl, sym, ap, subst, ◌∙◌, arith, append_assoc, length-append}
-use Rattle.std.specs.Option.{option_to_list}
-use Rattle.std.specs.List.{AllPass, All}
+use Rattle.std.proofs.Common.{◌≡◌, ℕ, suc, ◌+◌, ◌<◌, ◌≤◌, Bool, true, false, leb, ◌⊎◌, inl, inr, List, [], ◌∷◌, ◌++◌, length, get_or, refl, sym, ap, subst, ◌∙◌, arith, append_assoc, length-append}
+use Rattle.std.specs.List.{AllPass}
 use Rattle.std.specs.Str.{IsUtf8, IsCharBoundary}
-use Rattle.std.proofs.lemmas.Bool.{and_parts, or_parts, leb-true, leb-false, cond_both}
+use Rattle.std.proofs.lemmas.Bool.{and_parts, leb-true}
 use Rattle.std.proofs.lemmas.List.{get_or_at, append-nil}
-use Rattle.std.proofs.lemmas.Str.{IsCharBoundary-start, IsCharBoundary-end, IsCharBoundary-before_ascii, IsCharBoundary-after_ascii}
+use Rattle.std.proofs.lemmas.Str.{IsCharBoundary-end, IsCharBoundary-before_ascii, IsCharBoundary-after_ascii}
 use Rattle.sql_scan.specs.declared.token.TokenKind.{TokenKind}
 use Rattle.sql_scan.specs.declared.token.TokenKind.TheVariants.{Space, Comment, OpenComment, Quoted, OpenQuote, Word, Parameter, Named, End, Other}
-use Rattle.sql_scan.specs.declared.heading.Heading.TheVariants.{Blank}
-use Rattle.sql_scan.specs.declared.draft.Draft.{Draft}
-use Rattle.sql_scan.specs.declared.pieces.Piece.{Piece}
-use Rattle.sql_scan.specs.declared.fault.ScanFault.{ScanFault}
-use Rattle.sql_scan.specs.Bytes.{is_space, is_digit, is_letter, is_word_start, is_word_part, is_quote, is_in_line}
-use Rattle.sql_scan.specs.Tokens.{Token, tokens_of}
-use Rattle.sql_scan.specs.Grammar.{StopsAt, Runs, spelled, IsToken, AreTokens, joined}
-use Rattle.sql_scan.specs.Statements.{is_blank, blank, solid, counted, extended, finished, still, moved, parameter, with_front, ◌>>=◌, statements_from, statements_of, scan_of}
-use Rattle.sql_scan.specs.Places.{StandsIn}
+use Rattle.sql_scan.specs.Bytes.{is_space, is_digit, is_word_part, is_quote, is_in_line}
+use Rattle.sql_scan.specs.Grammar.{StopsAt, spelled, IsToken}
 use Rattle.sql_scan.proofs.ByteCases.{space_cases, quote_cases, ends-word, ends-line, word-end}
-use Rattle.sql_scan.proofs.Cutting.{token_some, cuts}
 
 -- ---- the ends of tokens
 

@@ -1,5 +1,5 @@
 -- A statement with a parameter more.
-use Rattle.std.proofs.Common.{◌≡◌, ℕ, max, List, drop, Option, Some, None, Result, Ok, Err, sym, ap, ◌∙◌}
+use Rattle.std.proofs.Common.{◌≡◌, ℕ, max, List, drop, Some, None, Result, Ok, Err, sym, ap, ◌∙◌}
 use Rattle.sql_scan.specs.declared.draft.Draft.{Draft}
 use Rattle.sql_scan.specs.declared.fault.ScanFault.{ScanFault}
 use Rattle.sql_scan.specs.declared.fault.ScanFault.TheVariants.{Number}

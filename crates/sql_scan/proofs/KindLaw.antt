@@ -1,12 +1,11 @@
 -- Reading a statement's words one after the other gives its kind.
-use Rattle.std.proofs.Common.{◌≡◌, Bool, true, false, ◌⊎◌, inl, inr, List, [], ◌∷◌, refl, ap, sym, ◌∙◌}
+use Rattle.std.proofs.Common.{◌≡◌, true, false, List, [], ◌∷◌, refl}
 use Rattle.std.specs.List.{fold}
 use Rattle.sql_scan.specs.declared.heading.Keyword.{Keyword}
 use Rattle.sql_scan.specs.declared.heading.Keyword.TheVariants.{Begin, Deferred, AtOnce, Transaction, Commit, Rollback, Write, LeftOut, Plain}
 use Rattle.sql_scan.specs.declared.heading.WordKind.{WordKind}
 use Rattle.sql_scan.specs.declared.heading.WordKind.TheVariants as kinds
-use Rattle.sql_scan.specs.declared.heading.Heading.{Heading}
-use Rattle.sql_scan.specs.declared.heading.Heading.TheVariants.{Blank, Begun, Open, Full, Settled}
+use Rattle.sql_scan.specs.declared.heading.Heading.TheVariants.{Begun, Open, Full, Settled}
 use Rattle.sql_scan.specs.Words.{followed_by, kind_so_far}
 use Rattle.sql_scan.specs.Kinds.{with_transaction, begin_kind, kind_of, heading_of}
 

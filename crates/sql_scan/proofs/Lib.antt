@@ -14,3 +14,4 @@ pub mod Boundaries
 pub mod Standing
 pub mod Public
 pub mod KindLaw
+pub mod SentenceLaw

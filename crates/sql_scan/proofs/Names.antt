@@ -1,5 +1,5 @@
 -- A word against a name.
-use Rattle.std.proofs.Common.{◌≡◌, ℕ, Bool, List, map, subst, sym}
+use Rattle.std.proofs.Common.{◌≡◌, ℕ, Bool, List, map, subst}
 use Rattle.std.specs.Bool.{Decides}
 use Rattle.std.specs.Char.{to_ascii_lowercase}
 use Rattle.std.specs.Str.{str_eq_ignore_ascii_case}

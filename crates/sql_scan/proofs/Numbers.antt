@@ -1,8 +1,8 @@
 -- Numbers of parameters.
-use Rattle.std.proofs.Common.{◌≡◌, ℕ, ◌+◌, ◌*◌, ◌-◌, ◌<◌, ◌≤◌, min, Bool, true, false, cond, leb, ◌&&◌, List, [], ◌∷◌, length, get_or, drop, Option, Some, None, refl, sym, ap, ◌∙◌, arith, inl, inr}
+use Rattle.std.proofs.Common.{◌≡◌, ℕ, ◌+◌, ◌*◌, ◌-◌, ◌<◌, ◌≤◌, min, leb, ◌&&◌, List, [], ◌∷◌, length, get_or, drop, Option, Some, None, sym, ap, ◌∙◌, arith, inl, inr}
 use Rattle.std.proofs.lemmas.Bool.{cases_lt, cond-false, and_right, lt-leb}
 use Rattle.std.proofs.lemmas.List.{at_drop_more, at_drop_all}
-use Rattle.sql_scan.specs.Statements.{decimal, in_range, parameter, number_of}
+use Rattle.sql_scan.specs.Statements.{decimal, in_range, parameter}
 
 -- a number may be cut down to one that is too great
 capped-decimal : (m : ℕ) (ds : List ℕ) → min (decimal (min m 32767) ds) 32767 ≡ min (decimal m ds) 32767

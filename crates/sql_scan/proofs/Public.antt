@@ -5,7 +5,7 @@ use Rattle.std.specs.List.{All, AllPairs}
 use Rattle.std.specs.Str.{IsUtf8}
 use Rattle.sql_scan.specs.declared.pieces.Piece.{Piece}
 use Rattle.sql_scan.specs.declared.fault.ScanFault.{ScanFault}
-use Rattle.sql_scan.specs.Tokens.{Token, tokens_of}
+use Rattle.sql_scan.specs.Tokens.{Token}
 use Rattle.sql_scan.specs.Grammar.{Cuts}
 use Rattle.sql_scan.specs.Statements.{Gives, statements_of, scan_of}
 use Rattle.sql_scan.specs.Places.{StandsIn, StandsBefore}

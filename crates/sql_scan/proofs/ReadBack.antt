@@ -1,17 +1,12 @@
 -- What is spelled as a token is cut as that token.
-use Rattle.std.proofs.Common.{◌≡◌, ℕ, zero, suc, ◌+◌, ◌<◌, ◌≤◌, Bool, true, false, not, cond, eqb, leb, ltb, ◌&&◌, ◌||◌, ◌⊎◌, inl, inr, List, [], ◌∷◌, ◌++◌, length, get_or, Option, Some, None, refl, sym, ap, subst, ◌∙◌, arith, append_assoc, length-append}
-use Rattle.std.specs.List.{prefix_len, position}
-use Rattle.std.proofs.lemmas.Bool.{cases_Bool, or_cases, or_parts, eqb-true, eq-eqb, lt-ltb, le-ltb, cond-true, cond-false, cond_both}
+use Rattle.std.proofs.Common.{◌≡◌, ℕ, suc, ◌+◌, ◌<◌, ◌≤◌, Bool, true, false, cond, eqb, ltb, ◌&&◌, List, [], ◌∷◌, ◌++◌, length, Option, Some, None, refl, sym, ap, subst, ◌∙◌, arith, length-append}
+use Rattle.std.specs.List.{prefix_len}
+use Rattle.std.proofs.lemmas.Bool.{or_parts, eqb-true, eq-eqb, lt-ltb, le-ltb, cond-true, cond-false, cond_both}
 use Rattle.std.proofs.lemmas.List.{get_or_append_left, get_or_at, append-nil}
 use Rattle.std.proofs.lemmas.List.Sums.{prefix_len_is}
-use Rattle.sql_scan.specs.declared.token.TokenKind.{TokenKind}
-use Rattle.sql_scan.specs.declared.token.TokenKind.TheVariants.{Space, Comment, OpenComment, Quoted, OpenQuote, Word, Parameter, Named, End, Other}
-use Rattle.sql_scan.specs.Bytes.{is_space, is_digit, is_letter, is_word_start, is_word_part, is_sigil, is_quote, is_in_line}
 use Rattle.sql_scan.specs.Lengths.{run, longer, quoted, bracketed, starred}
-use Rattle.sql_scan.specs.Tokens.{closed, sigil_token, dash_token, slash_token, sign_token, token_of, first_token}
-use Rattle.sql_scan.specs.Grammar.{StopsAt, Runs, doubled, spelled, ends_here, has_end, is_bracket_inside, IsAlone, IsToken}
+use Rattle.sql_scan.specs.Grammar.{StopsAt, Runs, spelled, ends_here, has_end, is_bracket_inside}
 use Rattle.sql_scan.proofs.Runs.{run_is}
-use Rattle.sql_scan.proofs.ByteCases.{space_cases, quote_cases, sigil_cases}
 
 -- ---- runs
 

@@ -1,11 +1,11 @@
 -- What is cut as a token is spelled as one: runs, quotes, brackets and comments.
-use Rattle.std.proofs.Common.{◌≡◌, ℕ, zero, suc, ◌+◌, ◌-◌, ◌<◌, ◌≤◌, min, Bool, true, false, not, cond, eqb, ltb, ◌&&◌, ◌||◌, ◌⊎◌, inl, inr, List, [], ◌∷◌, ◌++◌, length, take, drop, get_or, Option, Some, None, refl, sym, ap, subst, ◌∙◌, arith, append_assoc, length-append}
-use Rattle.std.specs.List.{prefix_len, position, AllPass}
-use Rattle.std.proofs.lemmas.Bool.{cases_Bool, cases_lt, or_parts, or_from, eqb-true, eq-eqb, lt-ltb, le-ltb, cond-true, cond-false}
-use Rattle.std.proofs.lemmas.List.{get_or-take, length-take, drop_more, drop_all, take_all}
-use Rattle.std.proofs.lemmas.List.Sums.{prefix_len-le-length, prefix_len_passes, prefix_len_stops}
-use Rattle.sql_scan.specs.Lengths.{run, longer, quoted, bracketed, starred}
-use Rattle.sql_scan.specs.Grammar.{StopsAt, Runs, doubled, spelled, ends_here, has_end, is_bracket_inside}
+use Rattle.std.proofs.Common.{◌≡◌, ℕ, suc, ◌+◌, ◌<◌, Bool, true, false, not, cond, eqb, ◌&&◌, inl, inr, List, [], ◌∷◌, ◌++◌, length, take, drop, Option, Some, None, refl, sym, ap, subst, ◌∙◌, arith}
+use Rattle.std.specs.List.{prefix_len, AllPass}
+use Rattle.std.proofs.lemmas.Bool.{cases_lt, or_from, eqb-true, eq-eqb, cond-true, cond-false}
+use Rattle.std.proofs.lemmas.List.{get_or-take, length-take, drop_more, drop_all}
+use Rattle.std.proofs.lemmas.List.Sums.{prefix_len_passes, prefix_len_stops}
+use Rattle.sql_scan.specs.Lengths.{run, longer, quoted, starred}
+use Rattle.sql_scan.specs.Grammar.{StopsAt, Runs, spelled, has_end}
 use Rattle.sql_scan.proofs.Runs.{run_is}
 use Rattle.sql_scan.proofs.ReadBack.{lead}
 

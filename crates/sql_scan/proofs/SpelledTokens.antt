@@ -1,18 +1,18 @@
 -- What is cut as a token is spelled as one.
-use Rattle.std.proofs.Common.{◌≡◌, ◌≢◌, ℕ, zero, suc, ◌+◌, ◌<◌, ◌≤◌, Bool, true, false, not, cond, eqb, ltb, ◌⊎◌, inl, inr, List, [], ◌∷◌, ◌++◌, length, take, drop, get_or, Option, Some, None, refl, sym, ap, subst, ◌∙◌, arith}
+use Rattle.std.proofs.Common.{◌≡◌, ◌≢◌, ℕ, suc, ◌+◌, ◌≤◌, true, false, not, eqb, ltb, inl, inr, List, [], ◌∷◌, ◌++◌, length, take, drop, get_or, Option, Some, None, refl, sym, ap, subst, ◌∙◌, arith}
 use Rattle.std.specs.List.{prefix_len, AllPass}
 use Rattle.std.proofs.lemmas.Bool.{cases_Bool, cases_lt, eqb-true, eqb-false, lt-ltb, le-ltb, cond-true, cond-false}
 use Rattle.std.proofs.lemmas.List.{take_all, drop_all, take_more}
-use Rattle.std.proofs.lemmas.List.Sums.{prefix_len-le-length, prefix_len_stops}
+use Rattle.std.proofs.lemmas.List.Sums.{prefix_len_stops}
 use Rattle.sql_scan.specs.declared.token.TokenKind.{TokenKind}
-use Rattle.sql_scan.specs.declared.token.TokenKind.TheVariants.{Space, Comment, OpenComment, Quoted, OpenQuote, Word, Parameter, Named, End, Other}
+use Rattle.sql_scan.specs.declared.token.TokenKind.TheVariants.{Comment, OpenComment, Quoted, OpenQuote, Word, Parameter, Named}
 use Rattle.sql_scan.specs.Bytes.{is_space, is_digit, is_letter, is_word_start, is_word_part, is_sigil, is_quote, is_in_line}
 use Rattle.sql_scan.specs.Lengths.{run, longer, quoted, bracketed, starred}
-use Rattle.sql_scan.specs.Tokens.{closed, sigil_token, dash_token, slash_token, token_of}
-use Rattle.sql_scan.specs.Grammar.{StopsAt, Runs, spelled, has_end, is_bracket_inside, IsAlone, IsToken}
+use Rattle.sql_scan.specs.Tokens.{closed, token_of}
+use Rattle.sql_scan.specs.Grammar.{StopsAt, Runs, is_bracket_inside, IsAlone, IsToken}
 use Rattle.sql_scan.proofs.ByteCases.{sigil_cases}
 use Rattle.sql_scan.proofs.Spelled.{run_split, prefix_split, quoted_so, quoted_open_so, Closed, Unclosed, starred_so, starred_open_so, Ended}
-use Rattle.sql_scan.proofs.TokenBack.{space_back, word_back, quote_back, quote_others, sigil_back, sigil_others, parameter_sign, end_sign, bracket_sign, dash_sign, slash_sign, line_back, star_back, named_back, alone_back}
+use Rattle.sql_scan.proofs.TokenBack.{space_back, word_back, quote_back, sigil_back, sigil_others, parameter_sign, end_sign, bracket_sign, dash_sign, slash_sign, line_back, star_back, named_back, alone_back}
 
 -- the first bytes of a text are a token of this kind
 abbrev Front : List ℕ → TokenKind × ℕ → Type 0

@@ -1,5 +1,5 @@
 -- Where the statements of a text stand in it.
-use Rattle.std.proofs.Common.{◌≡◌, ℕ, zero, suc, ◌+◌, ◌<◌, ◌≤◌, max, Bool, true, false, cond, List, [], ◌∷◌, ◌++◌, length, drop, Option, Some, None, Result, Ok, Err, refl, sym, ap, subst, ◌∙◌, arith, append_assoc, length-append}
+use Rattle.std.proofs.Common.{◌≡◌, ℕ, zero, suc, ◌+◌, ◌<◌, ◌≤◌, max, false, List, [], ◌∷◌, ◌++◌, length, drop, Option, Some, None, Result, Ok, Err, refl, sym, ap, subst, ◌∙◌, arith, append_assoc, length-append}
 use Rattle.std.specs.Option.{option_to_list}
 use Rattle.std.specs.List.{All, AllPairs}
 use Rattle.std.specs.Str.{IsUtf8, IsCharBoundary}
@@ -8,12 +8,11 @@ use Rattle.std.proofs.lemmas.List.{append-nil}
 use Rattle.std.proofs.lemmas.Str.{IsCharBoundary-start}
 use Rattle.sql_scan.specs.declared.token.TokenKind.{TokenKind}
 use Rattle.sql_scan.specs.declared.token.TokenKind.TheVariants.{Space, Comment, OpenComment, Quoted, OpenQuote, Word, Parameter, Named, End, Other}
-use Rattle.sql_scan.specs.declared.heading.Heading.TheVariants.{Blank}
 use Rattle.sql_scan.specs.declared.draft.Draft.{Draft}
 use Rattle.sql_scan.specs.declared.pieces.Piece.{Piece}
 use Rattle.sql_scan.specs.declared.fault.ScanFault.{ScanFault}
 use Rattle.sql_scan.specs.Tokens.{Token, tokens_of}
-use Rattle.sql_scan.specs.Grammar.{IsToken, AreTokens, joined}
+use Rattle.sql_scan.specs.Grammar.{AreTokens, joined}
 use Rattle.sql_scan.specs.Statements.{is_blank, blank, solid, counted, extended, finished, still, moved, parameter, with_front, ◌>>=◌, statements_from, scan_of}
 use Rattle.sql_scan.specs.Words.{kind_so_far}
 use Rattle.sql_scan.specs.Places.{StandsIn, StandsBefore}

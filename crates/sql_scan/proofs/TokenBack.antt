@@ -1,15 +1,15 @@
 -- What is spelled as a token is cut as that token.
-use Rattle.std.proofs.Common.{◌≡◌, ◌≢◌, ℕ, zero, suc, ◌+◌, ◌<◌, ◌≤◌, Bool, true, false, not, cond, eqb, ◌⊎◌, inl, inr, List, [], ◌∷◌, ◌++◌, length, Option, Some, None, refl, sym, ap, subst, ◌∙◌, arith, append_assoc, length-append}
+use Rattle.std.proofs.Common.{◌≡◌, ℕ, suc, ◌+◌, true, false, eqb, inl, inr, List, [], ◌∷◌, ◌++◌, length, Some, refl, sym, ap, subst, ◌∙◌, arith, append_assoc, length-append}
 use Rattle.std.proofs.lemmas.Bool.{cases_Bool, eqb-true, ne_eqb}
 use Rattle.std.proofs.lemmas.List.{append-nil}
 use Rattle.sql_scan.specs.declared.token.TokenKind.{TokenKind}
 use Rattle.sql_scan.specs.declared.token.TokenKind.TheVariants.{Space, Comment, OpenComment, Quoted, OpenQuote, Word, Parameter, Named, End, Other}
 use Rattle.sql_scan.specs.Bytes.{is_space, is_digit, is_letter, is_word_start, is_word_part, is_sigil, is_quote, is_in_line}
-use Rattle.sql_scan.specs.Lengths.{run, longer, quoted, bracketed, starred}
+use Rattle.sql_scan.specs.Lengths.{run, quoted, bracketed, starred}
 use Rattle.sql_scan.specs.Tokens.{closed, sigil_token, dash_token, slash_token, sign_token, token_of, first_token}
-use Rattle.sql_scan.specs.Grammar.{StopsAt, Runs, spelled, has_end, is_bracket_inside, IsAlone, IsToken}
+use Rattle.sql_scan.specs.Grammar.{StopsAt, spelled, IsAlone, IsToken}
 use Rattle.sql_scan.proofs.ByteCases.{quote_cases, sigil_cases, word-no-space}
-use Rattle.sql_scan.proofs.ReadBack.{run_back, quoted_back, quoted_open_back, bracketed_back, bracketed_open_back, starred_back, starred_open_back, without_lead}
+use Rattle.sql_scan.proofs.ReadBack.{run_back, quoted_back, quoted_open_back, bracketed_back, bracketed_open_back, starred_back, starred_open_back}
 
 one-plus : (n : ℕ) → 1 + n ≡ suc n
 one-plus n = omega arith

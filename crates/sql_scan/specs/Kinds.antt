@@ -1,13 +1,13 @@
 -- The kind of a statement, by its first words.
-use Rattle.std.specs.Prelude.{Bool, true, false, List, [], ◌∷◌}
+use Rattle.std.specs.Prelude.{true, false, List, [], ◌∷◌}
 use Rattle.std.specs.List.{fold}
 use Rattle.sql_scan.specs.declared.heading.Keyword.{Keyword}
-use Rattle.sql_scan.specs.declared.heading.Keyword.TheVariants.{Begin, Deferred, AtOnce, Transaction, Commit, Rollback, Write, LeftOut, Plain}
+use Rattle.sql_scan.specs.declared.heading.Keyword.TheVariants.{Begin, Deferred, AtOnce, Transaction, Commit, Rollback, Write, LeftOut}
 use Rattle.sql_scan.specs.declared.heading.WordKind.{WordKind}
 use Rattle.sql_scan.specs.declared.heading.WordKind.TheVariants as kinds
 use Rattle.sql_scan.specs.declared.heading.Heading.{Heading}
 use Rattle.sql_scan.specs.declared.heading.Heading.TheVariants.{Blank}
-use Rattle.sql_scan.specs.Words.{followed_by, kind_so_far}
+use Rattle.sql_scan.specs.Words.{followed_by}
 
 -- TRANSACTION may follow, and nothing else
 abbrev pub with_transaction : WordKind → List Keyword → WordKind

@@ -6,3 +6,4 @@ pub mod Statements
 pub mod Grammar
 pub mod Places
 pub mod Kinds
+pub mod Sentences

@@ -1,5 +1,5 @@
 -- Cutting a text into tokens.
-use Rattle.std.specs.Prelude.{ℕ, zero, suc, ◌+◌, ◌-◌, Bool, false, ◌==◌, List, [], ◌∷◌, length, take, Option, Some, None, if◌then◌else◌}
+use Rattle.std.specs.Prelude.{ℕ, zero, suc, ◌+◌, ◌-◌, false, ◌==◌, List, [], ◌∷◌, length, take, Option, Some, None, if◌then◌else◌}
 use Rattle.sql_scan.specs.declared.token.TokenKind.{TokenKind}
 use Rattle.sql_scan.specs.declared.token.TokenKind.TheVariants.{Space, Comment, OpenComment, Quoted, OpenQuote, Word, Parameter, Named, End, Other}
 use Rattle.sql_scan.specs.Bytes.{is_space, is_digit, is_word_start, is_word_part, is_sigil, is_quote, is_in_line}

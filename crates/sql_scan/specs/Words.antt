@@ -1,5 +1,5 @@
 -- Keywords, and the kind of statement that its first words make.
-use Rattle.std.specs.Prelude.{◌≡◌, ℕ, Bool, true, false, ◌||◌, List, [], ◌∷◌, codes, if◌then◌else◌}
+use Rattle.std.specs.Prelude.{ℕ, Bool, true, false, ◌||◌, List, codes, if◌then◌else◌}
 use Rattle.std.specs.Str.{str_eq_ignore_ascii_case}
 use Rattle.sql_scan.specs.declared.heading.Keyword.{Keyword}
 use Rattle.sql_scan.specs.declared.heading.Keyword.TheVariants.{Begin, Deferred, AtOnce, Transaction, Commit, Rollback, Write, LeftOut, Plain}

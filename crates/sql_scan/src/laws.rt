@@ -1,9 +1,11 @@
-ghost use Rattle.std.specs.Prelude.{◌≡◌, ℕ, Bool, List, Ok, All, AllPairs, IsUtf8};
+ghost use Rattle.std.specs.Prelude.{◌≡◌, ◌+◌, ℕ, List, [], ◌∷◌, ◌++◌, length, Ok, All, AllPairs, IsUtf8};
 ghost use Rattle.sql_scan.specs.declared.heading.Keyword.{Keyword};
 ghost use Rattle.sql_scan.specs.declared.pieces.Piece.{Piece};
+ghost use Rattle.sql_scan.specs.declared.token.TokenKind.TheVariants.{End};
 ghost use Rattle.sql_scan.specs.Tokens.{Token, tokens_of};
-ghost use Rattle.sql_scan.specs.Grammar.{Cuts};
-ghost use Rattle.sql_scan.specs.Statements.{statements_of, scan_of};
+ghost use Rattle.sql_scan.specs.Grammar.{Cuts, joined};
+ghost use Rattle.sql_scan.specs.Statements.{blank, with_front, statements_from, statements_of, scan_of};
+ghost use Rattle.sql_scan.specs.Sentences.{AreGaps, Sentence, all_tokens, IsSentence, piece_of};
 ghost use Rattle.sql_scan.specs.Words.{kind_so_far};
 ghost use Rattle.sql_scan.specs.Kinds.{kind_of, heading_of};
 ghost use Rattle.sql_scan.specs.Places.{StandsIn, StandsBefore};
@@ -31,4 +33,19 @@ pub fn statements_stand_in_their_text()
 /// they are left out.
 pub fn kinds_are_of_all_words()
     ensures { (words : List Keyword) → kind_so_far (heading_of words) ≡ kind_of words }
+{}
+
+/// What a statement's tokens make of it, from a place on: with a `;` behind them, and at the end of the text. Space and
+/// comments around it are left out, the kind is that of all its words, and the count the greatest number of its parameters.
+pub fn statements_are_of_their_tokens()
+    ensures ended { (at greatest : ℕ) (sentence : Sentence) (stop : Token) (more : List Token) → IsSentence sentence greatest → stop.kind ≡ End →
+        let there = at + length (joined (all_tokens sentence)) + length stop.bytes in
+        statements_from at (blank at) (all_tokens sentence ++ stop ∷ more) ≡
+        with_front (piece_of at sentence greatest there ∷ []) (statements_from there (blank there) more) }
+    ensures last { (at greatest : ℕ) (sentence : Sentence) → IsSentence sentence greatest →
+        statements_from at (blank at) (all_tokens sentence) ≡ Ok (piece_of at sentence greatest (at + length (joined (all_tokens sentence))) ∷ []) }
+    ensures none { (at : ℕ) (gaps : List Token) → AreGaps gaps → statements_from at (blank at) gaps ≡ Ok [] }
+    ensures none_more { (at : ℕ) (gaps : List Token) (stop : Token) (more : List Token) → AreGaps gaps → stop.kind ≡ End →
+        let there = at + length (joined gaps) + length stop.bytes in
+        statements_from at (blank at) (gaps ++ stop ∷ more) ≡ statements_from there (blank there) more }
 {}

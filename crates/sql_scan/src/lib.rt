@@ -19,8 +19,8 @@ mod token;
 pub use fault::ScanFault;
 pub use heading::WordKind;
 pub use laws::{
-    kinds_are_of_all_words, statements_are_of_tokens, statements_stand_in_their_text,
-    texts_are_cut_in_one_way,
+    kinds_are_of_all_words, statements_are_of_their_tokens, statements_are_of_tokens,
+    statements_stand_in_their_text, texts_are_cut_in_one_way,
 };
 pub use pieces::{Piece, Scan};
 pub use scanner::scan;

@@ -1,6 +1,6 @@
-use Rattle.std.proofs.Common.{◌≡◌, ◌+◌, length, get_or, false, refl, sym, ◌∙◌, arith}
+use Rattle.std.proofs.Common.{get_or, false, refl, sym, ◌∙◌, arith}
 use Rattle.sql_scan.specs.Lengths.{starred}
-use Rattle.sql_scan.proofs.Closing.{starred_stop, starred_more, starred_all, starred_none}
+use Rattle.sql_scan.proofs.Closing.{starred_stop, starred_more, starred_all}
 use Rattle.sql_scan.proofs.lengths.comment_length.Goals as goal
 
 pub returns-then-ends_comment : goal.returns-then-ends_comment

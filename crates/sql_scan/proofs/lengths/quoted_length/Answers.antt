@@ -1,6 +1,6 @@
-use Rattle.std.proofs.Common.{◌≡◌, ◌+◌, ◌≤◌, length, get_or, true, false, cond, Option, Some, None, refl, sym, ap, ◌∙◌, arith, ℕ}
+use Rattle.std.proofs.Common.{get_or, false, refl, sym, ◌∙◌, arith}
 use Rattle.sql_scan.specs.Lengths.{quoted}
-use Rattle.sql_scan.proofs.Closing.{quoted_stop, quoted_more, quoted_whole, quoted_open, quoted_none}
+use Rattle.sql_scan.proofs.Closing.{quoted_stop, quoted_more, quoted_whole, quoted_open}
 use Rattle.sql_scan.proofs.lengths.quoted_length.Goals as goal
 
 pub returns-then-is_past_quote : goal.returns-then-is_past_quote

@@ -1,4 +1,4 @@
-use Rattle.std.proofs.Common.{◌≡◌, ℕ, ◌+◌, ◌*◌, ◌-◌, min, List, drop, get_or, refl, ap, ◌∙◌, arith}
+use Rattle.std.proofs.Common.{◌≡◌, ℕ, ◌+◌, ◌*◌, ◌-◌, min, drop, get_or, refl, ap, ◌∙◌, arith}
 use Rattle.sql_scan.specs.Statements.{decimal}
 use Rattle.sql_scan.proofs.Numbers.{decimal_more, decimal_all}
 use Rattle.sql_scan.proofs.parameters.capped.Goals as goal

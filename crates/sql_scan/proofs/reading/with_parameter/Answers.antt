@@ -1,4 +1,4 @@
-use Rattle.std.proofs.Common.{List, ℕ, take, drop, length, ◌-◌, sym}
+use Rattle.std.proofs.Common.{take, drop, length, ◌-◌, sym}
 use Rattle.std.proofs.lemmas.List.{take_rest}
 use Rattle.sql_scan.proofs.Drafts.{with_number, with_none}
 use Rattle.sql_scan.proofs.reading.with_parameter.Goals as goal
