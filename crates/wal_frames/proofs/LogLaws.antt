@@ -154,10 +154,10 @@ TookAll-more old now fs f new all took =
     record {
       fit = AreFrames-append fs (f ∷ []) all.fit (took.matched.fits, tt);
       parts =
-        all.parts
-        ∙ ap (λ (x : List ℕ). frames h old.sums fs ++ x) (took.matched.parts ∙ ap (λ (x : List ℕ). x ++ new.rest) text)
-        ∙ sym (append_assoc (frames h old.sums fs) (frame h sums f) new.rest)
-        ∙ ap (λ (x : List ℕ). x ++ new.rest) (sym grown);
+          all.parts
+          ∙ ap (λ (x : List ℕ). frames h old.sums fs ++ x) (took.matched.parts ∙ ap (λ (x : List ℕ). x ++ new.rest) text)
+          ∙ sym (append_assoc (frames h old.sums fs) (frame h sums f) new.rest)
+          ∙ ap (λ (x : List ℕ). x ++ new.rest) (sym grown);
       now = took.now ∙ ap₂ made header_is (next ∙ sym after);
     }
 
@@ -188,9 +188,9 @@ valid_if bytes h fs rest a parts none = record {
   fit = a;
   begins = (rest, parts);
   longest = λ others b begun.
-    let same : header h ++ (frames h (header_sums h) others ++ begun.0) ≡ header h ++ (frames h (header_sums h) fs ++ rest) =
-    sym (append_assoc (header h) (frames h (header_sums h) others) begun.0) ∙ sym begun.1 ∙ parts ∙ append_assoc (header h) (frames h (header_sums h) fs) rest in
-    front_of_valid h (header_sums h) fs others rest begun.0 a b (append_cancel_left (header h) _ _ same) none;
+      let same : header h ++ (frames h (header_sums h) others ++ begun.0) ≡ header h ++ (frames h (header_sums h) fs ++ rest) =
+      sym (append_assoc (header h) (frames h (header_sums h) others) begun.0) ∙ sym begun.1 ∙ parts ∙ append_assoc (header h) (frames h (header_sums h) fs) rest in
+      front_of_valid h (header_sums h) fs others rest begun.0 a b (append_cancel_left (header h) _ _ same) none;
 }
 
 -- what a reader took behind a header stands behind it
@@ -216,7 +216,7 @@ end_is bytes start fs new opened all = omega (arith, ap length (log_stands bytes
 
 pub Reads-made : (bytes : List ℕ) (start : Reading) (fs : List Frame) (new : Reading) (read : WalRead) → Opened bytes start → TookAll start fs new → NoneMatches new
     → read.sequence ≡ start.header.sequence → read.frames ≡ fs → read.end ≡ length bytes - length new.rest → Reads bytes read
-Reads-made bytes start fs new read opened all none sequence frames_are end = 
+Reads-made bytes start fs new read opened all none sequence frames_are end =
     let P : List Frame → Type 0 = λ gs. AreValid bytes start.header gs in
     record {
       header = start.header;

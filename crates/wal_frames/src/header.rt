@@ -8,8 +8,11 @@ use crate::fault::WalFault;
 use crate::words::{pair, pair_of, three_pieces};
 
 const BIG_MAGIC: u32 = 0x377f_0683;
+
 const LITTLE_MAGIC: u32 = 0x377f_0682;
+
 const VERSION: u32 = 3_007_000;
+
 const PAGE_SIZE: u32 = 4096;
 
 /// How long a header is, in bytes.

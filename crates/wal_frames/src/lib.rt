@@ -17,7 +17,8 @@ pub use fault::WalFault;
 pub use frame::{Frame, LentFrame};
 pub use header::WalHeader;
 pub use laws::{
-    checksums_chain, headers_read_back, logs_read_back, one_list_is_valid, whole_logs_are_written_so,
+    checksums_chain, headers_read_back, logs_read_back, one_list_is_valid,
+    whole_logs_are_written_so,
 };
 pub use reader::WalReader;
 pub use reading::{WalRead, read_wal};

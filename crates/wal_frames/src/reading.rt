@@ -27,8 +27,8 @@ pub struct WalRead {
 /// The first fault of the header is named: `Short`, `Magic`, `Version`, `PageSize`, `HeaderSum`. `NoMemory` comes only
 /// behind a valid header.
 ///
-/// Goes over the bytes once and copies the page of each valid frame once, into room for all whole frames of the bytes.
-/// `WalReader` reads without a copy.
+/// Goes over the bytes once, and copies the page of each valid frame into room that it makes first for all whole frames
+/// of the bytes. `WalReader` reads without a copy.
 pub fn read_wal(alloc: Global, bytes: &[u8]) -> Result<WalRead, WalFault>
     ensures found { IfOk result (λ read. Reads bytes.now read) }
     ensures ends { IfOk result (λ read. read.end ≡ wal_length (length read.frames)) }
