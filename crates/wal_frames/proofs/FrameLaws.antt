@@ -1,15 +1,13 @@
 -- A frame is read exactly where its text stands, and the text of frames determines them.
-use Rattle.std.proofs.Common.{◌≡◌, ℕ, ◌+◌, ◌-◌, ◌*◌, ◌<◌, ◌≤◌, ◌^◌, Bool, true, false, List, [], ◌∷◌, ◌++◌, length, take, drop, refl, sym, ap, ap₂, subst, ◌∙◌, arith, append_assoc, length-append, length-drop, length-take}
-use Rattle.std.specs.Prelude.{fold, ◌&&◌}
-use Rattle.std.specs.List.{AllByRecursion}
-use Rattle.std.proofs.lemmas.List.{take_at, take_all, drop_at, drop-drop, take-append-drop, append-nil, append_cancel_left}
-use Rattle.std.proofs.Math.Seq.{take-add}
+use Rattle.std.proofs.Common.{◌≡◌, ℕ, ◌<◌, Bool, true, false, List, [], ◌++◌, length, take, drop, refl, sym, ap, ap₂, ◌∙◌, arith, append_assoc, length-append, length-drop, length-take}
+use Rattle.std.specs.Prelude.{◌&&◌}
+use Rattle.std.proofs.lemmas.List.{take_at, take_all, drop-drop, take-append-drop, append-nil}
 use Rattle.wal_frames.specs.declared.frame.Frame.{Frame}
 use Rattle.wal_frames.specs.declared.header.WalHeader.{WalHeader}
 use Rattle.wal_frames.specs.Checksum.{checksum}
-use Rattle.wal_frames.specs.Text.{pair, pair_of, frame_sums, frame, frames, sums_after, ArePair, AreBytes, IsFrame}
+use Rattle.wal_frames.specs.Text.{pair, pair_of, frame_sums, frame, ArePair, AreBytes, IsFrame}
 use Rattle.wal_frames.specs.Headers.{same_pair}
-use Rattle.wal_frames.specs.Valid.{AreFrames, IsFront, Reading, Matches, NoneMatches, Took, behind, stated_frame, is_match, Stands}
+use Rattle.wal_frames.specs.Valid.{Reading, NoneMatches, Took, stated_frame, is_match, Stands}
 use Rattle.wal_frames.proofs.Sums.{checksum-append, checksum-fits}
 use Rattle.wal_frames.proofs.Pairs.{AreBytes-drop, length-pair, pair_of-pair, pair-pair_of, pair_of-fits}
 use Rattle.wal_frames.proofs.HeaderLaws.{both_true, same_pair-is, same_pair-refl, drop_pair}

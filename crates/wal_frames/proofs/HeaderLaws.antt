@@ -1,6 +1,6 @@
 -- A header is read exactly where its spelling stands.
-use Rattle.std.proofs.Common.{◌≡◌, ℕ, ◌+◌, ◌-◌, ◌<◌, ◌≤◌, ◌^◌, Bool, true, false, not, cond, eqb, ltb, List, [], ◌++◌, length, take, drop, Option, Some, None, Result, Ok, Err, refl, sym, ap, ap₂, subst, ◌∙◌, ◌⊎◌, arith, inl, inr, append_assoc, length-append, length-drop, length-take}
-use Rattle.std.specs.Prelude.{◌==◌, ◌&&◌}
+use Rattle.std.proofs.Common.{◌≡◌, ℕ, ◌<◌, ◌≤◌, ◌^◌, Bool, true, false, not, cond, eqb, ltb, List, [], ◌++◌, length, take, drop, Option, Some, None, Ok, Err, refl, sym, ap, ap₂, subst, ◌∙◌, ◌⊎◌, arith, inl, inr, append_assoc, length-append, length-drop}
+use Rattle.std.specs.Prelude.{◌&&◌}
 use Rattle.std.proofs.lemmas.Bool.{cases_Bool, cases_lt, lt-ltb, le-ltb, eq-eqb, eqb-true}
 use Rattle.std.proofs.lemmas.List.{take_at, drop_at, drop-drop, take-append-drop, append-nil}
 use Rattle.std.proofs.Math.Seq.{take-add}
@@ -12,7 +12,7 @@ use Rattle.wal_frames.specs.declared.header.WalHeader.{WalHeader}
 use Rattle.wal_frames.specs.Checksum.{checksum}
 use Rattle.wal_frames.specs.Text.{pair, pair_of, magic, fields, header_sums, header, ArePair, AreBytes, IsHeader}
 use Rattle.wal_frames.specs.Headers.{same_pair, order_of, stated, header_with, header_of, IsRefusal}
-use Rattle.wal_frames.specs.Valid.{Opened, Reading}
+use Rattle.wal_frames.specs.Valid.{Opened}
 use Rattle.wal_frames.proofs.Sums.{checksum-fits}
 use Rattle.wal_frames.proofs.Pairs.{AreBytes-drop, length-pair, pair_of-pair, pair-pair_of, pair_of-fits}
 

@@ -1,7 +1,5 @@
 -- Frames one after the other: writing one more, reading one more, and which frames of a text are valid.
-use Rattle.std.proofs.Common.{◌≡◌, ℕ, zero, suc, ◌+◌, ◌-◌, ◌*◌, ◌/◌, ◌<◌, ◌≤◌, List, [], ◌∷◌, ◌++◌, length, take, drop, refl, sym, ap, ap₂, subst, ◌∙◌, arith, append_assoc, length-append, length-take, length-drop, min}
-use Rattle.std.specs.Prelude.{fold}
-use Rattle.std.specs.List.{AllByRecursion}
+use Rattle.std.proofs.Common.{◌≡◌, ℕ, zero, suc, ◌+◌, ◌-◌, ◌*◌, ◌/◌, ◌≤◌, List, [], ◌∷◌, ◌++◌, length, take, drop, refl, sym, ap, ap₂, subst, ◌∙◌, arith, append_assoc, length-append, length-take, length-drop, min}
 use Rattle.std.proofs.lemmas.List.{append-nil, append_cancel_left, nil_from_length, take-append-drop}
 use Rattle.std.proofs.lemmas.List.Sums.{fold-append}
 use Rattle.std.proofs.Math.Seq.{take-append-add}
@@ -9,9 +7,9 @@ use Rattle.wal_frames.specs.declared.frame.Frame.{Frame}
 use Rattle.wal_frames.specs.declared.reading.WalRead.{WalRead}
 use Rattle.wal_frames.specs.declared.header.WalHeader.{WalHeader}
 use Rattle.wal_frames.specs.Checksum.{checksum}
-use Rattle.wal_frames.specs.Text.{pair, fields, header, header_sums, frame, frame_sums, frames, sums_after, log, wal, wal_length, written_header, ArePair, IsFrame}
-use Rattle.wal_frames.specs.Valid.{AreFrames, IsFront, Begins, AreValid, Reading, Matches, NoneMatches, Took, behind, Opened, TookAll, Reads, stated_frame}
-use Rattle.wal_frames.specs.Writing.{Place, place_after, Wrote}
+use Rattle.wal_frames.specs.Text.{pair, fields, header, header_sums, frame, frame_sums, frames, sums_after, log, wal_length, written_header}
+use Rattle.wal_frames.specs.Valid.{AreFrames, IsFront, AreValid, Reading, NoneMatches, Took, Opened, TookAll, Reads, stated_frame}
+use Rattle.wal_frames.specs.Writing.{Place, Wrote}
 use Rattle.wal_frames.proofs.HeaderLaws.{length-header}
 use Rattle.wal_frames.proofs.FrameLaws.{length-frame, stated_frame-frame, none_in_short}
 

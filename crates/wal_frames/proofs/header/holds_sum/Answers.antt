@@ -1,4 +1,4 @@
-use Rattle.std.proofs.Common.{ℕ, List, ap, ap₂, ◌∙◌, arith, length-take}
+use Rattle.std.proofs.Common.{ap, ap₂, ◌∙◌, arith, length-take}
 use Rattle.std.proofs.lemmas.List.{take_rest}
 use Rattle.wal_frames.specs.Text.{pair_of}
 use Rattle.wal_frames.specs.Headers.{same_pair}

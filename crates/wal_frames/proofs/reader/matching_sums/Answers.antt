@@ -1,4 +1,4 @@
-use Rattle.std.proofs.Common.{◌≡◌, ℕ, List, Bool, true, false, not, refl, sym, ap, ◌∙◌, arith}
+use Rattle.std.proofs.Common.{sym, ap, ◌∙◌, arith}
 use Rattle.std.proofs.lemmas.List.{take_rest}
 use Rattle.wal_frames.specs.Text.{pair_of, frame_sums}
 use Rattle.wal_frames.proofs.FrameLaws.{is_match-salts, is_match-sums, is_match-both, Stands-test}

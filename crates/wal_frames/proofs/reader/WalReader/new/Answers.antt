@@ -1,7 +1,6 @@
-use Rattle.std.proofs.Common.{◌≡◌, Ok, sym, ap, ◌∙◌, arith}
+use Rattle.std.proofs.Common.{sym, ap, ◌∙◌, arith}
 use Rattle.std.proofs.lemmas.List.{take_rest}
 use Rattle.wal_frames.specs.Text.{pair_of}
-use Rattle.wal_frames.specs.Headers.{header_of}
 use Rattle.wal_frames.proofs.HeaderLaws.{header_of-long, Opened-at}
 use Rattle.wal_frames.proofs.reader.WalReader.new.Goals as goal
 

@@ -1,4 +1,3 @@
-use Rattle.std.proofs.Common.{ap, ◌∙◌}
 use Rattle.wal_frames.proofs.LogLaws.{Wrote-begin}
 use Rattle.wal_frames.proofs.writer.WalWriter.begin.Goals as goal
 
