@@ -18,12 +18,13 @@ done
 cd "$place"
 : >crates.txt
 "$rt" new crates/wal_sample start_io >/dev/null
-rm -rf crates/wal_sample/proofs crates/wal_sample/specs crates/wal_sample/stdout
+rm -rf crates/wal_sample/*
 cat >crates.txt <<'TEXT'
 dq_base: byteorder thiserror
 wal_frames: dq_base byteorder thiserror
 wal_sample: dq_base wal_frames
 TEXT
+mkdir crates/wal_sample/src
 cat >crates/wal_sample/src/main.rt <<'TEXT'
 //! Writes the pages of its input as a log, the last of them with the size of the database.
 #![tactic(auto)]
