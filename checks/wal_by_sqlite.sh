@@ -52,7 +52,7 @@ fn main(rt: HostRuntime) -> io::Result<()> {
 }
 TEXT
 cat >before_and_after.py <<'TEXT'
-import os, sqlite3
+import sqlite3
 con = sqlite3.connect("grown.db")
 con.execute("pragma page_size = 4096")
 con.execute("pragma journal_mode = wal")
@@ -65,8 +65,6 @@ con.execute("insert into t values ('after')")
 con.executemany("insert into t values (?)", [("x" * 900,)] * 20)
 con.commit()
 con.execute("pragma wal_checkpoint(truncate)")
-os.makedirs("crates/wal_sample", exist_ok=True)
-open("crates/wal_sample/stdin", "wb").write(open("grown.db", "rb").read())
 TEXT
 cat >read.py <<'TEXT'
 import os, shutil, sqlite3
@@ -84,5 +82,5 @@ assert check == "ok", check
 print("SQLite", sqlite3.sqlite_version, "reads", len(found), "rows from", os.path.getsize("log"), "bytes of a log")
 TEXT
 python3 before_and_after.py
-(cd crates/wal_sample && "$rt" try) >log
+(cd crates/wal_sample && "$rt" try) <grown.db >log 2>try.log || { cat try.log >&2; exit 1; }
 python3 read.py
