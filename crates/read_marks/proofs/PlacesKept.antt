@@ -62,6 +62,7 @@ placed_push numbers first s n number placed fits up =
   where
     len : length (numbers ++ number ∷ []) ≡ length numbers + 1
     len = length_push numbers number
+
     listed_push : (i : ℕ) → i < length numbers + 1 → contains pair_cmp n (get_or (numbers ++ number ∷ []) i 0, first + i) ≡ true
     listed_push i lt = elim (cases_lt i (length numbers)) [
       | inl inside ↦
@@ -73,12 +74,14 @@ placed_push numbers first s n number placed fits up =
           ∙ ap (λ (x : ℕ). contains pair_cmp n (number, first + x)) (sym at)
           ∙ up.1
     ]
+
     last_stands : StandsIn (numbers ++ number ∷ []) first (number, first + length numbers)
     last_stands = record {
       from_first = omega arith;
       inside = omega (arith, len);
       number = get_or_push numbers number 0 (first + length numbers - first) (omega arith);
     }
+
     stands_push : (pair : ℕ × ℕ) → StandsIn numbers first pair → StandsIn (numbers ++ number ∷ []) first pair
     stands_push pair was = let inside : pair.1 - first < length numbers = was.inside in record {
       from_first = was.from_first;
@@ -93,6 +96,7 @@ placed_same numbers others first s n same keys placed = subst (λ (xs : List ℕ
   where
     has : (q : ℕ × ℕ) → contains pair_cmp n q ≡ contains pair_cmp s q
     has q = ap (λ (ks : List (ℕ × ℕ)). list_any (is_at (pair_cmp q)) ks) keys
+
     with_keys : Placed numbers first n
     with_keys = record {
       fits = placed.fits;
@@ -108,10 +112,10 @@ placed_pop_front rest first s n number placed up =
     record {
       fits = omega arith;
       listed = λ i lt.
-      let old : contains pair_cmp s (get_or rest i 0, first + suc i) ≡ true = placed.listed (suc i) (omega arith) in
-      let at : first + suc i ≡ first + 1 + i = omega arith in
-      let now : contains pair_cmp s (get_or rest i 0, first + 1 + i) ≡ true = ap (λ (x : ℕ). contains pair_cmp s (get_or rest i 0, x)) (sym at) ∙ old in
-      stays s n (number, first) (get_or rest i 0, first + 1 + i) up (λ same. let same_place : first ≡ first + 1 + i = ap (λ (x : ℕ × ℕ). x.1) same in omega arith) now;
+          let old : contains pair_cmp s (get_or rest i 0, first + suc i) ≡ true = placed.listed (suc i) (omega arith) in
+          let at : first + suc i ≡ first + 1 + i = omega arith in
+          let now : contains pair_cmp s (get_or rest i 0, first + 1 + i) ≡ true = ap (λ (x : ℕ). contains pair_cmp s (get_or rest i 0, x)) (sym at) ∙ old in
+          stays s n (number, first) (get_or rest i 0, first + 1 + i) up (λ same. let same_place : first ≡ first + 1 + i = ap (λ (x : ℕ × ℕ). x.1) same in omega arith) now;
       stands = λ pair e. stands_front pair (stayed s n (number, first) pair up e);
     }
   where
@@ -144,9 +148,9 @@ placed_pop_back front first s n number placed up =
     record {
       fits = omega arith;
       listed = λ i lt.
-      let old : contains pair_cmp s (get_or (front ++ number ∷ []) i 0, first + i) ≡ true = placed.listed i (omega arith) in
-      let now : contains pair_cmp s (get_or front i 0, first + i) ≡ true = ap (λ (x : ℕ). contains pair_cmp s (x, first + i)) (sym (get_or_append_left front (number ∷ []) 0 i lt)) ∙ old in
-      stays s n (number, first + length front) (get_or front i 0, first + i) up (λ same. let same_place : first + length front ≡ first + i = ap (λ (x : ℕ × ℕ). x.1) same in omega arith) now;
+          let old : contains pair_cmp s (get_or (front ++ number ∷ []) i 0, first + i) ≡ true = placed.listed i (omega arith) in
+          let now : contains pair_cmp s (get_or front i 0, first + i) ≡ true = ap (λ (x : ℕ). contains pair_cmp s (x, first + i)) (sym (get_or_append_left front (number ∷ []) 0 i lt)) ∙ old in
+          stays s n (number, first + length front) (get_or front i 0, first + i) up (λ same. let same_place : first + length front ≡ first + i = ap (λ (x : ℕ × ℕ). x.1) same in omega arith) now;
       stands = λ pair e. stands_back pair (stayed s n (number, first + length front) pair up e);
     }
   where
@@ -158,10 +162,10 @@ placed_pop_back front first s n number placed up =
         let inside : pair.1 - first < length (front ++ number ∷ []) = was.inside in
         elim (cases_lt (pair.1 - first) (length front)) [
           | inl lt ↦ record {
-              from_first = from;
-              inside = lt;
-              number = sym (get_or_append_left front (number ∷ []) 0 (pair.1 - first) lt) ∙ was.number;
-            }
+            from_first = from;
+            inside = lt;
+            number = sym (get_or_append_left front (number ∷ []) 0 (pair.1 - first) lt) ∙ was.number;
+          }
           | inr le ↦
               let at : first + length front ≡ pair.1 = omega arith in
               let last : length front ≡ pair.1 - first = omega arith in
@@ -187,19 +191,19 @@ greatest_here s number end k is same =
       below = elim (below_is k.0 number k.1 end is.below) [ inl lt ↦ absurd (omega arith) | inr h ↦ h.1 ];
       has = ap (contains pair_cmp s) (sym pair) ∙ is.has;
       none_after = λ later after before.
-      absent s (number, later) (λ e.
-        place_up_to number k.1 later
-        (ap (λ (x : ℕ × ℕ). is_lt (pair_cmp x (number, later))) (sym pair) ∙ is.greatest (number, later) (below_place number later end before) e)
-        after);
+          absent s (number, later) (λ e.
+          place_up_to number k.1 later
+          (ap (λ (x : ℕ × ℕ). is_lt (pair_cmp x (number, later))) (sym pair) ∙ is.greatest (number, later) (below_place number later end before) e)
+          after);
     }
 
 pub greatest_elsewhere : (s : Places) (number end : ℕ) (k : ℕ × ℕ) → IsGreatest s number end k → (k.0 ≡ number → ⊥) → NoPlace s number end
 greatest_elsewhere s number end k is other place before =
     absent s (number, place) (λ e.
-      elim (below_is k.0 number k.1 end is.below) [
-        | inl lt ↦ false≢true (sym (is.greatest (number, place) (below_place number place end before) e) ∙ ap is_lt (below_number k.0 number k.1 place lt))
-        | inr h ↦ other h.0
-      ])
+    elim (below_is k.0 number k.1 end is.below) [
+      | inl lt ↦ false≢true (sym (is.greatest (number, place) (below_place number place end before) e) ∙ ap is_lt (below_number k.0 number k.1 place lt))
+      | inr h ↦ other h.0
+    ])
 
 -- ---- what a look-up says of the frames
 
@@ -215,9 +219,9 @@ last_frame numbers first s number mark place placed is =
       within = omega arith;
       has_number = ap (slice_get numbers) back ∙ slice_get-get_or numbers (place - first) 0 inside ∙ ap (λ (x : ℕ). Some x) stands.number;
       none_after = λ i after before e.
-      let lt : i < length numbers = slice_get_within numbers i number e in
-      let listed : contains pair_cmp s (number, first + i) ≡ true = ap (λ (x : ℕ). contains pair_cmp s (x, first + i)) (sym (get_or_from_slice_get numbers i number 0 e)) ∙ placed.listed i lt in
-      false≢true (sym (is.none_after (first + i) (omega arith) (omega arith)) ∙ listed);
+          let lt : i < length numbers = slice_get_within numbers i number e in
+          let listed : contains pair_cmp s (number, first + i) ≡ true = ap (λ (x : ℕ). contains pair_cmp s (x, first + i)) (sym (get_or_from_slice_get numbers i number 0 e)) ∙ placed.listed i lt in
+          false≢true (sym (is.none_after (first + i) (omega arith) (omega arith)) ∙ listed);
     }
 
 pub no_frame : (numbers : List ℕ) (first : ℕ) (s : Places) (number mark : ℕ) → Placed numbers first s → NoPlace s number (first + min mark (length numbers)) → NoneAt numbers number mark

@@ -19,7 +19,10 @@ fn the_65th_live_mark_is_full(rt: HostRuntime) -> Result<(), Fail> {
     assert_eq!(rt; marks.least(), Some(0));
     let full = marks.pin(9).map(|_| 0).err();
     assert_eq!(rt; full, Some(MarkFault::Full(64)));
-    assert_eq!(rt; MarkFault::Full(64).to_string(rt.alloc())?.as_str(), "all 64 read marks are live");
+    assert_eq!(rt;
+        MarkFault::Full(64).to_string(rt.alloc())?.as_str(),
+        "all 64 read marks are live"
+    );
     Ok(())
 }
 
