@@ -1,13 +1,16 @@
-// A library with one function.
+//! A database under readers: a base image, frames of committed page sets over it, live read marks that each keep showing
+//! the image that was newest when they were pinned, and checkpoints that move frames into the base up to the least mark.
 #![tactic(auto)]
 
-ghost use Rattle.std.specs.Prelude.{◌≡◌};
-ghost use Rattle.checkpoint_core.specs.Echo.{echo_of};
+mod files;
+mod frame_log;
+mod laws;
+mod page_bytes;
+mod set_lengths;
+mod store;
+#[cfg(test)]
+mod tests;
 
-// The `ensures` clause is the contract: what `echo` returns is `echo_of` of its argument, a definition
-// in `specs/Echo.antt`, which a caller's clause can cite too.
-pub fn echo(x: usize) -> usize
-    ensures { result ≡ echo_of x }
-{
-    x
-}
+pub use laws::live_mark_shows_image_pinned;
+pub use read_marks::{MarkFault, MarkId};
+pub use store::PageStore;

@@ -3,7 +3,7 @@ use Rattle.std.proofs.Common.{◌≡◌, ℕ, zero, suc, ◌+◌, ◌<◌, ◌�
 use Rattle.std.specs.Prelude.{count_by, is_some, is_none, MatchOption}
 use Rattle.std.specs.List.{position, position_or_len}
 use Rattle.std.proofs.lemmas.Bool.{cases_lt, cond-true, lt-ltb, false≢true}
-use Rattle.std.proofs.lemmas.List.{get_or-set_same, take_more_set, drop_more, drop-set-lt, take_all, drop_all, append_assoc, at_drop_more, at_drop_all, get_or_read}
+use Rattle.std.proofs.lemmas.List.{get_or-set_same, take_more_set, drop_more, drop-set-lt, take_all, drop_all, append_assoc}
 use Rattle.std.proofs.lemmas.List.Sums.{count_by-le-length, sum_by-cons}
 use Rattle.std.proofs.lemmas.List.Quantifiers.{position-Some}
 use Rattle.read_marks.specs.Marks.{mark_at, Pinned, NoneLive, IsLeastMark, lesser, least_from, least_mark}

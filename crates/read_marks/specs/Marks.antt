@@ -1,5 +1,5 @@
 -- A table of read marks: at each of its places a live mark, or none. A mark's id is its place.
-use Rattle.std.specs.Prelude.{◌≡◌, ℕ, ◌-◌, ◌≤◌, ◌<◌, min, List, [], ◌∷◌, length, map, replicate, count_by, Option, Some, None, IsSome, is_some, slice_set, slice_index_or}
+use Rattle.std.specs.Prelude.{◌≡◌, ℕ, ◌-◌, ◌≤◌, min, List, [], ◌∷◌, map, replicate, count_by, Option, Some, None, IsSome, is_some, slice_set, slice_index_or}
 
 -- a table of 64 places without a mark
 unfoldable pub no_marks : List (Option ℕ)

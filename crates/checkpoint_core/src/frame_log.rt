@@ -1,0 +1,126 @@
+ghost use Rattle.std.specs.Prelude.{◌≡◌, ◌+◌, ◌-◌, ◌<◌, ◌≤◌, [], ◌∷◌, length, map, OnOk, OnErr, MatchOption, slice_index_or};
+ghost use Rattle.std.specs.List.{AllByRecursion};
+ghost use Rattle.read_marks.specs.Frames.{IsLastAt, NoneAt};
+ghost use Rattle.checkpoint_core.specs.Laying.{no_lengths, IsLeast};
+ghost use Rattle.checkpoint_core.specs.Log.{extended, without_first, first_of, IsSized, lengths_of, LooksBack};
+
+use dq_base::{Lengths, NumberedPage};
+use read_marks::FrameIndex;
+use std::alloc::{AllocError, Global};
+use std::collections::VecDeque;
+use std::marker::Model;
+
+/// One page of a committed set, with the lengths that its set states.
+///
+/// A frame also looks back over a stretch of frames that ends with itself, and has the least lengths in it. The
+/// stretches are those of a skew-binary list: a frame looks back over the two stretches before it where these are
+/// equally long, and else over itself alone. So the least lengths of any stretch come together from a number of frames
+/// in the order of the logarithm of its length.
+#[derive(Clone, Copy, Debug)]
+pub(crate) struct Frame {
+    pub page: NumberedPage,
+    pub lengths: Lengths,
+    // how many frames it looks back over, itself included
+    pub back: usize,
+    // the least lengths of these frames, where none of them was dropped
+    pub least: Lengths,
+}
+
+/// The frames over a base, in order, with an index from page number to frame. Contracts see it as the list of pages and
+/// the list of their sets' lengths.
+#[derive(Debug, Drop)]
+pub(crate) struct FrameLog {
+    frames: VecDeque<Frame>,
+    index: FrameIndex,
+}
+
+impl Model for FrameLog {
+    ghost use Rattle.checkpoint_core.specs.Log.{Log, LogHolds, pages_of, lengths_of};
+
+    ghost Value = { Log };
+
+    ghost view = { λ a. record { pages = pages_of a.frames.items; lengths = lengths_of a.frames.items } };
+
+    ghost invariant = { λ a. LogHolds a.frames.items a.index };
+}
+
+impl FrameLog {
+    /// A log without frames. Takes no memory.
+    pub fn new(alloc: Global) -> FrameLog
+        ensures { result ≡ record { pages = []; lengths = [] } }
+    {
+        FrameLog {
+            frames: VecDeque::new(alloc),
+            index: FrameIndex::new(alloc),
+        }
+    }
+
+    /// How many frames there are. Constant cost.
+    pub fn len(&self) -> usize
+        ensures value { result ≡ length self.now.pages }
+        ensures same { length self.now.lengths ≡ length self.now.pages }
+        ensures sized { AllByRecursion IsSized self.now.pages }
+    {
+        self.frames.len()
+    }
+
+    /// The page of a frame; frames count from 0 here. Constant cost.
+    pub fn page(&self, i: usize) -> &NumberedPage
+        requires { i < length self.now.pages }
+        ensures value { result.now ≡ slice_index_or self.now.pages i result.now }
+        ensures size { IsSized result.now }
+    {
+        let frame = &self.frames[i];
+        let _bytes = frame.page.page.bytes();
+        &frame.page
+    }
+
+    /// The lengths of a frame's set. Constant cost.
+    pub fn lengths(&self, i: usize) -> Lengths
+        requires { i < length self.now.lengths }
+        ensures { result ≡ slice_index_or self.now.lengths i no_lengths }
+    {
+        self.frames[i].lengths
+    }
+
+    /// The last frame with this page number among the first `mark`, counted from 1. The cost of a look-up.
+    pub fn last_at(&self, number: u64, mark: u64) -> Option<u64>
+        ensures { MatchOption result (NoneAt (map (λ p. p.number) self.now.pages) number mark) (λ frame. IsLastAt (map (λ p. p.number) self.now.pages) number mark frame) }
+    {
+        self.index.last_at(number, mark)
+    }
+
+    /// The least lengths of the frames from one to another, both included. Looks at frames in the order of the logarithm
+    /// of their number.
+    pub fn least(&self, first: usize, last: usize) -> Lengths
+        requires order { first ≤ last }
+        requires within { last < length self.now.lengths }
+        ensures main { IsLeast 0 self.now.lengths first last result.main }
+        ensures side { IsLeast 1 self.now.lengths first last result.side }
+    {
+        least_of(&self.frames, first, last)
+    }
+
+    /// Adds the pages of a set, with the lengths that it states. `Err` is want of memory; the log is then unchanged.
+    /// Costs a look-up for each page, and now and then, as the frames grow, a move of all of them.
+    pub fn append(&mut self, pages: &[NumberedPage], lengths: Lengths) -> Result<(), AllocError>
+        ensures done { OnOk result (self.new ≡ extended self.old pages.now lengths) }
+        ensures kept { OnErr result (self.new ≡ self.old) }
+    {
+        let before = self.len();
+        let done = self.append_some(pages, lengths);
+        if done.is_err() {
+            self.truncate(before);
+        }
+        done
+    }
+
+    /// Drops the first frames, or all where there are fewer. Costs a look-up for each. Takes no memory.
+    pub fn drop_first(&mut self, count: usize)
+        ensures { self.new ≡ without_first count self.old }
+    {
+        for _ in 0..count.min(self.len()) {
+            self.drop_one();
+        }
+    }
+}
