@@ -8,8 +8,8 @@ use Rattle.checkpoint_core.specs.Store.{Store}
 
 -- the sets in a list of pages, where some pages of the first set came before
 abbrev pub sets_from : List NumberedPage → List NumberedPage → List (List NumberedPage)
-sets_from open [] = []
-sets_from open (p ∷ ps) = if p.number == 1 then (open ++ p ∷ []) ∷ sets_from [] ps else sets_from (open ++ p ∷ []) ps
+sets_from begun [] = []
+sets_from begun (p ∷ ps) = if p.number == 1 then (begun ++ p ∷ []) ∷ sets_from [] ps else sets_from (begun ++ p ∷ []) ps
 
 -- the sets in a list of pages
 unfoldable pub sets_of : List NumberedPage → List (List NumberedPage)
@@ -17,8 +17,8 @@ sets_of pages = sets_from [] pages
 
 -- the pages behind the last whole set
 abbrev pub open_after : List NumberedPage → List NumberedPage → List NumberedPage
-open_after open [] = open
-open_after open (p ∷ ps) = if p.number == 1 then open_after [] ps else open_after (open ++ p ∷ []) ps
+open_after begun [] = begun
+open_after begun (p ∷ ps) = if p.number == 1 then open_after [] ps else open_after (begun ++ p ∷ []) ps
 
 -- the lengths that a sizes page states
 abbrev pub lengths_stated : Option NumberedPage → Lengths

@@ -6,6 +6,7 @@ mod files;
 mod frame_log;
 mod laws;
 mod page_bytes;
+mod reading;
 mod set_lengths;
 mod store;
 #[cfg(test)]

@@ -1,0 +1,10 @@
+pub mod Shown
+pub mod History
+pub mod SetLists
+pub mod SoundSets
+pub mod LaidSets
+pub mod LaidBytes
+pub mod LeastLengths
+pub mod FramesKept
+pub mod MarksSeen
+pub mod StoreKept
