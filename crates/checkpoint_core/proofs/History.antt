@@ -35,8 +35,8 @@ step : (start : Store) (calls : List Call) (call : Call) → Traced start calls 
 step start calls (Commit pages) was = record {
   within = subst MarksWithin (sym (run-append start calls (Commit pages ∷ []))) (within-committed (run start calls) pages was.within);
   pinned_then = λ id live.
-  let before : IsLive (run start calls) id = subst (λ (s : Store). IsLive s id) (run-append start calls (Commit pages ∷ [])) live in
-  kept start calls (Commit pages) id (commit_shows (run start calls) pages id was.within) before (was.pinned_then id before);
+      let before : IsLive (run start calls) id = subst (λ (s : Store). IsLive s id) (run-append start calls (Commit pages ∷ [])) live in
+      kept start calls (Commit pages) id (commit_shows (run start calls) pages id was.within) before (was.pinned_then id before);
 }
 step start calls (Pin pin) was = record {
   within = subst MarksWithin (sym (run-append start calls (Pin pin ∷ []))) (within-pinned (run start calls) pin was.within);
@@ -61,9 +61,9 @@ step start calls (Pin pin) was = record {
                 later = [];
                 split = ap (λ (k : ℕ). calls ++ Pin k ∷ []) (sym same);
                 shows =
-                ap (λ (s : Store). image_under s id) (run-append start calls (Pin pin ∷ []))
-                ∙ ap (λ (k : ℕ). image_under (pinned (run start calls) k) id) (sym same)
-                ∙ pin_shows_newest (run start calls) id here;
+                    ap (λ (s : Store). image_under s id) (run-append start calls (Pin pin ∷ []))
+                    ∙ ap (λ (k : ℕ). image_under (pinned (run start calls) k) id) (sym same)
+                    ∙ pin_shows_newest (run start calls) id here;
               }
           | inr past ↦ absurd (dead (mark_at (set marks id mark) id) (mark_at-past marks id mark past) (subst (λ (k : ℕ). IsLive (pinned (run start calls) k) id) (sym same) live))
         ]
@@ -87,12 +87,12 @@ step start calls (Release gone) was = record {
 step start calls Checkpoint was = record {
   within = subst MarksWithin (sym (run-append start calls (Checkpoint ∷ []))) (within-moved (run start calls) (sets_to_move (run start calls)) was.within);
   pinned_then = λ id live.
-  let now : IsLive (checkpointed (run start calls)) id = subst (λ (s : Store). IsLive s id) (run-append start calls (Checkpoint ∷ [])) live in
-  let n : ℕ = sets_to_move (run start calls) in
-  let l = live_is (mark_at (lowered n (run start calls).marks) id) now in
-  let u = unlowered n (mark_at (run start calls).marks id) l.0 (sym (mark_at-lowered n (run start calls).marks id) ∙ l.1) in
-  let before : IsLive (run start calls) id = is_live (mark_at (run start calls).marks id) u.0 u.1 in
-  kept start calls Checkpoint id (checkpoint_shows (run start calls) id) before (was.pinned_then id before);
+      let now : IsLive (checkpointed (run start calls)) id = subst (λ (s : Store). IsLive s id) (run-append start calls (Checkpoint ∷ [])) live in
+      let n : ℕ = sets_to_move (run start calls) in
+      let l = live_is (mark_at (lowered n (run start calls).marks) id) now in
+      let u = unlowered n (mark_at (run start calls).marks id) l.0 (sym (mark_at-lowered n (run start calls).marks id) ∙ l.1) in
+      let before : IsLive (run start calls) id = is_live (mark_at (run start calls).marks id) u.0 u.1 in
+      kept start calls Checkpoint id (checkpoint_shows (run start calls) id) before (was.pinned_then id before);
 }
 
 all_calls : (start : Store) (done rest : List Call) → Traced start done → Traced start (done ++ rest)

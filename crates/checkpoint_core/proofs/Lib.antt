@@ -3,8 +3,9 @@ pub mod History
 pub mod SetLists
 pub mod SoundSets
 pub mod LaidSets
-pub mod LaidBytes
 pub mod LeastLengths
 pub mod FramesKept
+pub mod LaidBytes
 pub mod MarksSeen
 pub mod StoreKept
+pub mod ReadPages

@@ -1,5 +1,5 @@
 -- Sets that stand one behind the other in a list of pages: the list in two parts, and how many pages they have.
-use Rattle.std.proofs.Common.{◌≡◌, ℕ, ◌+◌, ◌-◌, ◌≤◌, true, false, cond, eqb, List, [], ◌∷◌, ◌++◌, length, map, take, drop, refl, sym, ap, ◌∙◌, append-nil, zero-add, append_assoc, arith}
+use Rattle.std.proofs.Common.{◌≡◌, ℕ, ◌+◌, ◌-◌, ◌≤◌, true, false, cond, eqb, List, [], ◌∷◌, ◌++◌, length, map, take, drop, refl, sym, ap, ◌∙◌, append-nil, add-zero, zero-add, append_assoc, arith}
 use Rattle.std.specs.Prelude.{sum_by}
 use Rattle.std.specs.List.{flat_map}
 use Rattle.std.proofs.lemmas.List.{length_push, length-append, length-map, length-drop, take-append-drop, take_at, drop_at, take_all, take-append-le}
@@ -16,7 +16,7 @@ pub sets_from-append : (begun xs ys : List NumberedPage) → sets_from begun (xs
 sets_from-append begun [] ys = refl
 sets_from-append begun (p ∷ xs) ys =
     elim (eqb p.number 1) as (λ t. cond t ((begun ++ p ∷ []) ∷ sets_from [] (xs ++ ys)) (sets_from (begun ++ p ∷ []) (xs ++ ys))
-      ≡ cond t ((begun ++ p ∷ []) ∷ sets_from [] xs) (sets_from (begun ++ p ∷ []) xs) ++ sets_from (cond t (open_after [] xs) (open_after (begun ++ p ∷ []) xs)) ys) [
+    ≡ cond t ((begun ++ p ∷ []) ∷ sets_from [] xs) (sets_from (begun ++ p ∷ []) xs) ++ sets_from (cond t (open_after [] xs) (open_after (begun ++ p ∷ []) xs)) ys) [
       | true ↦ ap (λ (ss : List (List NumberedPage)). (begun ++ p ∷ []) ∷ ss) (sets_from-append [] xs ys)
       | false ↦ sets_from-append (begun ++ p ∷ []) xs ys
     ]
@@ -61,9 +61,9 @@ pub end_after : (pages : List NumberedPage) (count later : ℕ) → IsEnd pages 
 end_after pages count later first second le = record {
   within = let w : later ≤ length pages = second.within in omega (arith, length-drop count pages);
   closed =
-  sym (closed-append (take count pages) (take (later - count) (drop count pages)) first.closed)
-  ∙ ap (open_after []) (sym (take_split count later pages le))
-  ∙ second.closed;
+      sym (closed-append (take count pages) (take (later - count) (drop count pages)) first.closed)
+      ∙ ap (open_after []) (sym (take_split count later pages le))
+      ∙ second.closed;
 }
 
 pub sets_between : (pages : List NumberedPage) (count later : ℕ) → IsEnd pages count → count ≤ later
@@ -94,7 +94,7 @@ fewer_sets pages count later le =
 -- ---- how many pages the sets have
 
 pages_counted : (begun xs : List NumberedPage) → sum_by length (sets_from begun xs) + length (open_after begun xs) ≡ length begun + length xs
-pages_counted begun [] = zero-add (length begun)
+pages_counted begun [] = zero-add (length begun) ∙ sym (add-zero (length begun))
 pages_counted begun (p ∷ xs) =
     elim (eqb p.number 1) as (λ t. sum_by length (cond t ((begun ++ p ∷ []) ∷ sets_from [] xs) (sets_from (begun ++ p ∷ []) xs)) + length (cond t (open_after [] xs) (open_after (begun ++ p ∷ []) xs)) ≡ length begun + length (p ∷ xs)) [
       | true ↦ omega (arith, sum_by-cons length (begun ++ p ∷ []) (sets_from [] xs), pages_counted [] xs, length_push begun p)

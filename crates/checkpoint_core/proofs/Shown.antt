@@ -39,7 +39,7 @@ live_is (Some m) h = (m, refl)
 pub is_live : (mark : Option ℕ) (m : ℕ) → mark ≡ Some m → IsSome mark
 is_live mark m e = ap is_some e
 
-number_under : (mark : Option ℕ) (m : ℕ) → mark ≡ Some m → unwrap_or mark 0 ≡ m
+pub number_under : (mark : Option ℕ) (m : ℕ) → mark ≡ Some m → unwrap_or mark 0 ≡ m
 number_under mark m e = ap (λ (o : Option ℕ). unwrap_or o 0) e
 
 pub image_at_mark : (store : Store) (id m : ℕ) → mark_at store.marks id ≡ Some m → image_under store id ≡ view store.base store.sets m
@@ -51,11 +51,11 @@ pub commit_shows : (store : Store) (pages : List NumberedPage) (id : ℕ) → Ma
 commit_shows store pages id within = record {
   live = λ h. h;
   same_image = λ h.
-  let l = live_is (mark_at store.marks id) h in
-  let m : ℕ = l.0 in
-  image_at_mark (committed store pages) id m l.1
-  ∙ ap (after_sets store.base) (take-append-le m store.sets (pages ∷ []) (within id m l.1))
-  ∙ sym (image_at_mark store id m l.1);
+      let l = live_is (mark_at store.marks id) h in
+      let m : ℕ = l.0 in
+      image_at_mark (committed store pages) id m l.1
+      ∙ ap (after_sets store.base) (take-append-le m store.sets (pages ∷ []) (within id m l.1))
+      ∙ sym (image_at_mark store id m l.1);
 }
 
 -- ---- a mark set at a place
@@ -115,14 +115,14 @@ to_move-le store id m e = least_case (least_mark store.marks) refl
 pub moved_shows : (store : Store) (n id : ℕ) → ((m : ℕ) → mark_at store.marks id ≡ Some m → n ≤ m) → StillShows store (moved n store) id
 moved_shows store n id le = record {
   live = λ h.
-  let l = live_is (mark_at store.marks id) h in
-  is_live (mark_at (lowered n store.marks) id) (l.0 - n) (mark_at-lowered n store.marks id ∙ ap (lowered_mark n) l.1);
+      let l = live_is (mark_at store.marks id) h in
+      is_live (mark_at (lowered n store.marks) id) (l.0 - n) (mark_at-lowered n store.marks id ∙ ap (lowered_mark n) l.1);
   same_image = λ h.
-  let l = live_is (mark_at store.marks id) h in
-  let m : ℕ = l.0 in
-  image_at_mark (moved n store) id (m - n) (mark_at-lowered n store.marks id ∙ ap (lowered_mark n) l.1)
-  ∙ view-moved store.base store.sets n m (le m l.1)
-  ∙ sym (image_at_mark store id m l.1);
+      let l = live_is (mark_at store.marks id) h in
+      let m : ℕ = l.0 in
+      image_at_mark (moved n store) id (m - n) (mark_at-lowered n store.marks id ∙ ap (lowered_mark n) l.1)
+      ∙ view-moved store.base store.sets n m (le m l.1)
+      ∙ sym (image_at_mark store id m l.1);
 }
 
 pub checkpoint_shows : (store : Store) (id : ℕ) → StillShows store (checkpointed store) id

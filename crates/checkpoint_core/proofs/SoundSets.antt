@@ -82,22 +82,24 @@ no_set begun [] above = (refl, sym (append-nil begun))
 no_set begun (p ∷ ps) above =
     let lt : 1 < p.number = above.0 in
     let other : eqb p.number 1 ≡ false = ne_eqb p.number 1 (λ e. omega arith) in
-    let rest = no_set (begun ++ p ∷ []) ps above.1 in
-    (cond-false (eqb p.number 1) ((begun ++ p ∷ []) ∷ sets_from [] ps) (sets_from (begun ++ p ∷ []) ps) other ∙ rest.0,
-    cond-false (eqb p.number 1) (open_after [] ps) (open_after (begun ++ p ∷ []) ps) other ∙ rest.1 ∙ append_assoc begun (p ∷ []) ps)
+    let rest = no_set (begun ++ p ∷ []) ps above.1 in (
+      cond-false (eqb p.number 1) ((begun ++ p ∷ []) ∷ sets_from [] ps) (sets_from (begun ++ p ∷ []) ps) other ∙ rest.0,
+      cond-false (eqb p.number 1) (open_after [] ps) (open_after (begun ++ p ∷ []) ps) other ∙ rest.1 ∙ append_assoc begun (p ∷ []) ps,
+    )
 
 one_set_of : (front : List NumberedPage) (last : NumberedPage) → AllByRecursion (λ p. 1 < p.number) front → last.number ≡ 1
     → (sets_from [] (front ++ last ∷ []) ≡ (front ++ last ∷ []) ∷ []) × (open_after [] (front ++ last ∷ []) ≡ [])
 one_set_of front last above one =
     let none = no_set [] front above in
-    let is_one : eqb last.number 1 ≡ true = eq-eqb last.number 1 one in
-    (sets_from-append [] front (last ∷ [])
-    ∙ ap (λ (ss : List (List NumberedPage)). ss ++ sets_from (open_after [] front) (last ∷ [])) none.0
-    ∙ ap (λ (b : List NumberedPage). sets_from b (last ∷ [])) none.1
-    ∙ cond-true (eqb last.number 1) ((front ++ last ∷ []) ∷ []) [] is_one,
-    open_after-append [] front (last ∷ [])
-    ∙ ap (λ (b : List NumberedPage). open_after b (last ∷ [])) none.1
-    ∙ cond-true (eqb last.number 1) [] (front ++ last ∷ []) is_one)
+    let is_one : eqb last.number 1 ≡ true = eq-eqb last.number 1 one in (
+      sets_from-append [] front (last ∷ [])
+          ∙ ap (λ (ss : List (List NumberedPage)). ss ++ sets_from (open_after [] front) (last ∷ [])) none.0
+          ∙ ap (λ (b : List NumberedPage). sets_from b (last ∷ [])) none.1
+          ∙ cond-true (eqb last.number 1) ((front ++ last ∷ []) ∷ []) [] is_one,
+      open_after-append [] front (last ∷ [])
+          ∙ ap (λ (b : List NumberedPage). open_after b (last ∷ [])) none.1
+          ∙ cond-true (eqb last.number 1) [] (front ++ last ∷ []) is_one,
+    )
 
 pub one_set : (set : List NumberedPage) → IsSoundSet set → sets_of set ≡ set ∷ []
 unfolding sets_of

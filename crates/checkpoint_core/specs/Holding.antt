@@ -7,6 +7,7 @@ use Rattle.dq_base.specs.Applying.{page_fault}
 use Rattle.read_marks.specs.Marks.{mark_at}
 use Rattle.checkpoint_core.specs.Sets.{sets_of, open_after, lengths_of_set}
 use Rattle.checkpoint_core.specs.Laying.{Room}
+use Rattle.checkpoint_core.specs.Log.{IsSized}
 
 -- a set that can be applied
 abbrev pub IsSoundSet : List NumberedPage → Type 0
@@ -21,6 +22,7 @@ pub record IsEnd (pages : List NumberedPage) (count : ℕ) : Type 0 where
 -- stands where a set ends.
 pub record Holds (main side : ℕ) (pages : List NumberedPage) (lengths : List Lengths) (newest : ℕ) (marks : List (Option ℕ)) : Type 0 where
   pub sound : AllByRecursion IsSoundSet (sets_of pages)
+  pub sized : AllByRecursion IsSized pages
   pub closed : open_after [] pages ≡ []
   pub set_lengths : lengths ≡ flat_map lengths_of_set (sets_of pages)
   pub counted : length (sets_of pages) ≤ newest

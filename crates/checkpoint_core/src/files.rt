@@ -24,7 +24,12 @@ pub(crate) fn lay(file: &mut Vec<u8>, log: &FrameLog, count: usize, parity: u64)
 }
 
 /// Makes room in one file for the lengths of the first frames of a log, without a change to the file.
-pub(crate) fn make_room_for(file: &mut Vec<u8>, log: &FrameLog, count: usize, parity: u64) -> Result<(), AllocError>
+pub(crate) fn make_room_for(
+    file: &mut Vec<u8>,
+    log: &FrameLog,
+    count: usize,
+    parity: u64,
+) -> Result<(), AllocError>
     requires within { count ≤ length log.now.pages }
     ensures kept { file.new.items ≡ file.old.items }
     ensures room { OnOk result (Room parity (take count log.now.lengths) (vec_capacity file.new)) }
@@ -83,7 +88,11 @@ fn put_page(file: &mut [u8], page: &NumberedPage)
 pub(crate) fn length_of(lengths: Lengths, parity: u64) -> usize
     ensures { result ≡ length_of parity lengths }
 {
-    if parity == 0 { lengths.main } else { lengths.side }
+    if parity == 0 {
+        lengths.main
+    } else {
+        lengths.side
+    }
 }
 
 fn is_page_of(number: u64, parity: u64) -> bool

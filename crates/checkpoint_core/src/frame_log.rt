@@ -162,7 +162,7 @@ impl FrameLog {
     fn drop_one(&mut self)
         ensures { self.new ≡ without_first 1 self.old }
     {
-        if self.frames.pop_front().is_some() {
+        if let Some(_frame) = self.frames.pop_front() {
             self.index.drop_first(1);
         }
     }
@@ -171,7 +171,7 @@ impl FrameLog {
     fn drop_last(&mut self)
         ensures { self.new ≡ first_of (length self.old.pages - 1) self.old }
     {
-        if self.frames.pop_back().is_some() {
+        if let Some(_frame) = self.frames.pop_back() {
             self.index.truncate(self.frames.len() as u64);
         }
     }

@@ -11,7 +11,13 @@ use dq_base::{Bytes, Image, Lengths, PAGE_SIZE, Page};
 use std::alloc::{AllocError, Global};
 
 /// The page of a number in the image that the first frames of a log make of a base.
-pub(crate) fn page_under(main: &[u8], side: &[u8], log: &FrameLog, count: usize, number: u64) -> Option<Page>
+pub(crate) fn page_under(
+    main: &[u8],
+    side: &[u8],
+    log: &FrameLog,
+    count: usize,
+    number: u64,
+) -> Option<Page>
     requires { count ≤ length log.now.pages }
     ensures { result ≡ page_at (laid_image log.now count main.now side.now) number }
 {
@@ -113,8 +119,7 @@ fn end_of_base(file: &[u8], log: &FrameLog, count: usize, parity: u64) -> usize
     if count == 0 {
         return file.len();
     }
-    file.len()
-        .min(length_of(log.least(0, count - 1), parity))
+    file.len().min(length_of(log.least(0, count - 1), parity))
 }
 
 /// The image that the first frames of a log make of a base.

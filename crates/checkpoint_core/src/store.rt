@@ -1,7 +1,7 @@
-ghost use Rattle.std.specs.Prelude.{◌≡◌, ◌≢◌, ℕ, ◌<◌, None, IfOk, IfErr, OnOk, OnErr};
+ghost use Rattle.std.specs.Prelude.{◌≡◌, ◌≢◌, ℕ, ◌<◌, None, unwrap_or, IfOk, IfErr, OnOk, OnErr};
 ghost use Rattle.dq_base.specs.Images.{page_at};
 ghost use Rattle.dq_base.specs.Applying.{page_fault, IsRefusal};
-ghost use Rattle.read_marks.specs.Marks.{mark_at, live_count};
+ghost use Rattle.read_marks.specs.Marks.{mark_at, live_count, least_mark};
 ghost use Rattle.read_marks.specs.declared.marks.MarkFault.TheVariants.{Full};
 ghost use Rattle.checkpoint_core.specs.Store.{fresh_store, newest, newest_image, IsLive, image_under, committed, pinned, released, checkpointed, pages_to_move, StillShows};
 
@@ -80,6 +80,7 @@ impl PageStore {
         make_room(&mut self.main, lengths.main)?;
         make_room(&mut self.side, lengths.side)?;
         self.log.append(pages, lengths)?;
+        let _frames = self.log.len();
         self.newest = newest;
         Ok(newest)
     }
@@ -124,7 +125,10 @@ impl PageStore {
         requires { IsLive self.now id.now }
         ensures { result ≡ page_at (image_under self.now id.now) number }
     {
-        page_under(&self.main, &self.side, &self.log, self.marks.at(id) as usize, number)
+        let main = self.main.as_slice();
+        let side = self.side.as_slice();
+        let count = self.marks.at(id) as usize;
+        page_under(main, side, &self.log, count, number)
     }
 
     /// The image that a live mark shows. Copies the base, and lays the frames below the mark into the copy. `Err` is want
@@ -133,14 +137,20 @@ impl PageStore {
         requires { IsLive self.now id.now }
         ensures { IfOk result (λ image. image ≡ image_under self.now id.now) }
     {
-        image_under(self.alloc, &self.main, &self.side, &self.log, self.marks.at(id) as usize)
+        let main = self.main.as_slice();
+        let side = self.side.as_slice();
+        let count = self.marks.at(id) as usize;
+        image_under(self.alloc, main, side, &self.log, count)
     }
 
     /// The image with all commits. Copies the base, and lays all frames into the copy. `Err` is want of memory.
     pub fn newest_image(&self) -> Result<Image, AllocError>
         ensures { IfOk result (λ image. image ≡ newest_image self.now) }
     {
-        image_under(self.alloc, &self.main, &self.side, &self.log, self.log.len())
+        let main = self.main.as_slice();
+        let side = self.side.as_slice();
+        let count = self.log.len();
+        image_under(self.alloc, main, side, &self.log, count)
     }
 
     /// Moves frames into the base: those up to the least live mark, or all where no mark is live. Answers how many moved,
@@ -153,14 +163,21 @@ impl PageStore {
         ensures moved { result ≡ pages_to_move self.old }
         ensures shown { (id : ℕ) → StillShows self.old self.new id }
     {
-        let count = match self.marks.least() {
-            Some(least) => least,
-            None => self.log.len() as u64,
-        };
+        let count = frames_to_move(&self.marks, self.log.len() as u64);
         lay(&mut self.main, &self.log, count as usize, 0);
         lay(&mut self.side, &self.log, count as usize, 1);
         self.log.drop_first(count as usize);
         self.marks.lower(count);
         count
+    }
+}
+
+/// How many frames a checkpoint moves: those up to the least live mark, or all of so many where no mark is live.
+fn frames_to_move(marks: &Marks, frames: u64) -> u64
+    ensures { result ≡ unwrap_or (least_mark marks.now) frames }
+{
+    match marks.least() {
+        Some(least) => least,
+        None => frames,
     }
 }
