@@ -71,7 +71,6 @@ least_of_file parity lengths first last l main side = least_case (eqb parity 0) 
 
 -- ---- what the index says of the pages
 
-
 pub mine_is : (number : ℕ) → 1 < number → is_page_of (number % 2) number ≡ true
 mine_is number above = and_from (ltb 1 number) (eqb (number % 2) (number % 2)) (lt-ltb 1 number above) (eq-eqb (number % 2) (number % 2) refl)
 
@@ -94,8 +93,8 @@ last_of log number count frame d within same sized above is =
       sized = sized;
       mine = mine_is number above;
       number_is =
-      sym (get_or-map (λ (p : NumberedPage). p.number) log.pages (frame - 1) d 0 place)
-      ∙ get_or_from_slice_get (map (λ (p : NumberedPage). p.number) log.pages) (frame - 1) number 0 is.has_number;
+          sym (get_or-map (λ (p : NumberedPage). p.number) log.pages (frame - 1) d 0 place)
+          ∙ get_or_from_slice_get (map (λ (p : NumberedPage). p.number) log.pages) (frame - 1) number 0 is.has_number;
       none_after = λ j after before e. is.none_after j (omega arith) before (has_number log.pages j number d (omega arith) e);
     }
 

@@ -142,6 +142,9 @@ commit_is base mc sc pages set lengths newest marks holds sound =
 pub newest_count : (base : Image) (mc sc : ℕ) (pages : List NumberedPage) (lengths : List Lengths) (n : ℕ) (marks : List (Option ℕ)) → Holds mc sc pages lengths n marks → n ≡ newest (store_of base pages n marks)
 newest_count base mc sc pages lengths n marks holds = let c : length (sets_of pages) ≤ n = holds.counted in omega arith
 
+pub next_newest : (base : Image) (mc sc : ℕ) (pages set : List NumberedPage) (lengths : List Lengths) (n : ℕ) (marks : List (Option ℕ)) → Holds mc sc pages lengths n marks → n + 1 ≡ newest (committed (store_of base pages n marks) set)
+next_newest base mc sc pages set lengths n marks holds = let c : length (sets_of pages) ≤ n = holds.counted in omega (arith, length_push (sets_of pages) set)
+
 -- ---- more room alone
 
 pub holds_room : (mc sc mc' sc' : ℕ) (pages : List NumberedPage) (lengths : List Lengths) (newest : ℕ) (marks : List (Option ℕ)) → Holds mc sc pages lengths newest marks → mc ≤ mc' → sc ≤ sc' → Holds mc' sc' pages lengths newest marks
@@ -301,7 +304,8 @@ pub pinned_shows_newest : {E : Type 0} (r : Result ℕ E) (base : Image) (pages 
 pinned_shows_newest (Ok id) base pages newest marks now count whole made =
     let all : take count pages ≡ pages = take_all count pages (omega arith) in
     let mark : mark_at (map (seen pages) now) id ≡ Some (length (sets_of pages)) =
-    mark_at-seen pages now id ∙ ap (seen pages) made.is_live ∙ ap (λ (ps : List NumberedPage). Some (length (sets_of ps))) all in
-    (is_live (mark_at (map (seen pages) now) id) (length (sets_of pages)) mark,
-    image_at_mark (store_of base pages newest now) id (length (sets_of pages)) mark ∙ ap (after_sets base) (take_all (length (sets_of pages)) (sets_of pages) (omega arith)))
+    mark_at-seen pages now id ∙ ap (seen pages) made.is_live ∙ ap (λ (ps : List NumberedPage). Some (length (sets_of ps))) all in (
+      is_live (mark_at (map (seen pages) now) id) (length (sets_of pages)) mark,
+      image_at_mark (store_of base pages newest now) id (length (sets_of pages)) mark ∙ ap (after_sets base) (take_all (length (sets_of pages)) (sets_of pages) (omega arith)),
+    )
 pinned_shows_newest (Err e) base pages newest marks now count whole made = tt

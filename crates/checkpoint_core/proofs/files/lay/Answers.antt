@@ -24,7 +24,7 @@ loop-i-preserved c =
     let after : vec_capacity c.loop-i.file ≤ vec_capacity c.lay_one.new.file = c.lay_one.ensures.capacity in
     record {
       items =
-      c.lay_one.ensures.items
-      ∙ lay_more c.args.parity log.pages log.lengths c.args.file.now.items i c.page.result.now c.lengths.result c.loop-i.file.items in_pages in_lengths c.page.ensures.value c.lengths.ensures c.loop-i.invariant.items;
+          c.lay_one.ensures.items
+          ∙ lay_more c.args.parity log.pages log.lengths c.args.file.now.items i c.page.result.now c.lengths.result c.loop-i.file.items in_pages in_lengths c.page.ensures.value c.lengths.ensures c.loop-i.invariant.items;
       capacity = omega arith;
     }

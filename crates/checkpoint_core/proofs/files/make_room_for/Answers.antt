@@ -14,5 +14,5 @@ loop-i-preserved c =
     record {
       items = c.in_ok-make_room.ensures.kept ∙ c.loop-i.invariant.items;
       room =
-      room_more c.args.parity log.lengths i (vec_capacity c.loop-i.file) (vec_capacity c.make_room.new.file) inside c.loop-i.invariant.room c.in_ok-make_room.ensures.capacity (omega arith);
+          room_more c.args.parity log.lengths i (vec_capacity c.loop-i.file) (vec_capacity c.make_room.new.file) inside c.loop-i.invariant.room c.in_ok-make_room.ensures.capacity (omega arith);
     }

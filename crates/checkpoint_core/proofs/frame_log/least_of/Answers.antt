@@ -28,11 +28,11 @@ loop-from-preserved c =
       order = omega arith;
       within = omega arith;
       main =
-      subst (Least (length_at 0 (lengths_of c.args.frames.now.items)) (from - count) c.args.last) (sym c.lesser-least.ensures.main)
-      (least_join (length_at 0 (lengths_of c.args.frames.now.items)) (from - count) from c.args.last c.stretch-count.result.1.main c.loop-from.least.main (omega arith) under s.main inv.main);
+          subst (Least (length_at 0 (lengths_of c.args.frames.now.items)) (from - count) c.args.last) (sym c.lesser-least.ensures.main)
+          (least_join (length_at 0 (lengths_of c.args.frames.now.items)) (from - count) from c.args.last c.stretch-count.result.1.main c.loop-from.least.main (omega arith) under s.main inv.main);
       side =
-      subst (Least (length_at 1 (lengths_of c.args.frames.now.items)) (from - count) c.args.last) (sym c.lesser-least.ensures.side)
-      (least_join (length_at 1 (lengths_of c.args.frames.now.items)) (from - count) from c.args.last c.stretch-count.result.1.side c.loop-from.least.side (omega arith) under s.side inv.side);
+          subst (Least (length_at 1 (lengths_of c.args.frames.now.items)) (from - count) c.args.last) (sym c.lesser-least.ensures.side)
+          (least_join (length_at 1 (lengths_of c.args.frames.now.items)) (from - count) from c.args.last c.stretch-count.result.1.side c.loop-from.least.side (omega arith) under s.side inv.side);
     }
 
 pub returns-clause-main : goal.returns-clause-main

@@ -1,4 +1,5 @@
 use Rattle.std.proofs.Common.{◌≡◌, ◌+◌, List, [], ◌∷◌, ◌++◌, length, take, sym, ap, ◌∙◌, refl}
+use Rattle.std.specs.Prelude.{Result, Ok, Err, OnErr}
 use Rattle.std.proofs.lemmas.List.{take_more, take_all}
 use Rattle.dq_base.specs.declared.pages.NumberedPage.{NumberedPage}
 use Rattle.checkpoint_core.specs.Log.{Log, extended, first_of}
@@ -19,10 +20,15 @@ loop-page-preserved c =
     ∙ extended_more c.args.self.now (take i pages) p c.args.lengths
     ∙ ap (λ (ps : List NumberedPage). extended c.args.self.now ps c.args.lengths) (sym more)
 
+on_err : {T E : Type 0} (r : Result T E) (P : Type 0) → P → OnErr r P
+on_err (Ok x) P p = tt
+on_err (Err e) P p = p
+
 pub returns-in_err-push-clause-front : goal.returns-in_err-push-clause-front
 returns-in_err-push-clause-front c =
     let log = c.args.self.now in
-    ap (first_of (length log.pages)) (c.in_err-push.ensures.kept ∙ c.loop-page.invariant) ∙ first_of-extended log (take c.loop-page.page-index c.args.pages.now) c.args.lengths c.len-before.ensures.same
+    on_err c.from_residual.result _
+    (ap (first_of (length log.pages)) (c.in_err-push.ensures.kept ∙ c.loop-page.invariant) ∙ first_of-extended log (take c.loop-page.page-index c.args.pages.now) c.args.lengths c.len-before.ensures.same)
 
 pub returns-clause-done : goal.returns-clause-done
 returns-clause-done c =

@@ -1,7 +1,7 @@
 use Rattle.std.proofs.Common.{◌≡◌, ℕ, List, Option, length, sym, ap, ◌∙◌, subst, refl}
 use Rattle.std.specs.Prelude.{vec_capacity, unwrap_or}
 use Rattle.dq_base.specs.declared.images.Image.{Image}
-use Rattle.read_marks.specs.Marks.{least_mark}
+use Rattle.read_marks.specs.Marks.{least_mark, lowered}
 use Rattle.checkpoint_core.specs.Store.{Store, checkpointed, pages_to_move, StillShows}
 use Rattle.checkpoint_core.specs.Sets.{store_of}
 use Rattle.checkpoint_core.specs.Log.{Log}
@@ -31,7 +31,7 @@ invariant_of-self c =
     let at : count ≡ unwrap_or (least_mark a.marks) (length a.log.pages) = c.frames_to_move-count.ensures ∙ ap (unwrap_or (least_mark a.marks)) c.len.ensures.value in
     let kept = holds_checkpoint (vec_capacity a.main) (vec_capacity a.side) main side a.log.pages a.log.lengths a.newest a.marks count c.self.invariant at c.lay.ensures.capacity c.lay-2.ensures.capacity in
     subst (λ (ms : List (Option ℕ)). Holds main side c.drop_first.new.self.pages c.drop_first.new.self.lengths a.newest ms) (sym c.lower.ensures)
-    (subst (λ (l : Log). Holds main side l.pages l.lengths a.newest _) (sym c.drop_first.ensures) kept)
+    (subst (λ (l : Log). Holds main side l.pages l.lengths a.newest (lowered count a.marks)) (sym c.drop_first.ensures) kept)
 
 pub returns-clause-done : goal.returns-clause-done
 returns-clause-done c =
