@@ -1,5 +1,5 @@
 -- What is true of the frames of a log while frames are pushed and dropped.
-use Rattle.std.proofs.Common.{◌≡◌, ℕ, zero, suc, ◌+◌, ◌-◌, ◌<◌, ◌≤◌, ◌⊎◌, min, List, [], ◌∷◌, ◌++◌, length, map, take, drop, get_or, refl, sym, ap, ◌∙◌, subst, append-nil, append_assoc, arith, inl, inr}
+use Rattle.std.proofs.Common.{◌≡◌, ℕ, suc, ◌+◌, ◌-◌, ◌<◌, min, List, [], ◌∷◌, ◌++◌, length, map, take, drop, get_or, refl, sym, ap, ◌∙◌, subst, append-nil, append_assoc, arith, inl, inr}
 use Rattle.std.specs.List.{AllByRecursion}
 use Rattle.std.proofs.lemmas.Bool.{cases_lt}
 use Rattle.std.proofs.lemmas.List.{length_push, length-map, map-append, get_or_push, get_or_append_left, get_or-map, take_at, take-take, take_all, take_min, drop_min, length-take-le, drop-drop}
@@ -7,7 +7,7 @@ use Rattle.dq_base.specs.declared.pages.NumberedPage.{NumberedPage}
 use Rattle.dq_base.specs.declared.sizes.Lengths.{Lengths}
 use Rattle.checkpoint_core.specs.declared.frame_log.Frame.{Frame}
 use Rattle.checkpoint_core.specs.Laying.{length_of, length_at, no_lengths}
-use Rattle.checkpoint_core.specs.Log.{Log, extended, without_first, first_of, pages_of, lengths_of, IsSized, LooksBack, AllLookBack, LogHolds}
+use Rattle.checkpoint_core.specs.Log.{Log, extended, without_first, first_of, pages_of, lengths_of, IsSized, LooksBack, LogHolds}
 use Rattle.checkpoint_core.proofs.LaidSets.{all_first, all_both}
 use Rattle.checkpoint_core.proofs.LeastLengths.{Least, least_one, looks_longer, looks_shorter, looks_later}
 

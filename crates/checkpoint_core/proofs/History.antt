@@ -1,12 +1,11 @@
 -- Any list of calls of a store: each live mark has a call that pinned it, and shows the image that was newest then.
-use Rattle.std.proofs.Common.{◌≡◌, ℕ, ◌<◌, ◌⊎◌, true, List, [], ◌∷◌, ◌++◌, length, set, replicate, get_or, Option, Some, None, refl, sym, ap, ◌∙◌, subst, append-nil, append_assoc, arith, inl, inr}
+use Rattle.std.proofs.Common.{◌≡◌, ℕ, ◌⊎◌, true, List, [], ◌∷◌, ◌++◌, length, set, replicate, Option, Some, None, refl, sym, ap, ◌∙◌, subst, append-nil, append_assoc, arith, inl, inr}
 use Rattle.std.specs.Prelude.{is_some, unwrap_or}
 use Rattle.std.proofs.lemmas.Bool.{cases_lt, cases_eq, false≢true}
 use Rattle.std.proofs.lemmas.List.{get_or-replicate, get_or_past, length-replicate}
 use Rattle.dq_base.specs.declared.images.Image.{Image}
-use Rattle.dq_base.specs.declared.pages.NumberedPage.{NumberedPage}
-use Rattle.read_marks.specs.Marks.{no_marks, mark_at, lowered, lowered_mark}
-use Rattle.checkpoint_core.specs.Store.{Store, view, fresh_store, newest_image, IsLive, image_under, committed, pinned, released, sets_to_move, moved, checkpointed, StillShows, MarksWithin}
+use Rattle.read_marks.specs.Marks.{no_marks, mark_at, lowered}
+use Rattle.checkpoint_core.specs.Store.{Store, view, fresh_store, IsLive, image_under, pinned, released, sets_to_move, checkpointed, StillShows, MarksWithin}
 use Rattle.checkpoint_core.specs.Calls.{Call, Commit, Pin, Release, Checkpoint, after_call, run, ShowsImagePinned}
 use Rattle.checkpoint_core.proofs.Shown.{commit_shows, pin_shows_newest, release_shows, checkpoint_shows, mark_at-here, mark_at-else, mark_at-past, mark_at-lowered, live_is, is_live, unlowered, within-committed, within-pinned, within-released, within-moved}
 

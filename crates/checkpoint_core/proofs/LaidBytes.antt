@@ -1,8 +1,8 @@
 -- The bytes of a file after pages are laid into it: those of the last frame of their page, or of the file before, as far
 -- as no later length cut them, and then zeros.
-use Rattle.std.proofs.Common.{◌≡◌, ℕ, zero, suc, ◌+◌, ◌-◌, ◌*◌, ◌/◌, ◌%◌, ◌<◌, ◌≤◌, ◌⊎◌, Bool, true, false, cond, eqb, ltb, min, List, [], ◌∷◌, ◌++◌, length, take, drop, get_or, refl, sym, ap, ◌∙◌, add-zero, zero-add, subst, arith, inl, inr}
+use Rattle.std.proofs.Common.{◌≡◌, ℕ, zero, suc, ◌+◌, ◌-◌, ◌%◌, ◌<◌, ◌≤◌, ◌⊎◌, Bool, true, false, eqb, ltb, min, List, [], ◌∷◌, ◌++◌, length, take, get_or, refl, sym, ap, ◌∙◌, add-zero, zero-add, arith, inl, inr}
 use Rattle.std.specs.List.{AllByRecursion}
-use Rattle.std.proofs.lemmas.Bool.{cases_lt, cases_Bool, and_parts, eqb-true, ltb-true, cond-true}
+use Rattle.std.proofs.lemmas.Bool.{cases_lt, and_parts, eqb-true, ltb-true, cond-true}
 use Rattle.std.proofs.lemmas.List.{take_more, length-take, length-take-le, get_or-take, get_or_past, ext_get_or}
 use Rattle.dq_base.specs.declared.pages.NumberedPage.{NumberedPage}
 use Rattle.dq_base.specs.declared.sizes.Lengths.{Lengths}
@@ -10,7 +10,7 @@ use Rattle.dq_base.specs.Images.{resized, page_from, page_start, is_page_of}
 use Rattle.dq_base.specs.Applying.{replaced}
 use Rattle.dq_base.proofs.FileBytes.{length-resized, get_or-resized, length-page_from, get_or-page_from, length-replaced, get_or-replaced_inside, get_or-replaced_before, get_or-replaced_after}
 use Rattle.checkpoint_core.specs.Laying.{length_of, length_at, no_lengths, put_one, laid_one, laid, IsLeast}
-use Rattle.checkpoint_core.specs.Log.{Log, IsSized, PageOfFrame, PageOfBase}
+use Rattle.checkpoint_core.specs.Log.{Log, IsSized, PageOfBase}
 use Rattle.checkpoint_core.proofs.LaidSets.{laid-append}
 use Rattle.checkpoint_core.proofs.LeastLengths.{some_below}
 

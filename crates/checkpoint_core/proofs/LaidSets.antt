@@ -1,5 +1,5 @@
 -- Laying the pages of whole sets, each page with its set's lengths, is applying the sets in order.
-use Rattle.std.proofs.Common.{◌≡◌, ℕ, ◌+◌, ◌-◌, Bool, true, false, cond, List, [], ◌∷◌, ◌++◌, length, map, take, drop, replicate, refl, sym, ap, ◌∙◌, subst, append-nil, arith}
+use Rattle.std.proofs.Common.{◌≡◌, ℕ, ◌-◌, Bool, true, false, List, [], ◌∷◌, ◌++◌, length, map, take, drop, replicate, refl, sym, ap, ◌∙◌, subst, append-nil, arith}
 use Rattle.std.specs.List.{AllByRecursion, flat_map}
 use Rattle.std.proofs.lemmas.Grind.{flat_map-append}
 use Rattle.std.proofs.lemmas.List.{length-map, length_push, length-take-le, take_at, drop_at, take_all, take-append-drop}
@@ -7,15 +7,15 @@ use Rattle.dq_base.specs.declared.images.Image.{Image}
 use Rattle.dq_base.specs.declared.pages.NumberedPage.{NumberedPage}
 use Rattle.dq_base.specs.declared.sizes.Lengths.{Lengths}
 use Rattle.dq_base.specs.Images.{resized, zeros, page_start, is_page_of}
-use Rattle.dq_base.specs.Applying.{replaced, put_pages, applied}
+use Rattle.dq_base.specs.Applying.{put_pages, applied}
 use Rattle.dq_base.proofs.FileBytes.{length-resized, length-replaced}
 use Rattle.checkpoint_core.specs.Store.{after_sets, view}
-use Rattle.checkpoint_core.specs.Sets.{sets_of, open_after, lengths_in, lengths_of_set}
+use Rattle.checkpoint_core.specs.Sets.{sets_of, lengths_in, lengths_of_set}
 use Rattle.checkpoint_core.specs.Laying.{length_of, put_one, laid_one, laid}
 use Rattle.checkpoint_core.specs.Log.{Log, laid_image, IsSized}
-use Rattle.checkpoint_core.specs.Holding.{IsSoundSet, IsEnd, Holds}
+use Rattle.checkpoint_core.specs.Holding.{IsSoundSet, IsEnd}
 use Rattle.checkpoint_core.proofs.SetLists.{cut_sets, first_sets, lengths_of_sets, sets_joined}
-use Rattle.checkpoint_core.proofs.SoundSets.{Parts, parts, applied_main, applied_side}
+use Rattle.checkpoint_core.proofs.SoundSets.{parts, applied_main, applied_side}
 
 -- ---- lists in two parts
 

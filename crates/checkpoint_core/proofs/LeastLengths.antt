@@ -1,10 +1,10 @@
 -- The least number of a stretch: of one place, of two stretches, and of a place below which nothing is cut.
-use Rattle.std.proofs.Common.{◌≡◌, ℕ, zero, suc, ◌+◌, ◌-◌, ◌<◌, ◌≤◌, ◌⊎◌, min, List, [], ◌∷◌, ◌++◌, length, get_or, refl, sym, ap, ◌∙◌, subst, arith, inl, inr}
+use Rattle.std.proofs.Common.{◌≡◌, ℕ, zero, suc, ◌+◌, ◌-◌, ◌<◌, ◌≤◌, ◌⊎◌, min, List, ◌∷◌, ◌++◌, length, refl, sym, ap, arith, inl, inr}
 use Rattle.std.specs.Prelude.{◌↔◌}
 use Rattle.std.proofs.lemmas.Bool.{cases_lt}
 use Rattle.std.proofs.lemmas.List.{get_or_append_left}
 use Rattle.dq_base.specs.declared.sizes.Lengths.{Lengths}
-use Rattle.checkpoint_core.specs.Laying.{length_of, length_at, no_lengths, IsLeast}
+use Rattle.checkpoint_core.specs.Laying.{length_of, length_at, no_lengths}
 use Rattle.checkpoint_core.specs.Log.{LooksBack}
 
 abbrev pub Least : (ℕ → ℕ) → ℕ → ℕ → ℕ → Type 0

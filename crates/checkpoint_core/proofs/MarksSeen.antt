@@ -1,13 +1,13 @@
 -- Marks that count pages, seen as marks that count sets.
-use Rattle.std.proofs.Common.{◌≡◌, ℕ, zero, suc, ◌+◌, ◌-◌, ◌<◌, ◌≤◌, ◌⊎◌, min, List, [], ◌∷◌, ◌++◌, length, map, take, drop, get_or, set, Option, Some, None, refl, sym, ap, ◌∙◌, arith, inl, inr}
-use Rattle.std.specs.Prelude.{count_by, is_some, cond}
+use Rattle.std.proofs.Common.{◌≡◌, ℕ, zero, suc, ◌+◌, ◌-◌, ◌≤◌, min, List, [], ◌∷◌, ◌++◌, length, map, take, drop, get_or, Option, Some, None, refl, sym, ap, ◌∙◌, arith, inl, inr}
+use Rattle.std.specs.Prelude.{is_some, cond}
 use Rattle.std.proofs.Math.ListN.{get_or-map}
 use Rattle.std.proofs.lemmas.Bool.{cases_lt}
 use Rattle.std.proofs.lemmas.List.Sums.{sum_by-cons}
-use Rattle.std.proofs.lemmas.List.{take_all, take-append-le, map-set}
+use Rattle.std.proofs.lemmas.List.{take-append-le}
 use Rattle.dq_base.specs.declared.pages.NumberedPage.{NumberedPage}
 use Rattle.read_marks.specs.Marks.{mark_at, lesser, least_from, least_mark, lowered_mark, lowered, live_count}
-use Rattle.checkpoint_core.specs.Sets.{sets_of, seen, open_after}
+use Rattle.checkpoint_core.specs.Sets.{sets_of, seen}
 use Rattle.checkpoint_core.specs.Holding.{IsEnd}
 use Rattle.checkpoint_core.proofs.SetLists.{fewer_sets, sets_between}
 

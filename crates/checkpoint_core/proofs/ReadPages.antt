@@ -1,14 +1,14 @@
 -- Looking up a page: lengths and room by places, the last frame by the index, and bytes padded to a page.
-use Rattle.std.proofs.Common.{◌≡◌, ℕ, zero, suc, ◌+◌, ◌-◌, ◌%◌, ◌<◌, ◌≤◌, ◌⊎◌, Bool, true, false, cond, eqb, ltb, min, List, [], ◌∷◌, ◌++◌, length, map, take, drop, get_or, Some, refl, sym, ap, ◌∙◌, subst, arith, inl, inr}
+use Rattle.std.proofs.Common.{◌≡◌, ℕ, ◌+◌, ◌-◌, ◌%◌, ◌<◌, ◌≤◌, Bool, true, false, cond, eqb, ltb, min, List, [], length, map, take, drop, get_or, Some, refl, sym, ap, ◌∙◌, arith, inl, inr}
 use Rattle.std.specs.Prelude.{◌↔◌}
 use Rattle.std.specs.List.{AllByRecursion, slice_get}
-use Rattle.std.proofs.lemmas.Bool.{cases_lt, cases_eq, and_from, lt-ltb, eq-eqb}
-use Rattle.std.proofs.lemmas.Option.{slice_get-get_or, get_or_from_slice_get, slice_get_within}
-use Rattle.std.proofs.lemmas.List.{length-map, length-take, length-drop, length-take-le, get_or-map, get_or-take, get_or-drop, get_or_past, ext_get_or, take_min, get_or_read}
+use Rattle.std.proofs.lemmas.Bool.{cases_lt, and_from, lt-ltb, eq-eqb}
+use Rattle.std.proofs.lemmas.Option.{slice_get-get_or, get_or_from_slice_get}
+use Rattle.std.proofs.lemmas.List.{length-map, length-take, length-take-le, get_or-map, get_or-take, get_or-drop, get_or_past, ext_get_or, take_min}
 use Rattle.dq_base.specs.declared.images.Image.{Image}
 use Rattle.dq_base.specs.declared.pages.NumberedPage.{NumberedPage}
 use Rattle.dq_base.specs.declared.sizes.Lengths.{Lengths}
-use Rattle.dq_base.specs.Images.{resized, page_from, page_start, is_page_of, file_of}
+use Rattle.dq_base.specs.Images.{resized, page_from, is_page_of, file_of}
 use Rattle.dq_base.proofs.FileBytes.{length-resized, get_or-resized, length-page_from, get_or-page_from}
 use Rattle.read_marks.specs.Frames.{IsLastAt, NoneAt}
 use Rattle.checkpoint_core.specs.Laying.{length_of, length_at, no_lengths, laid_one, laid, Room, IsLeast}

@@ -1,11 +1,10 @@
 -- Sets that stand one behind the other in a list of pages: the list in two parts, and how many pages they have.
-use Rattle.std.proofs.Common.{◌≡◌, ℕ, ◌+◌, ◌-◌, ◌≤◌, true, false, cond, eqb, List, [], ◌∷◌, ◌++◌, length, map, take, drop, refl, sym, ap, ◌∙◌, append-nil, add-zero, zero-add, append_assoc, arith}
+use Rattle.std.proofs.Common.{◌≡◌, ℕ, ◌+◌, ◌-◌, ◌≤◌, true, false, cond, eqb, List, [], ◌∷◌, ◌++◌, length, take, drop, refl, sym, ap, ◌∙◌, append-nil, add-zero, zero-add, append_assoc, arith}
 use Rattle.std.specs.Prelude.{sum_by}
 use Rattle.std.specs.List.{flat_map}
 use Rattle.std.proofs.lemmas.List.{length_push, length-append, length-map, length-drop, take-append-drop, take_at, drop_at, take_all, take-append-le}
 use Rattle.std.proofs.lemmas.List.Sums.{sum_by-cons}
 use Rattle.dq_base.specs.declared.pages.NumberedPage.{NumberedPage}
-use Rattle.dq_base.specs.declared.sizes.Lengths.{Lengths}
 use Rattle.checkpoint_core.specs.Sets.{sets_from, sets_of, open_after, lengths_in, lengths_of_set}
 use Rattle.checkpoint_core.specs.Holding.{IsEnd}
 use Rattle.checkpoint_core.proofs.Shown.{take_split}

@@ -1,5 +1,5 @@
 -- What a live mark shows before and after each call of a store.
-use Rattle.std.proofs.Common.{◌≡◌, ◌≢◌, ℕ, ◌+◌, ◌-◌, ◌≤◌, ◌<◌, ◌⊎◌, true, false, List, [], ◌∷◌, ◌++◌, length, take, drop, map, get_or, set, Option, Some, None, refl, sym, ap, ◌∙◌, subst, arith, inl, inr}
+use Rattle.std.proofs.Common.{◌≡◌, ℕ, ◌+◌, ◌-◌, ◌≤◌, ◌<◌, List, [], ◌∷◌, ◌++◌, length, take, drop, set, Option, Some, None, refl, sym, ap, ◌∙◌, arith, inl, inr}
 use Rattle.std.specs.Prelude.{unwrap_or, IsSome, is_some}
 use Rattle.std.proofs.Math.ListN.{get_or-map}
 use Rattle.std.proofs.lemmas.Bool.{cases_lt, cases_eq, false≢true}
@@ -7,7 +7,7 @@ use Rattle.std.proofs.lemmas.List.{take-append-le, get_or-set_same, get_or-set_o
 use Rattle.dq_base.specs.declared.images.Image.{Image}
 use Rattle.dq_base.specs.declared.pages.NumberedPage.{NumberedPage}
 use Rattle.dq_base.specs.Applying.{applied}
-use Rattle.read_marks.specs.Marks.{mark_at, with_mark, without_mark, least_mark, lowered_mark, lowered, IsLeastMark, NoneLive}
+use Rattle.read_marks.specs.Marks.{mark_at, least_mark, lowered_mark, lowered}
 use Rattle.read_marks.proofs.MarkTables.{least_mark-none, least_mark-some}
 use Rattle.checkpoint_core.specs.Store.{Store, after_sets, view, newest_image, IsLive, image_under, committed, pinned, released, sets_to_move, moved, checkpointed, StillShows, MarksWithin}
 

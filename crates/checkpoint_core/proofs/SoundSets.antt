@@ -1,15 +1,15 @@
 -- A set that can be applied: it ends with its one sizes page, and applying it is laying its pages into both files.
-use Rattle.std.proofs.Common.{◌≡◌, ℕ, ◌+◌, ◌-◌, ◌<◌, ◌≤◌, true, false, cond, eqb, leb, List, [], ◌∷◌, ◌++◌, length, take, get_or, Option, Some, None, refl, sym, ap, ◌∙◌, append-nil, append_assoc, arith, inl, inr}
-use Rattle.std.specs.List.{AllByRecursion, slice_get}
+use Rattle.std.proofs.Common.{◌≡◌, ℕ, ◌+◌, ◌-◌, ◌<◌, ◌≤◌, true, false, eqb, leb, List, [], ◌∷◌, ◌++◌, length, take, Option, Some, None, refl, sym, ap, ◌∙◌, append-nil, append_assoc, arith, inl, inr}
+use Rattle.std.specs.List.{AllByRecursion}
 use Rattle.std.proofs.lemmas.Bool.{and_parts, cond-true, cond-false, cases_Bool, eqb-true, eq-eqb, ne_eqb, leb-false}
-use Rattle.std.proofs.lemmas.List.{take_more, take_all, get_or_default}
+use Rattle.std.proofs.lemmas.List.{take_more, take_all}
 use Rattle.std.proofs.lemmas.Option.{slice_get_within, get_or_from_slice_get}
 use Rattle.dq_base.specs.declared.images.Image.{Image}
 use Rattle.dq_base.specs.declared.pages.NumberedPage.{NumberedPage}
 use Rattle.dq_base.specs.declared.page_fault.PageFault.{PageFault}
 use Rattle.dq_base.specs.declared.page_fault.PageFault.TheVariants.{NoSizes, Order}
 use Rattle.dq_base.specs.Images.{resized, is_main, is_side}
-use Rattle.dq_base.specs.Applying.{stated_main, stated_side, put_pages, last_page, applied_with, applied, is_sizes, order_fault, length_fault, earlier, fault_before, page_fault}
+use Rattle.dq_base.specs.Applying.{stated_main, stated_side, put_pages, last_page, applied_with, applied, is_sizes, order_fault, length_fault, earlier, fault_before}
 use Rattle.checkpoint_core.specs.Sets.{sets_from, sets_of, open_after, lengths_stated, lengths_in}
 use Rattle.checkpoint_core.specs.Holding.{IsSoundSet}
 use Rattle.checkpoint_core.proofs.SetLists.{sets_from-append, open_after-append}

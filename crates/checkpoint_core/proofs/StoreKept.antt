@@ -1,24 +1,24 @@
 -- What is true of the fields of a store, kept by each call; and the store that they are seen as, after each call.
-use Rattle.std.proofs.Common.{◌≡◌, ℕ, zero, suc, ◌+◌, ◌-◌, ◌<◌, ◌≤◌, ◌⊎◌, true, List, [], ◌∷◌, ◌++◌, length, map, take, drop, get_or, set, Option, Some, None, refl, sym, ap, ◌∙◌, subst, append-nil, arith, inl, inr}
-use Rattle.std.specs.Prelude.{is_some, IsSome, unwrap_or, sum_by, Result, Ok, Err, IfOk, OnErr}
+use Rattle.std.proofs.Common.{◌≡◌, ℕ, zero, suc, ◌+◌, ◌-◌, ◌≤◌, List, [], ◌∷◌, ◌++◌, length, map, take, drop, set, Option, Some, None, refl, sym, ap, ◌∙◌, subst, append-nil, arith, inl, inr}
+use Rattle.std.specs.Prelude.{IsSome, unwrap_or, sum_by, Result, Ok, Err, IfOk, OnErr}
 use Rattle.std.specs.List.{AllByRecursion, flat_map}
 use Rattle.std.proofs.lemmas.Grind.{flat_map-append}
-use Rattle.std.proofs.lemmas.Bool.{cases_lt, cases_eq, false≢true}
-use Rattle.std.proofs.lemmas.List.{take_all, take-append-drop, map-set, length-append, length-map, length_push, length-drop, get_or_append_left, get_or-append_right, get_or-drop, get_or-take, get_or_past, length-take, length-take-le, get_or-replicate, length-replicate}
+use Rattle.std.proofs.lemmas.Bool.{cases_lt, cases_eq}
+use Rattle.std.proofs.lemmas.List.{take_all, take-append-drop, map-set, length-append, length_push, length-drop, get_or_append_left, get_or-append_right, get_or-drop, get_or-take, get_or_past, length-take, length-take-le, get_or-replicate, length-replicate}
 use Rattle.dq_base.specs.declared.images.Image.{Image}
 use Rattle.dq_base.specs.declared.pages.NumberedPage.{NumberedPage}
 use Rattle.dq_base.specs.declared.sizes.Lengths.{Lengths}
-use Rattle.read_marks.specs.Marks.{no_marks, mark_at, Pinned, with_mark, without_mark, least_mark, lowered_mark, lowered}
+use Rattle.read_marks.specs.Marks.{no_marks, mark_at, Pinned, with_mark, without_mark, least_mark, lowered}
 use Rattle.read_marks.proofs.MarkTables.{least_mark-none, least_mark-some}
 use Rattle.checkpoint_core.specs.Store.{Store, after_sets, view, fresh_store, newest, newest_image, IsLive, image_under, committed, pinned, released, sets_to_move, moved, checkpointed, pages_to_move, StillShows, MarksWithin}
 use Rattle.checkpoint_core.specs.Sets.{sets_of, open_after, lengths_in, lengths_of_set, seen, store_of}
 use Rattle.checkpoint_core.specs.Laying.{length_of, length_at, no_lengths, Room}
 use Rattle.checkpoint_core.specs.Log.{Log, IsSized, laid_image}
 use Rattle.checkpoint_core.specs.Holding.{IsSoundSet, IsEnd, Holds}
-use Rattle.checkpoint_core.proofs.Shown.{number_under, is_live, pin_shows, image_at_mark, mark_at-else, mark_at-here, mark_at-past, mark_at-lowered, unlowered, live_is}
+use Rattle.checkpoint_core.proofs.Shown.{number_under, is_live, pin_shows, image_at_mark, mark_at-else, mark_at-here, mark_at-past, mark_at-lowered, unlowered}
 use Rattle.checkpoint_core.proofs.SetLists.{sets_of-append, closed-append, cut_sets, first_sets, later_sets, count_sets, end_closed, end_after, end_whole, end_longer, fewer_sets, pages_of_sets, lengths_of_sets}
 use Rattle.checkpoint_core.proofs.SoundSets.{one_set, one_set_closed}
-use Rattle.checkpoint_core.proofs.LaidSets.{laid_is, later_lengths, all_first, all_second, all_both}
+use Rattle.checkpoint_core.proofs.LaidSets.{laid_is, later_lengths, all_second, all_both}
 use Rattle.checkpoint_core.proofs.MarksSeen.{mark_at-seen, least_mark-seen, seen_longer, seen_shorter}
 
 -- ---- marks of a store

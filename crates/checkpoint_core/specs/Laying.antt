@@ -1,5 +1,5 @@
 -- Pages laid into one file in order, each with the length that its set states for the file.
-use Rattle.std.specs.Prelude.{◌≡◌, ℕ, ◌-◌, ◌<◌, ◌≤◌, ◌==◌, ◌↔◌, Bool, if◌then◌else◌, List, [], ◌∷◌, length, take, slice_index_or}
+use Rattle.std.specs.Prelude.{ℕ, ◌<◌, ◌≤◌, ◌==◌, ◌↔◌, Bool, if◌then◌else◌, List, [], ◌∷◌, length, slice_index_or}
 use Rattle.dq_base.specs.declared.pages.NumberedPage.{NumberedPage}
 use Rattle.dq_base.specs.declared.sizes.Lengths.{Lengths}
 use Rattle.dq_base.specs.Images.{resized, page_start, is_page_of}

@@ -1,4 +1,4 @@
-use Rattle.std.proofs.Common.{◌≡◌, ◌≤◌, take}
+use Rattle.std.proofs.Common.{◌≡◌, take}
 use Rattle.std.specs.Prelude.{vec_capacity}
 use Rattle.checkpoint_core.specs.Laying.{Room}
 use Rattle.checkpoint_core.proofs.files.make_room_for.Given as goal

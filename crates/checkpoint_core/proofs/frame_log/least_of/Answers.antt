@@ -1,4 +1,4 @@
-use Rattle.std.proofs.Common.{◌≡◌, ℕ, ◌-◌, ◌<◌, ◌≤◌, length, sym, subst, refl, arith}
+use Rattle.std.proofs.Common.{◌≡◌, ℕ, ◌-◌, ◌<◌, ◌≤◌, sym, subst, refl, arith}
 use Rattle.checkpoint_core.specs.Laying.{length_at}
 use Rattle.checkpoint_core.specs.Log.{lengths_of}
 use Rattle.checkpoint_core.proofs.LeastLengths.{Least, least_at, least_join}

@@ -1,6 +1,5 @@
-use Rattle.std.proofs.Common.{◌≡◌, ℕ, ◌+◌, ◌-◌, ◌<◌, ◌≤◌, List, length, sym, ap, ◌∙◌, subst, refl, arith}
+use Rattle.std.proofs.Common.{◌≡◌, ℕ, ◌+◌, ◌-◌, ◌<◌, ◌≤◌, List, length, ap, subst, refl, arith}
 use Rattle.std.specs.Prelude.{slice_index_or}
-use Rattle.dq_base.specs.declared.sizes.Lengths.{Lengths}
 use Rattle.checkpoint_core.specs.declared.frame_log.Frame.{Frame}
 use Rattle.checkpoint_core.specs.Laying.{length_of, length_at}
 use Rattle.checkpoint_core.specs.Log.{lengths_of, LooksBack, AllLookBack}

@@ -1,4 +1,4 @@
-use Rattle.std.proofs.Common.{◌≡◌, ◌+◌, ◌-◌, List, ℕ, take, drop, min, ap, ◌∙◌, arith}
+use Rattle.std.proofs.Common.{◌≡◌, ◌+◌, ◌-◌, List, ℕ, take, drop, ap, ◌∙◌, arith}
 use Rattle.dq_base.specs.Images.{resized}
 use Rattle.checkpoint_core.proofs.ReadPages.{base_bytes}
 use Rattle.checkpoint_core.proofs.reading.page_of_base.Goals as goal

@@ -1,6 +1,5 @@
-use Rattle.std.proofs.Common.{◌≡◌, ◌-◌, ◌%◌, List, ℕ, get_or, take, sym, ap, ◌∙◌, subst}
-use Rattle.dq_base.specs.declared.pages.NumberedPage.{NumberedPage}
-use Rattle.dq_base.specs.Images.{resized, page_from, page_start}
+use Rattle.std.proofs.Common.{◌-◌, ◌%◌, ℕ, get_or, take, sym, ap, ◌∙◌, subst}
+use Rattle.dq_base.specs.Images.{resized, page_from}
 use Rattle.checkpoint_core.specs.Log.{PageOfBase}
 use Rattle.checkpoint_core.proofs.LaidBytes.{after_frames, frame_page, base_page}
 use Rattle.checkpoint_core.proofs.ReadPages.{no_page, last_of, none_of}

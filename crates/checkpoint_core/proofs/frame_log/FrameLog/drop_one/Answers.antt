@@ -1,4 +1,4 @@
-use Rattle.std.proofs.Common.{◌≡◌, drop, sym, subst}
+use Rattle.std.proofs.Common.{sym, subst}
 use Rattle.checkpoint_core.specs.Log.{LogHolds}
 use Rattle.checkpoint_core.proofs.FramesKept.{log_pop_front}
 use Rattle.checkpoint_core.proofs.frame_log.FrameLog.drop_one.Goals as goal

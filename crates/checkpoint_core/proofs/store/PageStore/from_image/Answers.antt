@@ -1,4 +1,4 @@
-use Rattle.std.proofs.Common.{◌≡◌, ℕ, List, [], Option, sym, ◌∙◌, subst}
+use Rattle.std.proofs.Common.{ℕ, List, [], Option, sym, ◌∙◌, subst}
 use Rattle.std.specs.Prelude.{vec_capacity}
 use Rattle.checkpoint_core.specs.Log.{Log}
 use Rattle.checkpoint_core.specs.Sets.{store_of}

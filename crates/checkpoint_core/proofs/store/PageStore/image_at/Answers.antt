@@ -1,4 +1,4 @@
-use Rattle.std.proofs.Common.{◌≡◌, ℕ, List, ap, ◌∙◌, subst}
+use Rattle.std.proofs.Common.{◌≡◌, ℕ, ap, ◌∙◌, subst}
 use Rattle.std.specs.Prelude.{vec_capacity, IfOk}
 use Rattle.dq_base.specs.declared.images.Image.{Image}
 use Rattle.checkpoint_core.specs.Store.{Store, image_under}

@@ -1,7 +1,7 @@
-use Rattle.std.proofs.Common.{◌≡◌, ℕ, List, length, ap, ◌∙◌, subst}
+use Rattle.std.proofs.Common.{◌≡◌, length, ap, ◌∙◌, subst}
 use Rattle.std.specs.Prelude.{vec_capacity, IfOk}
 use Rattle.dq_base.specs.declared.images.Image.{Image}
-use Rattle.checkpoint_core.specs.Store.{Store, newest_image}
+use Rattle.checkpoint_core.specs.Store.{newest_image}
 use Rattle.checkpoint_core.specs.Log.{laid_image}
 use Rattle.checkpoint_core.proofs.StoreKept.{newest_is}
 use Rattle.checkpoint_core.proofs.store.PageStore.newest_image.Goals as goal

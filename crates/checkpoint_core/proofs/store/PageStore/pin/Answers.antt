@@ -1,4 +1,4 @@
-use Rattle.std.proofs.Common.{◌≡◌, ℕ, List, Option, sym, ap, ◌∙◌, subst}
+use Rattle.std.proofs.Common.{◌≡◌, subst}
 use Rattle.std.specs.Prelude.{vec_capacity, IfOk}
 use Rattle.dq_base.specs.declared.images.Image.{Image}
 use Rattle.checkpoint_core.specs.Store.{Store, pinned, StillShows}
