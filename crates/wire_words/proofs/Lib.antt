@@ -1,4 +1,5 @@
 pub mod Choices
+pub mod Holding
 pub mod Nul
 pub mod Numbers
 pub mod Padding

@@ -5,7 +5,9 @@
 mod fault;
 mod laws;
 mod message;
+mod splitter;
 mod text;
+mod value;
 mod words;
 mod writer;
 
@@ -15,7 +17,9 @@ pub use laws::{
     words_read_back,
 };
 pub use message::{Header, Message};
+pub use splitter::{CLIENT_LIMIT, SplitFault, Splitter};
 pub use text::WireText;
+pub use value::{Dialect, Value, ValueType};
 pub use words::Words;
 pub use writer::Writer;
 

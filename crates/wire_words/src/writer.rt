@@ -1,10 +1,12 @@
 ghost use Rattle.std.specs.Prelude.{◌≡◌, ◌<◌, ◌≤◌, ◌+◌, ◌%◌, ◌↔◌, ◌∷◌, ◌++◌, ℕ, List, [], length, IfOk, IsErr};
 ghost use Rattle.byteorder.specs.Endian.{little_bytes};
-ghost use Rattle.wire_words.specs.Items.{word, pair, text, raw, HasNoNul, gap};
+ghost use Rattle.wire_words.specs.Items.{word, pair, text, raw, blob, HasNoNul, gap};
+ghost use Rattle.wire_words.specs.Values.{value, values, params, params_wide, row, IsWritable, AreWritable};
 ghost use Rattle.wire_words.specs.Message.{header, message, counted, words_after_header};
 ghost use Rattle.wire_words.specs.Writing.{AppendsOrKeeps};
 
 use crate::WireBytes;
+use crate::value::Value;
 use byteorder::{ByteOrder, LittleEndian};
 use std::alloc::{AllocError, Global};
 use std::marker::Model;
@@ -101,6 +103,57 @@ impl Writer {
     {
         let padding = filling(bytes.len());
         self.both(bytes, &ZEROS[..padding])
+    }
+
+    /// Writes a blob: the number of its bytes in a word, the bytes, and zeros to a whole word.
+    pub fn blob(&mut self, bytes: &[u8]) -> Result<(), AllocError>
+        ensures { AppendsOrKeeps self.old self.new (blob bytes.now) result }
+    {
+        Err(AllocError)
+    }
+
+    /// Writes the words of a value: for an integer one, in two's complement, and for a null one of zeros. A text may hold
+    /// no NUL. Its code is written by a tuple or a row.
+    pub fn value(&mut self, content: &Value) -> Result<(), AllocError>
+        requires { IsWritable content.now }
+        ensures { AppendsOrKeeps self.old self.new (value content.now) result }
+    {
+        Err(AllocError)
+    }
+
+    /// Writes the words of values, one value after the other. No text may hold a NUL.
+    pub fn values(&mut self, contents: &[Value]) -> Result<(), AllocError>
+        requires { AreWritable contents.now }
+        ensures { AppendsOrKeeps self.old self.new (values contents.now) result }
+    {
+        Err(AllocError)
+    }
+
+    /// Writes a tuple of at most 255 parameters: their number in one byte, a code for each, zeros to a whole word, and the
+    /// values. No text may hold a NUL.
+    pub fn params(&mut self, contents: &[Value]) -> Result<(), AllocError>
+        requires count { length contents.now ≤ 255 }
+        requires writable { AreWritable contents.now }
+        ensures { AppendsOrKeeps self.old self.new (params contents.now) result }
+    {
+        Err(AllocError)
+    }
+
+    /// Writes a wide tuple of at most 32,766 parameters, whose number has 32 bits. No text may hold a NUL.
+    pub fn params_wide(&mut self, contents: &[Value]) -> Result<(), AllocError>
+        requires count { length contents.now ≤ 32766 }
+        requires writable { AreWritable contents.now }
+        ensures { AppendsOrKeeps self.old self.new (params_wide contents.now) result }
+    {
+        Err(AllocError)
+    }
+
+    /// Writes a row: a code of four bits for each value, zeros to a whole word, and the values. No text may hold a NUL.
+    pub fn row(&mut self, contents: &[Value]) -> Result<(), AllocError>
+        requires { AreWritable contents.now }
+        ensures { AppendsOrKeeps self.old self.new (row contents.now) result }
+    {
+        Err(AllocError)
     }
 
     /// Writes the header of a message whose count of words is still 0; `finish_message` writes that count.
