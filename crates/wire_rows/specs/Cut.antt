@@ -1,5 +1,5 @@
 -- The cut of an answer's rows into parts.
-use Rattle.std.specs.Prelude.{◌≡◌, ◌≤◌, ◌+◌, ℕ, zero, suc, Bool, List, [], ◌∷◌, ◌++◌, length, take, drop, max, sum_by, nat_le, if◌then◌else◌}
+use Rattle.std.specs.Prelude.{◌≡◌, ◌≤◌, ◌⊎◌, ℕ, zero, suc, Bool, true, false, List, [], ◌∷◌, ◌++◌, length, take, drop, max, sum_by, nat_le, if◌then◌else◌}
 use Rattle.wire_words.specs.declared.value.Value.{Value}
 use Rattle.wire_rows.specs.declared.part.More.{More}
 use Rattle.wire_rows.specs.declared.part.More.TheVariants.{Last, Follows}
@@ -50,3 +50,21 @@ bodies columns (part ∷ parts) = body_bytes columns part (more_after parts) ∷
 -- how many bytes they have together
 abbrev pub total_size : List (List ℕ) → ℕ
 total_size parts = sum_by length parts
+
+-- ---- what the cut means
+
+-- the rows of parts, one part after the other
+abbrev pub joined : List Rows → Rows
+joined [] = []
+joined (part ∷ parts) = part ++ joined parts
+
+-- one row more has no room in this part, where another row follows
+abbrev pub IsFull : List (List ℕ) → Rows → List Rows → Type 0
+IsFull columns part [] = Unit {0}
+IsFull columns part ([] ∷ parts) = ⊥
+IsFull columns part ((values ∷ rows) ∷ parts) = has_room columns (part ++ values ∷ []) ≡ false
+
+-- each part has room in its body, or one row at most, and one row more has no room in it
+abbrev pub AreGreedy : List (List ℕ) → List Rows → Type 0
+AreGreedy columns [] = Unit {0}
+AreGreedy columns (part ∷ parts) = ((has_room columns part ≡ true) ⊎ (length part ≤ 1)) × IsFull columns part parts × AreGreedy columns parts

@@ -1,9 +1,12 @@
 -- Reading the body of a part from left to right, with the first fault that is met: the number of columns, their names, rows
 -- up to an end word, and the end of the body.
-use Rattle.std.specs.Prelude.{◌≡◌, ◌==◌, ◌+◌, ◌/◌, ◌||◌, ℕ, zero, suc, List, [], ◌∷◌, length, Option, Some, None, Result, Ok, Err, MatchResult, if◌then◌else◌}
+use Rattle.std.specs.Prelude.{◌≡◌, ◌<◌, ◌^◌, ◌==◌, ◌+◌, ◌/◌, ◌||◌, ℕ, zero, suc, List, [], ◌∷◌, length, Option, Some, None, Result, Ok, Err, MatchResult, IsUtf8, if◌then◌else◌}
+use Rattle.std.specs.List.{AllByRecursion}
 use Rattle.wire_words.specs.declared.fault.WordFault.{WordFault}
 use Rattle.wire_words.specs.declared.fault.WordFault.TheVariants as word_faults
 use Rattle.wire_words.specs.declared.value.Value.{Value}
+use Rattle.wire_words.specs.Items.{HasNoNul}
+use Rattle.wire_words.specs.Values.{IsInRange}
 use Rattle.wire_words.specs.Reading.{◌>>=◌, Unread, unread, word_at, text_at}
 use Rattle.wire_words.specs.ReadingValues.{row_at}
 use Rattle.wire_rows.specs.declared.fault.RowReadFault.{RowReadFault}
@@ -13,6 +16,8 @@ use Rattle.wire_rows.specs.declared.part.More.TheVariants.{Last, Follows}
 use Rattle.wire_rows.specs.declared.part.Part.{Part}
 use Rattle.wire_rows.specs.declared.reading.Next.{Next}
 use Rattle.wire_rows.specs.declared.reading.Next.TheVariants.{Row, End}
+use Rattle.wire_rows.specs.Spelling.{HaveWidth}
+use Rattle.wire_rows.specs.Cut.{Rows, more_after}
 
 -- the fault of a part, where an item has this one
 abbrev pub of_word : WordFault → RowReadFault
@@ -105,3 +110,23 @@ Finds view read old new result = MatchResult result (λ x. read old ≡ Ok (view
 -- A call gave what reading gives, unless memory ran out.
 abbrev pub Gives : {X : Type 0} → Result X RowReadFault → Result X RowReadFault → Type 0
 Gives reading result = MatchResult result (λ x. reading ≡ Ok x) (λ fault. FailsReading fault reading)
+
+-- ---- what is read back
+
+-- these parts, each with whether another follows
+abbrev pub read_as : List (List ℕ) → List Rows → List (Result (Part × More) RowReadFault)
+read_as columns [] = []
+read_as columns (part ∷ parts) = Ok (record { columns = columns; rows = part }, more_after parts) ∷ read_as columns parts
+
+-- the name of a column: UTF-8 without a NUL
+abbrev pub IsName : List ℕ → Type 0
+IsName name = IsUtf8 name × HasNoNul name
+
+-- An answer that the wire can carry: 64 bits hold the number of columns, each row has as many values, which have
+-- spellings, and where there are no columns there are no rows.
+pub record IsSendable (columns : List (List ℕ)) (rows : Rows) : Type 0 where
+  pub count_fits : length columns < 2 ^ 64
+  pub names : AllByRecursion IsName columns
+  pub widths : HaveWidth (length columns) rows
+  pub values : AllByRecursion (AllByRecursion IsInRange) rows
+  pub no_columns : length columns ≡ 0 → rows ≡ []

@@ -5,21 +5,19 @@
 //! part, and eight bytes EE in the others.
 #![tactic(auto)]
 
+mod columns;
 mod fault;
 mod laws;
-
 mod nuls;
 mod part;
 mod reading;
 mod row;
 mod sizes;
-
 mod writing;
 
 pub use fault::{RowFault, RowReadFault};
-
+pub use laws::{end_words_begin_no_row, parts_read_back, parts_take_all_rows};
 pub use part::{More, Part};
 pub use reading::read_part;
 pub use row::Row;
 pub use writing::{ANSWER_LIMIT, PART_LIMIT, parts};
-

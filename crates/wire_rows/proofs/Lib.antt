@@ -1,0 +1,9 @@
+pub mod Cutting
+pub mod Ends
+pub mod FirstBytes
+pub mod Greedy
+pub mod GreedyLaws
+pub mod Lengths
+pub mod NulPlaces
+pub mod ReadLoops
+pub mod Spelled
