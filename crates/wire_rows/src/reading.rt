@@ -53,7 +53,7 @@ fn end_or(words: &mut Words<'_>, fault: RowReadFault) -> Result<Next, RowReadFau
 
 /// A row, or the end word, which no row begins as.
 #[tactic(auto, unfolding(crate::specs::Reading::next_at), using(crate::proofs::Ends::row_not_end))]
-fn next(alloc: Global, words: &mut Words<'_>, count: u64) -> Result<Next, RowReadFault>
+fn row_or_end(alloc: Global, words: &mut Words<'_>, count: u64) -> Result<Next, RowReadFault>
     ensures { Finds (λ next. next) (next_at count) words.old words.new result }
 {
     if count == 0 || words.left() == 0 {
@@ -72,7 +72,7 @@ fn rows(alloc: Global, words: &mut Words<'_>, count: u64) -> Result<(Vec<Row>, M
     let mut rows = Vec::new(alloc);
     let budget = words.left();
     for _ in 0..budget {
-        let item = next(alloc, words, count)?;
+        let item = row_or_end(alloc, words, count)?;
         match item {
             Next::Row(row) => rows.push(row)?,
             Next::End(more) => return Ok((rows, more)),

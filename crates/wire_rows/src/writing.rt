@@ -114,7 +114,7 @@ fn all_bodies(
 pub fn parts(alloc: Global, columns: &[WireText], rows: &[Row]) -> Result<Vec<WireBytes>, RowFault>
     requires names { HaveNoNul columns.now }
     requires widths { HaveWidth (length columns.now) rows.now }
-    requires no_columns { columns.now ≡ [] → rows.now ≡ [] }
+    requires no_columns { length columns.now ≡ 0 → rows.now ≡ [] }
     ensures cut { IfOk result (λ parts. parts.items ≡ bodies columns.now (cut columns.now rows.now)) }
     ensures size { IfOk result (λ parts. total_size parts.items ≤ 16777216) }
     ensures nul { (row column : ℕ) → IsErrOf result (RowFault.Nul row column) → IsFirstNul rows.now row column }
