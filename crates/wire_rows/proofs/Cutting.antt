@@ -1,19 +1,22 @@
 -- The cut of rows into parts, one part after the other.
-use Rattle.std.proofs.Common.{◌≡◌, ◌+◌, ◌-◌, ◌<◌, ◌≤◌, ℕ, zero, suc, List, [], ◌∷◌, ◌++◌, length, take, drop, sum_by, refl, sym, ap, ◌∙◌, arith}
+use Rattle.std.proofs.Common.{◌≡◌, ◌+◌, ◌-◌, ◌^◌, ◌<◌, ◌≤◌, ℕ, zero, suc, Bool, true, false, List, [], ◌∷◌, ◌++◌, length, take, drop, sum_by, append_assoc, refl, sym, ap, ◌∙◌, arith}
 use Rattle.std.proofs.lemmas.List.{length-drop, nil_from_length, at_drop_all, take_all}
 use Rattle.std.proofs.lemmas.List.Sums.{sum_by-cons}
+use Rattle.std.proofs.lemmas.Bool.{eqb-true, eqb-false}
+use Rattle.std.proofs.Math.Dec.{eqb}
 use Rattle.wire_words.specs.declared.value.Value.{Value}
 use Rattle.wire_rows.specs.declared.part.More.{More}
 use Rattle.wire_rows.specs.declared.part.More.TheVariants.{Last, Follows}
 use Rattle.wire_rows.specs.Spelling.{body_bytes}
 use Rattle.wire_rows.specs.Cut.{Rows, first_count, where_any, cut_in, cut, more_after, bodies, total_size}
+use Rattle.wire_rows.specs.Answering.{held}
 use Rattle.wire_rows.proofs.Greedy.{one_at_least}
 
 drop_of_none : (n : ℕ) (rows : Rows) → length rows ≤ 0 → drop n rows ≡ []
 drop_of_none n rows none = at_drop_all (λ (rs : Rows). rs) rows n (omega arith)
 
 -- what is left behind the first part is shorter
-rest_shorter : (columns : List (List ℕ)) (rows : Rows) (n : ℕ) → length rows ≤ suc n → length (drop (first_count columns rows) rows) ≤ n
+pub rest_shorter : (columns : List (List ℕ)) (rows : Rows) (n : ℕ) → length rows ≤ suc n → length (drop (first_count columns rows) rows) ≤ n
 rest_shorter columns rows n le = let one = one_at_least columns rows in rw (length-drop (first_count columns rows) rows) (omega arith)
 
 -- enough parts are allowed where as many are as there are rows
@@ -92,3 +95,35 @@ fewer_rows columns rows rest behind some =
     let one = one_at_least columns rows in
     let size : length rest ≡ length rows - first_count columns rows = ap length behind ∙ length-drop (first_count columns rows) rows in
     omega arith
+
+some_left : (rest : Rows) (empty : Bool) → empty ≡ eqb (length rest) 0 → empty ≡ false → 0 < length rest
+some_left [] empty is more = absurd (eqb-false 0 0 (sym is ∙ more) refl)
+some_left (r ∷ rest) empty is more = omega arith
+
+none_left : (rest : Rows) (empty : Bool) → empty ≡ eqb (length rest) 0 → empty ≡ true → length rest ≡ 0
+none_left rest empty is none = eqb-true (length rest) 0 (sym is ∙ none)
+
+-- adding the sizes of bodies up, at the last part
+pub sum_at_end : (columns : List (List ℕ)) (rows part rest : Rows) (empty : Bool) (total size sum whole : ℕ) → part ≡ take (first_count columns rows) rows → rest ≡ drop (first_count columns rows) rows
+    → empty ≡ eqb (length rest) 0 → empty ≡ true → sum ≡ held (total + size) → size ≡ held (length (body_bytes columns part Last))
+    → held (total + total_size (bodies columns (cut columns rows))) ≡ whole → sum ≡ whole
+sum_at_end columns rows part rest empty total size sum whole first behind is none added sized so_far =
+    let last = total_last columns rows part rest first behind (none_left rest empty is none) in
+    omega (arith, added, sized, rw last at so_far)
+
+-- and at another
+pub sum_goes_on : (columns : List (List ℕ)) (rows part rest : Rows) (empty : Bool) (total size sum whole : ℕ) → part ≡ take (first_count columns rows) rows → rest ≡ drop (first_count columns rows) rows
+    → empty ≡ eqb (length rest) 0 → empty ≡ false → sum ≡ held (total + size) → size ≡ held (length (body_bytes columns part Follows))
+    → held (total + total_size (bodies columns (cut columns rows))) ≡ whole → held (sum + total_size (bodies columns (cut columns rest))) ≡ whole
+sum_goes_on columns rows part rest empty total size sum whole first behind is some added sized so_far =
+    let more = total_more columns rows part rest first behind (some_left rest empty is some) in
+    omega (arith, added, sized, rw more at so_far)
+
+-- bodies that were made, and those of the rows that are left
+pub bodies_go_on : (columns : List (List ℕ)) (rows part rest : Rows) (empty : Bool) (made new whole : List (List ℕ)) (body : List ℕ) → part ≡ take (first_count columns rows) rows → rest ≡ drop (first_count columns rows) rows
+    → empty ≡ eqb (length rest) 0 → empty ≡ false → body ≡ body_bytes columns part Follows → new ≡ made ++ body ∷ []
+    → made ++ bodies columns (cut columns rows) ≡ whole → new ++ bodies columns (cut columns rest) ≡ whole
+bodies_go_on columns rows part rest empty made new whole body first behind is some spelled pushed so_far =
+    let more = bodies_more columns rows part rest first behind (some_left rest empty is some) in
+    let left = bodies columns (cut columns rest) in
+    ap (λ (xs : List (List ℕ)). xs ++ left) pushed ∙ append_assoc made (body ∷ []) left ∙ ap (λ (b : List ℕ). made ++ b ∷ left) spelled ∙ sym (ap (λ (xs : List (List ℕ)). made ++ xs) more) ∙ so_far

@@ -55,7 +55,7 @@ first_fits columns rows =
     let l = largest passes (length rows) in
     elim (leb_tells 1 l) [
       | inl w ↦ let some : 1 ≤ l = w.1 in let same : max 1 l ≡ l = omega arith in
-          elim (largest_passes passes (length rows)) [ inl yes ↦ inl (ap passes same ∙ yes) | inr none ↦ absurd (omega arith) ]
+          elim (largest_passes passes (length rows)) [ inl fits ↦ inl (ap passes same ∙ fits) | inr none ↦ absurd (omega arith) ]
       | inr w ↦ let none : l < 1 = w.1 in let same : max 1 l ≡ 1 = omega arith in
           inr (subst (λ (k : ℕ). length (take k rows) ≤ 1) (sym same) (let size = length-take 1 rows in omega arith))
     ]

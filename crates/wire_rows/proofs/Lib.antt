@@ -7,3 +7,4 @@ pub mod Lengths
 pub mod NulPlaces
 pub mod ReadLoops
 pub mod Spelled
+pub mod Tables

@@ -12,16 +12,16 @@ use Rattle.wire_rows.specs.Cut.{Rows}
 use Rattle.wire_rows.specs.Nuls.{holds_nul, place_in, nul_from, first_nul, IsFirstNul}
 
 writable : (v : Value) → holds_nul v ≡ false → IsWritable v
-writable (Integer n) no = tt
-writable (Text t) no = no
-writable (Blob b) no = tt
-writable Null no = tt
+writable (Integer n) clean = tt
+writable (Text t) clean = clean
+writable (Blob b) clean = tt
+writable Null clean = tt
 
 text_of : (v : Value) → holds_nul v ≡ true → (t : List ℕ) × (v ≡ Text t) × (has_nul t ≡ true)
-text_of (Integer n) yes = absurd cc
-text_of (Text t) yes = (t, refl, yes)
-text_of (Blob b) yes = absurd cc
-text_of Null yes = absurd cc
+text_of (Integer n) holds = absurd cc
+text_of (Text t) holds = (t, refl, holds)
+text_of (Blob b) holds = absurd cc
+text_of Null holds = absurd cc
 
 -- in this column of a row stands a text with a NUL, and none stands before it
 record InRow (values : List Value) (column : ℕ) : Type 0 where
@@ -75,8 +75,15 @@ row_writable values e = none_in 0 values (sym (position_from-zero holds_nul valu
 abbrev Located : Rows → ℕ → ℕ → ℕ → Type 0
 Located rows from r c = (k : ℕ) × (r ≡ from + k) × IsFirstNul rows k c
 
-pair_is : (a b c d : ℕ) → Some (a, b) ≡ Some (c, d) → (a ≡ c) × (b ≡ d)
-pair_is a b c d e = let same : (a, b) ≡ (c, d) = some_is (a, b) (c, d) e in (ap (λ (p : ℕ × ℕ). p.0) same, ap (λ (p : ℕ × ℕ). p.1) same)
+abbrev at_place : ℕ → ℕ → Option (ℕ × ℕ)
+at_place a b = Some (a, b)
+
+pair_is : (a b c d : ℕ) → at_place a b ≡ at_place c d → (a ≡ c) × (b ≡ d)
+pair_is a b c d e =
+    let x : ℕ × ℕ = (a, b) in
+    let y : ℕ × ℕ = (c, d) in
+    let same : x ≡ y = some_is x y e in
+    (ap (λ (p : ℕ × ℕ). p.0) same, ap (λ (p : ℕ × ℕ). p.1) same)
 
 located_at : (from : ℕ) (values : List Value) (rows : Rows) (r c : ℕ) (place : Option ℕ) → position holds_nul values ≡ place → place_in from place (nul_from (from + 1) rows) ≡ Some (r, c)
     → (nul_from (from + 1) rows ≡ Some (r, c) → Located rows (from + 1) r c) → Located (values ∷ rows) from r c
