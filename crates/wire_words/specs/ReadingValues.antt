@@ -1,6 +1,6 @@
 -- Reading values, tuples and rows from left to right, with the first fault that is met. The head of a tuple or a row is
 -- one item, and each value after it is one.
-use Rattle.std.specs.Prelude.{◌==◌, ◌+◌, ◌/◌, ◌%◌, ℕ, Bool, true, false, List, [], ◌∷◌, length, take, drop, Option, Some, None, Result, Ok, Err, nat_lt, if◌then◌else◌}
+use Rattle.std.specs.Prelude.{◌≡◌, ◌==◌, ◌+◌, ◌/◌, ◌%◌, ℕ, Bool, true, false, List, [], ◌∷◌, length, take, drop, Option, Some, None, Result, Ok, Err, MatchResult, nat_lt, if◌then◌else◌}
 use Rattle.std.specs.Int.{w64, cast_signed}
 use Rattle.std.specs.List.{list_all, list_any}
 use Rattle.byteorder.specs.Endian.{little_number}
@@ -13,7 +13,7 @@ use Rattle.wire_words.specs.declared.value.ValueType.TheVariants as types
 use Rattle.wire_words.specs.declared.value.Dialect.{Dialect}
 use Rattle.wire_words.specs.declared.value.Dialect.TheVariants as dialects
 use Rattle.wire_words.specs.Items.{gap, is_zero}
-use Rattle.wire_words.specs.Reading.{◌>>=◌, Unread, past, word_at, text_at, blob_at}
+use Rattle.wire_words.specs.Reading.{◌>>=◌, Unread, word_at, text_at, raw_at, blob_at, filled_at, Fails}
 
 -- ---- types by their codes
 
@@ -97,23 +97,24 @@ values_at dialect (t ∷ ts) left = do
 
 -- ---- tuples and rows
 
--- the head of a tuple: so many codes after a count of this width, and what fills them up to a whole word
+-- the head of a tuple: so many codes behind a count of this width, and what fills them up to a whole word
 abbrev pub codes_at : ℕ → ℕ → Unread → Result (List ValueType × Unread) WordFault
-codes_at width count left =
-    if nat_lt (length left.bytes) (width + count + gap (width + count)) then Err (Short left.at)
-    else types_at dialects.Client left.at (take count (drop width left.bytes)) >>= λ ts. Ok (ts, past (width + count + gap (width + count)) left)
+codes_at width count left = do
+  head ← filled_at dialects.Client left.at (width + count) left
+  types ← types_at dialects.Client left.at (drop width head.0)
+  Ok (types, head.1)
 
--- the head of a tuple, with its count in so many bytes
-unfoldable pub tuple_head_at : ℕ → Unread → Result (List ValueType × Unread) WordFault
-tuple_head_at width left =
-    if nat_lt (length left.bytes) width then Err (Short left.at)
-    else codes_at width (little_number width left.bytes) left
-
--- a tuple as a client writes it
-unfoldable pub tuple_at : ℕ → Unread → Result (List Value × Unread) WordFault
-tuple_at width left = do
-  types ← tuple_head_at width left
+-- a tuple of so many values, whose count has this width
+abbrev pub tuple_with : ℕ → ℕ → Unread → Result (List Value × Unread) WordFault
+tuple_with width count left = do
+  types ← codes_at width count left
   values_at dialects.Client types.0 types.1
+
+-- a tuple as a client writes it, with its count in so many bytes
+unfoldable pub tuple_at : ℕ → Unread → Result (List Value × Unread) WordFault
+tuple_at width left =
+    if nat_lt (length left.bytes) width then Err (Short left.at)
+    else tuple_with width (little_number width left.bytes) left
 
 -- a tuple whose count is one byte
 abbrev pub params_at : Unread → Result (List Value × Unread) WordFault
@@ -128,24 +129,29 @@ abbrev pub split_halves : List ℕ → List ℕ
 split_halves [] = []
 split_halves (b ∷ bytes) = (b % 16) ∷ (b / 16) ∷ split_halves bytes
 
--- how many whole words so many codes of four bits fill, in bytes
+-- how many bytes so many codes of four bits fill, up to a whole word
 abbrev pub row_head_size : ℕ → ℕ
 row_head_size count = (count + 1) / 2 + gap ((count + 1) / 2)
 
 -- the types of a row of so many values, of whose head these are the codes and the zeros behind them
 abbrev pub row_types : ℕ → ℕ → List ℕ → Result (List ValueType) WordFault
-row_types at count ns = do
-  types ← types_at dialects.Exact at (take count ns)
-  if list_all is_zero (drop count ns) then Ok types else Err (Pad at)
+row_types at count halves = do
+  types ← types_at dialects.Exact at (take count halves)
+  if list_all is_zero (drop count halves) then Ok types else Err (Pad at)
 
--- the head of a row of so many values
+-- the head of a row of so many values: whole words with their codes
 unfoldable pub row_head_at : ℕ → Unread → Result (List ValueType × Unread) WordFault
-row_head_at count left =
-    if nat_lt (length left.bytes) (row_head_size count) then Err (Short left.at)
-    else row_types left.at count (split_halves (take (row_head_size count) left.bytes)) >>= λ ts. Ok (ts, past (row_head_size count) left)
+row_head_at count left = do
+  head ← raw_at (row_head_size count) left
+  types ← row_types left.at count (split_halves head.0)
+  Ok (types, head.1)
 
 -- a row of so many values
 unfoldable pub row_at : ℕ → Unread → Result (List Value × Unread) WordFault
 row_at count left = do
   types ← row_head_at count left
   values_at dialects.Exact types.0 types.1
+
+-- What a call gave is what reading gives, unless memory ran out.
+abbrev pub Found : {X Y : Type 0} → (X → Y) → Result Y WordFault → Result X WordFault → Type 0
+Found view reading result = MatchResult result (λ x. reading ≡ Ok (view x)) (λ e. Fails e reading)

@@ -117,6 +117,13 @@ answer_of messages end = Ok messages
 abbrev pub answer : Stream → Result (List Message) SplitFault
 answer stream = answer_of stream.messages stream.end
 
+-- the messages were answered, or where there are none the fault
+abbrev pub Answers : {X : Type 0} → (X → List Message) → List Message → Option SplitFault → Result X SplitFault → Type 0
+Answers view messages fault result =
+    MatchResult result
+    (λ x. (view x ≡ messages) × (messages ≡ [] → fault ≡ None))
+    (λ f. (messages ≡ []) × (fault ≡ Some f))
+
 -- A feed failed with this fault: want of memory leaves the splitter as it was, and any other fault is the answer.
 abbrev pub FeedFails : SplitFault → Splitting → Splitting → Stream → Type 0
 FeedFails NoMemory old new added = new ≡ old

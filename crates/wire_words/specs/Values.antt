@@ -1,6 +1,6 @@
 -- Values: the one spelling of each, alone, in a tuple and in a row, and which bytes spell it.
 use Rattle.std.specs.Prelude.{◌≡◌, ◌<◌, ◌^◌, ◌+◌, ◌*◌, ◌%◌, ℕ, ℤ, List, [], ◌∷◌, ◌++◌, length, IsUtf8, FitsSigned}
-use Rattle.std.specs.Int.{w64, cast_unsigned}
+use Rattle.std.specs.Int.{w64, cast_unsigned, cast_signed}
 use Rattle.std.specs.List.{AllByRecursion}
 use Rattle.byteorder.specs.Endian.{little_bytes}
 use Rattle.wire_words.specs.declared.value.Value.{Value}
@@ -111,10 +111,11 @@ pub record Joined (IsFirst IsSecond : List ℕ → Type 0) (bytes : List ℕ) : 
   pub is_first : IsFirst first
   pub is_second : IsSecond second
 
--- these bytes spell the integer
+-- these bytes spell the integer: they are a word, and it is the integer in two's complement
 pub record IsInteger (n : ℤ) (bytes : List ℕ) : Type 0 where
-  pub fits : FitsSigned w64 n
-  pub spelled : IsWord (cast_unsigned w64 n) bytes
+  pub number : ℕ
+  pub spelled : IsWord number bytes
+  pub read_so : n ≡ cast_signed w64 number
 
 -- these bytes spell the blob: its length in a word, it itself, and what fills it up
 abbrev pub IsBlob : Dialect → List ℕ → List ℕ → Type 0

@@ -1,8 +1,9 @@
 ghost use Rattle.std.specs.Prelude.{◌≡◌, ◌++◌, [], length, IfOk, IfErr, List, ℕ};
 ghost use Rattle.wire_words.specs.declared.splitter.SplitFault.TheVariants.{NoMemory};
-ghost use Rattle.wire_words.specs.Stream.{Feeds, Adds, BreaksWith, going_on, fed, client_limit, version_word, unread_bytes};
+ghost use Rattle.wire_words.specs.Stream.{Feeds, Answers, Adds, BreaksWith, going_on, fed, client_limit, version_word, unread_bytes};
 
 use crate::message::Message;
+use crate::unfinished::{Unfinished, go_on};
 use std::alloc::{AllocError, AllocFailed, Global};
 use std::marker::Model;
 use thiserror::Error;
@@ -52,23 +53,28 @@ pub struct Splitter {
     alloc: Global,
     limit: u32,
     fault: Option<SplitFault>,
-    begun: bool,
-    /// The first bytes of the version word or of a header, and behind them bytes of no meaning.
-    head: [u8; 8],
-    head_len: usize,
-    body: Vec<u8>,
+    unfinished: Unfinished,
 }
 
 impl Model for Splitter {
-    ghost use Rattle.std.specs.Prelude.{◌++◌, take};
     ghost use Rattle.wire_words.specs.Stream.{Splitting, end_with};
-    ghost use Rattle.wire_words.specs.Holding.{Holds};
+    ghost use Rattle.wire_words.specs.Holding.{Holds, held_bytes};
 
     ghost Value = { Splitting };
 
-    ghost view = { λ s. record { limit = s.limit; end = end_with s.fault s.begun (take s.head_len s.head ++ s.body.items) } };
+    ghost view = { λ s. record { limit = s.limit; end = end_with s.fault s.unfinished.begun (held_bytes s.unfinished) } };
 
-    ghost invariant = { λ s. Holds s.limit s.begun s.head s.head_len s.body.items };
+    ghost invariant = { λ s. Holds s.limit s.unfinished };
+}
+
+/// The messages, or where there are none the fault.
+fn answer(messages: Vec<Message>, fault: Option<SplitFault>) -> Result<Vec<Message>, SplitFault>
+    ensures { Answers (λ messages. messages.items) messages.items fault result }
+{
+    match fault {
+        Some(fault) if messages.is_empty() => Err(fault),
+        _ => Ok(messages),
+    }
 }
 
 impl Splitter {
@@ -80,10 +86,7 @@ impl Splitter {
             alloc,
             limit: CLIENT_LIMIT,
             fault: None,
-            begun: false,
-            head: [0; 8],
-            head_len: 0,
-            body: Vec::new(alloc),
+            unfinished: Unfinished::nothing(alloc, false),
         }
     }
 
@@ -96,10 +99,7 @@ impl Splitter {
             alloc,
             limit: CLIENT_LIMIT,
             fault: None,
-            begun: true,
-            head: [0; 8],
-            head_len: 0,
-            body: Vec::new(alloc),
+            unfinished: Unfinished::nothing(alloc, true),
         }
     }
 
@@ -111,7 +111,7 @@ impl Splitter {
         if self.fault.is_some() {
             0
         } else {
-            (self.head_len + self.body.len()) as u64
+            (self.unfinished.head_len + self.unfinished.body.len()) as u64
         }
     }
 
@@ -128,6 +128,25 @@ impl Splitter {
         ensures fault { (before : List ℕ) → self.old ≡ fed self.old.limit before → IfErr result (λ fault.
             BreaksWith fault self.old.limit before (before ++ piece.now) self.old self.new) }
     {
-        Err(SplitFault::NoMemory)
+        self.add(piece)
+    }
+
+    /// Takes a piece, and answers what it adds to the stream.
+    fn add(&mut self, piece: &[u8]) -> Result<Vec<Message>, SplitFault>
+        ensures { Feeds (λ messages. messages.items) self.old self.new (going_on self.old.limit self.old.end piece.now) result }
+    {
+        if let Some(fault) = self.fault {
+            return Err(fault);
+        }
+        let mut messages = Vec::new(self.alloc);
+        let fault = go_on(
+            self.alloc,
+            self.limit,
+            &mut self.unfinished,
+            piece,
+            &mut messages,
+        )?;
+        self.fault = fault;
+        answer(messages, fault)
     }
 }

@@ -1,6 +1,6 @@
-ghost use Rattle.std.specs.Prelude.{◌≡◌, ◌↔◌, IsTrue};
+ghost use Rattle.std.specs.Prelude.{◌≡◌, ◌<◌, ◌↔◌, IsTrue};
 ghost use Rattle.wire_words.specs.Values.{code, type_of, IsWritable};
-ghost use Rattle.wire_words.specs.ReadingValues.{type_with, client_type};
+ghost use Rattle.wire_words.specs.ReadingValues.{type_with, client_type, is_float};
 
 use crate::WireBytes;
 use crate::text::WireText;
@@ -75,6 +75,13 @@ impl ValueType {
         }
     }
 
+    /// Whether it is that of floating-point numbers.
+    pub(crate) fn is_float(self) -> bool
+        ensures { result ≡ is_float self }
+    {
+        matches!(self, ValueType::Float)
+    }
+
     /// The code that stands for the type. Takes no memory.
     pub fn code(self) -> u8
         ensures { result ≡ code self }
@@ -103,6 +110,14 @@ impl Value {
             Value::Blob(_) => ValueType::Blob,
             Value::Null => ValueType::Null,
         }
+    }
+
+    /// The code of that type, which has four bits.
+    pub(crate) fn code(&self) -> u8
+        ensures code { result ≡ code (type_of self.now) }
+        ensures small { result < 16 }
+    {
+        self.value_type().code()
     }
 
     /// Whether the value can be written: a text may hold no NUL. Takes no memory.

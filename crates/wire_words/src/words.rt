@@ -4,12 +4,11 @@ ghost use Rattle.std.specs.Str.{is_utf8};
 ghost use Rattle.byteorder.specs.Endian.{little_number};
 ghost use Rattle.wire_words.specs.Items.{gap, is_zero};
 ghost use Rattle.wire_words.specs.Reading.{Gives, unread, word_at, pair_at, raw_at, text_at, blob_at, filled_at, may_fill};
-ghost use Rattle.wire_words.specs.ReadingValues.{value_at, values_at, params_at, params_wide_at, row_at};
 
 use crate::WireBytes;
 use crate::fault::WordFault;
 use crate::text::WireText;
-use crate::value::{Dialect, Value, ValueType};
+use crate::value::Dialect;
 use crate::writer::filling;
 use byteorder::{ByteOrder, LittleEndian};
 use std::alloc::Global;
@@ -59,7 +58,7 @@ fn two_numbers(bytes: &[u8]) -> (u32, u32)
     (LittleEndian::read_u32(first), LittleEndian::read_u32(rest))
 }
 
-fn are_zero(bytes: &[u8]) -> bool
+pub(crate) fn are_zero(bytes: &[u8]) -> bool
     ensures { result ≡ list_all is_zero bytes.now }
 {
     bytes.iter().all(|b| *b == 0)
@@ -143,8 +142,30 @@ impl<'a> Words<'a> {
         Ok(numbers)
     }
 
+    // A second reader at the same place.
+    pub(crate) fn ahead(&self) -> Words<'a>
+        ensures { result ≡ self.now }
+    {
+        Words {
+            body: self.body,
+            place: self.place,
+        }
+    }
+
+    // The bytes that are left.
+    pub(crate) fn rest(&self) -> &'a [u8]
+        ensures { result.now ≡ self.now.bytes }
+    {
+        &self.body[self.place..]
+    }
+
     // So many bytes of an item that begins at `at`, which may be before here, and what fills them up to a whole word.
-    fn filled_slice(&mut self, dialect: Dialect, at: u64, size: u64) -> Result<&'a [u8], WordFault>
+    pub(crate) fn filled_slice(
+        &mut self,
+        dialect: Dialect,
+        at: u64,
+        size: u64,
+    ) -> Result<&'a [u8], WordFault>
         ensures exact { Gives (λ bytes. bytes.now) (filled_at dialect at size) self.old self.new result }
         ensures size { IfOk result (λ bytes. length bytes.now ≡ size) }
         ensures memory { IsErrOf result WordFault.NoMemory → ⊥ }
@@ -179,10 +200,7 @@ impl<'a> Words<'a> {
         ensures size { IfOk result (λ bytes. length bytes ≡ size) }
         ensures memory { IsErrOf result WordFault.NoMemory → IsOk (raw_at size self.old) }
     {
-        let mut ahead = Words {
-            body: self.body,
-            place: self.place,
-        };
+        let mut ahead = self.ahead();
         let bytes = Vec::from_slice(alloc, ahead.raw_slice(size)?)?;
         *self = ahead;
         Ok(WireBytes::new(bytes))
@@ -219,10 +237,7 @@ impl<'a> Words<'a> {
         ensures exact { Gives (λ text. text) text_at self.old self.new result }
         ensures memory { IsErrOf result WordFault.NoMemory → IsOk (text_at self.old) }
     {
-        let mut ahead = Words {
-            body: self.body,
-            place: self.place,
-        };
+        let mut ahead = self.ahead();
         let text = String::from_str(alloc, ahead.text_str()?)?;
         *self = ahead;
         Ok(WireText::new(text))
@@ -230,15 +245,12 @@ impl<'a> Words<'a> {
 
     // The number of a blob's bytes in a word, and so many bytes with what fills them up.
     #[tactic(auto, unfolding(crate::specs::Reading::blob_at))]
-    fn blob_in(&mut self, dialect: Dialect) -> Result<&'a [u8], WordFault>
+    pub(crate) fn blob_in(&mut self, dialect: Dialect) -> Result<&'a [u8], WordFault>
         ensures exact { Gives (λ bytes. bytes.now) (blob_at dialect) self.old self.new result }
         ensures memory { IsErrOf result WordFault.NoMemory → ⊥ }
     {
         let at = self.place();
-        let mut ahead = Words {
-            body: self.body,
-            place: self.place,
-        };
+        let mut ahead = self.ahead();
         let size = ahead.u64()?;
         let bytes = ahead.filled_slice(dialect, at, size)?;
         *self = ahead;
@@ -260,67 +272,9 @@ impl<'a> Words<'a> {
         ensures exact { Gives (λ bytes. bytes) (blob_at Dialect.Exact) self.old self.new result }
         ensures memory { IsErrOf result WordFault.NoMemory → IsOk (blob_at Dialect.Exact self.old) }
     {
-        let mut ahead = Words {
-            body: self.body,
-            place: self.place,
-        };
+        let mut ahead = self.ahead();
         let bytes = Vec::from_slice(alloc, ahead.blob_slice()?)?;
         *self = ahead;
         Ok(WireBytes::new(bytes))
-    }
-
-    /// Reads the words of a value of this type. `Float` where the type is that of floating-point numbers; `Short`, `NoNul`,
-    /// `NotUtf8` and `Pad` as where a word, a text or a blob is read, and `Pad` where the word of a null isn't zero; what
-    /// fills up a client's blob isn't looked at. `NoMemory` is want of memory for a copy.
-    pub fn value(
-        &mut self,
-        alloc: Global,
-        dialect: Dialect,
-        value_type: ValueType,
-    ) -> Result<Value, WordFault>
-        ensures { Gives (λ value. value) (value_at dialect value_type) self.old self.new result }
-    {
-        Err(WordFault::NoMemory)
-    }
-
-    /// Reads values of these types, one after the other. The fault is that of the first value that has one. `NoMemory` is
-    /// want of memory.
-    pub fn values(
-        &mut self,
-        alloc: Global,
-        dialect: Dialect,
-        types: &[ValueType],
-    ) -> Result<Vec<Value>, WordFault>
-        ensures { Gives (λ values. values.items) (values_at dialect types.now) self.old self.new result }
-    {
-        Err(WordFault::NoMemory)
-    }
-
-    /// Reads a client's tuple of parameters: their number in one byte, a code for each, and, from the next whole word on,
-    /// the values. What stands between the codes and the values isn't looked at. The count and the codes are one item:
-    /// `Short` where they and what fills them up aren't all there, else `BadCode` of the first code that stands for no
-    /// type, else `Float` where a code stands for floating-point numbers. Then the fault is that of the first value that
-    /// has one. `NoMemory` is want of memory.
-    pub fn params(&mut self, alloc: Global) -> Result<Vec<Value>, WordFault>
-        ensures { Gives (λ values. values.items) params_at self.old self.new result }
-    {
-        Err(WordFault::NoMemory)
-    }
-
-    /// Reads a client's wide tuple of parameters, whose number has 32 bits, and else as `params` does. No room is taken
-    /// ahead for the values that the number claims.
-    pub fn params_wide(&mut self, alloc: Global) -> Result<Vec<Value>, WordFault>
-        ensures { Gives (λ values. values.items) params_wide_at self.old self.new result }
-    {
-        Err(WordFault::NoMemory)
-    }
-
-    /// Reads a row of so many values: a code of four bits for each, the first in the low half of a byte, zeros to a whole
-    /// word, and the values. The codes are one item: `Short`, `BadCode` and `Float` as in `params`, and then `Pad` where a
-    /// bit behind them isn't zero. Then the fault is that of the first value that has one. `NoMemory` is want of memory.
-    pub fn row(&mut self, alloc: Global, count: u64) -> Result<Vec<Value>, WordFault>
-        ensures { Gives (λ values. values.items) (row_at count) self.old self.new result }
-    {
-        Err(WordFault::NoMemory)
     }
 }

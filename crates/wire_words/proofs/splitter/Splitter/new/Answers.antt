@@ -4,8 +4,8 @@ use Rattle.wire_words.proofs.Holding.{holds_nothing}
 use Rattle.wire_words.proofs.splitter.Splitter.new.Goals as goal
 
 pub invariant_of-result : goal.invariant_of-result
-invariant_of-result c = holds_nothing _ _ _ _ refl c.new.ensures.items
+invariant_of-result c = holds_nothing _ _ c.nothing.ensures.head c.nothing.ensures.nothing
 
 pub returns : goal.returns
 unfolding stream
-returns c = rw c.new.ensures.items refl
+returns c = rw (c.nothing.ensures.nothing, c.nothing.ensures.begun) refl
