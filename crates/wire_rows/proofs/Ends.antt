@@ -72,7 +72,19 @@ head_not_end (suc count) left (c ∷ bytes) rest ts some size parts typed =
 -- where a row stands, no end word does
 pub row_not_end : (count : ℕ) (left new : Unread) (vs : List Value) → 0 < count → row_at count left ≡ Ok (vs, new) → end_at left ≡ None
 unfolding row_at row_head_at
-row_not_end count left new vs some e = ?
+row_not_end count left new vs some e =
+    let size = row_head_size count in
+    let a = bind_ok (row_head_at count left) (λ ts. values_at dialects.Exact ts.0 ts.1) (vs, new) e in
+    let b = bind_ok (raw_at size left) (λ head. row_types left.at count (split_halves head.0) >>= λ ts. Ok (ts, head.1)) a.0 a.1 in
+    let head = b.0.0 in
+    let mid = b.0.1 in
+    let hs = split_halves head in
+    let c = bind_ok (row_types left.at count hs) (λ ts. Ok (ts, mid)) a.0 b.2 in
+    let d = bind_ok (types_at dialects.Exact left.at (take count hs)) (λ x. cond (list_all is_zero (drop count hs)) (Ok x) (Err (Pad left.at))) c.0 c.1 in
+    let r = raw_took size left mid head b.1 in
+    let parts : left.bytes ≡ head ++ (replicate r.1.spelled.zeros 0 ++ mid.bytes) =
+    r.1.parts ∙ ap (λ (x : List ℕ). x ++ mid.bytes) r.1.spelled.parts ∙ append_assoc head (replicate r.1.spelled.zeros 0) mid.bytes in
+    head_not_end count left head (replicate r.1.spelled.zeros 0 ++ mid.bytes) d.0 some r.0 parts d.1
 
 -- ---- what stands next
 

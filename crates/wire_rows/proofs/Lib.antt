@@ -6,5 +6,6 @@ pub mod GreedyLaws
 pub mod Lengths
 pub mod NulPlaces
 pub mod ReadLoops
+pub mod ReadBack
 pub mod Spelled
 pub mod Tables

@@ -55,7 +55,7 @@ impl<'a> Columns<'a> {
 
     /// How many bytes the body of a part with these rows has.
     #[tactic(auto, using(crate::proofs::Greedy::body_sized))]
-    fn body_size(&self, rows: &[Row]) -> u64
+    pub(crate) fn body_size(&self, rows: &[Row]) -> u64
         ensures { (more : More) → result ≡ held (length (body_bytes self.now.names.now rows.now more)) }
     {
         with_rows(self.head_size.saturating_add(END_SIZE), rows)

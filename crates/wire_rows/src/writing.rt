@@ -53,21 +53,21 @@ fn put_rows(out: &mut Writer, rows: &[Row]) -> Result<(), AllocError>
     Ok(())
 }
 
-/// The body of a part with these rows.
+/// The body of a part with these rows. The memory for all of it is taken at once.
 #[tactic(auto, using(crate::proofs::Spelled::in_turn))]
 fn body(
     alloc: Global,
-    names: &[WireText],
+    columns: &Columns<'_>,
     rows: &[Row],
     more: More,
 ) -> Result<WireBytes, AllocError>
-    requires names { HaveNoNul names.now }
+    requires names { HaveNoNul columns.now.names.now }
     requires rows { AllByRecursion AreWritable rows.now }
-    ensures { IfOk result (λ bytes. bytes ≡ body_bytes names.now rows.now more) }
+    ensures { IfOk result (λ bytes. bytes ≡ body_bytes columns.now.names.now rows.now more) }
 {
-    let mut out = Writer::new(alloc);
-    out.word(names.len() as u64)?;
-    put_names(&mut out, names)?;
+    let mut out = Writer::with_capacity(alloc, columns.body_size(rows) as usize)?;
+    out.word(columns.names.len() as u64)?;
+    put_names(&mut out, columns.names)?;
     put_rows(&mut out, rows)?;
     out.word(end_number(more))?;
     Ok(out.finish())
@@ -89,10 +89,10 @@ fn all_bodies(
     'parts: loop {
         let (part, rest) = columns.split(left);
         if rest.is_empty() {
-            parts.push(body(alloc, columns.names, part, More::Last)?)?;
+            parts.push(body(alloc, columns, part, More::Last)?)?;
             return Ok(parts);
         }
-        parts.push(body(alloc, columns.names, part, More::Follows)?)?;
+        parts.push(body(alloc, columns, part, More::Follows)?)?;
         left = rest;
     }
 }
