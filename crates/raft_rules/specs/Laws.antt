@@ -1,0 +1,32 @@
+-- What the rules of logs and of the commit index mean.
+use Rattle.std.specs.Prelude.{◌≡◌, ◌≢◌, ◌⊎◌, ℕ, suc, ◌+◌, ◌<◌, ◌≤◌, true, false, List, length, take}
+use Rattle.raft_rules.specs.Log.{Entry, nth_term, term_at, accept}
+use Rattle.raft_rules.specs.Commitment.{is_stored_by_majority, commit_up_to}
+
+-- The entry that came as the k-th, and what the log has at its index, have the same term.
+abbrev pub SameTerm : List Entry → ℕ → List Entry → ℕ → Type 0
+SameTerm log prev entries k = term_at log (suc (prev + k)) ≡ nth_term entries k
+
+-- What a log is after it has taken an Append's entries.
+pub record Taken (log : List Entry) (prev : ℕ) (entries : List Entry) (new : List Entry) : Type 0 where
+  -- up to the previous index it is as it was
+  pub front : take prev new ≡ take prev log
+  -- each entry that came stands in it, by index and term
+  pub stand : (k : ℕ) → k < length entries → SameTerm new prev entries k
+  -- where no entry conflicts, all old ones stay, whatever follows
+  pub stays : ((k : ℕ) → k < length entries → prev + k < length log → SameTerm log prev entries k) → take (length log) new ≡ log
+  -- where one conflicts, nothing follows those that came
+  pub ends : (k : ℕ) → k < length entries → prev + k < length log → term_at log (suc (prev + k)) ≢ nth_term entries k → length new ≡ prev + length entries
+
+-- So it is with each log and all entries, from a place within the log on.
+abbrev pub AcceptTakes : Type 0
+AcceptTakes = (log entries : List Entry) (prev : ℕ) → prev ≤ length log → Taken log prev entries (accept log prev entries)
+
+-- The commit index is exactly the greatest index, not past the last argument, that a majority has with an entry of the term; it stays where none is greater.
+pub record IsGreatest (log : List Entry) (term : ℕ) (ids : List ℕ) (has : ℕ → ℕ) (commit last new : ℕ) : Type 0 where
+  pub is : (new ≡ commit) ⊎ ((commit < new) × (new ≤ last) × (is_stored_by_majority log term ids has new ≡ true))
+  pub greatest : (k : ℕ) → new < k → commit < k → k ≤ last → is_stored_by_majority log term ids has k ≡ false
+
+-- So it is with each log, all voters and whatever they have.
+abbrev pub CommitIsGreatest : Type 0
+CommitIsGreatest = (log : List Entry) (term : ℕ) (ids : List ℕ) (has : ℕ → ℕ) (commit last : ℕ) → IsGreatest log term ids has commit last (commit_up_to log term ids has commit last)

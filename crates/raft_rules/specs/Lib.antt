@@ -1,0 +1,17 @@
+pub mod Log
+pub mod Node
+pub mod Outcomes
+pub mod Elections
+pub mod Replication
+pub mod Snapshots
+pub mod Membership
+pub mod Commitment
+pub mod Receiving
+pub mod Steps
+pub mod Account
+pub mod Compaction
+pub mod Todo
+pub mod Votes
+pub mod Progress
+pub mod NodeValues
+pub mod Laws
