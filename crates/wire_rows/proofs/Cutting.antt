@@ -1,10 +1,9 @@
 -- The cut of rows into parts, one part after the other.
-use Rattle.std.proofs.Common.{◌≡◌, ◌+◌, ◌-◌, ◌^◌, ◌<◌, ◌≤◌, ℕ, zero, suc, Bool, true, false, List, [], ◌∷◌, ◌++◌, length, take, drop, sum_by, append_assoc, refl, sym, ap, ◌∙◌, arith}
+use Rattle.std.proofs.Common.{◌≡◌, ◌+◌, ◌-◌, ◌<◌, ◌≤◌, ℕ, zero, suc, Bool, true, false, List, [], ◌∷◌, ◌++◌, length, take, drop, append_assoc, refl, sym, ap, ◌∙◌, arith}
 use Rattle.std.proofs.lemmas.List.{length-drop, nil_from_length, at_drop_all, take_all}
 use Rattle.std.proofs.lemmas.List.Sums.{sum_by-cons}
 use Rattle.std.proofs.lemmas.Bool.{eqb-true, eqb-false}
 use Rattle.std.proofs.Math.Dec.{eqb}
-use Rattle.wire_words.specs.declared.value.Value.{Value}
 use Rattle.wire_rows.specs.declared.part.More.{More}
 use Rattle.wire_rows.specs.declared.part.More.TheVariants.{Last, Follows}
 use Rattle.wire_rows.specs.Spelling.{body_bytes}

@@ -1,6 +1,6 @@
 -- An end word is no row.
-use Rattle.std.proofs.Common.{◌≡◌, ◌⊎◌, inl, inr, ◌+◌, ◌-◌, ◌*◌, ◌/◌, ◌%◌, ◌<◌, ◌≤◌, ℕ, zero, suc, Bool, true, false, cond, not, ◌||◌, Option, Some, None, Result, Ok, Err, MatchOption, List, [], ◌∷◌, ◌++◌, length, get_or, take, drop, replicate, eq-eqb, append_assoc, refl, sym, ap, subst, ◌∙◌, arith}
-use Rattle.std.proofs.lemmas.Bool.{ltb-false, ne_eqb}
+use Rattle.std.proofs.Common.{◌≡◌, ◌⊎◌, inl, inr, ◌+◌, ◌*◌, ◌/◌, ◌%◌, ◌<◌, ◌≤◌, ℕ, zero, suc, Bool, true, false, cond, ◌||◌, Option, Some, None, Result, Ok, Err, MatchOption, List, [], ◌∷◌, ◌++◌, length, take, drop, replicate, eq-eqb, append_assoc, refl, sym, ap, subst, ◌∙◌, arith}
+use Rattle.std.proofs.lemmas.Bool.{ne_eqb}
 use Rattle.std.proofs.Math.Dec.{ltb, eqb}
 use Rattle.std.specs.List.{list_all}
 use Rattle.byteorder.specs.Endian.{little_number, little_from}
@@ -10,13 +10,12 @@ use Rattle.wire_words.specs.declared.fault.WordFault.TheVariants as word_faults
 use Rattle.wire_words.specs.declared.value.Value.{Value}
 use Rattle.wire_words.specs.declared.value.ValueType.{ValueType}
 use Rattle.wire_words.specs.declared.value.Dialect.TheVariants as dialects
-use Rattle.wire_words.specs.Items.{gap, is_zero}
+use Rattle.wire_words.specs.Items.{is_zero}
 use Rattle.wire_words.specs.Reading.{◌>>=◌, Unread, past, raw_at, word_at, Fails}
 use Rattle.wire_words.specs.ReadingValues.{type_with, known, all_types, no_float, types_at, values_at, split_halves, row_head_size, row_types, row_head_at, row_at}
 use Rattle.wire_words.proofs.ReadBack.{bind_ok}
 use Rattle.wire_words.proofs.Padding.{raw_took}
 use Rattle.wire_rows.specs.declared.part.More.{More}
-use Rattle.wire_rows.specs.declared.part.More.TheVariants.{Last, Follows}
 use Rattle.wire_rows.specs.declared.fault.RowReadFault.{RowReadFault}
 use Rattle.wire_rows.specs.declared.fault.RowReadFault.TheVariants.{NoEnd}
 use Rattle.wire_rows.specs.declared.reading.Next.{Next}

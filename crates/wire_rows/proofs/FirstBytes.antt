@@ -1,5 +1,5 @@
 -- The first byte of a row.
-use Rattle.std.proofs.Common.{◌≡◌, ◌≢◌, ◌+◌, ◌*◌, ◌≤◌, ℕ, List, [], ◌∷◌, slice_index, refl, lit≤, arith}
+use Rattle.std.proofs.Common.{◌≢◌, ◌≤◌, List, [], ◌∷◌, slice_index, refl, lit≤, arith}
 use Rattle.wire_words.specs.declared.value.Value.{Value}
 use Rattle.wire_words.specs.declared.value.ValueType.{ValueType}
 use Rattle.wire_words.specs.declared.value.ValueType.TheVariants as types

@@ -1,9 +1,8 @@
 -- How many bytes the items of a body have.
-use Rattle.std.proofs.Common.{◌≡◌, ◌+◌, ◌-◌, ◌*◌, ◌/◌, ◌^◌, ◌%◌, ◌<◌, ◌≤◌, ℕ, suc, min, List, [], ◌∷◌, ◌++◌, length, drop, refl, sym, ap, ◌∙◌, add-zero, arith}
+use Rattle.std.proofs.Common.{◌≡◌, ◌+◌, ◌*◌, ◌/◌, ◌^◌, ◌<◌, ◌≤◌, ℕ, suc, List, [], ◌∷◌, ◌++◌, length, drop, refl, sym, ap, ◌∙◌, add-zero, arith}
 use Rattle.std.proofs.lemmas.List.{length-append, length-replicate, at_drop_all}
 use Rattle.std.specs.Int.{div_ceil}
 use Rattle.wire_words.specs.declared.value.Value.{Value}
-use Rattle.wire_words.specs.declared.value.ValueType.{ValueType}
 use Rattle.wire_words.specs.Items.{gap, zeros_after, raw, text, blob, word}
 use Rattle.wire_words.specs.Values.{halves, codes, types_of, values, row}
 use Rattle.wire_rows.specs.Answering.{held}

@@ -1,8 +1,7 @@
 -- The first text with a NUL, in other words; and that all can be written where there is none.
-use Rattle.std.proofs.Common.{◌≡◌, ◌+◌, ◌<◌, ◌≤◌, ℕ, zero, suc, Bool, true, false, cond, Option, Some, None, List, [], ◌∷◌, ◌++◌, length, get_or, take, drop, position, refl, sym, ap, subst, ◌∙◌, arith}
+use Rattle.std.proofs.Common.{◌≡◌, ◌+◌, ℕ, suc, Bool, true, false, cond, Option, Some, None, List, [], ◌∷◌, ◌++◌, length, position, refl, sym, ap, subst, ◌∙◌, arith}
 use Rattle.std.specs.List.{AllByRecursion, position_from}
 use Rattle.std.proofs.lemmas.Iterator.Adapters.{position_from-zero}
-use Rattle.std.proofs.lemmas.List.{drop_more}
 use Rattle.dq_base.specs.Names.{has_nul}
 use Rattle.wire_words.specs.declared.value.Value.{Value}
 use Rattle.wire_words.specs.declared.value.Value.TheVariants.{Integer, Text, Blob, Null}

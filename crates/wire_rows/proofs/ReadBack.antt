@@ -1,29 +1,23 @@
 -- What is written is read back.
-use Rattle.std.proofs.Common.{◌≡◌, ◌≢◌, inl, inr, lit≤, slice_index, ◌+◌, ◌-◌, ◌*◌, ◌^◌, ◌<◌, ◌≤◌, ℕ, zero, suc, Result, Ok, Err, Some, List, [], ◌∷◌, ◌++◌, length, take, drop, map, refl, sym, ap, subst, ◌∙◌, append_assoc, arith}
-use Rattle.std.proofs.lemmas.List.{append-nil, length-append}
+use Rattle.std.proofs.Common.{◌≡◌, inl, inr, ◌+◌, ◌<◌, ◌≤◌, ℕ, zero, suc, Ok, List, [], ◌∷◌, ◌++◌, length, map, refl, sym, ap, subst, ◌∙◌, append_assoc, arith}
+use Rattle.std.proofs.lemmas.List.{length-append}
 use Rattle.std.proofs.lemmas.Bool.Decides.{leb_tells}
 use Rattle.std.specs.List.{AllByRecursion}
-use Rattle.byteorder.specs.Endian.{little_bytes}
-use Rattle.wire_words.specs.declared.fault.WordFault.{WordFault}
 use Rattle.wire_words.specs.declared.value.Value.{Value}
-use Rattle.wire_words.specs.declared.value.ValueType.{ValueType}
-use Rattle.wire_words.specs.declared.value.ValueType.TheVariants as types
 use Rattle.wire_words.specs.Items.{word, text, IsText, IsWord}
-use Rattle.wire_words.specs.Values.{row, code, type_of, IsInRange, IsRow}
-use Rattle.wire_words.specs.Reading.{◌>>=◌, Unread, unread, past, Took, word_at, text_at}
+use Rattle.wire_words.specs.Values.{row, IsInRange, IsRow}
+use Rattle.wire_words.specs.Reading.{Unread, unread, Took, word_at, text_at}
 use Rattle.wire_words.specs.ReadingValues.{row_at}
 use Rattle.wire_words.proofs.ReadBack.{word_again}
 use Rattle.wire_words.proofs.Nul.{text_is_spelled, text_again}
 use Rattle.wire_words.proofs.RowLaws.{row_again}
 use Rattle.wire_words.proofs.SpellingLaws.{row_spelled}
-use Rattle.wire_rows.specs.declared.fault.RowReadFault.{RowReadFault}
 use Rattle.wire_rows.specs.declared.part.More.{More}
 use Rattle.wire_rows.specs.declared.part.More.TheVariants.{Last, Follows}
-use Rattle.wire_rows.specs.declared.part.Part.{Part}
 use Rattle.wire_rows.specs.declared.reading.Next.TheVariants.{Row, End}
-use Rattle.wire_rows.specs.Spelling.{names_bytes, head_bytes, rows_bytes, end_word, body_bytes, HaveWidth}
-use Rattle.wire_rows.specs.Cut.{Rows, cut, cut_in, more_after, bodies, joined}
-use Rattle.wire_rows.specs.Reading.{in_part, names_at, end_at, end_here, next_at, rows_at, going_on, ended, part_of, read_as, IsName, IsSendable}
+use Rattle.wire_rows.specs.Spelling.{names_bytes, rows_bytes, end_word, body_bytes, HaveWidth}
+use Rattle.wire_rows.specs.Cut.{Rows, cut, more_after, bodies, joined}
+use Rattle.wire_rows.specs.Reading.{names_at, end_at, next_at, rows_at, part_of, read_as, IsName, IsSendable}
 use Rattle.wire_rows.proofs.Ends.{next_is_end, next_is_row}
 use Rattle.wire_rows.proofs.GreedyLaws.{all_rows}
 use Rattle.wire_rows.proofs.Lengths.{length_row}

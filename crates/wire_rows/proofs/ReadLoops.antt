@@ -1,5 +1,5 @@
 -- The steps of the loops that read names and rows.
-use Rattle.std.proofs.Common.{◌≡◌, ℕ, suc, ◌+◌, ◌-◌, ◌<◌, ◌≤◌, List, [], ◌∷◌, ◌++◌, length, Result, Ok, Err, refl, sym, ap, ◌∙◌, append_assoc, arith}
+use Rattle.std.proofs.Common.{◌≡◌, ℕ, suc, ◌+◌, ◌-◌, ◌<◌, ◌≤◌, List, [], ◌∷◌, ◌++◌, Result, Ok, Err, refl, sym, ap, ◌∙◌, append_assoc, arith}
 use Rattle.std.proofs.lemmas.List.{append-nil}
 use Rattle.wire_words.specs.declared.fault.WordFault.{WordFault}
 use Rattle.wire_words.specs.declared.fault.WordFault.TheVariants as faults
@@ -10,7 +10,7 @@ use Rattle.wire_rows.specs.declared.fault.RowReadFault.TheVariants.{Word, NoEnd,
 use Rattle.wire_rows.specs.declared.part.More.{More}
 use Rattle.wire_rows.specs.declared.reading.Next.TheVariants.{Row, End}
 use Rattle.wire_rows.specs.Cut.{Rows}
-use Rattle.wire_rows.specs.Reading.{names_at, next_at, rows_at, going_on, one_before, FailsReading}
+use Rattle.wire_rows.specs.Reading.{names_at, next_at, rows_at, one_before, FailsReading}
 
 -- what was read before, and what is still read
 abbrev pub with_front : {A : Type 0} → List A → Result (List A × Unread) WordFault → Result (List A × Unread) WordFault

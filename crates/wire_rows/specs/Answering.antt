@@ -1,6 +1,5 @@
 -- What cutting an answer into parts gives.
-use Rattle.std.specs.Prelude.{◌≡◌, ◌^◌, ◌-◌, ◌<◌, ℕ, List, [], min, nat_lt, if◌then◌else◌, Option, Some, None, Result, Ok, Err, MatchResult}
-use Rattle.wire_words.specs.declared.value.Value.{Value}
+use Rattle.std.specs.Prelude.{◌≡◌, ◌^◌, ◌-◌, ℕ, List, min, nat_lt, if◌then◌else◌, Option, Some, None, Result, Ok, Err, MatchResult}
 use Rattle.wire_rows.specs.declared.fault.RowFault.{RowFault}
 use Rattle.wire_rows.specs.declared.fault.RowFault.TheVariants.{Nul, TooBig, NoMemory}
 use Rattle.wire_rows.specs.Cut.{Rows, cut, bodies, total_size}

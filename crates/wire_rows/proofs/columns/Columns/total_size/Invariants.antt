@@ -1,4 +1,4 @@
-use Rattle.std.proofs.Common.{◌≡◌, ◌+◌, ◌<◌, ◌^◌, length}
+use Rattle.std.proofs.Common.{◌≡◌, ◌+◌, length}
 use Rattle.wire_rows.specs.Cut.{cut, bodies, total_size}
 use Rattle.wire_rows.specs.Answering.{held}
 use Rattle.wire_rows.proofs.columns.Columns.total_size.Given as goal
