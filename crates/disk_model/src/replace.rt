@@ -1,0 +1,27 @@
+ghost use Rattle.dq_base.specs.Names.{IsName};
+ghost use Rattle.disk_model.specs.Calls.{MayWrite};
+ghost use Rattle.disk_model.specs.Writing.{replace_calls};
+ghost use Rattle.disk_model.specs.Trait.{Known, Ran, HasCause};
+
+use crate::disk::Disk;
+use crate::faults::DiskFault;
+
+/// Writes a file whole.
+pub fn replace<D: Disk>(
+    disk: &mut D,
+    name: &str,
+    bytes: &[u8],
+    is_there: bool,
+) -> Result<(), DiskFault>
+    requires name { IsName name.now }
+    requires place { Known (D.states disk.old) (MayWrite name.now 0) }
+    ensures ran { Ran (replace_calls name.now bytes.now is_there) (D.states disk.old) (D.states disk.new) result }
+    ensures cause { HasCause (D.faults disk.old) (D.faults disk.new) result }
+{
+    disk.write_at(name, 0, bytes)?;
+    disk.sync(name)?;
+    if is_there {
+        return Ok(());
+    }
+    disk.sync_names()
+}
