@@ -5,3 +5,16 @@ pub mod Untils
 pub mod Names
 pub mod Syncs
 pub mod Rewrites
+pub mod Changes
+pub mod Fitting
+pub mod Covered
+pub mod Effects
+pub mod Stepping
+pub mod Runs
+pub mod Standing
+pub mod Replaying
+pub mod Listing
+pub mod Told
+pub mod Telling
+pub mod Spelling
+pub mod Seen

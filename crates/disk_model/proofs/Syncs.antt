@@ -9,7 +9,7 @@ use Rattle.disk_model.proofs.Bytes.{untouched}
 use Rattle.disk_model.proofs.Rests.{names_shrink, names_left}
 use Rattle.disk_model.proofs.Names.{Apart, same, apart}
 
-sync_shrink : (h : Held) (f x : Found) → LeavesFile h f → LeavesFile (after_sync f h) x → LeavesFile h x
+pub sync_shrink : (h : Held) (f x : Found) → LeavesFile h f → LeavesFile (after_sync f h) x → LeavesFile h x
 sync_shrink h f x was left = elim (cases_Bool f.there) [
   | inl t ↦
       let now : LeavesFile (record { standing = h.standing; bytes = f.bytes; since = [] }) x = subst (λ (k : Held). LeavesFile k x) (cond-true f.there _ _ t) left in
@@ -22,7 +22,7 @@ sync_shrink h f x was left = elim (cases_Bool f.there) [
   | inr n ↦ subst (λ (k : Held). LeavesFile k x) (cond-false f.there _ _ n) left
 ]
 
-sync_left : (h : Held) (f : Found) → LeavesFile h f → LeavesFile (after_sync f h) f
+pub sync_left : (h : Held) (f : Found) → LeavesFile h f → LeavesFile (after_sync f h) f
 sync_left h f was = elim (cases_Bool f.there) [
   | inl t ↦
       subst (λ (k : Held). LeavesFile k f) (sym (cond-true f.there _ _ t)) (record {

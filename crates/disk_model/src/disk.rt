@@ -19,11 +19,14 @@ use dq_base::{Items, Name};
 /// A crash inside a call is that call over a disk whose calls fail from that moment on. So it is enough to know, at each
 /// answer, what a crash may leave.
 pub trait Disk {
-    ghost use Rattle.std.specs.Prelude.{ℕ};
+    ghost use Rattle.std.specs.Prelude.{ℕ, Bool, ◌≤◌, length, IfOk};
     ghost use Rattle.dq_base.specs.Names.{IsName};
     ghost use Rattle.disk_model.specs.Disk.{Disk};
     ghost use Rattle.disk_model.specs.Calls.{WriteAt, CutTo, Sync, Remove, SyncNames, MayWrite};
     ghost use Rattle.disk_model.specs.Trait.{Text, Known, Steps, Looks, Lists, Reads, HasCause};
+
+    /// Whether disks of this kind tell what is on them.
+    ghost tells: { Bool };
 
     /// The states that the disk may be said to be in; none where it tells nothing.
     ghost states: { Self → Disk Text → Type 0 };
@@ -40,16 +43,17 @@ pub trait Disk {
     /// number. 0 for an `into` with room is the end.
     fn read_at(&mut self, name: &str, at: u64, into: &mut [u8]) -> Result<usize, DiskFault>
         requires { IsName name.now }
+        ensures bound { IfOk result (λ count. count ≤ length into.new) }
         ensures told { Looks (states self.old) (states self.new) result (λ d. Reads (d.read name.now).bytes at into.old into.new) }
         ensures cause { HasCause (faults self.old) (faults self.new) result };
 
     /// Writes the bytes over those of a file from `at` on, and past its end. It makes the file where it isn't there.
     ///
-    /// `at` is at most the file's length, and a name is not made again while its removal isn't synced.
+    /// `at` is at most the file's length, and a name is not made again while its removal isn't synced: where either is
+    /// otherwise, nothing is said of what is on the disk from then on.
     fn write_at(&mut self, name: &str, at: u64, bytes: &[u8]) -> Result<(), DiskFault>
-        requires name { IsName name.now }
-        requires place { Known (states self.old) (MayWrite name.now at) }
-        ensures told { Steps (WriteAt name.now at bytes.now) (states self.old) (states self.new) result }
+        requires { IsName name.now }
+        ensures told { Known tells (states self.old) (MayWrite name.now at) → Steps (WriteAt name.now at bytes.now) (states self.old) (states self.new) result }
         ensures cause { HasCause (faults self.old) (faults self.new) result };
 
     /// Keeps the first `length` bytes of a file. A shorter file stays as it is.

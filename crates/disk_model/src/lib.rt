@@ -2,10 +2,22 @@
 //! where it is told to, and one over the files of the working folder.
 #![tactic(auto)]
 
+mod armed;
+mod directory;
 mod disk;
 mod faults;
-mod replace;
+mod folder;
+mod memory;
+mod open_calls;
+mod replacing;
+mod storage;
+mod stored;
+#[cfg(test)]
+mod tests;
 
+pub use armed::Stop;
+pub use directory::DirDisk;
 pub use disk::Disk;
 pub use faults::DiskFault;
-pub use replace::replace;
+pub use memory::MemDisk;
+pub use replacing::replace;
