@@ -187,3 +187,19 @@ fn names_are_short_texts(rt: HostRuntime) -> Result<(), Fail> {
     assert!(rt; copy < later);
     Ok(())
 }
+
+#[test]
+fn faults_say_why(rt: HostRuntime) -> Result<(), Fail> {
+    for (fault, text) in [
+        (PageFault::NoSizes, "the last page is no sizes page"),
+        (PageFault::Order(7), "page 7 is out of order"),
+        (
+            PageFault::NotInLength(8),
+            "page 8 lies past the stated end of its file",
+        ),
+        (PageFault::NoMemory, "out of memory"),
+    ] {
+        assert_eq!(rt; fault.to_string(rt.alloc())?.as_str(), text);
+    }
+    Ok(())
+}

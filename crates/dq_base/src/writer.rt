@@ -172,4 +172,17 @@ mod tests {
         }
         Ok(())
     }
+
+    #[test]
+    fn a_long_piece_is_written_whole(rt: HostRuntime) -> Result<(), Fail> {
+        let piece = vec![in rt.alloc(); 7; 2_000_000]?;
+        let mut sink = WriteSink::new(Scripted {
+            turns: &[Turn::Takes(1_000_000), Turn::Takes(1_000_000)],
+            taken: Vec::new(rt.alloc()),
+        });
+        assert_eq!(rt; sink.write_all(piece.as_slice()), Ok(()));
+        assert!(rt; sink.writer.taken == piece);
+        assert_eq!(rt; sink.faults(), 0);
+        Ok(())
+    }
 }
