@@ -18,3 +18,5 @@ pub mod Told
 pub mod Telling
 pub mod Spelling
 pub mod Seen
+pub mod Counts
+pub mod Storing

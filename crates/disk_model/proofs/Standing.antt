@@ -1,13 +1,15 @@
 -- Where the file of a name stands in a list, and what changing it does.
-use Rattle.std.proofs.Common.{◌≡◌, inl, inr, ℕ, zero, suc, ◌<◌, Bool, true, false, cond, List, [], ◌∷◌, ◌++◌, length, set, get_or, refl, sym, ap, ◌∙◌, subst, arith, IsOk, Option, Some, None, position, MatchOption}
+use Rattle.std.proofs.Common.{◌≡◌, inl, inr, ℕ, zero, suc, ◌<◌, Bool, true, false, cond, List, [], ◌∷◌, ◌++◌, length, set, get_or, refl, sym, ap, ◌∙◌, subst, arith, IsOk, Option, Some, None, position, MatchOption, take, Result, OnOk, ◌+◌}
 use Rattle.std.specs.Str.{bytes_eq}
 use Rattle.std.proofs.lemmas.Bool.{cases_Bool, cond-true, cond-false}
 use Rattle.std.proofs.lemmas.Slice.Eq.{bytes_eq-Decides}
-use Rattle.std.proofs.lemmas.List.{get_or_read}
+use Rattle.std.proofs.lemmas.List.{get_or_read, take_more}
+use Rattle.std.proofs.lemmas.Result.{on_ok_weaker}
+use Rattle.std.specs.declared.alloc.AllocError.{AllocError}
 use Rattle.disk_model.specs.Disk.{Found, missing}
 use Rattle.disk_model.specs.Trait.{Text}
 use Rattle.disk_model.specs.Memory.{at_name, named, shown}
-use Rattle.disk_model.specs.Folder.{Tables, file_of, tables_of, read_changed, base_changed, names_put_down, settled, settled_file, all_settled, named_file, StandsAt}
+use Rattle.disk_model.specs.Folder.{Tables, file_of, tables_of, read_changed, base_changed, file_put_down, names_put_down, settled, settled_file, all_settled, named_file, StandsAt}
 use Rattle.disk_model.specs.declared.folder.MemFile.{MemFile}
 use Rattle.disk_model.proofs.Effects.{eq_here, eq_else, tell}
 use Rattle.disk_model.proofs.Names.{same, apart}
@@ -208,3 +210,31 @@ settled_tables files = λ i. record { read = λ n. (one files n).0 i; base = λ 
 pub settled_more : (files : List MemFile) (f : MemFile) → all_settled (files ++ f ∷ []) ≡ all_settled files ++ settled_file f ∷ []
 settled_more [] f = refl
 settled_more (x ∷ fs) f = ap (λ (l : List MemFile). settled_file x ∷ l) (settled_more fs f)
+
+-- one more file of a list is settled
+pub settled_next : (files copies new : List MemFile) (i : ℕ) (x f : MemFile) → copies ≡ all_settled (take i files) → i < length files → x ≡ get_or files i x → f ≡ settled_file x → new ≡ copies ++ f ∷ [] → new ≡ all_settled (take (i + 1) files)
+settled_next files copies new i x f so lt is one more =
+    more ∙ (λ j. so j ++ one j ∷ []) ∙ sym (settled_more (take i files) x) ∙ ap all_settled (sym (take_more files i x lt ∙ ap (λ (y : MemFile). take i files ++ y ∷ []) (sym is)))
+
+-- a call that changes what is read, or what stands, of the file at a place
+pub read_taken : (n : Text) (was own files : List MemFile) (place : ℕ) (x : MemFile) (b : Found) (c : Found → Found) (r : Result Unit AllocError) → own ≡ was → tables_of files ≡ tables_of own → StandsAt n files place → x ≡ get_or files place x → OnOk r (b ≡ c x.read)
+    → OnOk r (tables_of (set files place (record { name = x.name; read = b; base = x.base })) ≡ read_changed n c (tables_of was))
+read_taken n was own files place x b c r view same_tables at is ok =
+    on_ok_weaker r (λ e. read_done n was files place (record { name = x.name; read = b; base = x.base }) x c at (same_tables ∙ ap tables_of view) (ap (λ (f : MemFile). f.name) is) (e ∙ ap (λ (f : MemFile). c f.read) is) (ap (λ (f : MemFile). f.base) is)) ok
+
+pub base_taken : (n : Text) (was own files : List MemFile) (place : ℕ) (x : MemFile) (b : Found) (c : Found → Found) (r : Result Unit AllocError) → own ≡ was → tables_of files ≡ tables_of own → StandsAt n files place → x ≡ get_or files place x → OnOk r (b ≡ c x.base)
+    → OnOk r (tables_of (set files place (record { name = x.name; read = x.read; base = b })) ≡ base_changed n c (tables_of was))
+base_taken n was own files place x b c r view same_tables at is ok =
+    on_ok_weaker r (λ e. base_done n was files place (record { name = x.name; read = x.read; base = b }) x c at (same_tables ∙ ap tables_of view) (ap (λ (f : MemFile). f.name) is) (ap (λ (f : MemFile). f.read) is) (e ∙ ap (λ (f : MemFile). c f.base) is)) ok
+
+pub put_down_done : (n : Text) (was own files : List MemFile) (place : ℕ) (x : MemFile) (b : Found) (bytes : List ℕ) → own ≡ was → tables_of files ≡ tables_of own → StandsAt n files place → x ≡ get_or files place x → b ≡ record { there = x.base.there; bytes = bytes } → bytes ≡ x.read.bytes
+    → tables_of (set files place (record { name = x.name; read = x.read; base = b })) ≡ file_put_down n (tables_of was)
+put_down_done n was own files place x b bytes view same_tables at is put same_bytes =
+    let tables : tables_of files ≡ tables_of was = same_tables ∙ ap tables_of view in
+    let q : bytes ≡ ((tables_of was).read n).bytes = same_bytes ∙ ap (λ (f : MemFile). f.read.bytes) (is ∙ sym (at.here x)) ∙ ap (λ (t : Tables). (t.read n).bytes) tables in
+    base_done n was files place (record { name = x.name; read = x.read; base = b }) x (λ f. record { there = f.there; bytes = ((tables_of was).read n).bytes }) at tables
+    (ap (λ (f : MemFile). f.name) is) (ap (λ (f : MemFile). f.read) is) (put ∙ (λ i. record { there = (is i).base.there; bytes = q i }))
+
+-- files that are settled, in a list of their own
+pub settled_as : (was own copies : List MemFile) → own ≡ was → copies ≡ all_settled own → tables_of copies ≡ settled (tables_of was)
+settled_as was own copies view is = ap tables_of is ∙ settled_tables own ∙ ap (λ (l : List MemFile). settled (tables_of l)) view

@@ -1,20 +1,22 @@
 -- The clauses of a disk over memory.
-use Rattle.std.proofs.Common.{◌≡◌, ℕ, true, false, List, refl, sym, ap, ◌∙◌, subst, Result, Ok, Err, OnOk, OnErr}
+use Rattle.std.proofs.Common.{◌≡◌, ◌≤◌, ℕ, true, false, List, refl, sym, ap, ◌∙◌, subst, Result, Ok, Err, OnOk, OnErr}
 use Rattle.std.specs.declared.alloc.AllocError.{AllocError}
 use Rattle.disk_model.specs.Disk.{Disk, Found, Held, LeavesFile, no_files}
 use Rattle.disk_model.specs.Calls.{Call, WriteAt, CutTo, Sync, Remove, SyncNames, Does, Fails, Turns, Breaks, MayWrite}
 use Rattle.disk_model.specs.Rest.{AfterCrash}
 use Rattle.disk_model.specs.SyncAll.{Among}
-use Rattle.disk_model.specs.Trait.{Text, Known, told, untold, Steps, Looks, Lists, Reads, Crashes}
+use Rattle.disk_model.specs.Trait.{Text, Known, told, untold, Steps, Looks, Lists, Reads, HasCause, Crashes}
 use Rattle.disk_model.specs.Memory.{Memory, no_memory, effects_on, wrote, truncated, removed, synced, names_synced, crashed}
 use Rattle.disk_model.specs.Folder.{file_of, ListsFiles}
-use Rattle.disk_model.specs.Stored.{Contents, memory_of}
+use Rattle.disk_model.specs.Stored.{Contents, OverMemory, memory_of, states_of}
 use Rattle.disk_model.specs.Holds.{Holds}
-use Rattle.disk_model.specs.Armed.{finished}
+use Rattle.disk_model.specs.Armed.{finished, with_end}
+use Rattle.disk_model.specs.declared.armed.Armed.{Armed}
 use Rattle.disk_model.specs.declared.armed.Turn.{Turn}
 use Rattle.disk_model.specs.declared.armed.Turn.TheVariants.{Goes, Stops}
 use Rattle.disk_model.specs.declared.faults.DiskFault.{DiskFault}
 use Rattle.disk_model.specs.declared.faults.DiskFault.TheVariants.{Failed, NoMemory}
+use Rattle.disk_model.proofs.Counts.{ended_cause}
 use Rattle.disk_model.proofs.Fitting.{read_left}
 use Rattle.disk_model.proofs.Stepping.{holds_none, Writable, writable, write_does, write_fails, cut_does, cut_fails, remove_does, remove_fails, sync_does, names_does, crash_does}
 
@@ -105,3 +107,23 @@ crash_told m was pick is = record { each = λ d y. let z = crash_does m d y pick
 
 pub new_told : (m : Memory) → m ≡ no_memory → Holds m no_files
 new_told m is = subst (λ (x : Memory). Holds x no_files) (sym is) holds_none
+
+-- the same where the disk is seen as a whole
+pub write_idle_at : (now : OverMemory) (s : Contents) (a : Armed) (n : Text) (at : ℕ) (bytes : List ℕ) (x : DiskFault) → record { contents = s; calls = a } ≡ now → Known true (states_of now) (MayWrite n at) → Steps {T = Unit} (WriteAt n at bytes) (states_of now) (Holds (memory_of s)) (Err x)
+write_idle_at now s a n at bytes x view =
+    subst (λ (z : OverMemory). Known true (states_of z) (MayWrite n at) → Steps {T = Unit} (WriteAt n at bytes) (states_of z) (Holds (memory_of s)) (Err x)) view (λ known. write_idle n at bytes (memory_of s) x known)
+
+pub write_told_at : (now : OverMemory) (s k : Contents) (a : Armed) (n : Text) (at : ℕ) (bytes : List ℕ) (done : Result Unit AllocError) (turn : Turn) (result : Result Unit DiskFault) → record { contents = s; calls = a } ≡ now
+    → OnOk done (memory_of k ≡ wrote n at bytes (memory_of s)) → OnErr done (memory_of k ≡ memory_of s) → result ≡ finished turn done → Known true (states_of now) (MayWrite n at) → Steps (WriteAt n at bytes) (states_of now) (Holds (memory_of k)) result
+write_told_at now s k a n at bytes done turn result view ok err is =
+    subst (λ (z : OverMemory). Known true (states_of z) (MayWrite n at) → Steps (WriteAt n at bytes) (states_of z) (Holds (memory_of k)) result) view
+    (λ known. subst (λ (r : Result Unit DiskFault). Steps (WriteAt n at bytes) (Holds (memory_of s)) (Holds (memory_of k)) r) (sym is) (write_told n at bytes (memory_of s) (memory_of k) done turn known ok err))
+
+pub crash_told_at : (now : OverMemory) (s k : Contents) (a : Armed) (pick : ℕ) → record { contents = s; calls = a } ≡ now → memory_of k ≡ crashed pick (memory_of s) → Crashes (states_of now) (Holds (memory_of k))
+crash_told_at now s k a pick view is = subst (λ (z : OverMemory). Crashes (states_of z) (Holds (memory_of k))) view (crash_told (memory_of s) (memory_of k) pick is)
+
+pub ended_cause_at : (now : OverMemory) (s : Contents) (a mid new : Armed) (turn : Turn) (done : Result Unit AllocError) (result : Result Unit DiskFault) → record { contents = s; calls = a } ≡ now → HasCause a.faults mid.faults (Ok {T = Turn} turn) → mid.faults ≤ new.faults → new ≡ with_end turn done mid → result ≡ finished turn done
+    → HasCause now.calls.faults new.faults result
+ended_cause_at now s a mid new turn done result view cause later e is =
+    subst (λ (r : Result Unit DiskFault). HasCause now.calls.faults new.faults r) (sym is)
+    (ended_cause now.calls.faults mid new turn done (subst (λ (z : OverMemory). z.calls.faults ≤ mid.faults) view cause.never_falls) later e)

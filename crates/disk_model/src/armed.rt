@@ -1,4 +1,4 @@
-ghost use Rattle.std.specs.Prelude.{◌≡◌, false, IfOk, OnErr, OnOk, Err};
+ghost use Rattle.std.specs.Prelude.{◌≡◌, ◌≤◌, false, is_some, if◌then◌else◌, IfOk, OnOk};
 ghost use Rattle.dq_base.specs.Faults.{one_more};
 ghost use Rattle.disk_model.specs.Trait.{HasCause};
 ghost use Rattle.disk_model.specs.Armed.{pick_at, is_number, fails_next, Counted, IsTurn, finished, with_end, unarmed, armed_with, disarmed, picked};
@@ -45,6 +45,15 @@ fn pick_at(stop: Option<Stop>, call: u64) -> Option<u64>
         }
         None => None,
     }
+}
+
+fn stopped_at(stopped: Option<u64>, stop: Option<Stop>, call: u64) -> Option<u64>
+    ensures { result ≡ (if is_some stopped then stopped else pick_at stop call) }
+{
+    if stopped.is_some() {
+        return stopped;
+    }
+    pick_at(stop, call)
 }
 
 fn is_number(number: Option<u64>, call: u64) -> bool
@@ -103,6 +112,7 @@ impl Armed {
     pub(crate) fn fault(&mut self) -> DiskFault
         ensures fault { result ≡ DiskFault.Failed }
         ensures count { self.new ≡ record self.old { faults = one_more self.old.faults } }
+        ensures never_falls { self.old.faults ≤ self.new.faults }
     {
         self.faults = self.faults.saturating_add(1);
         DiskFault::Failed
@@ -110,6 +120,7 @@ impl Armed {
 
     /// Starts the next call. It fails at once where the disk is stopped or the call is to fail; else the call goes on,
     /// and the disk stops in it or not.
+    #[tactic(auto, using(crate::proofs::Counts::caused, crate::proofs::Counts::spared))]
     pub(crate) fn start(&mut self) -> Result<Turn, DiskFault>
         ensures counted { Counted self.old self.new }
         ensures turn { IfOk result (IsTurn (fails_next self.old)) }
@@ -117,9 +128,7 @@ impl Armed {
     {
         let was_stopped = self.stopped.is_some();
         self.made = self.made.saturating_add(1);
-        if !was_stopped {
-            self.stopped = pick_at(self.stop, self.made);
-        }
+        self.stopped = stopped_at(self.stopped, self.stop, self.made);
         if was_stopped || is_number(self.fail, self.made) {
             return Err(self.fault());
         }
@@ -137,6 +146,7 @@ impl Armed {
     ) -> Result<(), DiskFault>
         ensures answer { result ≡ finished turn done }
         ensures count { self.new ≡ with_end turn done self.old }
+        ensures never_falls { self.old.faults ≤ self.new.faults }
     {
         match done {
             Err(_) => Err(DiskFault::NoMemory),
@@ -148,6 +158,7 @@ impl Armed {
     }
 
     /// Starts the next call, which is not done where the disk stops in it.
+    #[tactic(auto, using(crate::proofs::Counts::caused, crate::proofs::Counts::counted_more))]
     pub(crate) fn start_whole(&mut self) -> Result<(), DiskFault>
         ensures counted { Counted self.old self.new }
         ensures goes { OnOk result (fails_next self.old ≡ false) }

@@ -82,7 +82,7 @@ fn put_names_down(files: &mut [MemFile])
 }
 
 /// Copies in which what surely stands is also what is read.
-#[tactic(auto, using(crate::proofs::Standing::settled_more))]
+#[tactic(auto, using(crate::proofs::Standing::settled_next))]
 fn settled_files(alloc: Global, files: &[MemFile]) -> Result<Vec<MemFile>, AllocError>
     ensures { IfOk result (λ copies. copies.items ≡ all_settled files.now) }
 {
@@ -166,7 +166,7 @@ impl Folder {
     }
 
     /// A call changes what is read of a file.
-    #[tactic(auto, using(crate::proofs::Standing::read_done))]
+    #[tactic(auto, using(crate::proofs::Standing::read_taken))]
     pub(crate) fn change_read(&mut self, name: &str, effect: &Effect) -> Result<(), AllocError>
         requires { IsName name.now }
         ensures ok { OnOk result (tables_of self.new ≡ read_changed name.now (done_to effect.now) (tables_of self.old)) }
@@ -178,7 +178,7 @@ impl Folder {
     }
 
     /// A call changes what surely stands of a file.
-    #[tactic(auto, using(crate::proofs::Standing::base_done))]
+    #[tactic(auto, using(crate::proofs::Standing::base_taken))]
     pub(crate) fn change_base(&mut self, name: &str, effect: &Effect) -> Result<(), AllocError>
         requires { IsName name.now }
         ensures ok { OnOk result (tables_of self.new ≡ base_changed name.now (done_to effect.now) (tables_of self.old)) }
@@ -190,7 +190,7 @@ impl Folder {
     }
 
     /// Half of a call changes what surely stands of a file.
-    #[tactic(auto, using(crate::proofs::Standing::base_done))]
+    #[tactic(auto, using(crate::proofs::Standing::base_taken))]
     pub(crate) fn change_base_by_half(
         &mut self,
         name: &str,
@@ -217,7 +217,6 @@ impl Folder {
     }
 
     /// What is read of a file surely stands. Copies its bytes.
-    #[tactic(auto, using(crate::proofs::Standing::base_done))]
     pub(crate) fn put_down(&mut self, name: &str) -> Result<(), AllocError>
         requires { IsName name.now }
         ensures ok { OnOk result (tables_of self.new ≡ file_put_down name.now (tables_of self.old)) }
@@ -239,7 +238,7 @@ impl Folder {
     }
 
     /// A copy in which what surely stands is also what is read.
-    #[tactic(auto, using(crate::proofs::Standing::settled_tables))]
+    #[tactic(auto, using(crate::proofs::Standing::settled_as))]
     pub(crate) fn settled(&self) -> Result<Folder, AllocError>
         ensures { IfOk result (λ folder. tables_of folder ≡ settled (tables_of self.now)) }
     {

@@ -80,7 +80,7 @@ impl MemDisk {
     /// The outcome of a crash by a pick: by that of the stop, where one came, else by `pick`. It is one of those that a
     /// crash may leave, and lasts. The disk is disarmed. Copies each file twice. `Err` is want of memory, and the disk
     /// is then as it was.
-    #[tactic(auto, using(crate::proofs::Told::crash_told))]
+    #[tactic(auto, using(crate::proofs::Told::crash_told_at))]
     pub fn crash(&mut self, pick: u64) -> Result<(), AllocError>
         ensures outcome { OnOk result (memory_of self.new.contents ≡ crashed (pick_of self.old.calls pick) (memory_of self.old.contents)) }
         ensures told { OnOk result (Crashes (states_of self.old) (states_of self.new)) }
@@ -118,6 +118,7 @@ impl Disk for MemDisk {
     /// Takes no memory.
     #[tactic(auto, using(crate::proofs::Told::read_told, crate::proofs::Told::looks_none))]
     fn read_at(&mut self, name: &str, at: u64, into: &mut [u8]) -> Result<usize, DiskFault>
+        requires { IsName name.now }
         ensures bound { IfOk result (λ count. count ≤ length into.new) }
         ensures told { Looks (states_of self.old) (states_of self.new) result (λ d. Reads (d.read name.now).bytes at into.old into.new) }
         ensures cause { HasCause self.old.calls.faults self.new.calls.faults result }
@@ -128,8 +129,9 @@ impl Disk for MemDisk {
     }
 
     /// Copies the bytes twice.
-    #[tactic(auto, using(crate::proofs::Told::write_told, crate::proofs::Told::write_idle))]
+    #[tactic(auto, using(crate::proofs::Told::write_told_at, crate::proofs::Told::write_idle_at, crate::proofs::Told::ended_cause_at))]
     fn write_at(&mut self, name: &str, at: u64, bytes: &[u8]) -> Result<(), DiskFault>
+        requires { IsName name.now }
         ensures told { Known true (states_of self.old) (MayWrite name.now at) → Steps (WriteAt name.now at bytes.now) (states_of self.old) (states_of self.new) result }
         ensures cause { HasCause self.old.calls.faults self.new.calls.faults result }
         ensures counted { Counted self.old.calls self.new.calls }
@@ -139,8 +141,9 @@ impl Disk for MemDisk {
         self.calls.finish(turn, done)
     }
 
-    #[tactic(auto, using(crate::proofs::Told::cut_told, crate::proofs::Told::cut_idle))]
+    #[tactic(auto, using(crate::proofs::Told::cut_told, crate::proofs::Told::cut_idle, crate::proofs::Told::ended_cause_at))]
     fn cut(&mut self, name: &str, length: u64) -> Result<(), DiskFault>
+        requires { IsName name.now }
         ensures told { Steps (CutTo name.now length) (states_of self.old) (states_of self.new) result }
         ensures cause { HasCause self.old.calls.faults self.new.calls.faults result }
         ensures counted { Counted self.old.calls self.new.calls }
@@ -153,6 +156,7 @@ impl Disk for MemDisk {
     /// Copies the bytes of the file.
     #[tactic(auto, using(crate::proofs::Told::sync_told, crate::proofs::Told::sync_idle))]
     fn sync(&mut self, name: &str) -> Result<(), DiskFault>
+        requires { IsName name.now }
         ensures told { Steps (Sync name.now) (states_of self.old) (states_of self.new) result }
         ensures cause { HasCause self.old.calls.faults self.new.calls.faults result }
         ensures counted { Counted self.old.calls self.new.calls }
@@ -164,8 +168,9 @@ impl Disk for MemDisk {
         }
     }
 
-    #[tactic(auto, using(crate::proofs::Told::remove_told, crate::proofs::Told::remove_idle))]
+    #[tactic(auto, using(crate::proofs::Told::remove_told, crate::proofs::Told::remove_idle, crate::proofs::Told::ended_cause_at))]
     fn remove(&mut self, name: &str) -> Result<(), DiskFault>
+        requires { IsName name.now }
         ensures told { Steps (Remove name.now) (states_of self.old) (states_of self.new) result }
         ensures cause { HasCause self.old.calls.faults self.new.calls.faults result }
         ensures counted { Counted self.old.calls self.new.calls }

@@ -1,8 +1,8 @@
-ghost use Rattle.std.specs.Prelude.{◌≡◌, ◌∷◌, [], cond, true, false, length, IfOk, OnOk, OnErr};
+ghost use Rattle.std.specs.Prelude.{◌≡◌, ◌<◌, ◌≤◌, ◌^◌, ◌∷◌, [], cond, true, false, length, IfOk, OnOk, OnErr};
 ghost use Rattle.std.specs.Str.{bytes_eq};
 ghost use Rattle.dq_base.specs.Names.{IsName};
 ghost use Rattle.disk_model.specs.Disk.{missing};
-ghost use Rattle.disk_model.specs.Memory.{no_memory, wrote, truncated, removed, synced, names_synced, crashed, noted, kept, done_to, after_file_sync, after_names_sync, left_by_file_sync, left_by_names_sync, each_left};
+ghost use Rattle.disk_model.specs.Memory.{no_memory, wrote, truncated, removed, synced, names_synced, crashed, noted, kept, done_to, after_file_sync, after_names_sync, left_by_file_sync, left_by_names_sync, each_left, first_half, whole_calls, keeps_half};
 ghost use Rattle.disk_model.specs.Folder.{tables_of, replayed, ListsFiles};
 ghost use Rattle.disk_model.specs.Trait.{Reads};
 ghost use Rattle.disk_model.specs.Stored.{memory_of};
@@ -153,7 +153,7 @@ fn cover_names(calls: &mut Vec<Uncovered>, folder: &Folder)
 }
 
 /// Does the calls again, in turn, to what surely stands.
-#[tactic(auto, using(crate::proofs::Replaying::replayed_more))]
+#[tactic(auto, using(crate::proofs::Replaying::replayed_next))]
 fn replay(folder: &mut Folder, calls: &[Uncovered]) -> Result<(), AllocError>
     ensures { OnOk result (tables_of folder.new ≡ replayed calls.now (tables_of folder.old)) }
 {
@@ -163,16 +163,44 @@ fn replay(folder: &mut Folder, calls: &[Uncovered]) -> Result<(), AllocError>
     Ok(())
 }
 
+/// Does half of the first call again.
+#[tactic(auto, using(crate::proofs::Replaying::half_replayed, crate::proofs::Replaying::no_half))]
+fn replay_half(folder: &mut Folder, calls: &[Uncovered]) -> Result<(), AllocError>
+    ensures { OnOk result (tables_of folder.new ≡ replayed (first_half calls.now) (tables_of folder.old)) }
+{
+    match calls {
+        [call, ..] => folder.change_base_by_half(call.name.as_str(), &call.effect),
+        [] => Ok(()),
+    }
+}
+
+/// How many calls a pick keeps whole, of so many.
+fn whole_calls(pick: u64, count: usize) -> usize
+    requires { count < 2 ^ 63 }
+    ensures whole { result ≡ whole_calls pick count }
+    ensures within { result ≤ count }
+{
+    (pick % (count as u64 + 1)) as usize
+}
+
+/// Whether a pick keeps half of the call behind these.
+fn keeps_half(pick: u64, count: usize) -> bool
+    requires { count < 2 ^ 63 }
+    ensures { result ≡ keeps_half pick count }
+{
+    pick / (count as u64 + 1) % 2 == 1
+}
+
 /// Does the calls again that a pick keeps.
+#[tactic(auto, using(crate::proofs::Replaying::picked_half, crate::proofs::Replaying::picked_whole))]
 fn replay_picked(folder: &mut Folder, calls: &[Uncovered], pick: u64) -> Result<(), AllocError>
     ensures { OnOk result (tables_of folder.new ≡ replayed (kept pick calls.now) (tables_of folder.old)) }
 {
-    let outcomes = calls.len() as u64 + 1;
-    let whole = (pick % outcomes) as usize;
-    replay(folder, &calls[..whole])?;
-    if pick / outcomes % 2 == 1 && whole < calls.len() {
-        let call = &calls[whole];
-        folder.change_base_by_half(call.name.as_str(), &call.effect)?;
+    let count = calls.len();
+    let (whole, dropped) = calls.split_at(whole_calls(pick, count));
+    replay(folder, whole)?;
+    if keeps_half(pick, count) {
+        replay_half(folder, dropped)?;
     }
     Ok(())
 }
@@ -239,6 +267,7 @@ impl Storage {
     }
 
     /// Does a call to a file, and notes it.
+    #[tactic(auto, using(crate::proofs::Storing::note_done, crate::proofs::Storing::same_memory))]
     fn note(&mut self, name: &str, effect: Effect) -> Result<(), AllocError>
         requires { IsName name.now }
         ensures ok { OnOk result (memory_of self.new ≡ noted name.now effect (done_to effect) (memory_of self.old)) }
@@ -281,6 +310,7 @@ impl Storage {
     }
 
     /// Removes a file.
+    #[tactic(auto, using(crate::proofs::Storing::remove_done))]
     pub(crate) fn remove(&mut self, name: &str) -> Result<(), AllocError>
         requires { IsName name.now }
         ensures ok { OnOk result (memory_of self.new ≡ removed name.now (memory_of self.old)) }
@@ -299,6 +329,7 @@ impl Storage {
     }
 
     /// Puts the bytes of a file down. Copies them.
+    #[tactic(auto, using(crate::proofs::Storing::sync_done, crate::proofs::Storing::same_memory, crate::proofs::Storing::held_err))]
     pub(crate) fn sync(&mut self, name: &str) -> Result<(), AllocError>
         requires { IsName name.now }
         ensures ok { OnOk result (memory_of self.new ≡ synced name.now (memory_of self.old)) }
@@ -313,6 +344,7 @@ impl Storage {
     }
 
     /// Puts the names down.
+    #[tactic(auto, using(crate::proofs::Storing::names_done))]
     pub(crate) fn sync_names(&mut self)
         ensures { memory_of self.new ≡ names_synced (memory_of self.old) }
     {
@@ -321,6 +353,7 @@ impl Storage {
     }
 
     /// The outcome of a crash by a pick.
+    #[tactic(auto, using(crate::proofs::Storing::crash_done))]
     pub(crate) fn crash(&mut self, pick: u64) -> Result<(), AllocError>
         ensures ok { OnOk result (memory_of self.new ≡ crashed pick (memory_of self.old)) }
         ensures err { OnErr result (memory_of self.new ≡ memory_of self.old) }
