@@ -5,6 +5,7 @@ use std::fs;
 use std::test::Fail;
 
 /// A call of a row, on the file `a` or else `b`.
+#[derive(Clone, Copy)]
 enum Step {
     Write(bool, u64, &'static [u8]),
     Cut(bool, u64),
