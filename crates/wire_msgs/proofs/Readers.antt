@@ -117,30 +117,30 @@ pub both_fields : {A B : Type 0} (dialect : Dialect) (first : A → List Field) 
     → ReadsFields dialect first a → ReadsFields dialect second b → ReadsFields dialect (λ x. first x.0 ++ second x.1) (both a b)
 both_fields {A} {B} dialect first second a b ra rb = record {
   took = λ old new x fits e.
-    let s = bind_ok (a old) (λ y. b y.1 >>= λ z. Ok ((y.0, z.0), z.1)) (x, new) e in
-    let t = bind_ok (b s.0.1) (λ z. Ok ((s.0.0, z.0), z.1)) (x, new) s.2 in
-    let is = ok_is ((s.0.0, t.0.0), t.0.1) (x, new) t.2 in
-    let one = ra.took old s.0.1 s.0.0 fits s.1 in
-    let two = rb.took s.0.1 t.0.1 t.0.0 (all_bytes_after dialect (first s.0.0) old s.0.1 fits one) t.1 in
-    subst (λ (q : (A × B) × Unread). AllTook dialect (first q.0.0 ++ second q.0.1) old q.1) is (took_append dialect (first s.0.0) (second t.0.0) old s.0.1 t.0.1 one two);
+      let s = bind_ok (a old) (λ y. b y.1 >>= λ z. Ok ((y.0, z.0), z.1)) (x, new) e in
+      let t = bind_ok (b s.0.1) (λ z. Ok ((s.0.0, z.0), z.1)) (x, new) s.2 in
+      let is = ok_is ((s.0.0, t.0.0), t.0.1) (x, new) t.2 in
+      let one = ra.took old s.0.1 s.0.0 fits s.1 in
+      let two = rb.took s.0.1 t.0.1 t.0.0 (all_bytes_after dialect (first s.0.0) old s.0.1 fits one) t.1 in
+      subst (λ (q : (A × B) × Unread). AllTook dialect (first q.0.0 ++ second q.0.1) old q.1) is (took_append dialect (first s.0.0) (second t.0.0) old s.0.1 t.0.1 one two);
   again = λ old new x t.
-    let s = took_split dialect (first x.0) (second x.1) old new t in
-    rw (ra.again old s.0 x.0 s.1, rb.again s.0 new x.1 s.2) refl;
+      let s = took_split dialect (first x.0) (second x.1) old new t in
+      rw (ra.again old s.0 x.0 s.1, rb.again s.0 new x.1 s.2) refl;
 }
 
 pub both_end : {A B : Type 0} (dialect : Dialect) (first : A → List Field) (second : B → List Field) (a : Unread → Reading A) (b : Unread → Reading B)
     → ReadsFields dialect first a → EndsFields dialect second b → EndsFields dialect (λ x. first x.0 ++ second x.1) (both a b)
 both_end {A} {B} dialect first second a b ra rb = record {
   took = λ old new x fits e.
-    let s = bind_ok (a old) (λ y. b y.1 >>= λ z. Ok ((y.0, z.0), z.1)) (x, new) e in
-    let t = bind_ok (b s.0.1) (λ z. Ok ((s.0.0, z.0), z.1)) (x, new) s.2 in
-    let is = ok_is ((s.0.0, t.0.0), t.0.1) (x, new) t.2 in
-    let one = ra.took old s.0.1 s.0.0 fits s.1 in
-    let two = rb.took s.0.1 t.0.1 t.0.0 (all_bytes_after dialect (first s.0.0) old s.0.1 fits one) t.1 in
-    subst (λ (q : (A × B) × Unread). AllTook dialect (first q.0.0 ++ second q.0.1) old q.1) is (took_append dialect (first s.0.0) (second t.0.0) old s.0.1 t.0.1 one two);
+      let s = bind_ok (a old) (λ y. b y.1 >>= λ z. Ok ((y.0, z.0), z.1)) (x, new) e in
+      let t = bind_ok (b s.0.1) (λ z. Ok ((s.0.0, z.0), z.1)) (x, new) s.2 in
+      let is = ok_is ((s.0.0, t.0.0), t.0.1) (x, new) t.2 in
+      let one = ra.took old s.0.1 s.0.0 fits s.1 in
+      let two = rb.took s.0.1 t.0.1 t.0.0 (all_bytes_after dialect (first s.0.0) old s.0.1 fits one) t.1 in
+      subst (λ (q : (A × B) × Unread). AllTook dialect (first q.0.0 ++ second q.0.1) old q.1) is (took_append dialect (first s.0.0) (second t.0.0) old s.0.1 t.0.1 one two);
   again = λ old new x t end.
-    let s = took_split dialect (first x.0) (second x.1) old new t in
-    rw (ra.again old s.0 x.0 s.1, rb.again s.0 new x.1 s.2 end) refl;
+      let s = took_split dialect (first x.0) (second x.1) old new t in
+      rw (ra.again old s.0 x.0 s.1, rb.again s.0 new x.1 s.2 end) refl;
 }
 
 -- what was read and then made into something else

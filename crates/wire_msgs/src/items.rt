@@ -28,7 +28,11 @@ pub(crate) fn two_words(words: &mut Words<'_>) -> Result<(u64, u64), WordFault>
 }
 
 // Parameters, in a wide tuple or not; there are none where nothing is left.
-pub(crate) fn params(alloc: Global, wide: bool, words: &mut Words<'_>) -> Result<Items<Value>, WordFault>
+pub(crate) fn params(
+    alloc: Global,
+    wide: bool,
+    words: &mut Words<'_>,
+) -> Result<Items<Value>, WordFault>
     ensures { Finds (λ x. x) (params_at wide) words.old words.new result }
 {
     if words.left() == 0 {

@@ -24,3 +24,5 @@ pub use request::{Request, RequestKind};
 pub use response::{File, NodeInfo, Response, ResponseKind};
 pub use writing::{write_request, write_response};
 
+#[cfg(test)]
+mod tests;

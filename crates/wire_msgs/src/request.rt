@@ -14,7 +14,9 @@ pub enum Request {
     /// Which server leads. On the wire a word follows that isn't looked at.
     Leader,
     /// The client tells its number.
-    Client { id: u64 },
+    Client {
+        id: u64,
+    },
     /// Opens a database by its name.
     Open {
         name: WireText,
@@ -22,7 +24,11 @@ pub enum Request {
         vfs: WireText,
     },
     /// Prepares a statement.
-    Prepare { db: u64, sql: WireText, wide: bool },
+    Prepare {
+        db: u64,
+        sql: WireText,
+        wide: bool,
+    },
     /// Runs a prepared statement that answers no rows.
     Exec {
         db: u32,
@@ -38,7 +44,10 @@ pub enum Request {
         wide: bool,
     },
     /// Lets a prepared statement go.
-    Finalize { db: u32, statement: u32 },
+    Finalize {
+        db: u32,
+        statement: u32,
+    },
     /// Runs a text of SQL that answers no rows.
     ExecSql {
         db: u64,
@@ -54,25 +63,48 @@ pub enum Request {
         wide: bool,
     },
     /// Ends the answer that is being given.
-    Interrupt { db: u64 },
+    Interrupt {
+        db: u64,
+    },
     /// Asks a server to connect to another.
-    Connect { id: u64, address: WireText },
+    Connect {
+        id: u64,
+        address: WireText,
+    },
     /// Adds a server to the cluster.
-    Add { id: u64, address: WireText },
+    Add {
+        id: u64,
+        address: WireText,
+    },
     /// Gives a server a role: 0 for a voter, 1 for a standby, 2 for a spare.
-    Assign { id: u64, role: u64 },
+    Assign {
+        id: u64,
+        role: u64,
+    },
     /// Takes a server out of the cluster.
-    Remove { id: u64 },
+    Remove {
+        id: u64,
+    },
     /// Asks for the files of a database.
-    Dump { name: WireText },
+    Dump {
+        name: WireText,
+    },
     /// Asks for the servers of the cluster.
-    Cluster { format: u64 },
+    Cluster {
+        format: u64,
+    },
     /// Hands leadership to a server.
-    Transfer { id: u64 },
+    Transfer {
+        id: u64,
+    },
     /// Asks for the server's metadata.
-    Describe { format: u64 },
+    Describe {
+        format: u64,
+    },
     /// Sets the server's weight.
-    Weight { weight: u64 },
+    Weight {
+        weight: u64,
+    },
 }
 
 /// The types of request.

@@ -71,7 +71,13 @@ fn open(out: &mut Writer, name: &WireText, flags: u64, vfs: &WireText) -> Result
 }
 
 // The body of EXEC and QUERY.
-fn pair_params(out: &mut Writer, db: u32, statement: u32, wide: bool, values: &[Value]) -> Result<(), AllocError>
+fn pair_params(
+    out: &mut Writer,
+    db: u32,
+    statement: u32,
+    wide: bool,
+    values: &[Value],
+) -> Result<(), AllocError>
     requires { HasSpelling (Params wide values.now) }
     ensures bytes { OnOk result (out.new ≡ out.old ++ body_bytes (Pair db statement ∷ Params wide values.now ∷ [])) }
     ensures fit { OnOk result (AllFit (Pair db statement ∷ Params wide values.now ∷ [])) }
@@ -81,7 +87,13 @@ fn pair_params(out: &mut Writer, db: u32, statement: u32, wide: bool, values: &[
 }
 
 // The body of EXEC_SQL and QUERY_SQL.
-fn word_text_params(out: &mut Writer, db: u64, sql: &WireText, wide: bool, values: &[Value]) -> Result<(), AllocError>
+fn word_text_params(
+    out: &mut Writer,
+    db: u64,
+    sql: &WireText,
+    wide: bool,
+    values: &[Value],
+) -> Result<(), AllocError>
     requires text { HasNoNul sql.now }
     requires params { HasSpelling (Params wide values.now) }
     ensures bytes { OnOk result (out.new ≡ out.old ++ body_bytes (Word db ∷ Text sql.now ∷ Params wide values.now ∷ [])) }

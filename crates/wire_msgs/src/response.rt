@@ -25,15 +25,27 @@ pub struct File {
 #[derive(Debug, Drop)]
 pub enum Response {
     /// The request was refused.
-    Failure { code: u64, message: WireText },
+    Failure {
+        code: u64,
+        message: WireText,
+    },
     /// The server that leads, by its id and its address; id 0 and an empty address where none is known.
-    Server { id: u64, address: WireText },
+    Server {
+        id: u64,
+        address: WireText,
+    },
     /// The client is known from now on. A client that is silent for so many milliseconds may be dropped.
-    Welcome { heartbeat_timeout: u64 },
+    Welcome {
+        heartbeat_timeout: u64,
+    },
     /// The servers of the cluster: in format 0 without roles, in format 1 with them.
-    Servers { servers: Items<NodeInfo> },
+    Servers {
+        servers: Items<NodeInfo>,
+    },
     /// The database is open under this number.
-    Db { id: u32 },
+    Db {
+        id: u32,
+    },
     /// The statement is prepared under this number, and has so many parameters. In schema 1 the place in the text follows
     /// at which the rest begins.
     Stmt {
@@ -48,13 +60,20 @@ pub enum Response {
         rows_affected: u64,
     },
     /// Rows: a finished body of whole words.
-    Rows { body: WireBytes },
+    Rows {
+        body: WireBytes,
+    },
     /// It is done, and there is nothing to tell.
     Empty,
     /// The files of a database.
-    Files { files: Items<File> },
+    Files {
+        files: Items<File>,
+    },
     /// The server's metadata.
-    Metadata { failure_domain: u64, weight: u64 },
+    Metadata {
+        failure_domain: u64,
+        weight: u64,
+    },
 }
 
 /// The types of response.

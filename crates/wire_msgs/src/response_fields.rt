@@ -97,7 +97,13 @@ fn pair_word(out: &mut Writer, db: u32, id: u32, params: u64) -> Result<(), Allo
 }
 
 // The body of STMT.
-fn stmt(out: &mut Writer, db: u32, id: u32, params: u64, tail: Option<u64>) -> Result<(), AllocError>
+fn stmt(
+    out: &mut Writer,
+    db: u32,
+    id: u32,
+    params: u64,
+    tail: Option<u64>,
+) -> Result<(), AllocError>
     ensures bytes { OnOk result (out.new ≡ out.old ++ body_bytes (Pair db id ∷ Word params ∷ optional tail)) }
     ensures fit { OnOk result (AllFit (Pair db id ∷ Word params ∷ optional tail)) }
 {

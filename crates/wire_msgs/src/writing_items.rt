@@ -42,7 +42,11 @@ pub(crate) fn write_text(out: &mut Writer, text: &WireText) -> Result<(), AllocE
 }
 
 // A number and a text.
-pub(crate) fn write_word_text(out: &mut Writer, number: u64, text: &WireText) -> Result<(), AllocError>
+pub(crate) fn write_word_text(
+    out: &mut Writer,
+    number: u64,
+    text: &WireText,
+) -> Result<(), AllocError>
     requires { HasNoNul text.now }
     ensures bytes { OnOk result (out.new ≡ out.old ++ body_bytes (Word number ∷ Text text.now ∷ [])) }
     ensures fit { OnOk result (AllFit (Word number ∷ Text text.now ∷ [])) }

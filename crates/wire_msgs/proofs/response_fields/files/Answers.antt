@@ -10,7 +10,7 @@ file-requires c = (item_spelled file_fields c.args.files.now c.loop-item.item-in
 pub loop-item-preserved : goal.loop-item-preserved
 loop-item-preserved c = record {
   written =
-    c.in_ok-file.ensures.bytes ∙ ap (λ (b : List ℕ). b ++ body_bytes (file_fields c.item-item.result)) c.loop-item.invariant.written
-    ∙ item_written file_fields c.args.out.now c.args.files.now c.loop-item.item-index c.item-item.result c.loop-item-test.true c.item-item.is;
+      c.in_ok-file.ensures.bytes ∙ ap (λ (b : List ℕ). b ++ body_bytes (file_fields c.item-item.result)) c.loop-item.invariant.written
+      ∙ item_written file_fields c.args.out.now c.args.files.now c.loop-item.item-index c.item-item.result c.loop-item-test.true c.item-item.is;
   fit = item_fits file_fields c.args.files.now c.loop-item.item-index c.item-item.result c.loop-item-test.true c.item-item.is c.loop-item.invariant.fit c.in_ok-file.ensures.fit;
 }

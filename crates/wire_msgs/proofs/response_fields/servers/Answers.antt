@@ -10,7 +10,7 @@ server-requires c = (item_spelled server_fields c.args.servers.now c.loop-item.i
 pub loop-item-preserved : goal.loop-item-preserved
 loop-item-preserved c = record {
   written =
-    c.in_ok-server.ensures.bytes ∙ ap (λ (b : List ℕ). b ++ body_bytes (server_fields c.item-item.result)) c.loop-item.invariant.written
-    ∙ item_written server_fields c.args.out.now c.args.servers.now c.loop-item.item-index c.item-item.result c.loop-item-test.true c.item-item.is;
+      c.in_ok-server.ensures.bytes ∙ ap (λ (b : List ℕ). b ++ body_bytes (server_fields c.item-item.result)) c.loop-item.invariant.written
+      ∙ item_written server_fields c.args.out.now c.args.servers.now c.loop-item.item-index c.item-item.result c.loop-item-test.true c.item-item.is;
   fit = item_fits server_fields c.args.servers.now c.loop-item.item-index c.item-item.result c.loop-item-test.true c.item-item.is c.loop-item.invariant.fit c.in_ok-server.ensures.fit;
 }
