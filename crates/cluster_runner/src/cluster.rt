@@ -1,8 +1,9 @@
 //! The node of a script, in memory, and its clients.
 
-ghost use Rattle.std.specs.Prelude.{◌≡◌, ◌++◌, [], true, Some, None, IfOk, OnOk, OnErr, IsErrOf};
+ghost use Rattle.std.specs.Prelude.{◌≡◌, ◌++◌, [], true, Some, None, IfOk, OnOk, OnErr, IsErrOf, MatchOption};
+ghost use Rattle.cluster_runner.specs.declared.cluster.Client.{Client};
 ghost use Rattle.client_connection.specs.Connection.{received, reason_of};
-ghost use Rattle.cluster_runner.specs.World.{replies, closing_line, left_open};
+ghost use Rattle.cluster_runner.specs.World.{replies, closing_line, answered, left_open};
 
 use crate::answers::answer;
 use crate::digest::digest;
@@ -98,7 +99,7 @@ fn answer_waiting(
     said: &mut Vec<Say>,
 ) -> Result<(), AllocError>
     ensures said { OnOk result (said.new.items ≡ said.old.items ++ replies leads connection client.old.waiting) }
-    ensures left { OnOk result (client.new ≡ record { end = client.old.end; waiting = [] }) }
+    ensures left { OnOk result (client.new ≡ answered client.old) }
 {
     while let Some(message) = client.next() {
         let bytes = answer(alloc, leads, &message)?;
@@ -130,7 +131,7 @@ fn serve(
     said: &mut Vec<Say>,
 ) -> Result<Client, AllocError>
     requires { said.old.items ≡ [] }
-    ensures client { IfOk result (λ after. after ≡ left_open (reason_of (received client bytes.now).end) (received client bytes.now)) }
+    ensures client { IfOk result (λ after. after ≡ left_open (reason_of (received client bytes.now).end) (answered (received client bytes.now))) }
     ensures said { OnOk result (said.new.items ≡ replies leads connection (received client bytes.now).waiting
         ++ closing_line connection (reason_of (received client bytes.now).end)) }
 {
@@ -141,7 +142,7 @@ fn serve(
 }
 
 impl Cluster {
-    ghost use Rattle.cluster_runner.specs.World.{fresh, happens, openness, node_standing, world_of};
+    ghost use Rattle.cluster_runner.specs.World.{fresh, happens, openness, with_client, node_standing, world_of};
 
     /// The node, started, and no client.
     pub fn new(alloc: Global) -> Cluster
@@ -167,6 +168,28 @@ impl Cluster {
         Ok(())
     }
 
+    /// Puts a client's connection into the table.
+    fn set_client(&mut self, connection: u32, client: Client) -> Result<(), AllocError>
+        ensures ok { OnOk result (world_of self.new ≡ with_client (world_of self.old) connection client) }
+        ensures err { OnErr result (world_of self.new ≡ world_of self.old) }
+    {
+        self.clients.insert(connection, client)?;
+        Ok(())
+    }
+
+    /// Takes an open connection out of the table, where another one is to be put then.
+    fn take_open(&mut self, connection: u32) -> Option<Connection>
+        ensures others { (client : Client) → with_client (world_of self.new) connection client ≡ with_client (world_of self.old) connection client }
+        ensures leads { (world_of self.new).leads ≡ (world_of self.old).leads }
+        ensures taken { MatchOption result (openness ((world_of self.old).clients connection) ≡ Some true → ⊥)
+            (λ client. (world_of self.old).clients connection ≡ Some (Client.Open client)) }
+    {
+        match self.clients.remove(&connection) {
+            Some(Client::Open(client)) => Some(client),
+            _ => None,
+        }
+    }
+
     /// Connects a client to the node, where the number was never one of a connection.
     #[tactic(auto, unfolding(crate::specs::World::happens))]
     fn connect(&mut self, alloc: Global, node: u32, connection: u32) -> Result<(), EventFault>
@@ -177,7 +200,7 @@ impl Cluster {
         if node != 1 || self.clients.contains_key(&connection) {
             return Err(EventFault::NotThere);
         }
-        self.clients.insert(connection, Client::Open(Connection::new(alloc)))?;
+        self.set_client(connection, Client::Open(Connection::new(alloc)))?;
         Ok(())
     }
 
@@ -191,7 +214,7 @@ impl Cluster {
         if !self.clients.contains_key(&connection) {
             return Err(EventFault::NotThere);
         }
-        self.clients.insert(connection, Client::Gone)?;
+        self.set_client(connection, Client::Gone)?;
         Ok(())
     }
 
@@ -208,22 +231,33 @@ impl Cluster {
 
     /// Takes bytes on a connection that is open.
     #[tactic(auto, unfolding(crate::specs::World::happens))]
-    fn hear(&mut self, alloc: Global, connection: u32, bytes: &[u8], said: &mut Vec<Say>) -> Result<(), AllocError>
+    fn hear(
+        &mut self,
+        alloc: Global,
+        connection: u32,
+        bytes: &[u8],
+        said: &mut Vec<Say>,
+    ) -> Result<(), AllocError>
         requires open { openness ((world_of self.old).clients connection) ≡ Some true }
         requires nothing { said.old.items ≡ [] }
         ensures { OnOk result (happens (world_of self.old) (Event.Bytes connection bytes.now) ≡ Some (world_of self.new, said.new.items)) }
     {
-        let Some(Client::Open(client)) = self.clients.remove(&connection) else {
+        let Some(client) = self.take_open(connection) else {
             return Ok(());
         };
         let client = serve(alloc, self.leads, connection, client, bytes, said)?;
-        self.clients.insert(connection, client)?;
-        Ok(())
+        self.set_client(connection, client)
     }
 
     /// Takes bytes on a connection; where it is closed, nothing happens.
     #[tactic(auto, unfolding(crate::specs::World::happens))]
-    fn bytes(&mut self, alloc: Global, connection: u32, bytes: &[u8], said: &mut Vec<Say>) -> Result<(), EventFault>
+    fn bytes(
+        &mut self,
+        alloc: Global,
+        connection: u32,
+        bytes: &[u8],
+        said: &mut Vec<Say>,
+    ) -> Result<(), EventFault>
         requires { said.old.items ≡ [] }
         ensures ok { OnOk result (happens (world_of self.old) (Event.Bytes connection bytes.now) ≡ Some (world_of self.new, said.new.items)) }
         ensures fault { IsErrOf result EventFault.NotThere → happens (world_of self.old) (Event.Bytes connection bytes.now) ≡ None }

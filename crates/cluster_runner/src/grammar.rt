@@ -156,7 +156,9 @@ fn event_in(alloc: Global, line: &[u8]) -> Result<Option<ScriptLine>, AllocError
         return Ok(number_in(text).map(|machine| ScriptLine::Event(Event::Take { machine })));
     }
     if let Some(text) = line.strip_prefix(b"hangup ") {
-        return Ok(number_in(text).map(|connection| ScriptLine::Event(Event::Hangup { connection })));
+        return Ok(number_in(text).map(|connection| ScriptLine::Event(Event::Hangup {
+            connection,
+        })));
     }
     Ok(None)
 }

@@ -163,9 +163,7 @@ impl Machines {
             Event::Timeout { .. }
             | Event::Connect { .. }
             | Event::Bytes { .. }
-            | Event::Hangup { .. } => Err(
-                EventFault::NotThere,
-            ),
+            | Event::Hangup { .. } => Err(EventFault::NotThere),
         }
     }
 
