@@ -11,13 +11,19 @@ use Rattle.frame_commands.specs.declared.fault.CommandFault.{CommandFault}
 use Rattle.frame_commands.specs.Reading.{command_of}
 use Rattle.cluster_runner.specs.declared.database.Database.{Database}
 use Rattle.cluster_runner.specs.declared.cluster.Say.{Say}
-use Rattle.cluster_runner.specs.declared.cluster.Say.TheVariants.{Reply, Refused, Node, Machine}
+use Rattle.cluster_runner.specs.declared.cluster.Say.TheVariants.{Reply, Closed, Refused, Node, Machine}
 use Rattle.cluster_runner.specs.declared.grammar.Event.{Event}
-use Rattle.cluster_runner.specs.declared.grammar.Event.TheVariants.{Timeout, Connect, Bytes, Put, Take}
+use Rattle.cluster_runner.specs.declared.grammar.Event.TheVariants.{Timeout, Connect, Bytes, Hangup, Put, Take}
 use Rattle.cluster_runner.specs.declared.grammar.ScriptLine.{ScriptLine}
 use Rattle.cluster_runner.specs.declared.grammar.ScriptLine.TheVariants as says
 use Rattle.cluster_runner.specs.Lines.{lines_of}
 use Rattle.cluster_runner.specs.Grammar.{line_of}
+use Rattle.wire_words.specs.declared.message.Message.{Message}
+use Rattle.client_connection.specs.declared.connection.CloseReason.{CloseReason}
+use Rattle.client_connection.specs.Connection.{received, reason_of}
+use Rattle.cluster_runner.specs.declared.cluster.Client.{Client}
+use Rattle.cluster_runner.specs.declared.cluster.Client.TheVariants.{Open, Gone}
+use Rattle.cluster_runner.specs.World.{heard, served, replies, closing_line}
 use Rattle.cluster_runner.specs.World.{World, happens, node_standing}
 use Rattle.cluster_runner.specs.Machine.{act, files}
 use Rattle.cluster_runner.specs.Holding.{Holding}
@@ -58,6 +64,7 @@ digest_longer commands more applied bytes d = record {
 
 tells_grown : (all commands : List Command) → BeginsWith all commands → (say : Say) → Tells commands say → Tells all say
 tells_grown all commands b (Reply connection bytes) t = tt
+tells_grown all commands b (Closed connection reason) t = tt
 tells_grown all commands b Refused t = tt
 tells_grown all commands b (Node node term leads applied bytes) t = tt
 tells_grown all commands b (Machine number applied bytes) t = subst (λ (l : List Command). IsDigestOf l applied bytes) b.1 (digest_longer commands b.0 applied bytes t)
@@ -146,11 +153,28 @@ closing_tells (Within events (Pages fleet)) follow = all_shown_tell fleet.comman
 
 -- ---- what events and lines do
 
+replies_tell : (leads : Bool) (connection : ℕ) (messages : List Message) (more : List Say) → AllTell [] more → AllTell [] (replies leads connection messages ++ more)
+replies_tell leads connection [] more h = h
+replies_tell leads connection (m ∷ messages) more h = (tt, replies_tell leads connection messages more h)
+
+closing_line_tells : (connection : ℕ) (reason : Option CloseReason) → AllTell [] (closing_line connection reason)
+closing_line_tells connection None = tt
+closing_line_tells connection (Some reason) = (tt, tt)
+
+heard_tells : (world : World) (connection : ℕ) (bytes : List ℕ) (client : Option Client) (next : World × List Say) → heard world connection bytes client ≡ Some next → AllTell [] next.1
+heard_tells world connection bytes None next e = absurd cc
+heard_tells world connection bytes (Some Gone) next e = subst (λ (n : World × List Say). AllTell [] n.1) (some_is _ next e) tt
+heard_tells world connection bytes (Some (Open c)) next e =
+    let after = received c bytes in
+    subst (λ (n : World × List Say). AllTell [] n.1) (some_is (served world connection after) next e)
+    (replies_tell world.leads connection after.waiting (closing_line connection (reason_of after.end)) (closing_line_tells connection (reason_of after.end)))
+
 happens_tells : (world : World) (event : Event) (next : World × List Say) → happens world event ≡ Some next → AllTell [] next.1
 unfolding happens
 happens_tells world (Timeout node) next e = where_some (λ (n : World × List Say). AllTell [] n.1) _ _ next tt e
 happens_tells world (Connect node connection) next e = where_some (λ (n : World × List Say). AllTell [] n.1) _ _ next tt e
-happens_tells world (Bytes connection bytes) next e = where_some (λ (n : World × List Say). AllTell [] n.1) _ _ next (tt, tt) e
+happens_tells world (Bytes connection bytes) next e = heard_tells world connection bytes (world.clients connection) next e
+happens_tells world (Hangup connection) next e = where_some (λ (n : World × List Say). AllTell [] n.1) _ _ next tt e
 happens_tells world (Put bytes) next e = absurd cc
 happens_tells world (Take machine) next e = absurd cc
 
@@ -171,6 +195,7 @@ event_goes fleet (Take number) next follow e =
 event_goes fleet (Timeout node) next follow e = absurd cc
 event_goes fleet (Connect node connection) next follow e = absurd cc
 event_goes fleet (Bytes connection bytes) next follow e = absurd cc
+event_goes fleet (Hangup connection) next follow e = absurd cc
 
 scene_goes : (scene : Scene) (event : Event) (next : Scene × List Say) → AllFollow (fleet_in scene) → plays scene event ≡ Some next → SceneGoes scene next
 scene_goes (Nodes world) event next follow e =

@@ -1,4 +1,5 @@
 pub mod Agreement
+pub mod Answering
 pub mod ByName
 pub mod Choices
 pub mod CommandSizes

@@ -11,11 +11,17 @@ use Rattle.frame_commands.specs.Reading.{command_of}
 use Rattle.cluster_runner.specs.declared.cluster.Say.{Say}
 use Rattle.cluster_runner.specs.declared.cluster.Say.TheVariants.{Node}
 use Rattle.cluster_runner.specs.declared.grammar.Event.{Event}
-use Rattle.cluster_runner.specs.declared.grammar.Event.TheVariants.{Timeout, Connect, Bytes, Put, Take}
+use Rattle.cluster_runner.specs.declared.grammar.Event.TheVariants.{Timeout, Connect, Bytes, Hangup, Put, Take}
 use Rattle.cluster_runner.specs.declared.grammar.ScriptLine.{ScriptLine}
 use Rattle.cluster_runner.specs.declared.grammar.ScriptLine.TheVariants as says
 use Rattle.cluster_runner.specs.Lines.{lines_of}
 use Rattle.cluster_runner.specs.Grammar.{line_of}
+use Rattle.wire_words.specs.declared.message.Message.{Message}
+use Rattle.client_connection.specs.declared.connection.CloseReason.{CloseReason}
+use Rattle.client_connection.specs.Connection.{received, reason_of}
+use Rattle.cluster_runner.specs.declared.cluster.Client.{Client}
+use Rattle.cluster_runner.specs.declared.cluster.Client.TheVariants.{Open, Gone}
+use Rattle.cluster_runner.specs.World.{heard, served, replies, closing_line}
 use Rattle.cluster_runner.specs.World.{World, happens, node_standing}
 use Rattle.cluster_runner.specs.Digest.{digest}
 use Rattle.cluster_runner.specs.Holding.{Holding}
@@ -73,11 +79,28 @@ closing_seen (Within events (Pages fleet)) = all_here fleet.commands [] fleet.ma
 
 -- ---- what events and lines say
 
+replies_seen : (fleet : Fleet) (leads : Bool) (connection : ℕ) (messages : List Message) (more : List Say) → AllSeenIn fleet more → AllSeenIn fleet (replies leads connection messages ++ more)
+replies_seen fleet leads connection [] more h = h
+replies_seen fleet leads connection (m ∷ messages) more h = (tt, replies_seen fleet leads connection messages more h)
+
+closing_line_seen : (fleet : Fleet) (connection : ℕ) (reason : Option CloseReason) → AllSeenIn fleet (closing_line connection reason)
+closing_line_seen fleet connection None = tt
+closing_line_seen fleet connection (Some reason) = (tt, tt)
+
+heard_seen : (fleet : Fleet) (world : World) (connection : ℕ) (bytes : List ℕ) (client : Option Client) (next : World × List Say) → heard world connection bytes client ≡ Some next → AllSeenIn fleet next.1
+heard_seen fleet world connection bytes None next e = absurd cc
+heard_seen fleet world connection bytes (Some Gone) next e = subst (λ (n : World × List Say). AllSeenIn fleet n.1) (some_is _ next e) tt
+heard_seen fleet world connection bytes (Some (Open c)) next e =
+    let after = received c bytes in
+    subst (λ (n : World × List Say). AllSeenIn fleet n.1) (some_is (served world connection after) next e)
+    (replies_seen fleet world.leads connection after.waiting (closing_line connection (reason_of after.end)) (closing_line_seen fleet connection (reason_of after.end)))
+
 happens_seen : (fleet : Fleet) (world : World) (event : Event) (next : World × List Say) → happens world event ≡ Some next → AllSeenIn fleet next.1
 unfolding happens
 happens_seen fleet world (Timeout node) next e = where_some (λ (n : World × List Say). AllSeenIn fleet n.1) _ _ next tt e
 happens_seen fleet world (Connect node connection) next e = where_some (λ (n : World × List Say). AllSeenIn fleet n.1) _ _ next tt e
-happens_seen fleet world (Bytes connection bytes) next e = where_some (λ (n : World × List Say). AllSeenIn fleet n.1) _ _ next (tt, tt) e
+happens_seen fleet world (Bytes connection bytes) next e = heard_seen fleet world connection bytes (world.clients connection) next e
+happens_seen fleet world (Hangup connection) next e = where_some (λ (n : World × List Say). AllSeenIn fleet n.1) _ _ next tt e
 happens_seen fleet world (Put bytes) next e = absurd cc
 happens_seen fleet world (Take machine) next e = absurd cc
 
@@ -93,6 +116,7 @@ applies_seen fleet (Take number) next e =
 applies_seen fleet (Timeout node) next e = absurd cc
 applies_seen fleet (Connect node connection) next e = absurd cc
 applies_seen fleet (Bytes connection bytes) next e = absurd cc
+applies_seen fleet (Hangup connection) next e = absurd cc
 
 plays_seen : (scene : Scene) (event : Event) (next : Scene × List Say) → plays scene event ≡ Some next → AllSeenIn (fleet_in scene) next.1
 plays_seen (Nodes world) event next e =

@@ -8,7 +8,7 @@ use Rattle.std.proofs.lemmas.Bool.{and_parts, and_from, ltb-true, lt-ltb, leb-tr
 use Rattle.std.proofs.lemmas.Slice.Eq.{bytes_eq-Decides}
 use Rattle.cluster_runner.specs.ScriptSize.{line_limit}
 use Rattle.cluster_runner.specs.declared.grammar.Event.{Event}
-use Rattle.cluster_runner.specs.declared.grammar.Event.TheVariants.{Timeout, Connect, Bytes, Put, Take}
+use Rattle.cluster_runner.specs.declared.grammar.Event.TheVariants.{Timeout, Connect, Bytes, Hangup, Put, Take}
 use Rattle.cluster_runner.specs.declared.grammar.ScriptLine.{ScriptLine}
 use Rattle.cluster_runner.specs.declared.grammar.ScriptLine.TheVariants as says
 use Rattle.cluster_runner.specs.Grammar.{number, hex_bytes, halves, behind, ◌>>=◌, connect_of, bytes_of, event_line, words_line, is_fit, is_blank, line_of}
@@ -108,9 +108,12 @@ event_is line said e =
           | inl a ↦ bytes_are line a.0 said a.1 a.2
           | inr e ↦ elim (chosen (behind (codes "put ") line) (λ text. option_map (λ bytes. says.Event (Put bytes)) (hex_bytes text)) _ said e) [
             | inl a ↦ put_is line a.0 said a.1 a.2
-            | inr e ↦ elim (chosen (behind (codes "take ") line) (λ text. option_map (λ n. says.Event (Take n)) (number text)) None said e) [
+            | inr e ↦ elim (chosen (behind (codes "take ") line) (λ text. option_map (λ n. says.Event (Take n)) (number text)) _ said e) [
               | inl a ↦ numbered (codes "take ") line a.0 (λ n. says.Event (Take n)) said (λ n h. h) a.1 a.2
-              | inr e ↦ none_is said e
+              | inr e ↦ elim (chosen (behind (codes "hangup ") line) (λ text. option_map (λ n. says.Event (Hangup n)) (number text)) None said e) [
+                | inl a ↦ numbered (codes "hangup ") line a.0 (λ n. says.Event (Hangup n)) said (λ n h. h) a.1 a.2
+                | inr e ↦ none_is said e
+              ]
             ]
           ]
         ]
@@ -183,6 +186,10 @@ take_read : (text : List ℕ) → words_line (codes "take " ++ text) ≡ option_
 unfolding words_line event_line
 take_read text = refl
 
+hangup_read : (text : List ℕ) → words_line (codes "hangup " ++ text) ≡ option_map (λ n. says.Event (Hangup n)) (number text)
+unfolding words_line event_line
+hangup_read text = refl
+
 connect_again : (node connection : ℕ) → node < 2 ^ 32 → connection < 2 ^ 32
     → connect_of (decimal node ++ (codes " " ++ decimal connection)) ≡ Some (says.Event (Connect node connection))
 unfolding connect_of
@@ -205,6 +212,7 @@ event_read (Connect node connection) line h =
     ap said_by h.parts ∙ connect_read (decimal node ++ (codes " " ++ decimal connection)) ∙ connect_again node connection h.node_in_range h.connection_in_range
 event_read (Bytes connection bytes) line h =
     ap said_by h.parts ∙ bytes_read (decimal connection ++ (codes " " ++ h.digits)) ∙ bytes_again connection h.digits bytes h.in_range h.hex h.some
+event_read (Hangup connection) line h = ap said_by h.parts ∙ hangup_read (decimal connection) ∙ read_number (λ n. says.Event (Hangup n)) connection h.in_range
 event_read (Put bytes) line h =
     ap said_by h.parts ∙ put_read h.digits ∙ ap (option_map (λ bytes. says.Event (Put bytes))) (hex_read h.digits bytes h.hex h.some)
 event_read (Take machine) line h = ap said_by h.parts ∙ take_read (decimal machine) ∙ read_number (λ n. says.Event (Take n)) machine h.in_range

@@ -3,7 +3,7 @@
 use Rattle.std.specs.Prelude.{◌≡◌, ◌≤◌, ◌+◌, ℕ, suc, List, [], ◌∷◌, ◌++◌, length, take, slice_get, All, Contains, Some, None, Ok, Err, ⊤}
 use Rattle.frame_commands.specs.declared.command.Command.{Command}
 use Rattle.cluster_runner.specs.declared.cluster.Say.{Say}
-use Rattle.cluster_runner.specs.declared.cluster.Say.TheVariants.{Reply, Refused, Node, Machine}
+use Rattle.cluster_runner.specs.declared.cluster.Say.TheVariants.{Reply, Closed, Refused, Node, Machine}
 use Rattle.cluster_runner.specs.Lines.{lines_of}
 use Rattle.cluster_runner.specs.Machine.{files}
 use Rattle.cluster_runner.specs.Holding.{Holding}
@@ -69,6 +69,7 @@ pub record IsDigestOf (commands : List Command) (applied : ℕ) (bytes : List �
 -- what is said of a machine names a number of commands of the list, and the digest of the files that so many make
 abbrev pub Tells : List Command → Say → Type 0
 Tells commands (Reply connection bytes) = ⊤
+Tells commands (Closed connection reason) = ⊤
 Tells commands Refused = ⊤
 Tells commands (Node node term leads applied bytes) = ⊤
 Tells commands (Machine number applied bytes) = IsDigestOf commands applied bytes
@@ -76,6 +77,7 @@ Tells commands (Machine number applied bytes) = IsDigestOf commands applied byte
 -- what is said of a machine is how the machine of its number stands
 abbrev pub IsSeenIn : Fleet → Say → Type 0
 IsSeenIn fleet (Reply connection bytes) = ⊤
+IsSeenIn fleet (Closed connection reason) = ⊤
 IsSeenIn fleet Refused = ⊤
 IsSeenIn fleet (Node node term leads applied bytes) = ⊤
 IsSeenIn fleet (Machine number applied bytes) = standing_of fleet number ≡ Some (Machine number applied bytes)

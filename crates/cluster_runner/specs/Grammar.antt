@@ -8,7 +8,7 @@ use Rattle.std.specs.Str.Parse.{digits_value}
 use Rattle.std.specs.Fmt.{decimal}
 use Rattle.hex.specs.Hex.{decode_of}
 use Rattle.cluster_runner.specs.ScriptSize.{line_limit}
-use Rattle.cluster_runner.specs.declared.grammar.Event.TheVariants.{Timeout, Connect, Bytes, Put, Take}
+use Rattle.cluster_runner.specs.declared.grammar.Event.TheVariants.{Timeout, Connect, Bytes, Hangup, Put, Take}
 use Rattle.cluster_runner.specs.declared.grammar.ScriptLine.{ScriptLine}
 use Rattle.cluster_runner.specs.declared.grammar.ScriptLine.TheVariants as says
 
@@ -70,7 +70,8 @@ event_line line =
     (or_else (behind (codes "bytes ") line) bytes_of
     (or_else (behind (codes "put ") line) (λ text. option_map (λ bytes. says.Event (Put bytes)) (hex_bytes text))
     (or_else (behind (codes "take ") line) (λ text. option_map (λ n. says.Event (Take n)) (number text))
-    None))))
+    (or_else (behind (codes "hangup ") line) (λ text. option_map (λ n. says.Event (Hangup n)) (number text))
+    None)))))
 
 -- a line of words
 unfoldable pub words_line : List ℕ → Option ScriptLine

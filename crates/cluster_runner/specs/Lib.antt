@@ -2,6 +2,7 @@ pub mod ScriptSize
 pub mod Lines
 pub mod Grammar
 pub mod Spelling
+pub mod Answers
 pub mod World
 pub mod Holding
 pub mod Digest

@@ -7,7 +7,7 @@ use Rattle.frame_commands.specs.Reading.{command_of}
 use Rattle.cluster_runner.specs.declared.cluster.Say.{Say}
 use Rattle.cluster_runner.specs.declared.cluster.Say.TheVariants.{Refused, Machine}
 use Rattle.cluster_runner.specs.declared.grammar.Event.{Event}
-use Rattle.cluster_runner.specs.declared.grammar.Event.TheVariants.{Timeout, Connect, Bytes, Put, Take}
+use Rattle.cluster_runner.specs.declared.grammar.Event.TheVariants.{Timeout, Connect, Bytes, Hangup, Put, Take}
 use Rattle.cluster_runner.specs.declared.machines.Machines.{Machines}
 use Rattle.cluster_runner.specs.Machine.{act}
 use Rattle.cluster_runner.specs.Holding.{Holding}
@@ -62,6 +62,7 @@ unfoldable pub applies : Fleet → Event → Option (Fleet × List Say)
 applies fleet (Put bytes) = Some (with_command fleet (command_of bytes), refusal (joins fleet (command_of bytes)))
 applies fleet (Take number) = option_map (λ (place : ℕ). (take_at fleet place, [])) (place_named number (length fleet.machines))
 applies fleet (Timeout node) = None
+applies fleet (Hangup connection) = None
 applies fleet (Connect node connection) = None
 applies fleet (Bytes connection bytes) = None
 

@@ -3,9 +3,10 @@ use Rattle.std.specs.Prelude.{◌==◌, ◌+◌, ◌&&◌, ℕ, suc, Bool, List,
 use Rattle.std.specs.List.{flat_map}
 use Rattle.std.specs.Fmt.{decimal}
 use Rattle.hex.specs.Hex.{encode_lower}
+use Rattle.client_connection.specs.Connection.{reason_number}
 use Rattle.cluster_runner.specs.ScriptSize.{line_count_limit, event_limit}
 use Rattle.cluster_runner.specs.declared.cluster.Say.{Say}
-use Rattle.cluster_runner.specs.declared.cluster.Say.TheVariants.{Reply, Refused, Node, Machine}
+use Rattle.cluster_runner.specs.declared.cluster.Say.TheVariants.{Reply, Closed, Refused, Node, Machine}
 use Rattle.cluster_runner.specs.declared.grammar.ScriptLine.{ScriptLine}
 use Rattle.cluster_runner.specs.declared.grammar.ScriptLine.TheVariants as says
 use Rattle.cluster_runner.specs.declared.stage.Stage.{Stage as RunnerStage}
@@ -111,6 +112,8 @@ node_text term leads applied digest =
 abbrev pub printed_line : Say → List ℕ
 printed_line (Reply connection bytes) =
     codes "reply " ++ (decimal connection ++ (codes " " ++ (encode_lower bytes ++ codes "\n")))
+printed_line (Closed connection reason) =
+    codes "closed " ++ (decimal connection ++ (codes " " ++ (decimal (reason_number reason) ++ codes "\n")))
 printed_line Refused = codes "refused\n"
 printed_line (Node node term leads applied digest) =
     codes "node " ++ (decimal node ++ node_text term leads applied digest)

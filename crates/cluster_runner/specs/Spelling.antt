@@ -4,7 +4,7 @@ use Rattle.std.specs.List.{AllByRecursion}
 use Rattle.std.specs.Fmt.{decimal}
 use Rattle.cluster_runner.specs.ScriptSize.{line_limit}
 use Rattle.cluster_runner.specs.declared.grammar.Event.{Event}
-use Rattle.cluster_runner.specs.declared.grammar.Event.TheVariants.{Timeout, Connect, Bytes, Put, Take}
+use Rattle.cluster_runner.specs.declared.grammar.Event.TheVariants.{Timeout, Connect, Bytes, Hangup, Put, Take}
 use Rattle.cluster_runner.specs.declared.grammar.ScriptLine.{ScriptLine}
 use Rattle.cluster_runner.specs.declared.grammar.ScriptLine.TheVariants as says
 
@@ -50,6 +50,7 @@ abbrev pub IsEvent : Event → List ℕ → Type 0
 IsEvent (Timeout node) text = IsNumbered (codes "timeout ") node text
 IsEvent (Connect node connection) text = IsConnect node connection text
 IsEvent (Bytes connection bytes) text = IsBytes connection bytes text
+IsEvent (Hangup connection) text = IsNumbered (codes "hangup ") connection text
 IsEvent (Put bytes) text = IsPut bytes text
 IsEvent (Take machine) text = IsNumbered (codes "take ") machine text
 

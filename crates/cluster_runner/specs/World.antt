@@ -1,27 +1,21 @@
 -- What events do to the node of a script, and what it says.
-use Rattle.std.specs.Prelude.{◌==◌, ◌&&◌, ℕ, Bool, true, false, List, [], ◌∷◌, length, take, drop, codes, Option, Some, None, Result, Ok, Err, if◌then◌else◌}
+use Rattle.std.specs.Prelude.{◌==◌, ◌&&◌, ℕ, Bool, true, false, not, List, [], ◌∷◌, ◌++◌, map, Option, Some, None, if◌then◌else◌}
 use Rattle.std.specs.Ordering.{nat_cmp}
 use Rattle.std.specs.BTreeMap.{get}
-use Rattle.byteorder.specs.Endian.{little_number}
-use Rattle.wire_words.specs.declared.message.Header.{Header}
-use Rattle.wire_words.specs.Message.{header_of}
-use Rattle.wire_msgs.specs.declared.fault.MsgFault.{MsgFault}
-use Rattle.wire_msgs.specs.declared.request.Request.{Request}
-use Rattle.wire_msgs.specs.declared.request.Request.TheVariants.{Leader}
-use Rattle.wire_msgs.specs.declared.response.Response.{Response}
-use Rattle.wire_msgs.specs.declared.response.Response.TheVariants.{Server}
-use Rattle.wire_msgs.specs.Responses.{response_bytes}
-use Rattle.wire_msgs.specs.Reading.{request_of}
+use Rattle.wire_words.specs.declared.message.Message.{Message}
+use Rattle.client_connection.specs.declared.connection.CloseReason.{CloseReason}
+use Rattle.client_connection.specs.Connection.{Conn, opened, received, reason_of}
 use Rattle.cluster_runner.specs.declared.cluster.Client.{Client}
-use Rattle.cluster_runner.specs.declared.cluster.Client.TheVariants.{Connected, Greeted}
+use Rattle.cluster_runner.specs.declared.cluster.Client.TheVariants.{Open, Gone}
 use Rattle.cluster_runner.specs.declared.cluster.Say.{Say}
-use Rattle.cluster_runner.specs.declared.cluster.Say.TheVariants.{Reply, Node}
+use Rattle.cluster_runner.specs.declared.cluster.Say.TheVariants.{Reply, Closed, Node}
 use Rattle.cluster_runner.specs.declared.cluster.Cluster.{Cluster}
 use Rattle.cluster_runner.specs.declared.grammar.Event.{Event}
-use Rattle.cluster_runner.specs.declared.grammar.Event.TheVariants.{Timeout, Connect, Bytes, Put, Take}
+use Rattle.cluster_runner.specs.declared.grammar.Event.TheVariants.{Timeout, Connect, Bytes, Hangup, Put, Take}
+use Rattle.cluster_runner.specs.Answers.{answer}
 use Rattle.cluster_runner.specs.Digest.{digest}
 
--- node 1, the only voter: whether it leads, and how far each client is
+-- node 1, the only voter: whether it leads, and each client's connection
 pub record World : Type 0 where
   pub leads : Bool
   pub clients : ℕ → Option Client
@@ -34,48 +28,58 @@ fresh = record { leads = false; clients = λ connection. None }
 abbrev pub put : {A : Type 0} → (ℕ → Option A) → ℕ → A → ℕ → Option A
 put table place value q = if q == place then Some value else table q
 
--- the leader that a node knows, by its id and address: id 0 and no address where it knows none
-abbrev pub leader_known : Bool → Response
-leader_known leads = if leads then Server 1 (codes "n1") else Server 0 []
+abbrev pub with_client : World → ℕ → Client → World
+with_client world connection client = record { leads = world.leads; clients = put world.clients connection client }
 
--- the request was read, and it asks for the leader
-abbrev pub is_leader : Result Request MsgFault → Bool
-is_leader (Ok Leader) = true
-is_leader (Err fault) = false
+-- whether the connection was ever made
+abbrev pub is_known : Option Client → Bool
+is_known None = false
+is_known (Some client) = true
 
--- a message of one word that asks for the leader
-abbrev pub asks_leader : Header → List ℕ → Bool
-asks_leader header body =
-    (header.words == 1) && is_leader (request_of (record { kind = header.kind; schema = header.schema; body = body }))
+-- whether it is open, where it was ever made
+abbrev pub openness : Option Client → Option Bool
+openness None = None
+openness (Some Gone) = Some false
+openness (Some (Open c)) = Some true
 
--- a client's first bytes: the version word 1, and then that message and nothing else
-unfoldable pub greets : List ℕ → Bool
-greets bytes =
-    (length bytes == 24) && (little_number 8 (take 8 bytes) == 1)
-    && asks_leader (header_of (take 8 (drop 8 bytes))) (drop 8 (drop 8 bytes))
+-- the replies to these messages, in their order
+abbrev pub replies : Bool → ℕ → List Message → List Say
+replies leads connection messages = map (λ (m : Message). Reply connection (answer leads m)) messages
 
--- whether the connection was never used, or has said nothing so far
-abbrev pub is_unused : Option Client → Bool
-is_unused None = true
-is_unused (Some client) = false
+-- the line of a connection that closes
+abbrev pub closing_line : ℕ → Option CloseReason → List Say
+closing_line connection None = []
+closing_line connection (Some reason) = Closed connection reason ∷ []
 
-abbrev pub is_silent : Option Client → Bool
-is_silent None = false
-is_silent (Some Connected) = true
-is_silent (Some Greeted) = false
+-- a connection of which no message waits any more
+abbrev pub answered : Conn → Conn
+answered c = record { end = c.end; waiting = [] }
+
+-- a connection, unless it has closed
+abbrev pub left_open : Option CloseReason → Conn → Client
+left_open None c = Open c
+left_open (Some reason) c = Gone
+
+-- the world after the messages that wait on a connection were answered, and what was said
+abbrev pub served : World → ℕ → Conn → World × List Say
+served world connection c =
+    (with_client world connection (left_open (reason_of c.end) (answered c)), replies world.leads connection c.waiting ++ closing_line connection (reason_of c.end))
+
+-- what a client's bytes do on a connection that stands so
+abbrev pub heard : World → ℕ → List ℕ → Option Client → Option (World × List Say)
+heard world connection bytes None = None
+heard world connection bytes (Some Gone) = Some (world, [])
+heard world connection bytes (Some (Open c)) = Some (served world connection (received c bytes))
 
 -- the world after an event, and what was said; none where the event names what isn't there
 unfoldable pub happens : World → Event → Option (World × List Say)
 happens world (Timeout node) =
     if node == 1 then Some (record { leads = true; clients = world.clients }, []) else None
 happens world (Connect node connection) =
-    if (node == 1) && is_unused (world.clients connection)
-    then Some (record { leads = world.leads; clients = put world.clients connection Connected }, [])
-    else None
-happens world (Bytes connection bytes) =
-    if is_silent (world.clients connection) && greets bytes
-    then Some (record { leads = world.leads; clients = put world.clients connection Greeted }, Reply connection (response_bytes (leader_known world.leads)) ∷ [])
-    else None
+    if (node == 1) && not (is_known (world.clients connection)) then Some (with_client world connection (Open opened), []) else None
+happens world (Bytes connection bytes) = heard world connection bytes (world.clients connection)
+happens world (Hangup connection) =
+    if is_known (world.clients connection) then Some (with_client world connection Gone, []) else None
 happens world (Put bytes) = None
 happens world (Take machine) = None
 

@@ -1,28 +1,25 @@
 //! The node of a script, in memory, and its clients.
 
-ghost use Rattle.std.specs.Prelude.{◌≡◌, [], ◌∷◌, Some, None, IfOk, OnOk, OnErr, IsErrOf};
-ghost use Rattle.wire_msgs.specs.Responses.{response_bytes};
-ghost use Rattle.cluster_runner.specs.World.{asks_leader, greets, leader_known};
+ghost use Rattle.std.specs.Prelude.{◌≡◌, ◌++◌, [], true, Some, None, IfOk, OnOk, OnErr, IsErrOf, MatchOption};
+ghost use Rattle.cluster_runner.specs.declared.cluster.Client.{Client};
+ghost use Rattle.client_connection.specs.Connection.{received, reason_of};
+ghost use Rattle.cluster_runner.specs.World.{replies, closing_line, answered, left_open};
 
+use crate::answers::answer;
 use crate::digest::digest;
 use crate::grammar::Event;
-use byteorder::{ByteOrder, LittleEndian};
-use dq_base::Bytes;
+use client_connection::{CloseReason, Connection};
 use std::alloc::{AllocError, AllocFailed, Global};
 use std::collections::BTreeMap;
-use wire_msgs::{MsgFault, Request, Response, read_request, write_response};
-use wire_words::{Header, Message, WireBytes, WireText};
+use wire_words::WireBytes;
 
-/// The version of the protocol, which a client's first word names.
-const PROTOCOL_VERSION: u64 = 1;
-
-/// How far a client is.
-#[derive(Clone, Copy, Debug, PartialEq, Eq)]
+/// A client's connection.
+#[derive(Debug, Drop)]
 pub(crate) enum Client {
-    /// It has sent nothing so far.
-    Connected,
-    /// It was answered.
-    Greeted,
+    /// It is open.
+    Open(Connection),
+    /// It was closed, by the node or by the client.
+    Gone,
 }
 
 /// Something that a node says.
@@ -32,6 +29,11 @@ pub enum Say {
     Reply {
         connection: u32,
         bytes: WireBytes,
+    },
+    /// The node closed a connection.
+    Closed {
+        connection: u32,
+        reason: CloseReason,
     },
     /// Bytes were no command, or the list of commands could not take it.
     Refused,
@@ -88,55 +90,59 @@ pub(crate) struct Cluster {
     clients: BTreeMap<u32, Client>,
 }
 
-/// Whether a message is one word that asks for the leader. `Err` is want of memory.
-fn is_leader_request(alloc: Global, header: Header, body: &[u8]) -> Result<bool, AllocError>
-    ensures { IfOk result (λ asks. asks ≡ asks_leader header body.now) }
+/// Answers the requests that wait, in order.
+fn answer_waiting(
+    alloc: Global,
+    leads: bool,
+    connection: u32,
+    client: &mut Connection,
+    said: &mut Vec<Say>,
+) -> Result<(), AllocError>
+    ensures said { OnOk result (said.new.items ≡ said.old.items ++ replies leads connection client.old.waiting) }
+    ensures left { OnOk result (client.new ≡ answered client.old) }
 {
-    if header.words != 1 {
-        return Ok(false);
+    while let Some(message) = client.next() {
+        let bytes = answer(alloc, leads, &message)?;
+        said.push(Say::Reply { connection, bytes })?;
     }
-    let message = Message {
-        kind: header.kind,
-        schema: header.schema,
-        body: WireBytes::new(Vec::from_slice(alloc, body)?),
-    };
-    match read_request(alloc, &message) {
-        Ok(Request::Leader) => Ok(true),
-        Err(MsgFault::NoMemory) => Err(AllocError),
-        Err(_) => Ok(false),
-    }
+    Ok(())
 }
 
-/// Whether a client's first bytes are the version word 1 and then one message that asks for the leader.
-/// `Err` is want of memory.
-#[tactic(auto, unfolding(crate::specs::World::greets))]
-fn is_greeting(alloc: Global, bytes: &[u8]) -> Result<bool, AllocError>
-    ensures { IfOk result (λ greeting. greeting ≡ greets bytes.now) }
+/// Closes the connection where its stream is at its end.
+fn close(connection: u32, client: Connection, said: &mut Vec<Say>) -> Result<Client, AllocError>
+    ensures client { IfOk result (λ after. after ≡ left_open (reason_of client.end) client) }
+    ensures said { OnOk result (said.new.items ≡ said.old.items ++ closing_line connection (reason_of client.end)) }
 {
-    if bytes.len() != 24 {
-        return Ok(false);
-    }
-    let (version, rest) = bytes.split_at(8);
-    if LittleEndian::read_u64(version) != PROTOCOL_VERSION {
-        return Ok(false);
-    }
-    let Some((header, body)) = rest.split_first_chunk::<8>() else {
-        return Ok(false);
+    let mut client = client;
+    let Some(reason) = client.close_reason()? else {
+        return Ok(Client::Open(client));
     };
-    is_leader_request(alloc, Header::read(header), body)
+    said.push(Say::Closed { connection, reason })?;
+    Ok(Client::Gone)
 }
 
-/// The response that names the leader, as the node knows it.
-fn server_response(alloc: Global, leads: bool) -> Result<WireBytes, AllocError>
-    ensures { IfOk result (λ bytes. bytes ≡ response_bytes (leader_known leads)) }
+/// Takes a client's bytes, answers its requests, and closes the connection where its stream is at its end.
+fn serve(
+    alloc: Global,
+    leads: bool,
+    connection: u32,
+    client: Connection,
+    bytes: &[u8],
+    said: &mut Vec<Say>,
+) -> Result<Client, AllocError>
+    requires { said.old.items ≡ [] }
+    ensures client { IfOk result (λ after. after ≡ left_open (reason_of (received client bytes.now).end) (answered (received client bytes.now))) }
+    ensures said { OnOk result (said.new.items ≡ replies leads connection (received client bytes.now).waiting
+        ++ closing_line connection (reason_of (received client bytes.now).end)) }
 {
-    let (id, address) = if leads { (1, "n1") } else { (0, "") };
-    let address = WireText::new(String::from_str(alloc, address)?);
-    write_response(alloc, &Response::Server { id, address })
+    let mut client = client;
+    client.receive(bytes)?;
+    answer_waiting(alloc, leads, connection, &mut client, said)?;
+    close(connection, client, said)
 }
 
 impl Cluster {
-    ghost use Rattle.cluster_runner.specs.World.{fresh, happens, is_silent, node_standing, world_of};
+    ghost use Rattle.cluster_runner.specs.World.{fresh, happens, openness, with_client, node_standing, world_of};
 
     /// The node, started, and no client.
     pub fn new(alloc: Global) -> Cluster
@@ -162,9 +168,31 @@ impl Cluster {
         Ok(())
     }
 
+    /// Puts a client's connection into the table.
+    fn set_client(&mut self, connection: u32, client: Client) -> Result<(), AllocError>
+        ensures ok { OnOk result (world_of self.new ≡ with_client (world_of self.old) connection client) }
+        ensures err { OnErr result (world_of self.new ≡ world_of self.old) }
+    {
+        self.clients.insert(connection, client)?;
+        Ok(())
+    }
+
+    /// Takes an open connection out of the table, where another one is to be put then.
+    fn take_open(&mut self, connection: u32) -> Option<Connection>
+        ensures others { (client : Client) → with_client (world_of self.new) connection client ≡ with_client (world_of self.old) connection client }
+        ensures leads { (world_of self.new).leads ≡ (world_of self.old).leads }
+        ensures taken { MatchOption result (openness ((world_of self.old).clients connection) ≡ Some true → ⊥)
+            (λ client. (world_of self.old).clients connection ≡ Some (Client.Open client)) }
+    {
+        match self.clients.remove(&connection) {
+            Some(Client::Open(client)) => Some(client),
+            _ => None,
+        }
+    }
+
     /// Connects a client to the node, where the number was never one of a connection.
     #[tactic(auto, unfolding(crate::specs::World::happens))]
-    fn connect(&mut self, node: u32, connection: u32) -> Result<(), EventFault>
+    fn connect(&mut self, alloc: Global, node: u32, connection: u32) -> Result<(), EventFault>
         ensures ok { OnOk result (happens (world_of self.old) (Event.Connect node connection) ≡ Some (world_of self.new, [])) }
         ensures fault { IsErrOf result EventFault.NotThere → happens (world_of self.old) (Event.Connect node connection) ≡ None }
         ensures err { OnErr result (world_of self.new ≡ world_of self.old) }
@@ -172,30 +200,77 @@ impl Cluster {
         if node != 1 || self.clients.contains_key(&connection) {
             return Err(EventFault::NotThere);
         }
-        self.clients.insert(connection, Client::Connected)?;
+        self.set_client(connection, Client::Open(Connection::new(alloc)))?;
         Ok(())
     }
 
-    /// Whether the connection is there and has said nothing so far.
-    fn hears_first(&self, connection: u32) -> bool
-        ensures { result ≡ is_silent ((world_of self.now).clients connection) }
-    {
-        matches!(self.clients.get(&connection), Some(Client::Connected))
-    }
-
-    /// Answers a client's first bytes, where they ask for the leader.
+    /// Ends a client's connection.
     #[tactic(auto, unfolding(crate::specs::World::happens))]
-    fn greet(&mut self, alloc: Global, connection: u32, bytes: &[u8]) -> Result<Say, EventFault>
-        ensures ok { IfOk result (λ said. happens (world_of self.old) (Event.Bytes connection bytes.now) ≡ Some (world_of self.new, said ∷ [])) }
-        ensures fault { IsErrOf result EventFault.NotThere → happens (world_of self.old) (Event.Bytes connection bytes.now) ≡ None }
+    fn hang_up(&mut self, connection: u32) -> Result<(), EventFault>
+        ensures ok { OnOk result (happens (world_of self.old) (Event.Hangup connection) ≡ Some (world_of self.new, [])) }
+        ensures fault { IsErrOf result EventFault.NotThere → happens (world_of self.old) (Event.Hangup connection) ≡ None }
         ensures err { OnErr result (world_of self.new ≡ world_of self.old) }
     {
-        if !self.hears_first(connection) || !is_greeting(alloc, bytes)? {
+        if !self.clients.contains_key(&connection) {
             return Err(EventFault::NotThere);
         }
-        let bytes = server_response(alloc, self.leads)?;
-        self.clients.insert(connection, Client::Greeted)?;
-        Ok(Say::Reply { connection, bytes })
+        self.set_client(connection, Client::Gone)?;
+        Ok(())
+    }
+
+    /// How a connection stands: none where it was never made, else whether it is open.
+    fn is_open(&self, connection: u32) -> Option<bool>
+        ensures { result ≡ openness ((world_of self.now).clients connection) }
+    {
+        match self.clients.get(&connection) {
+            Some(Client::Open(_)) => Some(true),
+            Some(Client::Gone) => Some(false),
+            None => None,
+        }
+    }
+
+    /// Takes bytes on a connection that is open.
+    #[tactic(auto, unfolding(crate::specs::World::happens))]
+    fn hear(
+        &mut self,
+        alloc: Global,
+        connection: u32,
+        bytes: &[u8],
+        said: &mut Vec<Say>,
+    ) -> Result<(), AllocError>
+        requires open { openness ((world_of self.old).clients connection) ≡ Some true }
+        requires nothing { said.old.items ≡ [] }
+        ensures { OnOk result (happens (world_of self.old) (Event.Bytes connection bytes.now) ≡ Some (world_of self.new, said.new.items)) }
+    {
+        let Some(client) = self.take_open(connection) else {
+            return Ok(());
+        };
+        let client = serve(alloc, self.leads, connection, client, bytes, said)?;
+        self.set_client(connection, client)
+    }
+
+    /// Takes bytes on a connection; where it is closed, nothing happens.
+    #[tactic(auto, unfolding(crate::specs::World::happens))]
+    fn bytes(
+        &mut self,
+        alloc: Global,
+        connection: u32,
+        bytes: &[u8],
+        said: &mut Vec<Say>,
+    ) -> Result<(), EventFault>
+        requires { said.old.items ≡ [] }
+        ensures ok { OnOk result (happens (world_of self.old) (Event.Bytes connection bytes.now) ≡ Some (world_of self.new, said.new.items)) }
+        ensures fault { IsErrOf result EventFault.NotThere → happens (world_of self.old) (Event.Bytes connection bytes.now) ≡ None }
+        ensures kept { IsErrOf result EventFault.NotThere → world_of self.new ≡ world_of self.old }
+    {
+        match self.is_open(connection) {
+            Some(true) => {
+                self.hear(alloc, connection, bytes, said)?;
+                Ok(())
+            }
+            Some(false) => Ok(()),
+            None => Err(EventFault::NotThere),
+        }
     }
 
     /// Has an event happen, and answers what was said. `NotThere` is an event that names what isn't there, and nothing has
@@ -209,11 +284,11 @@ impl Cluster {
         let mut said = Vec::new(alloc);
         match event {
             Event::Timeout { node } => self.timeout(node)?,
-            Event::Connect { node, connection } => self.connect(node, connection)?,
+            Event::Connect { node, connection } => self.connect(alloc, node, connection)?,
             Event::Bytes { connection, bytes } => {
-                let reply = self.greet(alloc, connection, bytes.as_slice())?;
-                said.push(reply)?;
+                self.bytes(alloc, connection, bytes.as_slice(), &mut said)?;
             }
+            Event::Hangup { connection } => self.hang_up(connection)?,
             Event::Put { .. } | Event::Take { .. } => return Err(EventFault::NotThere),
         }
         Ok(said)

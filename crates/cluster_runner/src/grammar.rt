@@ -19,6 +19,8 @@ pub enum Event {
     Connect { node: u32, connection: u32 },
     /// A client sends bytes on its connection.
     Bytes { connection: u32, bytes: Bytes },
+    /// A client ends its connection.
+    Hangup { connection: u32 },
     /// Bytes that may be a command go to the list that machines apply.
     Put { bytes: Bytes },
     /// A machine applies the next command of the list.
@@ -152,6 +154,11 @@ fn event_in(alloc: Global, line: &[u8]) -> Result<Option<ScriptLine>, AllocError
     }
     if let Some(text) = line.strip_prefix(b"take ") {
         return Ok(number_in(text).map(|machine| ScriptLine::Event(Event::Take { machine })));
+    }
+    if let Some(text) = line.strip_prefix(b"hangup ") {
+        return Ok(number_in(text).map(|connection| ScriptLine::Event(Event::Hangup {
+            connection,
+        })));
     }
     Ok(None)
 }

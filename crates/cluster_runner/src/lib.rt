@@ -1,6 +1,7 @@
 //! Runs a script: events at a node of a cluster, or at machines that apply one list of commands.
 #![tactic(auto)]
 
+mod answers;
 mod cluster;
 mod command_list;
 mod database;

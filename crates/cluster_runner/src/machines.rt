@@ -160,9 +160,10 @@ impl Machines {
                 self.take_next(alloc, machine)?;
                 Ok(Vec::new(alloc))
             }
-            Event::Timeout { .. } | Event::Connect { .. } | Event::Bytes { .. } => Err(
-                EventFault::NotThere,
-            ),
+            Event::Timeout { .. }
+            | Event::Connect { .. }
+            | Event::Bytes { .. }
+            | Event::Hangup { .. } => Err(EventFault::NotThere),
         }
     }
 

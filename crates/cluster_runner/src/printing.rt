@@ -85,6 +85,10 @@ fn line_for(alloc: Global, say: &Say) -> Result<String, AllocError>
             let digits = hex::encode(alloc, bytes.as_slice())?;
             format!(in alloc; "reply {connection} {digits}\n")
         }
+        Say::Closed { connection, reason } => {
+            let reason = reason.number();
+            format!(in alloc; "closed {connection} {reason}\n")
+        }
         Say::Refused => String::from_str(alloc, "refused\n"),
         Say::Node {
             node,

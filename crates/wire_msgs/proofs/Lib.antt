@@ -1,2 +1,9 @@
 pub mod Fields
+pub mod Readers
+pub mod Lists
+pub mod Messages
 pub mod Requests
+pub mod Responses
+pub mod Spellings
+pub mod ReadBack
+pub mod Listed

@@ -1,133 +1,185 @@
--- A request is read exactly where the message stands for it.
-use Rattle.std.proofs.Common.{◌≡◌, ℕ, true, eqb, inl, inr, [], length, Option, Some, None, Result, Ok, Err, refl, sym, ap, subst, ◌∙◌}
-use Rattle.std.proofs.lemmas.Bool.{eqb-true}
-use Rattle.std.proofs.lemmas.List.{nil_from_length}
-use Rattle.wire_words.specs.declared.fault.WordFault.{WordFault}
-use Rattle.wire_words.specs.declared.message.Message.{Message}
-use Rattle.wire_words.specs.Items.{AreBytes, IsWord}
-use Rattle.wire_words.specs.Reading.{◌>>=◌, Unread, unread, word_at, Took}
+-- Requests: a line for each type, which says that it is read exactly where its line of the table stands.
+use Rattle.std.proofs.Common.{◌≡◌, ℕ, suc, ◌≤◌, Bool, true, false, cond, eqb, ltb, List, [], ◌∷◌, length, Option, Some, None, Result, Ok, Err, refl, sym, ap, subst, ◌∙◌, inl, inr, arith}
+use Rattle.std.proofs.lemmas.Bool.{eqb-true, ltb-false}
+use Rattle.wire_words.specs.declared.value.Value.{Value}
+use Rattle.wire_words.specs.declared.value.Dialect.{Dialect}
+use Rattle.wire_words.specs.declared.value.Dialect.TheVariants as dialects
+use Rattle.wire_words.specs.Items.{AreBytes}
+use Rattle.wire_words.specs.Reading.{Unread, word_at, pair_at, text_at}
 use Rattle.wire_words.proofs.Choices.{one_of, none_of}
-use Rattle.wire_words.proofs.ReadBack.{bind_ok, ok_is, passed, word_took, word_again}
-use Rattle.wire_msgs.specs.declared.fault.MsgFault.{MsgFault}
-use Rattle.wire_msgs.specs.declared.fault.MsgFault.TheVariants.{Schema, Tail}
 use Rattle.wire_msgs.specs.declared.request.Request.{Request}
-use Rattle.wire_msgs.specs.declared.request.Request.TheVariants.{Leader}
+use Rattle.wire_msgs.specs.declared.request.Request.TheVariants.{Leader, Client, Open, Prepare, Exec, Query, Finalize, ExecSql, QuerySql, Interrupt, Connect, Add, Assign, Remove, Dump, Cluster, Transfer, Describe, Weight}
 use Rattle.wire_msgs.specs.declared.request.RequestKind.{RequestKind}
-use Rattle.wire_msgs.specs.declared.request.RequestKind.TheVariants as kinds
-use Rattle.wire_msgs.specs.Fields.{AnyWord, IsRead}
-use Rattle.wire_msgs.specs.Requests.{request_line, Reads}
-use Rattle.std.specs.Prelude.{IfOk}
-use Rattle.wire_msgs.specs.Reading.{Gives, in_message, ended, words_in, request_kind, request_at, request_in, request_of}
-use Rattle.wire_msgs.proofs.Fields.{AllTook, fields_took, fields_stand}
+use Rattle.wire_msgs.specs.declared.request.RequestKind.TheVariants as requests
+use Rattle.wire_msgs.specs.Fields.{Field, Word, Pair, Text, Params, schema_of}
+use Rattle.wire_msgs.specs.Requests.{request_line}
+use Rattle.wire_msgs.specs.Kinds.{request_kind, request_top_schema}
+use Rattle.wire_msgs.specs.Bodies.{Reading, made, both, two_words, word_text, params_at, pair_params, word_text_params, text_word_text, request_at}
+use Rattle.wire_msgs.proofs.Fields.{AllTook}
+use Rattle.wire_msgs.proofs.Readers.{ReadsFields, EndsFields, may_end, word_field, pair_field, text_field, params_end, both_fields, both_end, made_ok, any_took, any_again}
+use Rattle.wire_msgs.proofs.Lists.{word_text_fields}
+use Rattle.wire_msgs.proofs.Messages.{narrow, wide_is}
 
-in_message_ok : {A : Type 0} (r : Result A WordFault) (y : A) → in_message r ≡ Ok y → r ≡ Ok y
-in_message_ok (Ok x) y e = let same : x ≡ y = cc in rw same refl
-in_message_ok (Err fault) y e = absurd cc
+-- ---- what several types share
 
--- how a message was read: its type, and its fields to the end
-pub record WasRead (known : Option RequestKind) (m : Message) (request : Request) : Type 0 where
-  pub kind : RequestKind
-  pub is_known : known ≡ Some kind
-  pub schema : m.schema ≡ 0
-  pub left : Unread
-  pub fields : request_at kind (unread m.body) ≡ Ok (request, left)
-  pub end : left.bytes ≡ []
+pub two_words_fields : (dialect : Dialect) → ReadsFields dialect (λ (x : ℕ × ℕ). Word x.0 ∷ Word x.1 ∷ []) two_words
+two_words_fields dialect = both_fields dialect (λ (n : ℕ). Word n ∷ []) (λ (n : ℕ). Word n ∷ []) word_at word_at (word_field dialect) (word_field dialect)
 
-was_read : (known : Option RequestKind) (m : Message) (request : Request) → request_in known m ≡ Ok request → WasRead known m request
-was_read None m request e = absurd cc
-was_read (Some kind) m request e =
-    let a = passed (eqb m.schema 0) (Schema m.kind m.schema) (in_message (request_at kind (unread m.body)) >>= ended) request e in
-    let b = bind_ok (in_message (request_at kind (unread m.body))) ended request a.1 in
-    let c = passed (eqb (length b.0.1.bytes) 0) (Tail (words_in (length b.0.1.bytes))) (Ok b.0.0) request b.2 in
-    let same : b.0.0 ≡ request = cc in
-    let fields : request_at kind (unread m.body) ≡ Ok (request, b.0.1) = in_message_ok (request_at kind (unread m.body)) b.0 b.1 ∙ ap (λ (x : Request). Ok (x, b.0.1)) same in
-    record { kind = kind; is_known = refl; schema = eqb-true _ _ a.0; left = b.0.1; fields = fields; end = nil_from_length b.0.1.bytes (eqb-true _ _ c.0) }
+text_word_text_fields : (dialect : Dialect) → ReadsFields dialect (λ (x : (List ℕ × ℕ) × List ℕ). Text x.0.0 ∷ Word x.0.1 ∷ Text x.1 ∷ []) text_word_text
+text_word_text_fields dialect =
+    both_fields dialect (λ (x : List ℕ × ℕ). Text x.0 ∷ Word x.1 ∷ []) (λ (t : List ℕ). Text t ∷ []) (both text_at word_at) text_at
+    (both_fields dialect (λ (t : List ℕ). Text t ∷ []) (λ (n : ℕ). Word n ∷ []) text_at word_at (text_field dialect) (word_field dialect)) (text_field dialect)
 
-read_again : (known : Option RequestKind) (m : Message) (request : Request) → WasRead known m request → request_in known m ≡ Ok request
-read_again known m request w =
-    let nothing : length w.left.bytes ≡ 0 = ap length w.end in
-    rw (w.is_known, w.schema, w.fields, nothing) refl
+pair_params_end : (wide : Bool) → EndsFields dialects.Client (λ (x : (ℕ × ℕ) × List Value). Pair x.0.0 x.0.1 ∷ Params wide x.1 ∷ []) (pair_params wide)
+pair_params_end wide =
+    both_end dialects.Client (λ (p : ℕ × ℕ). Pair p.0 p.1 ∷ []) (λ (vs : List Value). Params wide vs ∷ []) pair_at (params_at wide) (pair_field dialects.Client) (params_end wide)
 
--- ---- the lines of the table: each has a case in the four proofs below
+word_text_params_end : (wide : Bool) → EndsFields dialects.Client (λ (x : (ℕ × List ℕ) × List Value). Word x.0.0 ∷ Text x.0.1 ∷ Params wide x.1 ∷ []) (word_text_params wide)
+word_text_params_end wide =
+    both_end dialects.Client (λ (x : ℕ × List ℕ). Word x.0 ∷ Text x.1 ∷ []) (λ (vs : List Value). Params wide vs ∷ []) word_text (params_at wide) (word_text_fields dialects.Client) (params_end wide)
+
+-- ---- numbers
 
 -- the number of a type
-kind_number : RequestKind → ℕ
-kind_number kinds.Leader = 0
+abbrev pub kind_number : RequestKind → ℕ
+kind_number requests.Leader = 0
+kind_number requests.Client = 1
+kind_number requests.Open = 3
+kind_number requests.Prepare = 4
+kind_number requests.Exec = 5
+kind_number requests.Query = 6
+kind_number requests.Finalize = 7
+kind_number requests.ExecSql = 8
+kind_number requests.QuerySql = 9
+kind_number requests.Interrupt = 10
+kind_number requests.Connect = 11
+kind_number requests.Add = 12
+kind_number requests.Assign = 13
+kind_number requests.Remove = 14
+kind_number requests.Dump = 15
+kind_number requests.Cluster = 16
+kind_number requests.Transfer = 17
+kind_number requests.Describe = 18
+kind_number requests.Weight = 19
 
-number_is : (n number : ℕ) (one kind : RequestKind) → (eqb n number ≡ true) × (one ≡ kind) → kind_number one ≡ number → n ≡ kind_number kind
-number_is n number one kind e is = eqb-true _ _ e.0 ∙ sym is ∙ ap kind_number e.1
-
-known_number : (n : ℕ) (kind : RequestKind) → request_kind n ≡ Some kind → n ≡ kind_number kind
-unfolding kind_number
-known_number n kind e =
-    elim (one_of (eqb n 0) kinds.Leader _ kind e) [
-      | inl is ↦ number_is n 0 kinds.Leader kind is refl
-      | inr e ↦ none_of kind _ e
+-- the number is that of this type, or it is that of one of the others
+next : (n k : ℕ) (one kind : RequestKind) (others : Option RequestKind) → kind_number one ≡ k → cond (eqb n k) (Some one) others ≡ Some kind → (others ≡ Some kind → n ≡ kind_number kind) → n ≡ kind_number kind
+next n k one kind others is e behind =
+    elim (one_of (eqb n k) one others kind e) [
+      | inl here ↦ eqb-true _ _ here.0 ∙ sym is ∙ ap kind_number here.1
+      | inr there ↦ behind there
     ]
 
--- the fields of a request of this type stood between two states of a reader
-record TookRequest (kind : RequestKind) (request : Request) (old new : Unread) : Type 0 where
-  pub number : kind_number kind ≡ (request_line request).kind
-  pub schema : 0 ≡ (request_line request).schema
-  pub fields : AllTook (request_line request).fields old new
+pub known_number : (n : ℕ) (kind : RequestKind) → request_kind n ≡ Some kind → n ≡ kind_number kind
+known_number n kind e =
+    next n 0 requests.Leader kind _ refl e (λ e.
+    next n 1 requests.Client kind _ refl e (λ e.
+    next n 3 requests.Open kind _ refl e (λ e.
+    next n 4 requests.Prepare kind _ refl e (λ e.
+    next n 5 requests.Exec kind _ refl e (λ e.
+    next n 6 requests.Query kind _ refl e (λ e.
+    next n 7 requests.Finalize kind _ refl e (λ e.
+    next n 8 requests.ExecSql kind _ refl e (λ e.
+    next n 9 requests.QuerySql kind _ refl e (λ e.
+    next n 10 requests.Interrupt kind _ refl e (λ e.
+    next n 11 requests.Connect kind _ refl e (λ e.
+    next n 12 requests.Add kind _ refl e (λ e.
+    next n 13 requests.Assign kind _ refl e (λ e.
+    next n 14 requests.Remove kind _ refl e (λ e.
+    next n 15 requests.Dump kind _ refl e (λ e.
+    next n 16 requests.Cluster kind _ refl e (λ e.
+    next n 17 requests.Transfer kind _ refl e (λ e.
+    next n 18 requests.Describe kind _ refl e (λ e.
+    next n 19 requests.Weight kind _ refl e (λ e.
+    none_of kind _ e)))))))))))))))))))
 
-request_took : (kind : RequestKind) (old new : Unread) (request : Request) → AreBytes old.bytes → request_at kind old ≡ Ok (request, new) → TookRequest kind request old new
-unfolding request_at kind_number
-request_took kinds.Leader old new request fits e =
-    let any = bind_ok (word_at old) (λ any. Ok (Leader, any.1)) (request, new) e in
-    let made : Request × Unread = (Leader, any.0.1) in
-    let is : made ≡ (request, new) = ok_is made (request, new) any.2 in
-    let took : Took (IsRead AnyWord) old any.0.1 =
-    let t = word_took old any.0.1 any.0.0 fits any.1 in record { item = t.item; spelled = (any.0.0, t.spelled); parts = t.parts; place = t.place } in
-    subst (λ (x : Request × Unread). TookRequest kinds.Leader x.0 old x.1) is (record { number = refl; schema = refl; fields = (any.0.1, took, refl) })
+-- ---- what is read is its line
+
+-- the fields of a request of this type stood between two states of a reader
+pub record TookRequest (kind : RequestKind) (wide : Bool) (old new : Unread) (request : Request) : Type 0 where
+  pub number : kind_number kind ≡ (request_line request).kind
+  pub schema : (n : ℕ) → ltb (request_top_schema kind) n ≡ false → eqb n 1 ≡ wide → n ≡ (request_line request).schema
+  pub fields : AllTook dialects.Client (request_line request).fields old new
+
+from_made : {A : Type 0} (kind : RequestKind) (wide : Bool) (make : A → Request) (read : Unread → Reading A) (old new : Unread) (request : Request)
+    → ((x : A) → read old ≡ Ok (x, new) → TookRequest kind wide old new (make x)) → made make (read old) ≡ Ok (request, new) → TookRequest kind wide old new request
+from_made kind wide make read old new request took e =
+    let m = made_ok make (read old) request new e in
+    subst (λ (r : Request). TookRequest kind wide old new r) m.2 (took m.0 m.1)
+
+pub request_took : (kind : RequestKind) (wide : Bool) (old new : Unread) (request : Request) → AreBytes old.bytes → request_at kind wide old ≡ Ok (request, new) → TookRequest kind wide old new request
+unfolding request_at
+request_took requests.Leader wide old new request fits e =
+    from_made requests.Leader wide (λ (x : ℕ). Leader) word_at old new request (λ x is. record { number = refl; schema = narrow; fields = any_took old new x fits is }) e
+request_took requests.Client wide old new request fits e =
+    from_made requests.Client wide (λ (x : ℕ). Client x) word_at old new request (λ x is. record { number = refl; schema = narrow; fields = (word_field dialects.Client).took old new x fits is }) e
+request_took requests.Open wide old new request fits e =
+    from_made requests.Open wide (λ (x : (List ℕ × ℕ) × List ℕ). Open x.0.0 x.0.1 x.1) text_word_text old new request (λ x is. record { number = refl; schema = narrow; fields = (text_word_text_fields dialects.Client).took old new x fits is }) e
+request_took requests.Prepare wide old new request fits e =
+    from_made requests.Prepare wide (λ (x : ℕ × List ℕ). Prepare x.0 x.1 wide) word_text old new request (λ x is. record { number = refl; schema = (λ k below same. wide_is k wide below same); fields = (word_text_fields dialects.Client).took old new x fits is }) e
+request_took requests.Exec wide old new request fits e =
+    from_made requests.Exec wide (λ (x : (ℕ × ℕ) × List Value). Exec x.0.0 x.0.1 x.1 wide) (pair_params wide) old new request (λ x is. record { number = refl; schema = (λ k below same. wide_is k wide below same); fields = (pair_params_end wide).took old new x fits is }) e
+request_took requests.Query wide old new request fits e =
+    from_made requests.Query wide (λ (x : (ℕ × ℕ) × List Value). Query x.0.0 x.0.1 x.1 wide) (pair_params wide) old new request (λ x is. record { number = refl; schema = (λ k below same. wide_is k wide below same); fields = (pair_params_end wide).took old new x fits is }) e
+request_took requests.Finalize wide old new request fits e =
+    from_made requests.Finalize wide (λ (x : ℕ × ℕ). Finalize x.0 x.1) pair_at old new request (λ x is. record { number = refl; schema = narrow; fields = (pair_field dialects.Client).took old new x fits is }) e
+request_took requests.ExecSql wide old new request fits e =
+    from_made requests.ExecSql wide (λ (x : (ℕ × List ℕ) × List Value). ExecSql x.0.0 x.0.1 x.1 wide) (word_text_params wide) old new request (λ x is. record { number = refl; schema = (λ k below same. wide_is k wide below same); fields = (word_text_params_end wide).took old new x fits is }) e
+request_took requests.QuerySql wide old new request fits e =
+    from_made requests.QuerySql wide (λ (x : (ℕ × List ℕ) × List Value). QuerySql x.0.0 x.0.1 x.1 wide) (word_text_params wide) old new request (λ x is. record { number = refl; schema = (λ k below same. wide_is k wide below same); fields = (word_text_params_end wide).took old new x fits is }) e
+request_took requests.Interrupt wide old new request fits e =
+    from_made requests.Interrupt wide (λ (x : ℕ). Interrupt x) word_at old new request (λ x is. record { number = refl; schema = narrow; fields = (word_field dialects.Client).took old new x fits is }) e
+request_took requests.Connect wide old new request fits e =
+    from_made requests.Connect wide (λ (x : ℕ × List ℕ). Connect x.0 x.1) word_text old new request (λ x is. record { number = refl; schema = narrow; fields = (word_text_fields dialects.Client).took old new x fits is }) e
+request_took requests.Add wide old new request fits e =
+    from_made requests.Add wide (λ (x : ℕ × List ℕ). Add x.0 x.1) word_text old new request (λ x is. record { number = refl; schema = narrow; fields = (word_text_fields dialects.Client).took old new x fits is }) e
+request_took requests.Assign wide old new request fits e =
+    from_made requests.Assign wide (λ (x : ℕ × ℕ). Assign x.0 x.1) two_words old new request (λ x is. record { number = refl; schema = narrow; fields = (two_words_fields dialects.Client).took old new x fits is }) e
+request_took requests.Remove wide old new request fits e =
+    from_made requests.Remove wide (λ (x : ℕ). Remove x) word_at old new request (λ x is. record { number = refl; schema = narrow; fields = (word_field dialects.Client).took old new x fits is }) e
+request_took requests.Dump wide old new request fits e =
+    from_made requests.Dump wide (λ (x : List ℕ). Dump x) text_at old new request (λ x is. record { number = refl; schema = narrow; fields = (text_field dialects.Client).took old new x fits is }) e
+request_took requests.Cluster wide old new request fits e =
+    from_made requests.Cluster wide (λ (x : ℕ). Cluster x) word_at old new request (λ x is. record { number = refl; schema = narrow; fields = (word_field dialects.Client).took old new x fits is }) e
+request_took requests.Transfer wide old new request fits e =
+    from_made requests.Transfer wide (λ (x : ℕ). Transfer x) word_at old new request (λ x is. record { number = refl; schema = narrow; fields = (word_field dialects.Client).took old new x fits is }) e
+request_took requests.Describe wide old new request fits e =
+    from_made requests.Describe wide (λ (x : ℕ). Describe x) word_at old new request (λ x is. record { number = refl; schema = narrow; fields = (word_field dialects.Client).took old new x fits is }) e
+request_took requests.Weight wide old new request fits e =
+    from_made requests.Weight wide (λ (x : ℕ). Weight x) word_at old new request (λ x is. record { number = refl; schema = narrow; fields = (word_field dialects.Client).took old new x fits is }) e
+
+-- ---- its line is read
 
 -- how the message of a request is read
-record IsRequest (request : Request) : Type 0 where
+pub record IsRequest (request : Request) : Type 0 where
   pub kind : RequestKind
   pub is_known : request_kind (request_line request).kind ≡ Some kind
-  pub schema : (request_line request).schema ≡ 0
-  pub again : (old new : Unread) → AllTook (request_line request).fields old new → request_at kind old ≡ Ok (request, new)
+  pub within : ltb (request_top_schema kind) (request_line request).schema ≡ false
+  pub again : (old new : Unread) → AllTook dialects.Client (request_line request).fields old new → new.bytes ≡ [] → request_at kind (eqb (request_line request).schema 1) old ≡ Ok (request, new)
 
-leader_again : (old new : Unread) → AllTook (request_line Leader).fields old new → request_at kinds.Leader old ≡ Ok (Leader, new)
+pub is_request : (request : Request) → IsRequest request
 unfolding request_at
-leader_again old new took =
-    let t = took.1 in
-    let word : Took (IsWord t.spelled.0) old took.0 = record { item = t.item; spelled = t.spelled.1; parts = t.parts; place = t.place } in
-    rw (word_again old took.0 t.spelled.0 word, took.2) refl
-
-is_request : (request : Request) → IsRequest request
-is_request Leader = record { kind = kinds.Leader; is_known = refl; schema = refl; again = leader_again }
-
--- ---- all of them
-
-pub request_found : (m : Message) (request : Request) → AreBytes m.body → request_of m ≡ Ok request → Reads m request
-unfolding request_of
-request_found m request fits e =
-    let w = was_read (request_kind m.kind) m request e in
-    let took = request_took w.kind (unread m.body) w.left request fits w.fields in
-    record {
-      kind = known_number m.kind w.kind w.is_known ∙ took.number;
-      schema = w.schema ∙ took.schema;
-      fields = fields_took (request_line request).fields (unread m.body) w.left took.fields w.end;
-    }
-
-pub request_read : (m : Message) (request : Request) → Reads m request → request_of m ≡ Ok request
-unfolding request_of
-request_read m request r =
-    let is = is_request request in
-    let stood = fields_stand (request_line request).fields (unread m.body) r.fields in
-    read_again (request_kind m.kind) m request (record {
-      kind = is.kind;
-      is_known = ap request_kind r.kind ∙ is.is_known;
-      schema = r.schema ∙ is.schema;
-      left = stood.0;
-      fields = is.again (unread m.body) stood.0 stood.1;
-      end = stood.2;
-    })
-
-pub is_found : (m : Message) (result : Result Request MsgFault) → AreBytes m.body → Gives (request_of m) result → IfOk result (Reads m)
-is_found m (Ok request) fits given = request_found m request fits given
-is_found m (Err fault) fits given = tt
-
-pub is_only : (m : Message) (result : Result Request MsgFault) → Gives (request_of m) result → (request : Request) → Reads m request → Gives (Ok request) result
-is_only m result given request reads = subst (λ (reading : Result Request MsgFault). Gives reading result) (request_read m request reads) given
+is_request Leader = record { kind = requests.Leader; is_known = refl; within = refl; again = λ old new t end. ap (made (λ (x : ℕ). Leader)) (any_again old new t).1 }
+is_request (Client n) = record { kind = requests.Client; is_known = refl; within = refl; again = λ old new q end. ap (made (λ (x : ℕ). Client x)) ((word_field dialects.Client).again old new n q) }
+is_request (Open t n u) = record { kind = requests.Open; is_known = refl; within = refl; again = λ old new q end. ap (made (λ (x : (List ℕ × ℕ) × List ℕ). Open x.0.0 x.0.1 x.1)) ((text_word_text_fields dialects.Client).again old new ((t, n), u) q) }
+is_request (Prepare n t false) = record { kind = requests.Prepare; is_known = refl; within = refl; again = λ old new q end. ap (made (λ (x : ℕ × List ℕ). Prepare x.0 x.1 false)) ((word_text_fields dialects.Client).again old new (n, t) q) }
+is_request (Prepare n t true) = record { kind = requests.Prepare; is_known = refl; within = refl; again = λ old new q end. ap (made (λ (x : ℕ × List ℕ). Prepare x.0 x.1 true)) ((word_text_fields dialects.Client).again old new (n, t) q) }
+is_request (Exec a b vs false) = record { kind = requests.Exec; is_known = refl; within = refl; again = λ old new q end. ap (made (λ (x : (ℕ × ℕ) × List Value). Exec x.0.0 x.0.1 x.1 false)) ((pair_params_end false).again old new ((a, b), vs) q end) }
+is_request (Exec a b vs true) = record { kind = requests.Exec; is_known = refl; within = refl; again = λ old new q end. ap (made (λ (x : (ℕ × ℕ) × List Value). Exec x.0.0 x.0.1 x.1 true)) ((pair_params_end true).again old new ((a, b), vs) q end) }
+is_request (Query a b vs false) = record { kind = requests.Query; is_known = refl; within = refl; again = λ old new q end. ap (made (λ (x : (ℕ × ℕ) × List Value). Query x.0.0 x.0.1 x.1 false)) ((pair_params_end false).again old new ((a, b), vs) q end) }
+is_request (Query a b vs true) = record { kind = requests.Query; is_known = refl; within = refl; again = λ old new q end. ap (made (λ (x : (ℕ × ℕ) × List Value). Query x.0.0 x.0.1 x.1 true)) ((pair_params_end true).again old new ((a, b), vs) q end) }
+is_request (Finalize a b) = record { kind = requests.Finalize; is_known = refl; within = refl; again = λ old new q end. ap (made (λ (x : ℕ × ℕ). Finalize x.0 x.1)) ((pair_field dialects.Client).again old new (a, b) q) }
+is_request (ExecSql n t vs false) = record { kind = requests.ExecSql; is_known = refl; within = refl; again = λ old new q end. ap (made (λ (x : (ℕ × List ℕ) × List Value). ExecSql x.0.0 x.0.1 x.1 false)) ((word_text_params_end false).again old new ((n, t), vs) q end) }
+is_request (ExecSql n t vs true) = record { kind = requests.ExecSql; is_known = refl; within = refl; again = λ old new q end. ap (made (λ (x : (ℕ × List ℕ) × List Value). ExecSql x.0.0 x.0.1 x.1 true)) ((word_text_params_end true).again old new ((n, t), vs) q end) }
+is_request (QuerySql n t vs false) = record { kind = requests.QuerySql; is_known = refl; within = refl; again = λ old new q end. ap (made (λ (x : (ℕ × List ℕ) × List Value). QuerySql x.0.0 x.0.1 x.1 false)) ((word_text_params_end false).again old new ((n, t), vs) q end) }
+is_request (QuerySql n t vs true) = record { kind = requests.QuerySql; is_known = refl; within = refl; again = λ old new q end. ap (made (λ (x : (ℕ × List ℕ) × List Value). QuerySql x.0.0 x.0.1 x.1 true)) ((word_text_params_end true).again old new ((n, t), vs) q end) }
+is_request (Interrupt n) = record { kind = requests.Interrupt; is_known = refl; within = refl; again = λ old new q end. ap (made (λ (x : ℕ). Interrupt x)) ((word_field dialects.Client).again old new n q) }
+is_request (Connect n t) = record { kind = requests.Connect; is_known = refl; within = refl; again = λ old new q end. ap (made (λ (x : ℕ × List ℕ). Connect x.0 x.1)) ((word_text_fields dialects.Client).again old new (n, t) q) }
+is_request (Add n t) = record { kind = requests.Add; is_known = refl; within = refl; again = λ old new q end. ap (made (λ (x : ℕ × List ℕ). Add x.0 x.1)) ((word_text_fields dialects.Client).again old new (n, t) q) }
+is_request (Assign a b) = record { kind = requests.Assign; is_known = refl; within = refl; again = λ old new q end. ap (made (λ (x : ℕ × ℕ). Assign x.0 x.1)) ((two_words_fields dialects.Client).again old new (a, b) q) }
+is_request (Remove n) = record { kind = requests.Remove; is_known = refl; within = refl; again = λ old new q end. ap (made (λ (x : ℕ). Remove x)) ((word_field dialects.Client).again old new n q) }
+is_request (Dump t) = record { kind = requests.Dump; is_known = refl; within = refl; again = λ old new q end. ap (made (λ (x : List ℕ). Dump x)) ((text_field dialects.Client).again old new t q) }
+is_request (Cluster n) = record { kind = requests.Cluster; is_known = refl; within = refl; again = λ old new q end. ap (made (λ (x : ℕ). Cluster x)) ((word_field dialects.Client).again old new n q) }
+is_request (Transfer n) = record { kind = requests.Transfer; is_known = refl; within = refl; again = λ old new q end. ap (made (λ (x : ℕ). Transfer x)) ((word_field dialects.Client).again old new n q) }
+is_request (Describe n) = record { kind = requests.Describe; is_known = refl; within = refl; again = λ old new q end. ap (made (λ (x : ℕ). Describe x)) ((word_field dialects.Client).again old new n q) }
+is_request (Weight n) = record { kind = requests.Weight; is_known = refl; within = refl; again = λ old new q end. ap (made (λ (x : ℕ). Weight x)) ((word_field dialects.Client).again old new n q) }

@@ -1,12 +1,15 @@
 use Rattle.std.proofs.Common.{rules}
 use Rattle.wire_words.specs.Items.{AreBytes}
-use Rattle.wire_msgs.proofs.Requests.{is_found, is_only}
+use Rattle.wire_msgs.specs.Reading.{request_of}
+use Rattle.wire_msgs.proofs.ReadBack.{is_found, is_only}
 use Rattle.wire_msgs.proofs.reading.read_request.Goals as goal
 
 pub returns-clause-found : goal.returns-clause-found
+unfolding request_of
 returns-clause-found c =
     let bytes : AreBytes c.as_slice-body.result.now = λ i. search rules in
     is_found c.args.message.now c.whole_request.result (rw c.as_slice-body.ensures at bytes) (rw c.as_slice-body.ensures at c.whole_request.ensures.exact)
 
 pub returns-clause-only : goal.returns-clause-only
+unfolding request_of
 returns-clause-only c = is_only c.args.message.now c.whole_request.result (rw c.as_slice-body.ensures at c.whole_request.ensures.exact)

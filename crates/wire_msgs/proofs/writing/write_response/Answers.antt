@@ -1,5 +1,5 @@
 use Rattle.wire_msgs.specs.Responses.{response_line}
-use Rattle.wire_msgs.proofs.Fields.{is_written}
+use Rattle.wire_msgs.proofs.Spellings.{is_written}
 use Rattle.wire_msgs.proofs.writing.write_response.Goals as goal
 
 pub returns-clause-writes : goal.returns-clause-writes
