@@ -1,11 +1,12 @@
 -- What a piece adds to a stream, by the whole stream.
-use Rattle.std.proofs.Common.{◌≡◌, ℕ, List, [], ◌∷◌, ◌++◌, Result, Ok, Err, Option, Some, None, refl, sym, ap, subst, ◌∙◌}
+use Rattle.std.proofs.Common.{◌≡◌, ℕ, Bool, true, false, List, [], ◌∷◌, ◌++◌, Result, Ok, Err, Option, Some, None, refl, sym, ap, subst, ◌∙◌}
 use Rattle.std.specs.Prelude.{IfOk, IfErr}
 use Rattle.std.proofs.lemmas.List.{append-nil}
 use Rattle.wire_words.specs.declared.message.Message.{Message}
 use Rattle.wire_words.specs.declared.splitter.SplitFault.{SplitFault}
 use Rattle.wire_words.specs.declared.splitter.SplitFault.TheVariants.{Version, TooLong, NoMemory}
-use Rattle.wire_words.specs.Stream.{Stream, End, Opening, Rest, Broken, Splitting, stream, going_on, fed, answer, answer_of, FeedFails, Feeds, Adds, BreaksWith, end_with}
+use Rattle.wire_words.specs.Stream.{Stream, End, Opening, Rest, Broken, Splitting, stream, going_on, fed, answer, answer_of, Answers, FeedFails, Feeds, Adds, BreaksWith, end_with}
+use Rattle.wire_words.specs.Holding.{IsOfStream}
 use Rattle.wire_words.proofs.Cutting.{added, stream_joined}
 
 abbrev answered : List Message → Result (List Message) SplitFault
@@ -58,10 +59,11 @@ breaks_at fault before piece old new is so =
     let t = going_on old.limit old.end piece in
     let whole = fed_more old.limit before piece old refl is in
     let none = answer_err t.messages t.end fault so.0 in
-    let front = (stream old.limit before).messages in
-    (whole ∙ ap (λ (ms : List Message). record { messages = front ++ ms; end = t.end }) none.0 ∙ ap (λ (e : End). record { messages = front ++ []; end = e }) none.1
-    ∙ ap (λ (ms : List Message). record { messages = ms; end = Broken fault }) (append-nil front),
-    so.1 ∙ ap (λ (s : Stream). record { limit = old.limit; end = s.end }) (sym whole))
+    let front = (stream old.limit before).messages in (
+      whole ∙ ap (λ (ms : List Message). record { messages = front ++ ms; end = t.end }) none.0 ∙ ap (λ (e : End). record { messages = front ++ []; end = e }) none.1
+          ∙ ap (λ (ms : List Message). record { messages = ms; end = Broken fault }) (append-nil front),
+      so.1 ∙ ap (λ (s : Stream). record { limit = old.limit; end = s.end }) (sym whole),
+    )
 
 breaks_with : (fault : SplitFault) (before piece : List ℕ) (old new : Splitting) → old ≡ fed old.limit before
     → FeedFails fault old new (going_on old.limit old.end piece) → BreaksWith fault old.limit before (before ++ piece) old new
@@ -73,3 +75,42 @@ pub breaks : {X : Type 0} (view : X → List Message) (before piece : List ℕ) 
     → Feeds view old new (going_on old.limit old.end piece) result → IfErr result (λ fault. BreaksWith fault old.limit before (before ++ piece) old new)
 breaks view before piece old new (Ok x) is so = tt
 breaks view before piece old new (Err f) is so = breaks_with f before piece old new is so
+
+-- ---- what a feed answers
+
+answer_given : (messages : List Message) (fault : Option SplitFault) (begun : Bool) (bytes : List ℕ) → (messages ≡ [] → fault ≡ None) → answer_of messages (end_with fault begun bytes) ≡ Ok messages
+answer_given [] None true bytes so = refl
+answer_given [] None false bytes so = refl
+answer_given [] (Some f) begun bytes so = let none : Some f ≡ None = so refl in absurd cc
+answer_given (m ∷ ms) fault begun bytes so = refl
+
+broken_off : (fault : SplitFault) (limit : ℕ) (new : Splitting) (t : Stream) → t ≡ record { messages = []; end = Broken fault } → new ≡ record { limit = limit; end = Broken fault }
+    → (answer t ≡ Err fault) × (new ≡ record { limit = limit; end = t.end })
+broken_off fault limit new t is stands =
+    (ap answer is, stands ∙ ap (λ (s : Stream). record { limit = limit; end = s.end }) (sym is))
+
+fails_of : (f : SplitFault) (old new : Splitting) (t : Stream) → IsOfStream (Some f) → t ≡ record { messages = []; end = Broken f } → new ≡ record { limit = old.limit; end = Broken f } → FeedFails f old new t
+fails_of NoMemory old new t real is stands = absurd real
+fails_of (Version n) old new t real is stands = broken_off (Version n) old.limit new t is stands
+fails_of (TooLong n) old new t real is stands = broken_off (TooLong n) old.limit new t is stands
+
+-- A step that led to these messages and this end is what the feed answers.
+pub feeds_of : {X : Type 0} (view : X → List Message) (old new : Splitting) (messages : List Message) (fault : Option SplitFault) (begun : Bool) (bytes : List ℕ) (t : Stream) (result : Result X SplitFault)
+    → t ≡ record { messages = messages; end = end_with fault begun bytes } → new ≡ record { limit = old.limit; end = end_with fault begun bytes } → IsOfStream fault
+    → Answers view messages fault result → Feeds view old new t result
+feeds_of view old new messages fault begun bytes t (Ok x) is stands real so = (
+  ap answer is ∙ answer_given messages fault begun bytes so.1 ∙ ap (λ (ms : List Message). Ok ms) (sym so.0),
+  stands ∙ ap (λ (s : Stream). record { limit = old.limit; end = s.end }) (sym is),
+)
+feeds_of view old new messages fault begun bytes t (Err f) is stands real so =
+    fails_of f old new t (subst IsOfStream so.1 real)
+    (is ∙ ap (λ (o : Option SplitFault). record { messages = messages; end = end_with o begun bytes }) so.1 ∙ ap (λ (ms : List Message). record { messages = ms; end = Broken f }) so.0)
+    (stands ∙ ap (λ (o : Option SplitFault). record { limit = old.limit; end = end_with o begun bytes }) so.1)
+
+-- a stream that has broken stays so
+pub stays_broken : (f : SplitFault) (s : Splitting) (piece : List ℕ) → s.end ≡ Broken f → FeedFails f s s (going_on s.limit s.end piece)
+stays_broken NoMemory s piece is = refl
+stays_broken (Version n) s piece is =
+    broken_off (Version n) s.limit s (going_on s.limit s.end piece) (ap (λ (e : End). going_on s.limit e piece) is) (ap (λ (e : End). record { limit = s.limit; end = e }) is)
+stays_broken (TooLong n) s piece is =
+    broken_off (TooLong n) s.limit s (going_on s.limit s.end piece) (ap (λ (e : End). going_on s.limit e piece) is) (ap (λ (e : End). record { limit = s.limit; end = e }) is)

@@ -1,6 +1,6 @@
 -- What a piece adds to the unread bytes, by where it leaves them.
-use Rattle.std.proofs.Common.{◌≡◌, ◌+◌, ◌-◌, ◌*◌, ◌<◌, ◌≤◌, ℕ, Bool, true, false, cond, ltb, List, [], ◌∷◌, ◌++◌, length, take, drop, Option, Some, None, refl, sym, ap, subst, ◌∙◌, append_assoc, arith, inl, inr}
-use Rattle.std.proofs.lemmas.Bool.{cases_lt, ltb-true, lt-ltb, le-ltb}
+use Rattle.std.proofs.Common.{◌≡◌, ◌+◌, ◌-◌, ◌*◌, ◌<◌, ◌≤◌, ℕ, Bool, true, false, cond, eqb, ltb, List, [], ◌∷◌, ◌++◌, length, take, drop, Option, Some, None, refl, sym, ap, subst, ◌∙◌, append_assoc, arith, inl, inr}
+use Rattle.std.proofs.lemmas.Bool.{cases_lt, eqb-true, ltb-true, lt-ltb, le-ltb}
 use Rattle.std.proofs.lemmas.List.{length-append, length-take-le, append-nil, take_all, take_at, drop_at}
 use Rattle.byteorder.specs.Endian.{little_number}
 use Rattle.wire_words.specs.declared.message.Message.{Message}
@@ -42,15 +42,15 @@ pub whole_bytes : (u : Unfinished) (piece head behind : List ℕ) (len : ℕ) �
 whole_bytes u piece head behind len h eight width bytes kept =
     elim (cases_lt u.head_len 8) [
       | inl lt ↦
-        let none = h.head_first lt in
-        let all : take len head ≡ head = take_all len head (omega (arith, eight, width)) in
-        ap (λ (b : List ℕ). (take u.head_len u.head ++ b) ++ piece) none ∙ ap (λ (x : List ℕ). x ++ piece) (append-nil (take u.head_len u.head))
-        ∙ bytes ∙ ap (λ (x : List ℕ). x ++ behind) all ∙ ap (λ (b : List ℕ). head ++ (b ++ behind)) (sym none)
+          let none = h.head_first lt in
+          let all : take len head ≡ head = take_all len head (omega (arith, eight, width)) in
+          ap (λ (b : List ℕ). (take u.head_len u.head ++ b) ++ piece) none ∙ ap (λ (x : List ℕ). x ++ piece) (append-nil (take u.head_len u.head))
+          ∙ bytes ∙ ap (λ (x : List ℕ). x ++ behind) all ∙ ap (λ (b : List ℕ). head ++ (b ++ behind)) (sym none)
       | inr le ↦
-        let same : u.head_len ≡ 8 = omega (arith, le, h.short) in
-        let k = kept same in
-        let all : take u.head_len u.head ≡ u.head = take_all u.head_len u.head (omega (arith, same, h.width)) in
-        append_assoc (take u.head_len u.head) u.body.items piece ∙ ap (λ (x : List ℕ). x ++ (u.body.items ++ piece)) (all ∙ sym k.1) ∙ ap (λ (x : List ℕ). head ++ (u.body.items ++ x)) (sym k.2)
+          let same : u.head_len ≡ 8 = omega (arith, le, h.short) in
+          let k = kept same in
+          let all : take u.head_len u.head ≡ u.head = take_all u.head_len u.head (omega (arith, same, h.width)) in
+          append_assoc (take u.head_len u.head) u.body.items piece ∙ ap (λ (x : List ℕ). x ++ (u.body.items ++ piece)) (all ∙ sym k.1) ∙ ap (λ (x : List ℕ). head ++ (u.body.items ++ x)) (sym k.2)
     ]
 
 -- what the version word leads to
@@ -100,10 +100,79 @@ body_fits limit u h head same =
     elim (cases_lt u.head_len 8) [
       | inl lt ↦ omega (arith, ap length (h.head.head_first lt))
       | inr le ↦
-        let eight : u.head_len ≡ 8 = omega (arith, le, h.head.short) in
-        let all : take u.head_len u.head ≡ u.head = take_all u.head_len u.head (omega (arith, eight, h.head.width)) in
-        let part : front_with limit (header_of u.head) u.body.items ≡ Part =
-        sym (front_head limit u.head u.body.items h.head.width) ∙ ap (λ (x : List ℕ). front limit (x ++ u.body.items)) (sym all) ∙ h.part in
-        let short : length u.body.items < body_size (header_of u.head) = part_short limit (header_of u.head) u.body.items part in
-        subst (λ (x : List ℕ). length u.body.items ≤ body_size (header_of x)) (sym (same eight)) (omega (arith, short))
+          let eight : u.head_len ≡ 8 = omega (arith, le, h.head.short) in
+          let all : take u.head_len u.head ≡ u.head = take_all u.head_len u.head (omega (arith, eight, h.head.width)) in
+          let part : front_with limit (header_of u.head) u.body.items ≡ Part =
+          sym (front_head limit u.head u.body.items h.head.width) ∙ ap (λ (x : List ℕ). front limit (x ++ u.body.items)) (sym all) ∙ h.part in
+          let short : length u.body.items < body_size (header_of u.head) = part_short limit (header_of u.head) u.body.items part in
+          subst (λ (x : List ℕ). length u.body.items ≤ body_size (header_of x)) (sym (same eight)) (omega (arith, short))
     ]
+
+-- ---- what a step leaves
+
+by_version : (b : Bool) (limit version : ℕ) (behind : List ℕ) → (b ≡ true → version ≡ 1) → (version ≡ 1 → ⊥) → cond b (messages_in limit behind) (ended (Broken (Version version))) ≡ ended (Broken (Version version))
+by_version true limit version behind is other = absurd (other (is refl))
+by_version false limit version behind is other = refl
+
+-- another version word ends the stream
+pub other_version : (limit version : ℕ) (behind : List ℕ) → (version ≡ 1 → ⊥) → versioned limit version behind ≡ ended (Broken (Version version))
+other_version limit version behind other = by_version (eqb version 1) limit version behind (eqb-true version 1) other
+
+-- a part of a message is held
+pub part_held : (limit : ℕ) (ms : List Message) (u : Unfinished) (bytes : List ℕ) → ms ≡ [] → u.begun ≡ true → IsHead u → held_bytes u ≡ bytes → front limit bytes ≡ Part
+    → (messages_in limit bytes ≡ record { messages = ms; end = end_with None u.begun (held_bytes u) }) × Holds limit u
+part_held limit ms u bytes none begun head held part = (
+  messages_part limit bytes part ∙ ap (λ (b : List ℕ). ended (Rest b)) (sym held)
+      ∙ ap (λ (b : Bool). ended (end_with None b (held_bytes u))) (sym begun)
+      ∙ ap (λ (xs : List Message). record { messages = xs; end = end_with None u.begun (held_bytes u) }) (sym none),
+  record { head = head; part = ap (front limit) held ∙ part; opening = λ e. let wrong : true ≡ false = sym begun ∙ e in absurd cc },
+)
+
+-- a part of a head is held
+pub short_piece : (limit : ℕ) (ms : List Message) (u next : Unfinished) (piece behind : List ℕ) → Holds limit u → ms ≡ [] → next.body.items ≡ u.body.items → next.head_len < 8 → length next.head ≡ 8
+    → take u.head_len u.head ++ piece ≡ take next.head_len next.head ++ behind → behind ≡ [] → (u.head_len ≡ 8 → next.head_len ≡ 8)
+    → (going_on limit (end_with None u.begun (held_bytes u)) piece ≡ record { messages = ms; end = end_with None u.begun (held_bytes next) }) × Holds limit next
+short_piece limit ms u next piece behind h none same lt width bytes all kept =
+    let before : u.head_len < 8 =
+    elim (cases_lt u.head_len 8) [
+      | inl below ↦ below
+      | inr le ↦ absurd (omega (arith, lt, kept (omega (arith, le, h.head.short))))
+    ] in
+    let empty : u.body.items ≡ [] = h.head.head_first before in
+    let no_body : next.body.items ≡ [] = same ∙ empty in
+    let front = take next.head_len next.head in
+    let next_is : held_bytes next ≡ front = ap (λ (b : List ℕ). front ++ b) no_body ∙ append-nil front in
+    let joined : held_bytes u ++ piece ≡ front =
+    ap (λ (b : List ℕ). (take u.head_len u.head ++ b) ++ piece) empty ∙ ap (λ (x : List ℕ). x ++ piece) (append-nil (take u.head_len u.head)) ∙ bytes
+    ∙ ap (λ (x : List ℕ). front ++ x) all ∙ append-nil front in
+    let whole : held_bytes next ≡ held_bytes u ++ piece = next_is ∙ sym joined in
+    let short : length (held_bytes next) < 8 = omega (arith, ap length next_is, length-take-le next.head_len next.head (omega (arith, lt, width)), lt) in (
+      step_short limit u.begun (held_bytes u) piece (held_bytes next) whole short
+          ∙ ap (λ (xs : List Message). record { messages = xs; end = end_with None u.begun (held_bytes next) }) (sym none),
+      record {
+        head = record { width = width; short = omega (arith, lt); head_first = λ _. no_body };
+        part = short_front limit (held_bytes next) short;
+        opening = λ _. lt;
+      },
+    )
+
+-- a whole head with what is behind it, where no version word was read
+pub step_opening : (limit : ℕ) (u : Unfinished) (piece head behind : List ℕ) → Holds limit u → u.begun ≡ false → length head ≡ 8 → held_bytes u ++ piece ≡ head ++ (u.body.items ++ behind)
+    → going_on limit (end_with None u.begun (held_bytes u)) piece ≡ versioned limit (little_number 8 head) behind
+step_opening limit u piece head behind h begun width whole =
+    let empty : u.body.items ≡ [] = h.head.head_first (h.opening begun) in
+    ap (λ (b : Bool). going_on limit (end_with None b (held_bytes u)) piece) begun
+    ∙ step_version limit (held_bytes u) piece head behind width (whole ∙ ap (λ (b : List ℕ). head ++ (b ++ behind)) empty)
+
+-- the same where one was read
+pub step_begun : (limit : ℕ) (u : Unfinished) (piece head behind : List ℕ) → u.begun ≡ true → held_bytes u ++ piece ≡ head ++ (u.body.items ++ behind)
+    → going_on limit (end_with None u.begun (held_bytes u)) piece ≡ messages_in limit (head ++ (u.body.items ++ behind))
+step_begun limit u piece head behind begun whole =
+    ap (λ (b : Bool). going_on limit (end_with None b (held_bytes u)) piece) begun ∙ ap (messages_in limit) whole
+
+-- a stream that breaks here
+abbrev pub broken : SplitFault → List Message → Stream
+broken fault messages = record { messages = messages; end = Broken fault }
+
+pub broken_with : (fault : SplitFault) (ms : List Message) → ms ≡ [] → ended (Broken fault) ≡ broken fault ms
+broken_with fault ms none = ap (broken fault) (sym none)

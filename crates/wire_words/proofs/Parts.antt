@@ -28,9 +28,11 @@ pub took_parts : {P Q : List ℕ → Type 0} (old new : Unread) → Took (Joined
 took_parts old new t =
     let j = t.spelled in
     let mid : Unread = record { at = old.at + length j.first; bytes = j.second ++ new.bytes } in
-    let size : length t.item ≡ length j.first + length j.second = ap length j.parts ∙ length-append j.first j.second in
-    (mid, record { item = j.first; spelled = j.is_first; parts = t.parts ∙ ap (λ (x : List ℕ). x ++ new.bytes) j.parts ∙ append_assoc j.first j.second new.bytes; place = refl },
-    record { item = j.second; spelled = j.is_second; parts = refl; place = omega (arith, t.place, size) })
+    let size : length t.item ≡ length j.first + length j.second = ap length j.parts ∙ length-append j.first j.second in (
+      mid,
+      record { item = j.first; spelled = j.is_first; parts = t.parts ∙ ap (λ (x : List ℕ). x ++ new.bytes) j.parts ∙ append_assoc j.first j.second new.bytes; place = refl },
+      record { item = j.second; spelled = j.is_second; parts = refl; place = omega (arith, t.place, size) },
+    )
 
 pub bytes_after : {P : List ℕ → Type 0} (old mid : Unread) → AreBytes old.bytes → Took P old mid → AreBytes mid.bytes
 bytes_after old mid fits t =
@@ -66,13 +68,15 @@ client_took at size old new bytes e =
     let many : length others ≡ gap size = length-take-le (gap size) (drop size old.bytes) (omega (arith, long, length-drop size old.bytes)) in
     let front : take (size + gap size) old.bytes ≡ bytes ++ others = take_parts size (gap size) old.bytes ∙ ap (λ (x : List ℕ). x ++ others) value in
     let all : length (bytes ++ others) ≡ size + gap size = ap length (sym front) ∙ length-take-le (size + gap size) old.bytes long in
-    let place : new.at ≡ old.at + length (bytes ++ others) = ap (λ (left : Unread). left.at) (sym after) ∙ ap (λ (n : ℕ). old.at + n) (sym all) in
-    (len, record {
-      item = bytes ++ others;
-      spelled = record { others = others; few = omega (arith, many); parts = refl; whole = omega (arith, all) };
-      parts = parts_are old new (size + gap size) (bytes ++ others) front after;
-      place = place;
-    })
+    let place : new.at ≡ old.at + length (bytes ++ others) = ap (λ (left : Unread). left.at) (sym after) ∙ ap (λ (n : ℕ). old.at + n) (sym all) in (
+      len,
+      record {
+        item = bytes ++ others;
+        spelled = record { others = others; few = omega (arith, many); parts = refl; whole = omega (arith, all) };
+        parts = parts_are old new (size + gap size) (bytes ++ others) front after;
+        place = place;
+      },
+    )
 
 pub client_again : (at : ℕ) (old new : Unread) (bytes : List ℕ) → Took (IsRounded bytes) old new → filled_at dialects.Client at (length bytes) old ≡ Ok (bytes, new)
 client_again at old new bytes t =

@@ -42,12 +42,16 @@ zero_halves (b ∷ bytes) fits e =
 -- Bytes whose halves are so many numbers and then zeros are the halves of these numbers and then zeros.
 joined_halves : (count : ℕ) (bytes : List ℕ) → AreBytes bytes → count ≤ 2 * length bytes → list_all is_zero (drop count (split_halves bytes)) ≡ true
     → bytes ≡ halves (take count (split_halves bytes)) ++ replicate (length bytes - (count + 1) / 2) 0
-joined_halves zero bytes fits le e = zero_halves bytes fits e
+joined_halves zero bytes fits le e =
+    let many : length bytes ≡ length bytes - (zero + 1) / 2 = omega arith in
+    zero_halves bytes fits e ∙ ap (λ (n : ℕ). replicate n 0) many
 joined_halves (suc zero) [] fits le e = absurd (omega (arith, le))
 joined_halves (suc zero) (b ∷ bytes) fits le e =
     let high = both_true (is_zero (b / 16)) (list_all is_zero (split_halves bytes)) e in
     let is : b ≡ b % 16 = omega (arith, eqb-true (b / 16) 0 high.0) in
-    ap (λ (x : ℕ). x ∷ bytes) is ∙ ap (λ (xs : List ℕ). b % 16 ∷ xs) (zero_halves bytes (λ i. fits (suc i)) high.1)
+    let many : length bytes ≡ suc (length bytes) - (suc zero + 1) / 2 = omega arith in
+    ap (λ (x : ℕ). x ∷ bytes) is ∙ ap (λ (xs : List ℕ). (b % 16) ∷ xs) (zero_halves bytes (λ i. fits (suc i)) high.1)
+    ∙ ap (λ (n : ℕ). (b % 16) ∷ replicate n 0) many
 joined_halves (suc (suc count)) [] fits le e = absurd (omega (arith, le))
 joined_halves (suc (suc count)) (b ∷ bytes) fits le e =
     let is : b ≡ b % 16 + 16 * (b / 16) = omega arith in
@@ -103,7 +107,7 @@ halves_length (t ∷ u ∷ ts) = omega (arith, halves_length ts)
 
 -- ---- the types of a row are those of its values
 
-is_written : ValueType → Bool
+abbrev is_written : ValueType → Bool
 is_written types.UnixTime = false
 is_written types.Iso8601 = false
 is_written types.Boolean = false
@@ -211,7 +215,7 @@ row_again old new vs t =
     let head = p.1.item in
     let is : head ≡ halves (codes ts) ++ replicate k 0 = p.1.spelled.parts in
     let size : length head ≡ row_head_size count =
-    omega (arith, ap length is, length-append (halves (codes ts)) (replicate k 0), length-replicate k 0, halves_length ts, types_length vs, p.1.spelled.few, p.1.spelled.whole) in
+    omega (arith, ap length is, length-append (halves (codes ts)) (replicate k 0), length-replicate {A = ℕ} k 0, halves_length ts, types_length vs, p.1.spelled.few, p.1.spelled.whole) in
     let whole : Took (IsRaw head) old mid = record { item = head; spelled = record { zeros = 0; few = omega arith; parts = sym (append-nil head); whole = p.1.spelled.whole }; parts = p.1.parts; place = p.1.place } in
     let raw : raw_at (row_head_size count) old ≡ Ok (head, mid) = subst (λ (n : ℕ). raw_at n old ≡ Ok (head, mid)) size (raw_again old mid head whole) in
     let many : count ≡ length (codes ts) = omega (arith, codes_length ts, types_length vs) in

@@ -70,7 +70,7 @@ row_only vs bytes s =
 -- ---- what is written is among what a client may send
 
 padded_is_rounded : (bytes padded : List ℕ) → IsPadded bytes padded → IsRounded bytes padded
-padded_is_rounded bytes padded p = record { others = replicate p.zeros 0; few = omega (arith, length-replicate p.zeros 0, p.few); parts = p.parts; whole = p.whole }
+padded_is_rounded bytes padded p = record { others = replicate p.zeros 0; few = omega (arith, length-replicate {A = ℕ} p.zeros 0, p.few); parts = p.parts; whole = p.whole }
 
 value_accepted : (v : Value) (bytes : List ℕ) → IsValue dialects.Exact (type_of v) v bytes → IsValue dialects.Client (type_of v) v bytes
 value_accepted (Integer n) bytes s = s

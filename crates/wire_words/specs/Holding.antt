@@ -3,6 +3,7 @@ use Rattle.std.specs.Prelude.{◌≡◌, ◌<◌, ◌≤◌, ◌++◌, ℕ, Bool
 use Rattle.std.specs.declared.alloc.AllocError.{AllocError}
 use Rattle.wire_words.specs.declared.message.Message.{Message}
 use Rattle.wire_words.specs.declared.splitter.SplitFault.{SplitFault}
+use Rattle.wire_words.specs.declared.splitter.SplitFault.TheVariants.{NoMemory}
 use Rattle.wire_words.specs.declared.unfinished.Unfinished.{Unfinished}
 use Rattle.wire_words.specs.declared.unfinished.Standing.{Standing}
 use Rattle.wire_words.specs.declared.unfinished.Standing.TheVariants as standings
@@ -30,9 +31,15 @@ pub record Holds (limit : ℕ) (u : Unfinished) : Type 0 where
   pub part : front limit (held_bytes u) ≡ Part
   pub opening : u.begun ≡ false → u.head_len < 8
 
+-- a stream breaks by its version or by a header, and never by want of memory
+abbrev pub IsOfStream : Option SplitFault → Type 0
+IsOfStream None = Unit {0}
+IsOfStream (Some NoMemory) = ⊥
+IsOfStream (Some fault) = Unit {0}
+
 -- A step gave the messages and the end of this stream, and holds what is unread. Want of memory left it as it was.
 abbrev pub Leads : ℕ → Unfinished → Unfinished → List Message → Stream → Result (Option SplitFault) AllocError → Type 0
 Leads limit old new messages stream result =
     MatchResult result
-    (λ fault. (stream ≡ record { messages = messages; end = end_with fault new.begun (held_bytes new) }) × Holds limit new)
+    (λ fault. (stream ≡ record { messages = messages; end = end_with fault new.begun (held_bytes new) }) × Holds limit new × IsOfStream fault)
     (λ _. (new.begun ≡ old.begun) × (held_bytes new ≡ held_bytes old) × Holds limit new)

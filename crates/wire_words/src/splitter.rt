@@ -139,7 +139,13 @@ impl Splitter {
             return Err(fault);
         }
         let mut messages = Vec::new(self.alloc);
-        let fault = go_on(self.alloc, self.limit, &mut self.unfinished, piece, &mut messages)?;
+        let fault = go_on(
+            self.alloc,
+            self.limit,
+            &mut self.unfinished,
+            piece,
+            &mut messages,
+        )?;
         self.fault = fault;
         answer(messages, fault)
     }

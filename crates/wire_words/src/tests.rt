@@ -152,7 +152,12 @@ fn tuples_are_read(rt: HostRuntime) -> Result<(), Fail> {
         let mut words = Words::new(bytes);
         let values = words.params(rt.alloc())?;
         assert_eq!(rt; values.len(), wanted.len());
-        assert!(rt; values.iter().zip(wanted).all(|(value, wanted)| is_as(value, wanted)));
+        assert!(rt;
+            values
+                .iter()
+                .zip(wanted)
+                .all(|(value, wanted)| is_as(value, wanted))
+        );
         assert_eq!(rt; words.left(), 0);
     }
     let mut words = Words::new(b"\x02\0\0\0\x01\x03\0\0\x05\0\0\0\0\0\0\0x\0\0\0\0\0\0\0");
@@ -169,7 +174,10 @@ fn faulty_tuples(rt: HostRuntime) {
         (b"\x01\x02\0\0\0\0\0\0", WordFault::Float(0)),
         (b"\x01\x05\0\0\0\0\0\0\x01\0\0\0\0\0\0\0", WordFault::Pad(8)),
         (b"\x01\x03\0\0\0\0\0\0a\0\0\0\0\0\0\x01", WordFault::Pad(8)),
-        (b"\x01\x04\0\0\0\0\0\0\x01\0\0\0\0\0\0\0", WordFault::Short(8)),
+        (
+            b"\x01\x04\0\0\0\0\0\0\x01\0\0\0\0\0\0\0",
+            WordFault::Short(8),
+        ),
     ];
     for (bytes, fault) in rows {
         let mut words = Words::new(bytes);
@@ -177,7 +185,10 @@ fn faulty_tuples(rt: HostRuntime) {
         assert_eq!(rt; words.place(), 0);
     }
     let mut row = Words::new(b"\x09\0\0\0\0\0\0\0\0\0\0\0\0\0\0\0");
-    assert_eq!(rt; row.row(rt.alloc(), 1).err(), Some(WordFault::BadCode(0, 9)));
+    assert_eq!(rt;
+        row.row(rt.alloc(), 1).err(),
+        Some(WordFault::BadCode(0, 9))
+    );
     let mut row = Words::new(b"\x15\0\0\0\0\0\0\0\0\0\0\0\0\0\0\0");
     assert_eq!(rt; row.row(rt.alloc(), 1).err(), Some(WordFault::Pad(0)));
     let mut blob = Words::new(b"\x01\0\0\0\0\0\0\0b\0\0\0\0\0\0\x01");
@@ -193,7 +204,8 @@ fn values_are_written(rt: HostRuntime) -> Result<(), Fail> {
         Value::Text(wire_text(rt.alloc(), "abcdefg")?),
         Value::Text(wire_text(rt.alloc(), "abcdefgh")?),
     ];
-    let words = b"\0\0\0\0\0\0\0\x80\0\0\0\0\0\0\0\0\0\0\0\0\0\0\0\0abcdefg\0abcdefgh\0\0\0\0\0\0\0\0";
+    let words =
+        b"\0\0\0\0\0\0\0\x80\0\0\0\0\0\0\0\0\0\0\0\0\0\0\0\0abcdefg\0abcdefgh\0\0\0\0\0\0\0\0";
     let mut row = Writer::new(rt.alloc());
     row.row(&values)?;
     let row = row.finish();
@@ -202,11 +214,17 @@ fn values_are_written(rt: HostRuntime) -> Result<(), Fail> {
     assert_eq!(rt; Words::new(row.as_slice()).row(rt.alloc(), 5)?.len(), 5);
     let mut tuple = Writer::with_capacity(rt.alloc(), 64)?;
     tuple.params(&values)?;
-    assert_eq!(rt; &tuple.finish().as_slice()[..8], b"\x05\x01\x04\x05\x03\x03\0\0".as_slice());
+    assert_eq!(rt;
+        &tuple.finish().as_slice()[..8],
+        b"\x05\x01\x04\x05\x03\x03\0\0".as_slice()
+    );
     let mut tuple = Writer::new(rt.alloc());
     tuple.params_wide(&values)?;
     let tuple = tuple.finish();
-    assert_eq!(rt; &tuple.as_slice()[..16], b"\x05\0\0\0\x01\x04\x05\x03\x03\0\0\0\0\0\0\0".as_slice());
+    assert_eq!(rt;
+        &tuple.as_slice()[..16],
+        b"\x05\0\0\0\x01\x04\x05\x03\x03\0\0\0\0\0\0\0".as_slice()
+    );
     assert_eq!(rt; &tuple.as_slice()[16..], words.as_slice());
     Ok(())
 }
@@ -232,11 +250,25 @@ fn streams_are_cut(rt: HostRuntime) -> Result<(), Fail> {
 #[test]
 fn broken_streams(rt: HostRuntime) -> Result<(), Fail> {
     let mut splitter = Splitter::new(rt.alloc());
-    assert_eq!(rt; splitter.feed(b"\x02\0\0\0\0\0\0\0").err(), Some(SplitFault::Version(2)));
+    assert_eq!(rt;
+        splitter.feed(b"\x02\0\0\0\0\0\0\0").err(),
+        Some(SplitFault::Version(2))
+    );
     let mut splitter = Splitter::after_version(rt.alloc());
-    assert_eq!(rt; splitter.feed(b"\0\0\0\0\0\0\0\0\x01\0\x20\0\0\0\0\0")?.len(), 1);
-    assert_eq!(rt; splitter.feed(b"").err(), Some(SplitFault::TooLong(2_097_153)));
-    assert_eq!(rt; splitter.feed(b"\0").err(), Some(SplitFault::TooLong(2_097_153)));
+    assert_eq!(rt;
+        splitter
+            .feed(b"\0\0\0\0\0\0\0\0\x01\0\x20\0\0\0\0\0")?
+            .len(),
+        1
+    );
+    assert_eq!(rt;
+        splitter.feed(b"").err(),
+        Some(SplitFault::TooLong(2_097_153))
+    );
+    assert_eq!(rt;
+        splitter.feed(b"\0").err(),
+        Some(SplitFault::TooLong(2_097_153))
+    );
     assert_eq!(rt; splitter.held(), 0);
     Ok(())
 }
@@ -244,12 +276,24 @@ fn broken_streams(rt: HostRuntime) -> Result<(), Fail> {
 #[test]
 fn texts_of_faults(rt: HostRuntime) -> Result<(), Fail> {
     let rows = [
-        (WordFault::Short(8), "the body ends within the item at byte 8"),
+        (
+            WordFault::Short(8),
+            "the body ends within the item at byte 8",
+        ),
         (WordFault::NoNul(8), "no NUL ends the text at byte 8"),
         (WordFault::NotUtf8(8), "the text at byte 8 isn't UTF-8"),
-        (WordFault::Pad(8), "the item at byte 8 isn't filled up with zeros"),
-        (WordFault::BadCode(8, 6), "the item at byte 8 has the value code 6"),
-        (WordFault::Float(8), "the item at byte 8 has a floating-point number"),
+        (
+            WordFault::Pad(8),
+            "the item at byte 8 isn't filled up with zeros",
+        ),
+        (
+            WordFault::BadCode(8, 6),
+            "the item at byte 8 has the value code 6",
+        ),
+        (
+            WordFault::Float(8),
+            "the item at byte 8 has a floating-point number",
+        ),
         (WordFault::NoMemory, "out of memory"),
     ];
     for (fault, wanted) in rows {
@@ -257,7 +301,10 @@ fn texts_of_faults(rt: HostRuntime) -> Result<(), Fail> {
     }
     let rows = [
         (SplitFault::Version(2), "the stream begins with version 2"),
-        (SplitFault::TooLong(2_097_153), "a header claims 2097153 words"),
+        (
+            SplitFault::TooLong(2_097_153),
+            "a header claims 2097153 words",
+        ),
         (SplitFault::NoMemory, "out of memory"),
     ];
     for (fault, wanted) in rows {
@@ -279,7 +326,10 @@ fn calls_at_size(rt: HostRuntime) -> Result<(), Fail> {
     for piece in message.as_slice().chunks(4_096) {
         for message in splitter.feed(piece)? {
             count += 1;
-            assert_eq!(rt; Words::new(message.body.as_slice()).blob(rt.alloc())?.len(), 1_048_576);
+            assert_eq!(rt;
+                Words::new(message.body.as_slice()).blob(rt.alloc())?.len(),
+                1_048_576
+            );
         }
     }
     assert_eq!(rt; count, 1);

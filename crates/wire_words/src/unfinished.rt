@@ -1,7 +1,7 @@
 ghost use Rattle.std.specs.Prelude.{◌≡◌, ◌<◌, ◌≤◌, ◌++◌, [], true, length, take, IfOk};
 ghost use Rattle.wire_words.specs.Message.{header_of};
 ghost use Rattle.wire_words.specs.Stream.{Part, front, body_size, messages_in, versioned, after_messages, one_before, message_with, end_with, going_on};
-ghost use Rattle.wire_words.specs.Holding.{Holds, IsHead, front_of, held_bytes, Leads};
+ghost use Rattle.wire_words.specs.Holding.{Holds, IsHead, IsOfStream, front_of, held_bytes, Leads};
 
 use crate::WireBytes;
 use crate::message::{Header, Message};
@@ -143,6 +143,7 @@ fn cut<'a>(
     ensures ends { IfOk result (λ end. after_messages messages.old.items (messages_in limit bytes.now) ≡
         record { messages = messages.new.items; end = end_with end.fault true end.rest.now }) }
     ensures part { IfOk result (λ end. front limit end.rest.now ≡ Part) }
+    ensures fault { IfOk result (λ end. IsOfStream end.fault) }
 {
     let mut rest = bytes;
     loop {
@@ -228,6 +229,7 @@ fn go_on_with(
 ) -> Result<Option<SplitFault>, AllocError>
     requires holds { Holds limit unfinished.old }
     requires begun { unfinished.old.begun ≡ true }
+    requires width { length head ≡ 8 }
     requires fits { length unfinished.old.body.items ≤ body_size (header_of head) }
     requires empty { messages.old.items ≡ [] }
     ensures { Leads limit unfinished.old unfinished.new messages.new.items
@@ -270,7 +272,14 @@ pub(crate) fn go_on(
         return Ok(None);
     }
     if unfinished.begun {
-        go_on_with(alloc, limit, unfinished, filled.head, filled.behind, messages)
+        go_on_with(
+            alloc,
+            limit,
+            unfinished,
+            filled.head,
+            filled.behind,
+            messages,
+        )
     } else {
         let version = LittleEndian::read_u64(&filled.head);
         go_on_behind(alloc, limit, unfinished, version, filled.behind, messages)

@@ -11,7 +11,12 @@ use byteorder::{ByteOrder, LittleEndian};
 use std::alloc::Global;
 
 // The types of these codes, which stand in an item that begins at `at`.
-fn known_types(alloc: Global, dialect: Dialect, at: u64, codes: &[u8]) -> Result<Vec<ValueType>, WordFault>
+fn known_types(
+    alloc: Global,
+    dialect: Dialect,
+    at: u64,
+    codes: &[u8],
+) -> Result<Vec<ValueType>, WordFault>
     ensures { Found (λ types. types.items) (all_types dialect at codes.now) result }
 {
     let mut types = Vec::new(alloc);
@@ -33,7 +38,12 @@ fn has_float(types: &[ValueType]) -> bool
 
 // The same, where none of them is to be that of floating-point numbers.
 #[tactic(auto, unfolding(crate::specs::ReadingValues::types_at))]
-fn types_of(alloc: Global, dialect: Dialect, at: u64, codes: &[u8]) -> Result<Vec<ValueType>, WordFault>
+fn types_of(
+    alloc: Global,
+    dialect: Dialect,
+    at: u64,
+    codes: &[u8],
+) -> Result<Vec<ValueType>, WordFault>
     ensures { Found (λ types. types.items) (types_at dialect at codes.now) result }
 {
     let types = known_types(alloc, dialect, at, codes)?;
@@ -41,6 +51,18 @@ fn types_of(alloc: Global, dialect: Dialect, at: u64, codes: &[u8]) -> Result<Ve
         return Err(WordFault::Float(at));
     }
     Ok(types)
+}
+
+// A value of this type.
+fn value_of(
+    alloc: Global,
+    words: &mut Words<'_>,
+    dialect: Dialect,
+    value_type: &ValueType,
+) -> Result<Value, WordFault>
+    ensures { Finds (λ value. value) (value_at dialect value_type.now) words.old words.new result }
+{
+    words.value(alloc, dialect, *value_type)
 }
 
 // Values of these types, one after the other.
@@ -54,8 +76,7 @@ fn values_of(
 {
     let mut values = Vec::new(alloc);
     for value_type in types {
-        let value_type = *value_type;
-        let value = words.value(alloc, dialect, value_type)?;
+        let value = value_of(alloc, words, dialect, value_type)?;
         values.push(value)?;
     }
     Ok(values)
@@ -74,7 +95,12 @@ fn halves_of(alloc: Global, bytes: &[u8]) -> Result<Vec<u8>, WordFault>
 }
 
 // The types of a row of so many values, from its codes and the zeros behind them.
-fn types_of_row(alloc: Global, at: u64, count: usize, halves: &[u8]) -> Result<Vec<ValueType>, WordFault>
+fn types_of_row(
+    alloc: Global,
+    at: u64,
+    count: usize,
+    halves: &[u8],
+) -> Result<Vec<ValueType>, WordFault>
     requires { count ≤ length halves.now }
     ensures { Found (λ types. types.items) (row_types at count halves.now) result }
 {
@@ -96,7 +122,12 @@ fn row_head_len(count: u64) -> u64
 }
 
 // The head of a tuple: so many codes behind a count of this width, and what fills them up.
-fn tuple_head(alloc: Global, words: &mut Words<'_>, width: u64, count: u64) -> Result<Vec<ValueType>, WordFault>
+fn tuple_head(
+    alloc: Global,
+    words: &mut Words<'_>,
+    width: u64,
+    count: u64,
+) -> Result<Vec<ValueType>, WordFault>
     requires { width + count < 2 ^ 64 }
     ensures { Finds (λ types. types.items) (codes_at width count) words.old words.new result }
 {

@@ -160,7 +160,12 @@ impl<'a> Words<'a> {
     }
 
     // So many bytes of an item that begins at `at`, which may be before here, and what fills them up to a whole word.
-    pub(crate) fn filled_slice(&mut self, dialect: Dialect, at: u64, size: u64) -> Result<&'a [u8], WordFault>
+    pub(crate) fn filled_slice(
+        &mut self,
+        dialect: Dialect,
+        at: u64,
+        size: u64,
+    ) -> Result<&'a [u8], WordFault>
         ensures exact { Gives (λ bytes. bytes.now) (filled_at dialect at size) self.old self.new result }
         ensures size { IfOk result (λ bytes. length bytes.now ≡ size) }
         ensures memory { IsErrOf result WordFault.NoMemory → ⊥ }
