@@ -1,4 +1,4 @@
-ghost use Rattle.std.specs.Prelude.{◌≡◌, ◌≤◌, nat_lt, [], length};
+ghost use Rattle.std.specs.Prelude.{◌≡◌, ◌<◌, ◌≤◌, nat_lt, [], ◌∷◌, ◌++◌, length, false};
 ghost use Rattle.raft_rules.specs.Node.{among, majority};
 ghost use Rattle.raft_rules.specs.Votes.{after_term, after_timeout, after_request, grants_request, after_grant, wins_with};
 ghost use Rattle.raft_vote.specs.Grants.{AreDistinct, AreAmong};
@@ -105,7 +105,7 @@ impl VoteCore {
         }
         self.term += 1;
         self.vote = self.id;
-        self.grants[0] = self.id;
+        self.grants = [self.id, 0, 0, 0, 0, 0, 0];
         self.count = 1;
         true
     }
@@ -151,7 +151,7 @@ impl VoteCore {
     /// A node grants its vote in the own term. It is counted once, and only of a voter. True exactly where a majority of
     /// the voters has granted then. Within one term the voters are to be the same at each call, the own id among them
     /// after a timeout: so each grant so far is one of theirs.
-    #[tactic(auto, unfolding(raft_rules::specs::Elections::grants_with))]
+    #[tactic(auto, unfolding(raft_rules::specs::Elections::grants_with), using(crate::proofs::Grants::room, crate::proofs::Grants::among_more))]
     pub fn on_grant(&mut self, from: u64, voters: &[u64]) -> bool
         requires few { length voters.now ≤ 7 }
         requires same { AreAmong self.old.grants voters.now }
@@ -159,10 +159,36 @@ impl VoteCore {
         ensures answer { result ≡ wins_with self.old from voters.now }
         ensures same { AreAmong self.new.grants voters.now }
     {
-        if contains(voters, from) && !contains(&self.grants[..self.count], from) {
-            self.grants[self.count] = from;
-            self.count += 1;
+        if contains(voters, from) && !self.has_grant(from) {
+            self.add_grant(from);
         }
+        self.has_majority(voters)
+    }
+
+    /// Whether the node of this id is among those whose votes it got.
+    fn has_grant(&self, id: u64) -> bool
+        ensures answer { result ≡ among self.now.grants id }
+        ensures distinct { AreDistinct self.now.grants }
+    {
+        contains(&self.grants[..self.count], id)
+    }
+
+    /// Whether more than half of the voters granted.
+    fn has_majority(&self, voters: &[u64]) -> bool
+        requires { length voters.now ≤ 7 }
+        ensures { result ≡ majority voters.now (among self.now.grants) }
+    {
         is_majority(voters, &self.grants[..self.count])
+    }
+
+    /// Puts one grant more behind the others.
+    #[tactic(auto, using(std::proofs::lemmas::List::take_more_set, crate::proofs::Grants::distinct_more))]
+    fn add_grant(&mut self, from: u64)
+        requires other { among self.old.grants from ≡ false }
+        requires room { length self.old.grants < 7 }
+        ensures { self.new ≡ record self.old { grants = self.old.grants ++ from ∷ [] } }
+    {
+        self.grants[self.count] = from;
+        self.count += 1;
     }
 }
