@@ -12,11 +12,15 @@ kind_value kinds.Command = Command
 kind_value kinds.Barrier = Barrier
 kind_value kinds.Change = Change
 
+-- the number of a kind of entry, by the rules' kind
+abbrev pub kind_number : EntryKindValue → ℕ
+kind_number Command = 1
+kind_number Barrier = 2
+kind_number Change = 3
+
 -- the number of a kind of entry
 abbrev pub kind_code : EntryKind → ℕ
-kind_code kinds.Command = 1
-kind_code kinds.Barrier = 2
-kind_code kinds.Change = 3
+kind_code kind = kind_number (kind_value kind)
 
 -- the kind of entry that a number stands for
 abbrev pub kind_with : ℕ → Option EntryKind

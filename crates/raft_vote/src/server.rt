@@ -1,4 +1,4 @@
-ghost use Rattle.std.specs.Prelude.{◌≡◌, IfOk};
+ghost use Rattle.std.specs.Prelude.{◌≡◌, ◌==◌, nat_le, true, false, IfOk, MatchOption};
 ghost use Rattle.raft_vote.specs.Kinds.{role_number, role_with};
 
 use dq_base::Items;
@@ -29,9 +29,20 @@ impl ServerRole {
         }
     }
 
+    /// Whether a server of this role votes. Takes no memory.
+    pub fn votes(self) -> bool
+        ensures { result ≡ (role_number self == 0) }
+    {
+        match self {
+            ServerRole::Voter => true,
+            ServerRole::Standby | ServerRole::Spare => false,
+        }
+    }
+
     /// The role that a number stands for, if any. Takes no memory.
     pub fn with_number(number: u64) -> Option<ServerRole>
-        ensures { result ≡ role_with number }
+        ensures role { result ≡ role_with number }
+        ensures number { MatchOption result (nat_le number 2 ≡ false) (λ role. (role_number role ≡ number) × (nat_le number 2 ≡ true)) }
     {
         match number {
             0 => Some(ServerRole::Voter),
@@ -67,6 +78,13 @@ impl Model for Server {
 pub type Servers = Items<Server>;
 
 impl Server {
+    /// Whether it votes. Takes no memory.
+    pub fn votes(&self) -> bool
+        ensures { result ≡ (self.now.role == 0) }
+    {
+        self.role.votes()
+    }
+
     /// A copy of the server, which copies its address. Fails where memory runs out.
     pub fn copied(&self, alloc: Global) -> Result<Server, AllocError>
         ensures { IfOk result (λ copy. copy ≡ self.now) }
