@@ -257,8 +257,10 @@ servers_found bytes servers place fits e =
     let a = bind_ok (servers_at (unread bytes)) with_place (servers, place) e in
     let made : List Server × ℕ = (a.0.0, a.0.1.at) in
     let p = servers_passed (unread bytes) a.0.1 a.0.0 fits a.1 in
+    let after : a.0.1.at ≡ 0 + length (servers_bytes a.0.0) = p.passed.place in
+    let size : length (servers_bytes a.0.0) ≡ a.0.1.at = omega (arith, after) in
     let front : take a.0.1.at bytes ≡ servers_bytes a.0.0 =
-    ap (take a.0.1.at) p.passed.parts ∙ take_at (servers_bytes a.0.0) a.0.1.bytes a.0.1.at (sym p.passed.place) in
+    ap (take a.0.1.at) p.passed.parts ∙ take_at (servers_bytes a.0.0) a.0.1.bytes a.0.1.at size in
     subst (λ (x : List Server × ℕ). WritesServers x.0 (take x.1 bytes)) (servers_is made (servers, place) a.2)
     (record { is = p.is; holds = p.holds; parts = front })
 
@@ -266,7 +268,8 @@ pub servers_read : (bytes : List ℕ) (servers : List Server) (spelled rest : Li
 servers_read bytes servers spelled rest w is =
     let left : Unread = record { at = 0 + length spelled; bytes = rest } in
     let p : Passed (servers_bytes servers) (unread bytes) left = record { parts = is ∙ ap (λ (x : List ℕ). x ++ rest) w.parts; place = ap (λ (x : List ℕ). 0 + length x) w.parts } in
-    rw (servers_stood servers (unread bytes) left w.is w.holds p) refl
+    let size : 0 + length spelled ≡ length spelled = omega arith in
+    rw (servers_stood servers (unread bytes) left w.is w.holds p) (ap (λ (n : ℕ). Ok (servers, n)) size)
 
 pub is_found : (bytes : List ℕ) (result : Result (List Server × ℕ) ServersFault) → AreBytes bytes → GivesServers (λ x. x) (servers_of bytes) result → IfOk result (λ read. WritesServers read.0 (take read.1 bytes))
 is_found bytes (Ok read) fits given = servers_found bytes read.0 read.1 fits given

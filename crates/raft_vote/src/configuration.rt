@@ -6,14 +6,12 @@ ghost use Rattle.raft_vote.specs.Servers.{IsConfiguration, IsServer, HoldsServer
 
 use crate::server::{Server, ServerRole, Servers};
 use crate::servers_fault::ServersFault;
+use crate::votes::MOST_VOTERS;
 use std::alloc::{AllocError, Global};
 use wire_words::{WireBytes, WireText, Words, Writer};
 
 /// The most servers of a configuration.
 const MOST_SERVERS: usize = 9;
-
-/// The most of them that vote.
-const MOST_VOTERS: usize = 7;
 
 /// The most bytes of a server's address.
 const LONGEST_ADDRESS: usize = 255;

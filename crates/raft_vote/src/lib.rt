@@ -31,3 +31,6 @@ pub use server::{Server, ServerRole, Servers};
 pub use servers_fault::ServersFault;
 pub use votes::VoteCore;
 pub use writing::write_message;
+
+#[cfg(test)]
+mod tests;

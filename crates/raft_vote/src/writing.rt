@@ -32,7 +32,7 @@ fn put_log_end(out: &mut Writer, end: &LogEnd) -> Result<(), AllocError>
 
 fn put_snapshot(out: &mut Writer, snapshot: &Snapshot) -> Result<(), AllocError>
     ensures bytes { OnOk result (out.new ≡ out.old ++ (word snapshot.now.index ++ (word snapshot.now.term ++ blob snapshot.now.bytes))) }
-    ensures holds { (snapshot.now.index < 2 ^ 64) × (snapshot.now.term < 2 ^ 64) }
+    ensures holds { OnOk result ((snapshot.now.index < 2 ^ 64) × (snapshot.now.term < 2 ^ 64)) }
     ensures size { OnOk result (length snapshot.now.bytes < 2 ^ 64) }
 {
     out.word(snapshot.index)?;
@@ -114,13 +114,37 @@ fn put_message(out: &mut Writer, message: &RaftMessage) -> Result<(), AllocError
     put_what(out, &message.what)
 }
 
+/// The bytes of a message but for entries and a snapshot, at most.
+const REST: usize = 64;
+
+/// The bytes of an entry's head and of what fills the entry up, at most.
+const HEAD: usize = 24;
+
+/// How many bytes the message takes at most; with it the writer's room is made once. Nothing but the number of growths
+/// rests on it.
+fn room(message: &RaftMessage) -> usize {
+    match &message.what {
+        What::Append { entries, .. } => entries_room(entries.as_slice()),
+        What::Install { snapshot } => snapshot.bytes.len().saturating_add(REST),
+        _ => REST,
+    }
+}
+
+fn entries_room(entries: &[Entry]) -> usize {
+    let mut room = REST;
+    for entry in entries {
+        room = room.saturating_add(entry.bytes.len()).saturating_add(HEAD);
+    }
+    room
+}
+
 fn whole_message(alloc: Global, message: &RaftMessage) -> Result<WireBytes, AllocError>
     ensures bytes { IfOk result (λ bytes. bytes ≡ message_bytes message.now) }
     ensures long { 4294967295 < length (body_bytes message.now) / 8 → IsErr result }
     ensures whole { IfOk result (λ bytes. length bytes % 8 ≡ 0) }
     ensures holds { OnOk result (AllHold (message_fields message.now)) }
 {
-    let mut out = Writer::new(alloc);
+    let mut out = Writer::with_capacity(alloc, room(message))?;
     put_message(&mut out, message)?;
     out.finish_message()
 }

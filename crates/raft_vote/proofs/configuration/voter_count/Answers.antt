@@ -7,8 +7,8 @@ pub loop-server-preserved : goal.loop-server-preserved
 loop-server-preserved c =
     let ss = c.args.servers.now in
     record {
-      counted = voters_step ss c.loop-server.server-index c.loop-server.count c.server-item.result c.vote_of.result (length (voters ss)) c.loop-server-test.true c.server-item.is c.vote_of.ensures.vote c.loop-server.invariant.counted;
-      few = omega (arith, c.vote_of.ensures.few, c.loop-server.invariant.few);
+      counted = voters_step ss c.loop-server.server-index c.loop-server.count c.server-item.result c.vote_of-count.result (length (voters ss)) c.loop-server-test.true c.server-item.is c.vote_of-count.ensures.vote c.loop-server.invariant.counted;
+      few = omega (arith, c.vote_of-count.ensures.few, c.loop-server.invariant.few);
     }
 
 pub returns : goal.returns
