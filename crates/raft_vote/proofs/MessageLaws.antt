@@ -329,14 +329,16 @@ found_in to (Some kind) m peer fits is e =
     let both = both_true x.0.1 (numbers_fit x.0.0) c.0 in
     let end : x.1.bytes ≡ [] = nil_from_length x.1.bytes (eqb-true (length x.1.bytes) 0 d.0) in
     let p = items_passed to kind (unread m.body) x.1 x.0.0 x.0.1 fits both.0 (in_message_ok (items_at to kind (unread m.body)) x b.1) in
-    subst (λ (y : RaftMessage). Reads m y × (y.to ≡ to)) (message_is x.0.0 peer d.1)
-    (record {
-      kind = known_number m.kind kind is ∙ p.number;
-      schema = eqb-true m.schema 0 a.0;
-      holds = fields_hold (message_fields x.0.0) (unread m.body) x.1 p.fields;
-      body = fields_are (message_fields x.0.0) m.body x.1 p.fields end;
-      in_range = both.1;
-    }, p.receiver)
+    subst (λ (y : RaftMessage). Reads m y × (y.to ≡ to)) (message_is x.0.0 peer d.1) (
+      record {
+        kind = known_number m.kind kind is ∙ p.number;
+        schema = eqb-true m.schema 0 a.0;
+        holds = fields_hold (message_fields x.0.0) (unread m.body) x.1 p.fields;
+        body = fields_are (message_fields x.0.0) m.body x.1 p.fields end;
+        in_range = both.1;
+      },
+      p.receiver,
+    )
 
 pub message_found : (to : ℕ) (m : Message) (peer : RaftMessage) → AreBytes m.body → peer_message_of to m ≡ Ok peer → Reads m peer × (peer.to ≡ to)
 unfolding peer_message_of

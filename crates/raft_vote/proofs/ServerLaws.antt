@@ -92,14 +92,16 @@ joined_is before at role_at s t e =
     let b = passed (nat_le s.role 2) (Role role_at) (cond (has_room before s.role && nat_le (length s.address) 255) (Ok s) (Err (Limit at))) t a.1 in
     let c = passed (has_room before s.role && nat_le (length s.address) 255) (Limit at) (Ok s) t b.1 in
     let both = both_true (has_room before s.role) (nat_le (length s.address) 255) c.0 in
-    let room = room_of (length before) (length (voters before)) (s.role == 0) both.0 in
-    (servers_is s t c.1, record {
-      above = ltb-true (last_from 0 before) s.id a.0;
-      role = leb-true s.role 2 b.0;
-      few = room.0;
-      few_voters = room.1;
-      short = leb-true (length s.address) 255 both.1;
-    })
+    let room = room_of (length before) (length (voters before)) (s.role == 0) both.0 in (
+      servers_is s t c.1,
+      record {
+        above = ltb-true (last_from 0 before) s.id a.0;
+        role = leb-true s.role 2 b.0;
+        few = room.0;
+        few_voters = room.1;
+        short = leb-true (length s.address) 255 both.1;
+      },
+    )
 
 joined_ok : (before : List Server) (at role_at : ℕ) (s : Server) → Joins before s → joined before at role_at s ≡ Ok s
 joined_ok before at role_at s j =
@@ -177,10 +179,12 @@ server_stood before s old new j is holds role p =
     let m1 = between old (word s.id) rest new in
     let q = passed_second old new (word s.id) rest p in
     let m2 = between m1 (text s.address) (word s.role) new in
-    rw (word_stood old m1 s.id holds.0 (passed_first old new (word s.id) rest p),
-    text_stood m1 m2 s.address holds.1 is.1 (passed_first m1 new (text s.address) (word s.role) q),
-    word_stood m2 new s.role role (passed_second m1 new (text s.address) (word s.role) q),
-    joined_ok before old.at m2.at s j) refl
+    rw (
+      word_stood old m1 s.id holds.0 (passed_first old new (word s.id) rest p),
+      text_stood m1 m2 s.address holds.1 is.1 (passed_first m1 new (text s.address) (word s.role) q),
+      word_stood m2 new s.role role (passed_second m1 new (text s.address) (word s.role) q),
+      joined_ok before old.at m2.at s j,
+    ) refl
 
 -- ---- so many servers behind others
 

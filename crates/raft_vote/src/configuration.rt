@@ -49,8 +49,7 @@ fn voter_count(servers: &[Server]) -> usize
 fn has_room(servers: &[Server], role: ServerRole) -> bool
     ensures { result ≡ has_room servers.now (role_number role) }
 {
-    servers.len() < MOST_SERVERS
-        && (!role.votes() || voter_count(servers) < MOST_VOTERS)
+    servers.len() < MOST_SERVERS && (!role.votes() || voter_count(servers) < MOST_VOTERS)
 }
 
 /// The server of these items, which begins at `at` and has its role at `role_at`, behind these servers. The first fault
@@ -85,11 +84,7 @@ fn is_long(address: &WireText) -> bool
 
 /// The next server behind these.
 #[tactic(auto, unfolding(crate::specs::Servers::server_at))]
-fn server(
-    alloc: Global,
-    words: &mut Words<'_>,
-    before: &[Server],
-) -> Result<Server, ServersFault>
+fn server(alloc: Global, words: &mut Words<'_>, before: &[Server]) -> Result<Server, ServersFault>
     ensures { FindsServers (λ server. server) (server_at before.now) words.old words.new result }
 {
     let at = words.place();

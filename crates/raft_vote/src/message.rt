@@ -22,7 +22,9 @@ pub enum What {
         last: LogEnd,
     },
     /// The answer to AskVote.
-    Vote { granted: bool },
+    Vote {
+        granted: bool,
+    },
     /// A leader sends entries of its log.
     Append {
         /// The place that the entries follow.
@@ -39,7 +41,9 @@ pub enum What {
         index: u64,
     },
     /// A leader sends a snapshot in place of entries that it has no more.
-    Install { snapshot: Snapshot },
+    Install {
+        snapshot: Snapshot,
+    },
     /// A leader hands its office over: the receiver is to stand for election at once.
     TimeoutNow,
 }
