@@ -15,8 +15,6 @@ mod run;
 mod scene;
 mod stage;
 mod stated;
-#[cfg(test)]
-mod tests;
 
 pub use cluster::Say;
 pub use grammar::{Event, ScriptLine};

@@ -6,41 +6,44 @@ use crate::{
 use std::alloc::{AllocError, Global};
 use std::test::Fail;
 
-/// A page that begins with these bytes, and zeros.
-fn page_with(front: &[u8]) -> Page {
-    let mut bytes = zeroed_bytes();
-    let count = front.len().min(PAGE_SIZE);
-    bytes[..count].copy_from_slice(&front[..count]);
-    Page::new(bytes)
-}
-
-fn filled_page(byte: u8) -> Page {
-    Page::new([byte; PAGE_SIZE])
-}
-
 fn filled_file(alloc: Global, len: usize, byte: u8) -> Result<Bytes, AllocError> {
     Ok(Items::new(vec![in alloc; byte; len]?))
 }
 
-fn sizes(main: u64, side: u64) -> NumberedPage {
+/// A copy of an image whose main file is so many bytes 7, and the side file so many bytes 9.
+fn image_of(alloc: Global, main: usize, side: usize) -> Result<Image, AllocError> {
+    let main = filled_file(alloc, main, 7)?;
+    let side = filled_file(alloc, side, 9)?;
+    Image { main, side }.try_clone(alloc)
+}
+
+/// A page that begins with two numbers of eight bytes, and has one byte behind them.
+fn page_of(main: u64, side: u64, after: u8) -> Page {
     let mut bytes = zeroed_bytes();
     bytes[..8].copy_from_slice(&main.to_le_bytes());
     bytes[8..16].copy_from_slice(&side.to_le_bytes());
-    let page = Page::new(bytes);
-    NumberedPage { number: 1, page }
+    bytes[16] = after;
+    Page::new(bytes)
+}
+
+fn numbered(number: u64, page: Page) -> NumberedPage {
+    NumberedPage { number, page }
+}
+
+/// The first three bytes of a page.
+fn front_of(image: &Image, number: u64) -> Option<[u8; 3]> {
+    let page = page_at(image, number)?;
+    let bytes = page.bytes();
+    Some([bytes[0], bytes[1], bytes[2]])
 }
 
 /// A set of these pages, each filled with its byte, and then a sizes page.
 fn set_of(alloc: Global, pages: &[(u64, u8)], main: u64, side: u64) -> Result<PageSet, AllocError> {
     let mut all = Vec::new(alloc);
     for (number, byte) in pages {
-        let page = filled_page(*byte);
-        all.push(NumberedPage {
-            number: *number,
-            page,
-        })?;
+        all.push(numbered(*number, Page::new([*byte; PAGE_SIZE])))?;
     }
-    all.push(sizes(main, side))?;
+    all.push(numbered(1, page_of(main, side, 0)))?;
     Ok(PageSet {
         tx: 1,
         pages: Items::new(all),
@@ -49,76 +52,61 @@ fn set_of(alloc: Global, pages: &[(u64, u8)], main: u64, side: u64) -> Result<Pa
 
 /// What applying a set to a small image answers, and whether the image stayed.
 fn fault_of(alloc: Global, set: &PageSet) -> Result<(Result<(), PageFault>, bool), AllocError> {
-    let mut image = Image {
-        main: filled_file(alloc, 3, 7)?,
-        side: filled_file(alloc, 1, 9)?,
-    };
+    let mut image = image_of(alloc, 3, 1)?;
     let answer = apply(&mut image, set);
     let kept = image.main.as_slice() == [7, 7, 7].as_slice()
         && image.side.as_slice() == [9].as_slice();
     Ok((answer, kept))
 }
 
-#[test]
-fn pages_have_numbers(rt: HostRuntime) -> Result<(), Fail> {
-    let alloc = rt.alloc();
-    let image = Image {
-        main: filled_file(alloc, 12_288, 7)?,
-        side: filled_file(alloc, 4096, 9)?,
+/// A copy of the text's name, where it is one.
+fn copied_name(alloc: Global, text: String) -> Result<Option<Name>, AllocError> {
+    let Some(name) = Name::new(text) else {
+        return Ok(None);
     };
-    assert_eq!(rt; page_count(&image), 5);
-    for (number, byte) in [(2, 7), (4, 7), (6, 7), (3, 9)] {
-        assert_eq!(rt;
-            page_at(&image, number),
-            Some(filled_page(byte)),
-            "page {number}"
-        );
-    }
-    for number in [0, 5, 7, 8, u64::MAX] {
-        assert_eq!(rt; page_at(&image, number), None, "page {number}");
-    }
-    let lengths = [0, 0x30, 0, 0, 0, 0, 0, 0, 0, 0x10, 0, 0, 0, 0, 0, 0];
-    assert_eq!(rt; page_at(&image, 1), Some(page_with(&lengths)));
-    Ok(())
+    Ok(Some(name.try_clone(alloc)?))
 }
 
 #[test]
-fn last_pages_are_padded(rt: HostRuntime) -> Result<(), Fail> {
-    let alloc = rt.alloc();
-    let image = Image {
-        main: filled_file(alloc, 4097, 7)?,
-        side: filled_file(alloc, 2, 9)?,
-    };
-    let copy = image.try_clone(alloc)?;
-    assert_eq!(rt; page_count(&copy), 4);
-    assert_eq!(rt; page_at(&copy, 4), Some(page_with(&[7])));
-    assert_eq!(rt; page_at(&copy, 3), Some(page_with(&[9, 9])));
-    let none = Image::new(alloc);
-    assert!(rt; none.main.is_empty());
-    assert!(rt; !image.main.is_empty());
-    assert_eq!(rt; page_count(&none), 1);
-    assert_eq!(rt; page_at(&none, 1), Some(Page::zeroed()));
+fn images_have_pages(rt: HostRuntime) -> Result<(), Fail> {
+    // The main file fills a page and has a byte more; the side file has two bytes.
+    let image = image_of(rt.alloc(), 4097, 2)?;
+    assert_eq!(rt; page_count(&image), 4);
+    for (number, front) in [
+        (0, None),
+        // The length of the main file, whose lowest byte comes first.
+        (1, Some([0x01, 0x10, 0])),
+        (2, Some([7, 7, 7])),
+        (3, Some([9, 9, 0])),
+        (4, Some([7, 0, 0])),
+        (5, None),
+        (6, None),
+        (u64::MAX, None),
+    ] {
+        assert_eq!(rt; front_of(&image, number), front, "page {number}");
+    }
     Ok(())
 }
 
 #[test]
 fn sets_are_applied(rt: HostRuntime) -> Result<(), Fail> {
-    let alloc = rt.alloc();
-    let mut image = Image::new(alloc);
-    // Both files grow; the main file only partly fills its second page.
-    let grows = set_of(alloc, &[(2, 0xaa), (4, 0xbb)], 4098, 3)?;
-    assert_eq!(rt; apply(&mut image, &grows), Ok(()));
-    assert_eq!(rt; image.main.len(), 4098);
-    assert_eq!(rt; page_at(&image, 2), Some(filled_page(0xaa)));
-    assert_eq!(rt; page_at(&image, 4), Some(page_with(&[0xbb, 0xbb])));
-    assert_eq!(rt; image.side.as_slice(), [0, 0, 0].as_slice());
-    // A page replaces what stood there; the main file grows with zeros, and the side file is cut.
-    let replaces = set_of(alloc, &[(2, 0xcc)], 4099, 1)?;
-    assert_eq!(rt; apply_pages(&mut image, replaces.pages.as_slice()), Ok(()));
-    assert_eq!(rt; image.main.len(), 4099);
-    assert_eq!(rt; page_at(&image, 2), Some(filled_page(0xcc)));
-    assert_eq!(rt; page_at(&image, 4), Some(page_with(&[0xbb, 0xbb, 0])));
-    assert_eq!(rt; image.side.as_slice(), [0].as_slice());
+    let mut image = Image::new(rt.alloc());
+    let set = set_of(rt.alloc(), &[(2, 0xaa), (4, 0xbb)], 4098, 3)?;
+    for answer in [
+        apply(&mut image, &set),
+        apply_pages(&mut image, set.pages.as_slice()),
+    ] {
+        assert_eq!(rt; answer, Ok(()));
+    }
+    assert_eq!(rt; apply_pages(&mut image, &[]), Err(PageFault::NoSizes));
+    for (number, front) in [
+        (2, Some([0xaa, 0xaa, 0xaa])),
+        (3, Some([0, 0, 0])),
+        (4, Some([0xbb, 0xbb, 0])),
+        (5, None),
+    ] {
+        assert_eq!(rt; front_of(&image, number), front, "page {number}");
+    }
     Ok(())
 }
 
@@ -146,45 +134,29 @@ fn faults_leave_the_image(rt: HostRuntime) -> Result<(), Fail> {
 }
 
 #[test]
-fn the_last_page_has_the_sizes(rt: HostRuntime) -> Result<(), Fail> {
-    let alloc = rt.alloc();
-    let dirty = page_with(&[0, 0, 0, 0, 0, 0, 0, 0, 0, 0, 0, 0, 0, 0, 0, 0, 1]);
-    for (number, page) in [(1, dirty), (2, Page::zeroed())] {
-        let pages = Items::new(Vec::from_slice(alloc, &[NumberedPage { number, page }])?);
-        let (answer, kept) = fault_of(alloc, &PageSet { tx: 1, pages })?;
-        assert_eq!(rt; answer, Err(PageFault::NoSizes), "page {number}");
-        assert!(rt; kept, "page {number}");
-        assert_eq!(rt; stated_lengths(&NumberedPage { number, page }), None);
-    }
+fn sizes_pages_state_lengths(rt: HostRuntime) {
     let lengths = Lengths { main: 3, side: 4 };
-    assert_eq!(rt; stated_lengths(&sizes(3, 4)), Some(lengths));
-    let pages = Items::new(Vec::new(alloc));
-    let (answer, _) = fault_of(alloc, &PageSet { tx: 1, pages })?;
-    assert_eq!(rt; answer, Err(PageFault::NoSizes));
-    Ok(())
+    for (number, after, stated) in [(1, 0, Some(lengths)), (2, 0, None), (1, 1, None)] {
+        let page = numbered(number, page_of(3, 4, after));
+        assert_eq!(rt; stated_lengths(&page), stated, "page {number}");
+    }
 }
 
 #[test]
 fn names_are_short_texts(rt: HostRuntime) -> Result<(), Fail> {
     let alloc = rt.alloc();
-    for (len, is_name) in [(0, false), (1, true), (255, true), (256, false)] {
-        let mut text = String::new(alloc);
-        for _ in 0..len {
-            text.push('x')?;
-        }
-        assert_eq!(rt; Name::new(text).is_some(), is_name, "{len} bytes");
+    for (text, times, is_name) in [
+        ("", 1, false),
+        ("x", 1, true),
+        ("x", 255, true),
+        ("x", 256, false),
+        ("\0", 1, false),
+        ("a\0b", 1, false),
+        ("é", 1, true),
+    ] {
+        let name = copied_name(alloc, text.repeat(alloc, times)?)?;
+        assert_eq!(rt; name.is_some(), is_name, "{times} times {text:?}");
     }
-    for (text, is_name) in [("a\0b", false), ("\0", false), ("é", true)] {
-        let name = Name::new(String::from_str(alloc, text)?);
-        assert_eq!(rt; name.is_some(), is_name, "{text:?}");
-    }
-    let name = Name::new(String::from_str(alloc, "main")?).ok_or("a name")?;
-    assert_eq!(rt; name.as_str(), "main");
-    let copy = name.try_clone(alloc)?;
-    assert!(rt; copy == name);
-    let later = Name::new(String::from_str(alloc, "maine")?).ok_or("a name")?;
-    assert!(rt; copy != later);
-    assert!(rt; copy < later);
     Ok(())
 }
 

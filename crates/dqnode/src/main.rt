@@ -15,10 +15,11 @@ use std::io;
 use std::process::ExitCode;
 
 fn main(rt: HostRuntime) -> ExitCode {
-    let Ok(words) = words::given(&rt) else {
+    let Ok(all) = words::given(&rt) else {
         return ExitCode::from(Status::NoMemory.code());
     };
+    let words = words::behind_name(all.as_slice());
     let mut input = ReadSource::new(rt.stdin());
     let mut output = WriteSink::new(io::writer(&rt));
-    ExitCode::from(dqnode(rt.alloc(), words.as_slice(), &mut input, &mut output))
+    ExitCode::from(dqnode(rt.alloc(), words, &mut input, &mut output))
 }

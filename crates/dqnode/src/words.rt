@@ -1,20 +1,29 @@
 //! The words that the program was started with.
 
+ghost use Rattle.std.specs.Prelude.{◌≡◌, drop};
+
 use std::alloc::{AllocError, Global};
 use std::env;
 use std::io::ErrorKind;
 use std::rt::Env;
 
-/// The words behind the program's name. Words that aren't text are none, since the program knows none of them.
-/// `Err` is want of memory.
+/// All words that the process was given, of which the first is the program's name. Where one of them isn't text there
+/// are none, since the program knows no such word. `Err` is want of memory.
 pub fn given<R: Env + AllocGlobal>(rt: &R) -> Result<Vec<String>, AllocError> {
     let alloc = rt.alloc();
     match env::args(rt) {
-        Ok(mut all) => {
-            let _program = all.next();
-            all.collect(alloc)
-        }
+        Ok(all) => all.collect(alloc),
         Err(error) if error.kind() == ErrorKind::OutOfMemory => Err(AllocError),
         Err(_) => Ok(Vec::new(alloc)),
+    }
+}
+
+/// All but the first of the words: those behind the program's name. Takes no memory.
+pub fn behind_name(all: &[String]) -> &[String]
+    ensures { result.now ≡ drop 1 all.now }
+{
+    match all {
+        [_program, words @ ..] => words,
+        [] => &[],
     }
 }

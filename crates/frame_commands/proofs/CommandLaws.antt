@@ -4,7 +4,8 @@ use Rattle.std.specs.Prelude.{IfOk}
 use Rattle.std.proofs.lemmas.Bool.{eqb-true, leb-true, le-leb}
 use Rattle.std.proofs.lemmas.List.{append-nil, nil_from_length}
 use Rattle.wire_words.specs.declared.fault.WordFault.TheVariants as word_faults
-use Rattle.wire_words.specs.Items.{text, raw, zeros_after, AreBytes}
+use Rattle.std.specs.List.{position}
+use Rattle.wire_words.specs.Items.{text, raw, zeros_after, is_zero, AreBytes}
 use Rattle.wire_words.specs.Reading.{◌>>=◌, Unread, unread, raw_at, text_at}
 use Rattle.wire_words.proofs.Choices.{one_of, none_of}
 use Rattle.wire_words.proofs.ReadBack.{bind_ok, ok_is, passed}
@@ -16,8 +17,8 @@ use Rattle.frame_commands.specs.declared.fault.CommandFault.{CommandFault}
 use Rattle.frame_commands.specs.declared.fault.CommandFault.TheVariants.{Format, Tail}
 use Rattle.frame_commands.specs.Numbers.{numbers_fit}
 use Rattle.frame_commands.specs.Spelling.{head, frames_bytes, command_bytes, IsTextName, IsInRange, Writes}
-use Rattle.frame_commands.specs.Reading.{in_command, command_kind, known, kind_of, kind_at, name_at, command_after, command_at, ended, command_of, Gives}
-use Rattle.frame_commands.proofs.ItemFacts.{in_command_ok, command_is, both_true, is_short}
+use Rattle.frame_commands.specs.Reading.{in_command, command_kind, known, kind_of, kind_at, may_be_name, name_at, command_after, command_at, ended, command_of, Gives}
+use Rattle.frame_commands.proofs.ItemFacts.{in_command_ok, command_is, both_true, is_short, text_ends}
 use Rattle.frame_commands.proofs.Passing.{Passed, passed_none, pass_none, passed_both, between, passed_first, passed_second, bytes_after, raw_passed, raw_stood, text_passed, text_stood}
 use Rattle.frame_commands.proofs.FrameLaws.{frames_passed, frames_stood}
 use Rattle.frame_commands.proofs.Ranges.{few_pages}
@@ -77,18 +78,17 @@ head_stood kinds.Frames old new p = rw (ap kind_of p.parts, raw_stood 2 old new 
 name_passed : (old new : Unread) (t : List ℕ) → name_at old ≡ Ok (t, new) → IsTextName t × Passed (text t) old new
 unfolding name_at
 name_passed old new t e =
-    let a = bind_ok (text_at old) (λ name. cond (is_short name.0) (Ok name) (Err (word_faults.Short old.at))) (t, new) e in
-    let b = passed (is_short a.0.0) (word_faults.Short old.at) (Ok a.0) (t, new) a.2 in
-    let is : a.0 ≡ (t, new) = ok_is a.0 (t, new) b.1 in
-    let both = both_true (leb 1 (length a.0.0)) (leb (length a.0.0) 255) b.0 in
-    let read = text_passed old a.0.1 a.0.0 a.1 in
-    subst (λ (x : List ℕ × Unread). IsTextName x.0 × Passed (text x.0) old x.1) is
-    ((record { not_empty = omega (arith, leb-true 1 (length a.0.0) both.0); short = leb-true (length a.0.0) 255 both.1; no_nul = read.1 }, read.0), read.2)
+    let a = passed (may_be_name (position is_zero old.bytes)) (word_faults.Short old.at) (text_at old) (t, new) e in
+    let short : is_short t ≡ true = subst (λ (place : Option ℕ). may_be_name place ≡ true) (text_ends old new t a.1) a.0 in
+    let both = both_true (leb 1 (length t)) (leb (length t) 255) short in
+    let read = text_passed old new t a.1 in
+    ((record { not_empty = omega (arith, leb-true 1 (length t) both.0); short = leb-true (length t) 255 both.1; no_nul = read.1 }, read.0), read.2)
 
 name_stood : (old new : Unread) (t : List ℕ) → IsTextName t → Passed (text t) old new → name_at old ≡ Ok (t, new)
 unfolding name_at
 name_stood old new t name p =
-    rw (text_stood old new t name.1 name.0.no_nul p, le-leb 1 (length t) (omega (arith, name.0.not_empty)), le-leb (length t) 255 name.0.short) refl
+    let e = text_stood old new t name.1 name.0.no_nul p in
+    rw (text_ends old new t e, le-leb 1 (length t) (omega (arith, name.0.not_empty)), le-leb (length t) 255 name.0.short) e
 
 -- ---- the rest: each type of command has a case in the proofs below
 

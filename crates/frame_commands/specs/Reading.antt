@@ -1,10 +1,12 @@
 -- Reading a command, with the first fault that is met: its format, its type, its items from left to right, the size of
 -- its pages, its numbers, its end.
-use Rattle.std.specs.Prelude.{◌≡◌, ℕ, zero, suc, ◌&&◌, ◌==◌, nat_le, if◌then◌else◌, List, [], ◌∷◌, length, drop, slice_index, Option, Some, None, Result, Ok, Err, MatchResult}
+use Rattle.std.specs.Prelude.{◌≡◌, ℕ, zero, suc, Bool, true, ◌&&◌, ◌==◌, nat_le, if◌then◌else◌, List, [], ◌∷◌, length, drop, slice_index, Option, Some, None, Result, Ok, Err, MatchResult}
+use Rattle.std.specs.List.{position}
 use Rattle.byteorder.specs.Endian.{little_number}
 use Rattle.dq_base.specs.declared.pages.NumberedPage.{NumberedPage}
 use Rattle.wire_words.specs.declared.fault.WordFault.{WordFault}
 use Rattle.wire_words.specs.declared.fault.WordFault.TheVariants as word_faults
+use Rattle.wire_words.specs.Items.{is_zero}
 use Rattle.wire_words.specs.Reading.{◌>>=◌, Unread, unread, word_at, raw_at, text_at}
 use Rattle.frame_commands.specs.declared.command.Command.{Command}
 use Rattle.frame_commands.specs.declared.command.Command.TheVariants.{OpenDb, Frames}
@@ -49,11 +51,14 @@ kind_at left = do
   head ← in_command (raw_at 2 left)
   Ok (kind, head.1)
 
--- a name: a text of 1 to 255 bytes
+-- whether a text with its first NUL at this place may be a name: 1 to 255 bytes come before it, or there is none
+abbrev pub may_be_name : Option ℕ → Bool
+may_be_name None = true
+may_be_name (Some len) = nat_le 1 len && nat_le len 255
+
+-- a name: a text of 1 to 255 bytes; one of another length is Short, whatever its bytes are
 unfoldable pub name_at : Unread → Result (List ℕ × Unread) WordFault
-name_at left = do
-  name ← text_at left
-  if nat_le 1 (length name.0) && nat_le (length name.0) 255 then Ok name else Err (word_faults.Short left.at)
+name_at left = if may_be_name (position is_zero left.bytes) then text_at left else Err (word_faults.Short left.at)
 
 -- a number of 32 bits, a byte, and three zeros
 unfoldable pub flagged_at : Unread → Result ((ℕ × ℕ) × Unread) WordFault

@@ -1,5 +1,8 @@
+ghost use Rattle.std.specs.Prelude.{◌≡◌};
+ghost use Rattle.std.specs.List.{position};
+ghost use Rattle.wire_words.specs.Items.{is_zero};
 ghost use Rattle.wire_words.specs.Reading.{Finds};
-ghost use Rattle.frame_commands.specs.Reading.{name_at, flagged_at, sized_at, numbers_at, page_at, pages_at, frame_items_at};
+ghost use Rattle.frame_commands.specs.Reading.{may_be_name, name_at, flagged_at, sized_at, numbers_at, page_at, pages_at, frame_items_at};
 
 use byteorder::{ByteOrder, LittleEndian};
 use dq_base::{Items, Name, NumberedPage, PAGE_SIZE, Page};
@@ -18,12 +21,34 @@ pub(crate) struct FrameItems {
     pub(crate) pages: Items<NumberedPage>,
 }
 
-/// The name of a database, which follows the head.
+/// Where the first NUL is.
+fn first_nul(bytes: &[u8]) -> Option<usize>
+    ensures { result ≡ position is_zero bytes.now }
+{
+    bytes.iter().position(|byte| *byte == 0)
+}
+
+/// Whether a text may be a name whose first NUL is there: behind 1 to 255 bytes. Where there is none, the text's own
+/// fault comes.
+fn may_be_name(nul: Option<usize>) -> bool
+    ensures { result ≡ may_be_name nul }
+{
+    match nul {
+        Some(len) => 1 <= len && len <= 255,
+        None => true,
+    }
+}
+
+/// The name of a database, which follows the head: the reader has these bytes left. Its length is looked at first.
 #[tactic(auto, unfolding(crate::specs::Reading::name_at))]
-pub(crate) fn name(alloc: Global, words: &mut Words<'_>) -> Result<Name, WordFault>
+pub(crate) fn name(alloc: Global, left: &[u8], words: &mut Words<'_>) -> Result<Name, WordFault>
+    requires { words.old.bytes ≡ left.now }
     ensures { Finds (λ name. name) name_at words.old words.new result }
 {
     let at = words.place();
+    if !may_be_name(first_nul(left)) {
+        return Err(WordFault::Short(at));
+    }
     let text = words.text(alloc)?;
     let Some(name) = Name::new(text.into_string()) else {
         return Err(WordFault::Short(at));

@@ -1,5 +1,6 @@
-ghost use Rattle.std.specs.Prelude.{◌≡◌, IfOk, Ok};
+ghost use Rattle.std.specs.Prelude.{◌≡◌, ◌≤◌, length, drop, IfOk, OnOk, IsErrOf, MatchResult, Ok, Err};
 ghost use Rattle.frame_commands.specs.declared.command.Command.{Command};
+ghost use Rattle.frame_commands.specs.declared.fault.CommandFault.{CommandFault};
 ghost use Rattle.frame_commands.specs.Spelling.{Writes};
 ghost use Rattle.frame_commands.specs.Reading.{Gives, Finds, kind_of, kind_at, frames_at, command_at, command_of};
 ghost use Rattle.wire_words.specs.Reading.{unread};
@@ -12,10 +13,13 @@ use dq_base::{Name, PAGE_SIZE};
 use std::alloc::Global;
 use wire_words::{WordFault, Words};
 
+/// How many bytes the head of a command has.
+const HEAD: usize = 8;
+
 /// The type of the command that begins so. A first byte that isn't 1 is `Format`, and a second that stands for no type
 /// `Kind`.
 fn kind(bytes: &[u8]) -> Result<CommandKind, CommandFault>
-    ensures { Gives (kind_of bytes.now) result }
+    ensures { result ≡ kind_of bytes.now }
 {
     match bytes {
         [1, kind, ..] => CommandKind::of(*kind).ok_or(CommandFault::Kind),
@@ -24,11 +28,13 @@ fn kind(bytes: &[u8]) -> Result<CommandKind, CommandFault>
     }
 }
 
-/// The head, which the reader over the bytes is to pass: its type of command.
+/// The head, which the reader over the bytes is to pass: its type of command. Takes no memory.
 #[tactic(auto, unfolding(crate::specs::Reading::kind_at))]
 fn head(bytes: &[u8], words: &mut Words<'_>) -> Result<CommandKind, CommandFault>
     requires { words.old ≡ unread bytes.now }
-    ensures { Finds kind_at words.old words.new result }
+    ensures exact { MatchResult result (λ kind. kind_at words.old ≡ Ok (kind, words.new)) (λ fault. kind_at words.old ≡ Err fault) }
+    ensures passed { OnOk result (8 ≤ length bytes.now) }
+    ensures left { OnOk result (words.new.bytes ≡ drop 8 bytes.now) }
 {
     let kind = kind(bytes)?;
     words.raw_slice(2)?;
@@ -61,10 +67,11 @@ fn frames(alloc: Global, name: Name, words: &mut Words<'_>) -> Result<Command, C
 #[tactic(auto, unfolding(crate::specs::Reading::command_at))]
 fn command(alloc: Global, bytes: &[u8], words: &mut Words<'_>) -> Result<Command, CommandFault>
     requires { words.old ≡ unread bytes.now }
-    ensures { Finds command_at words.old words.new result }
+    ensures exact { Finds command_at words.old words.new result }
+    ensures head { (fault : CommandFault) → kind_at words.old ≡ Err fault → IsErrOf result fault }
 {
     let kind = head(bytes, words)?;
-    let name = name(alloc, words)?;
+    let name = name(alloc, &bytes[HEAD..], words)?;
     match kind {
         CommandKind::OpenDb => Ok(Command::OpenDb { name }),
         CommandKind::Frames => frames(alloc, name, words),
@@ -73,7 +80,8 @@ fn command(alloc: Global, bytes: &[u8], words: &mut Words<'_>) -> Result<Command
 
 #[tactic(auto, unfolding(crate::specs::Reading::command_of))]
 fn whole_command(alloc: Global, bytes: &[u8]) -> Result<Command, CommandFault>
-    ensures { Gives (command_of bytes.now) result }
+    ensures exact { Gives (command_of bytes.now) result }
+    ensures head { (fault : CommandFault) → kind_at (unread bytes.now) ≡ Err fault → IsErrOf result fault }
 {
     let mut words = Words::new(bytes);
     let command = command(alloc, bytes, &mut words)?;
@@ -86,8 +94,8 @@ fn whole_command(alloc: Global, bytes: &[u8]) -> Result<Command, CommandFault>
 /// Reads a command, which has to be all of the bytes. The first fault comes: `Format` where the first byte isn't 1,
 /// `Kind` where the second stands for no type, `Word` at the first item that isn't there, isn't filled up with zeros, or
 /// is a name without a NUL or not in UTF-8, then `PageSize`, `Number` and `Tail`. A name that isn't 1 to 255 bytes is
-/// `Word(Short(at))`; no bytes, or a 1 alone, are `Word(Short(0))`. `NoMemory` is want of memory. Each page is copied
-/// once, into the command.
+/// `Word(Short(at))`, whatever bytes it has; no bytes, or a 1 alone, are `Word(Short(0))`. `NoMemory` is want of memory,
+/// which no fault of the first eight bytes waits for. Each page is copied once, into the command.
 pub fn read_command(alloc: Global, bytes: &[u8]) -> Result<Command, CommandFault>
     // What is read is what the bytes stand for.
     ensures found { IfOk result (λ command. Writes command bytes.now) }
@@ -95,6 +103,8 @@ pub fn read_command(alloc: Global, bytes: &[u8]) -> Result<Command, CommandFault
     ensures only { (command : Command) → Writes command bytes.now → Gives (Ok command) result }
     // Which fault it is.
     ensures exact { Gives (command_of bytes.now) result }
+    // A fault of the head comes whatever memory there is.
+    ensures head { (fault : CommandFault) → kind_at (unread bytes.now) ≡ Err fault → IsErrOf result fault }
 {
     whole_command(alloc, bytes)
 }

@@ -2,158 +2,77 @@ use super::*;
 use dq_base::{Items, Name, NumberedPage, Page};
 use std::alloc::{AllocError, Global};
 use std::test::*;
-use wire_words::WordFault;
+use wire_words::{WireBytes, WordFault};
 
 const OPEN_D: [u8; 16] = *b"\x01\x01\0\0\0\0\0\0d\0\0\0\0\0\0\0";
 
+// A Frames command of the database `d` up to its page: transaction 1 commits with one page, which is page 1.
 const ONE_PAGE: [u8; 48] =
     *b"\x01\x02\0\0\0\0\0\0d\0\0\0\0\0\0\0\x01\0\0\0\0\0\0\0\x01\0\0\0\x01\0\0\0\x01\0\0\0\0\x10\0\0\x01\0\0\0\0\0\0\0";
 
-// What follows the 24 bytes of a Frames command's head, name and transaction.
-#[derive(Clone, Copy)]
-struct Layout {
-    truncate: u32,
-    flag: u8,
-    count: u32,
-    size: u16,
-    // The lengths that each page states.
-    lengths: (u64, u64),
-    // The byte of each page at 16.
-    after: u8,
+// That command whole: its page states two empty files.
+fn empty_commit(alloc: Global) -> Result<Vec<u8>, AllocError> {
+    let mut bytes = Vec::from_slice(alloc, &ONE_PAGE)?;
+    bytes.resize(4144, 0)?;
+    Ok(bytes)
 }
 
-const COMMIT: Layout = Layout {
-    truncate: 1,
-    flag: 1,
-    count: 1,
-    size: 4096,
-    lengths: (0, 0),
-    after: 0,
-};
-
-const PART: Layout = Layout {
-    truncate: 0,
-    flag: 0,
-    ..COMMIT
-};
-
-fn laid_out(alloc: Global, frames: &Layout, numbers: &[u64]) -> Result<Vec<u8>, AllocError> {
-    let mut bytes = Vec::from_slice(alloc, &ONE_PAGE[..24])?;
-    bytes.extend_from_slice(&frames.truncate.to_le_bytes())?;
-    bytes.extend_from_slice(&[frames.flag, 0, 0, 0])?;
-    bytes.extend_from_slice(&frames.count.to_le_bytes())?;
-    bytes.extend_from_slice(&frames.size.to_le_bytes())?;
-    bytes.extend_from_slice(&[0, 0])?;
-    for number in numbers {
-        bytes.extend_from_slice(&number.to_le_bytes())?;
+// The largest Frames command: a name of 255 bytes, transaction 2^32 + 3, no commit, and 64 pages of numbers from 2 on,
+// each filled with its number.
+fn largest(alloc: Global) -> Result<Vec<u8>, AllocError> {
+    let mut bytes = Vec::from_slice(alloc, &ONE_PAGE[..8])?;
+    bytes.resize(263, b'n')?;
+    bytes.extend_from_slice(b"\0\x03\0\0\0\x01\0\0\0\0\0\0\0\0\0\0\0\x40\0\0\0\0\x10\0\0")?;
+    for number in 2..66 {
+        bytes.extend_from_slice(&[number, 0, 0, 0, 0, 0, 0, 0])?;
     }
-    for _ in numbers {
-        bytes.extend_from_slice(&frames.lengths.0.to_le_bytes())?;
-        bytes.extend_from_slice(&frames.lengths.1.to_le_bytes())?;
-        bytes.push(frames.after)?;
-        bytes.extend_from_slice(&[0; 4079])?;
+    for number in 2..66 {
+        bytes.resize(bytes.len() + 4096, number)?;
     }
     Ok(bytes)
 }
 
-fn name(alloc: Global, text: &str) -> Result<Name, Fail> {
-    let text = String::from_str(alloc, text)?;
-    Ok(Name::new(text).ok_or("a name")?)
+// Whether the bytes are read as a command, and are what is written of it.
+fn reads_back(alloc: Global, bytes: &[u8]) -> Result<bool, Fail> {
+    let command = read_command(alloc, bytes)?;
+    if !command.numbers_fit() {
+        return Ok(false);
+    }
+    Ok(write_command(alloc, &command)?.as_slice() == bytes)
 }
 
 #[test]
-fn open_db_both_ways(rt: HostRuntime) -> Result<(), Fail> {
-    let command = read_command(rt.alloc(), &OPEN_D)?;
-    let Command::OpenDb { name: read } = &command else {
-        return Err("another command".into());
-    };
-    assert_eq!(rt; read.as_str(), "d");
-    let written = Command::OpenDb {
-        name: name(rt.alloc(), "d")?,
-    };
-    assert_eq!(rt;
-        write_command(rt.alloc(), &written)?.as_slice(),
-        OPEN_D.as_slice()
-    );
+fn commands_both_ways(rt: HostRuntime) -> Result<(), Fail> {
+    assert!(rt; reads_back(rt.alloc(), &OPEN_D)?);
+    assert!(rt; reads_back(rt.alloc(), &empty_commit(rt.alloc())?)?);
+    assert!(rt; reads_back(rt.alloc(), &largest(rt.alloc())?)?);
     Ok(())
 }
 
-#[test]
-fn frames_both_ways(rt: HostRuntime) -> Result<(), Fail> {
-    let mut bytes = Vec::from_slice(rt.alloc(), &ONE_PAGE)?;
-    bytes.extend_from_slice(&[0; 4096])?;
-    let command = read_command(rt.alloc(), &bytes)?;
-    let Command::Frames {
-        name: read,
-        tx,
-        truncate,
-        commit,
-        pages,
-    } = &command
-    else {
-        return Err("another command".into());
-    };
-    assert_eq!(rt; read.as_str(), "d");
-    assert_eq!(rt; (*tx, *truncate, *commit), (1, 1, true));
+// What is written of a commit of one page, which states two empty files.
+fn written(alloc: Global, name: Name) -> Result<Option<WireBytes>, AllocError> {
     let page = NumberedPage {
         number: 1,
         page: Page::zeroed(),
     };
-    assert_eq!(rt; pages.as_slice(), [page].as_slice());
-    let written = Command::Frames {
-        name: name(rt.alloc(), "d")?,
+    let command = Command::Frames {
+        name,
         tx: 1,
         truncate: 1,
         commit: true,
-        pages: Items::new(Vec::from_slice(rt.alloc(), &[page])?),
+        pages: Items::new(Vec::from_slice(alloc, &[page])?),
     };
-    assert!(rt; written.numbers_fit());
-    assert_eq!(rt;
-        write_command(rt.alloc(), &written)?.as_slice(),
-        bytes.as_slice()
-    );
-    Ok(())
+    if !command.numbers_fit() {
+        return Ok(None);
+    }
+    Ok(Some(write_command(alloc, &command)?))
 }
 
 #[test]
-fn several_pages_both_ways(rt: HostRuntime) -> Result<(), Fail> {
-    let alloc = rt.alloc();
-    let front =
-        b"\x01\x02\0\0\0\0\0\0d\0\0\0\0\0\0\0\x03\0\0\0\x01\0\0\0\x05\0\0\0\x01\0\0\0\x05\0\0\0\0\x10\0\0";
-    let mut bytes = Vec::from_slice(alloc, front)?;
-    let mut pages = Vec::new(alloc);
-    for (number, byte) in [(2, 0xaa), (3, 0xbb), (4, 0xcc), (6, 0xdd)] {
-        let page = Page::new([byte; 4096]);
-        pages.push(NumberedPage { number, page })?;
-    }
-    let mut sizes = [0; 4096];
-    sizes[1] = 0x30;
-    sizes[9] = 0x10;
-    let page = Page::new(sizes);
-    pages.push(NumberedPage { number: 1, page })?;
-    for page in &pages {
-        bytes.extend_from_slice(&page.number.to_le_bytes())?;
-    }
-    for page in &pages {
-        bytes.extend_from_slice(page.page.bytes())?;
-    }
-    let command = read_command(alloc, &bytes)?;
-    let Command::Frames { pages: read, .. } = &command else {
-        return Err("another command".into());
-    };
-    assert_eq!(rt; read.as_slice(), pages.as_slice());
-    let written = Command::Frames {
-        name: name(alloc, "d")?,
-        tx: 4_294_967_299,
-        truncate: 5,
-        commit: true,
-        pages: Items::new(pages),
-    };
-    assert!(rt; written.numbers_fit());
-    assert_eq!(rt;
-        write_command(alloc, &written)?.as_slice(),
-        bytes.as_slice()
-    );
+fn a_commit_is_written(rt: HostRuntime) -> Result<(), Fail> {
+    let name = Name::new(String::from_str(rt.alloc(), "d")?).ok_or("a name")?;
+    let bytes = written(rt.alloc(), name)?.ok_or("numbers that fit")?;
+    assert!(rt; bytes.as_slice() == empty_commit(rt.alloc())?.as_slice());
     Ok(())
 }
 
@@ -198,6 +117,11 @@ fn faults_of_heads_and_names(rt: HostRuntime) -> Result<(), Fail> {
             b"\x01\x01\0\0\0\0\0\0\xff\0\0\0\0\0\0\0".as_slice(),
             CommandFault::Word(WordFault::NotUtf8(8)),
         ),
+        // A name's length comes before its bytes.
+        (
+            b"\x01\x01\0\0\0\0\0\0\0\0\0\0\0\0\0\x01".as_slice(),
+            CommandFault::Word(WordFault::Short(8)),
+        ),
         (
             b"\x01\x01\0\0\0\0\0\0d\0\0\0\0\0\0\0\0".as_slice(),
             CommandFault::Tail,
@@ -206,139 +130,53 @@ fn faults_of_heads_and_names(rt: HostRuntime) -> Result<(), Fail> {
     for (bytes, fault) in rows {
         assert_eq!(rt; read_command(rt.alloc(), bytes).err(), Some(fault));
     }
-    for (len, fault) in [
-        (255, None),
-        (256, Some(CommandFault::Word(WordFault::Short(8)))),
+    Ok(())
+}
+
+// Bytes that begin as an OpenDb command and have a name of one byte, so many times.
+fn named(alloc: Global, len: u16, byte: u8) -> Result<Vec<u8>, AllocError> {
+    let len = usize::from(len);
+    let mut bytes = Vec::from_slice(alloc, &OPEN_D[..8])?;
+    bytes.resize(8 + len, byte)?;
+    bytes.resize(8 + (len / 8 + 1) * 8, 0)?;
+    Ok(bytes)
+}
+
+#[test]
+fn names_have_lengths(rt: HostRuntime) -> Result<(), Fail> {
+    for (len, byte, fault) in [
+        (255, b'n', None),
+        (
+            255,
+            b'\xff',
+            Some(CommandFault::Word(WordFault::NotUtf8(8))),
+        ),
+        (256, b'n', Some(CommandFault::Word(WordFault::Short(8)))),
+        (256, b'\xff', Some(CommandFault::Word(WordFault::Short(8)))),
     ] {
-        let mut bytes = Vec::from_slice(rt.alloc(), &OPEN_D[..8])?;
-        bytes.resize(8 + len, b'n')?;
-        bytes.resize(8 + (len / 8 + 1) * 8, 0)?;
-        assert_eq!(rt; read_command(rt.alloc(), &bytes).err(), fault);
+        let bytes = named(rt.alloc(), len, byte)?;
+        let answer = read_command(rt.alloc(), &bytes).err();
+        assert_eq!(rt; answer, fault);
     }
-    Ok(())
-}
-
-#[test]
-fn numbers_in_and_out_of_range(rt: HostRuntime) -> Result<(), Fail> {
-    let none = None;
-    let number = Some(CommandFault::Number);
-    let rows = [
-        (COMMIT, [1].as_slice(), none),
-        (
-            Layout {
-                truncate: 4,
-                lengths: (1, 4097),
-                ..COMMIT
-            },
-            [1].as_slice(),
-            none,
-        ),
-        (
-            Layout {
-                truncate: 16385,
-                lengths: (67_108_864, 0),
-                ..COMMIT
-            },
-            [1].as_slice(),
-            none,
-        ),
-        (
-            Layout {
-                truncate: 16386,
-                lengths: (67_108_865, 0),
-                ..COMMIT
-            },
-            [1].as_slice(),
-            number,
-        ),
-        (
-            Layout {
-                truncate: 16386,
-                lengths: (0, 67_108_865),
-                ..COMMIT
-            },
-            [1].as_slice(),
-            number,
-        ),
-        (Layout { after: 1, ..COMMIT }, [1].as_slice(), number),
-        (
-            Layout {
-                truncate: 2,
-                ..COMMIT
-            },
-            [1].as_slice(),
-            number,
-        ),
-        (Layout { flag: 0, ..COMMIT }, [1].as_slice(), number),
-        (Layout { flag: 2, ..COMMIT }, [1].as_slice(), number),
-        (COMMIT, [2].as_slice(), number),
-        (Layout { count: 2, ..COMMIT }, [1, 2].as_slice(), number),
-        (Layout { count: 2, ..COMMIT }, [1, 1].as_slice(), number),
-        (Layout { count: 3, ..COMMIT }, [2, 3, 1].as_slice(), none),
-        (Layout { count: 3, ..COMMIT }, [3, 2, 1].as_slice(), number),
-        (
-            Layout { count: 2, ..COMMIT },
-            [4_294_967_296, 1].as_slice(),
-            number,
-        ),
-        (Layout { count: 0, ..COMMIT }, [].as_slice(), number),
-        (Layout { count: 0, ..PART }, [].as_slice(), number),
-        (PART, [1].as_slice(), number),
-        (PART, [0].as_slice(), none),
-        (
-            Layout { count: 2, ..PART },
-            [2, 4_294_967_295].as_slice(),
-            none,
-        ),
-        (
-            Layout { count: 2, ..PART },
-            [2, 4_294_967_296].as_slice(),
-            number,
-        ),
-        (Layout { count: 2, ..PART }, [2, 2].as_slice(), number),
-        (Layout { count: 2, ..PART }, [0, 1].as_slice(), number),
-        (
-            Layout {
-                truncate: 1,
-                ..PART
-            },
-            [2].as_slice(),
-            number,
-        ),
-    ];
-    for (layout, numbers, fault) in rows {
-        let bytes = laid_out(rt.alloc(), &layout, numbers)?;
-        assert_eq!(rt; read_command(rt.alloc(), &bytes).err(), fault);
-    }
-    Ok(())
-}
-
-#[test]
-fn at_most_64_pages(rt: HostRuntime) -> Result<(), Fail> {
-    let mut numbers = Vec::new(rt.alloc());
-    for number in 2..66 {
-        numbers.push(number)?;
-    }
-    let bytes = laid_out(rt.alloc(), &Layout { count: 64, ..PART }, &numbers)?;
-    assert_eq!(rt; read_command(rt.alloc(), &bytes).err(), None);
-    numbers.push(66)?;
-    let bytes = laid_out(rt.alloc(), &Layout { count: 65, ..PART }, &numbers)?;
-    assert_eq!(rt;
-        read_command(rt.alloc(), &bytes).err(),
-        Some(CommandFault::Number)
-    );
     Ok(())
 }
 
 #[test]
 fn faults_in_their_order(rt: HostRuntime) -> Result<(), Fail> {
-    let mut bytes = laid_out(rt.alloc(), &COMMIT, &[1])?;
+    let mut bytes = empty_commit(rt.alloc())?;
+    for (len, at) in [(4143, 48), (47, 40), (39, 32), (31, 24), (23, 16)] {
+        let answer = read_command(rt.alloc(), bytes.get(..len).unwrap_or(&[])).err();
+        assert_eq!(rt; answer, Some(CommandFault::Word(WordFault::Short(at))));
+    }
+    assert_eq!(rt; read_command(rt.alloc(), &bytes).err(), None);
     bytes.push(0)?;
     // Bytes put one after the other at their places, and the fault that then comes first.
     let rows = [
         (24, 1, CommandFault::Tail),
         (28, 2, CommandFault::Number),
         (37, 4, CommandFault::PageSize),
+        // A count is only a claim: with two numbers the first page begins at byte 56, and is cut.
+        (32, 2, CommandFault::Word(WordFault::Short(56))),
         (39, 1, CommandFault::Word(WordFault::Pad(32))),
         (31, 1, CommandFault::Word(WordFault::Pad(24))),
         (15, 1, CommandFault::Word(WordFault::Pad(8))),
@@ -356,29 +194,23 @@ fn faults_in_their_order(rt: HostRuntime) -> Result<(), Fail> {
 }
 
 #[test]
-fn cut_short(rt: HostRuntime) -> Result<(), Fail> {
-    let bytes = laid_out(rt.alloc(), &COMMIT, &[1])?;
-    for (len, at) in [
-        (4143, 48),
-        (48, 48),
-        (47, 40),
-        (40, 40),
-        (39, 32),
-        (31, 24),
-        (23, 16),
+fn faults_say_why(rt: HostRuntime) -> Result<(), Fail> {
+    for (fault, text) in [
+        (CommandFault::Format, "the command has another format"),
+        (CommandFault::Kind, "no command has this type"),
+        (
+            CommandFault::Word(WordFault::NoMemory),
+            "the command is malformed: out of memory",
+        ),
+        (CommandFault::PageSize, "the pages have another size"),
+        (
+            CommandFault::Number,
+            "a number of the command is out of its range",
+        ),
+        (CommandFault::Tail, "bytes follow the command"),
+        (CommandFault::NoMemory, "out of memory"),
     ] {
-        let answer = read_command(rt.alloc(), bytes.get(..len).unwrap_or(&[])).err();
-        assert_eq!(rt; answer, Some(CommandFault::Word(WordFault::Short(at))));
-    }
-    // A count is only a claim.
-    for (numbers, at) in [([1].as_slice(), 4144), ([].as_slice(), 40)] {
-        let layout = Layout {
-            count: u32::MAX,
-            ..COMMIT
-        };
-        let bytes = laid_out(rt.alloc(), &layout, numbers)?;
-        let answer = read_command(rt.alloc(), &bytes).err();
-        assert_eq!(rt; answer, Some(CommandFault::Word(WordFault::Short(at))));
+        assert_eq!(rt; fault.to_string(rt.alloc())?.as_str(), text);
     }
     Ok(())
 }

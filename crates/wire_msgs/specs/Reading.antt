@@ -1,5 +1,5 @@
 -- Reading a message, with the first fault that is met: its type, its schema, its items from left to right, its end.
-use Rattle.std.specs.Prelude.{◌≡◌, ◌+◌, ◌/◌, ◌==◌, ℕ, length, Option, Some, None, Result, Ok, Err, MatchResult, if◌then◌else◌}
+use Rattle.std.specs.Prelude.{◌≡◌, ◌+◌, ◌/◌, ◌==◌, ◌&&◌, ℕ, Bool, false, length, Option, Some, None, Result, Ok, Err, MatchResult, if◌then◌else◌}
 use Rattle.wire_words.specs.declared.fault.WordFault.{WordFault}
 use Rattle.wire_words.specs.declared.fault.WordFault.TheVariants as word_faults
 use Rattle.wire_words.specs.declared.message.Message.{Message}
@@ -23,6 +23,15 @@ of_word fault = Word fault
 -- the type of request that a number stands for
 abbrev pub request_kind : ℕ → Option RequestKind
 request_kind kind = if kind == 0 then Some kinds.Leader else None
+
+-- whether a request of this type has texts or bytes, which take memory
+abbrev pub takes_memory : RequestKind → Bool
+takes_memory kinds.Leader = false
+
+-- whether reading a message may take memory: its type and its schema are there, and such a request takes memory
+abbrev pub may_take_memory : Option RequestKind → Message → Bool
+may_take_memory None m = false
+may_take_memory (Some kind) m = (m.schema == 0) && takes_memory kind
 
 -- the fields of a request of this type
 unfoldable pub request_at : RequestKind → Unread → Result (Request × Unread) WordFault

@@ -1,5 +1,4 @@
 ghost use Rattle.std.specs.Prelude.{IfOk};
-ghost use Rattle.wire_words.specs.Items.{HasNoNul};
 ghost use Rattle.wire_msgs.specs.Responses.{IsWritable};
 
 use super::*;
@@ -12,11 +11,13 @@ fn message(alloc: Global, kind: u8, schema: u8, body: &[u8]) -> Result<Message, 
     Ok(Message { kind, schema, body })
 }
 
-fn server(alloc: Global, id: u64, address: &str) -> Result<Response, AllocError>
-    requires { HasNoNul address.now }
+fn server(id: u64, address: String) -> Result<Response, Fail>
     ensures { IfOk result IsWritable }
 {
-    let address = WireText::new(String::from_str(alloc, address)?);
+    let address = WireText::new(address);
+    if address.has_nul() {
+        return Err("a NUL in an address".into());
+    }
     Ok(Response::Server { id, address })
 }
 
@@ -54,18 +55,48 @@ fn faults(rt: HostRuntime) -> Result<(), Fail> {
 }
 
 #[test]
-fn server_is_written(rt: HostRuntime) -> Result<(), Fail> {
-    let known = server(rt.alloc(), 1, "n1")?;
-    let bytes = write_response(rt.alloc(), &known)?;
-    assert_eq!(rt;
-        bytes.as_slice(),
-        b"\x02\0\0\0\x01\0\0\0\x01\0\0\0\0\0\0\0n1\0\0\0\0\0\0".as_slice()
-    );
-    let unknown = server(rt.alloc(), 0, "")?;
-    let bytes = write_response(rt.alloc(), &unknown)?;
-    assert_eq!(rt;
-        bytes.as_slice(),
-        b"\x02\0\0\0\x01\0\0\0\0\0\0\0\0\0\0\0\0\0\0\0\0\0\0\0".as_slice()
-    );
+fn servers_are_written(rt: HostRuntime) -> Result<(), Fail> {
+    for (id, address, wanted) in [
+        (
+            1,
+            "n1",
+            b"\x02\0\0\0\x01\0\0\0\x01\0\0\0\0\0\0\0n1\0\0\0\0\0\0".as_slice(),
+        ),
+        (
+            0,
+            "",
+            b"\x02\0\0\0\x01\0\0\0\0\0\0\0\0\0\0\0\0\0\0\0\0\0\0\0".as_slice(),
+        ),
+    ] {
+        let response = server(id, String::from_str(rt.alloc(), address)?)?;
+        assert_eq!(rt; write_response(rt.alloc(), &response)?.as_slice(), wanted);
+    }
+    let mut long = String::new(rt.alloc());
+    for _ in 0..200_000 {
+        long.push('n')?;
+    }
+    // The header, the id, and the address with its NUL up to a whole word.
+    let bytes = write_response(rt.alloc(), &server(1, long)?)?;
+    assert_eq!(rt; bytes.as_slice().len(), 16 + 200_008);
+    Ok(())
+}
+
+#[test]
+fn faults_say_why(rt: HostRuntime) -> Result<(), Fail> {
+    for (fault, text) in [
+        (MsgFault::Kind(7), "no message has the type 7"),
+        (
+            MsgFault::Schema(0, 1),
+            "the message of type 0 has the schema 1",
+        ),
+        (
+            MsgFault::Word(WordFault::NoMemory),
+            "the body is malformed: out of memory",
+        ),
+        (MsgFault::Tail(2), "2 words follow the last field"),
+        (MsgFault::NoMemory, "out of memory"),
+    ] {
+        assert_eq!(rt; fault.to_string(rt.alloc())?.as_str(), text);
+    }
     Ok(())
 }

@@ -6,7 +6,7 @@ use Rattle.wire_msgs.proofs.reading.read_request.Goals as goal
 pub returns-clause-found : goal.returns-clause-found
 returns-clause-found c =
     let bytes : AreBytes c.as_slice-body.result.now = λ i. search rules in
-    is_found c.args.message.now c.whole_request.result (rw c.as_slice-body.ensures at bytes) (rw c.as_slice-body.ensures at c.whole_request.ensures)
+    is_found c.args.message.now c.whole_request.result (rw c.as_slice-body.ensures at bytes) (rw c.as_slice-body.ensures at c.whole_request.ensures.exact)
 
 pub returns-clause-only : goal.returns-clause-only
-returns-clause-only c = is_only c.args.message.now c.whole_request.result (rw c.as_slice-body.ensures at c.whole_request.ensures)
+returns-clause-only c = is_only c.args.message.now c.whole_request.result (rw c.as_slice-body.ensures at c.whole_request.ensures.exact)
