@@ -48,6 +48,6 @@ module _ (now : Contents) (own f : List MemFile) (us u : List Uncovered) (view :
   pub names_done : tables_of f ≡ names_put_down (tables_of own) → u ≡ each_left (left_by_names_sync (tables_of own).read) us → after ≡ names_synced (memory_of now)
   names_done t q = at_view names_synced (λ i. made_of (t i) (q i))
 
-  pub crash_done : (pick : ℕ) (copy changed : List MemFile) → copy ≡ own → tables_of changed ≡ replayed (kept pick us) (tables_of copy) → tables_of f ≡ settled (tables_of changed) → u ≡ [] → after ≡ crashed pick (memory_of now)
-  crash_done pick copy changed copied again last none =
-      at_view (crashed pick) ((λ i. made_of (last i) (none i)) ∙ (λ i. made_of (settled (again i)) []) ∙ (λ i. made_of (settled (replayed (kept pick us) (tables_of (copied i)))) []))
+  pub crash_done : (pick : ℕ) (calls : List Uncovered) (copy changed : List MemFile) → calls ≡ us → copy ≡ own → tables_of changed ≡ replayed (kept pick calls) (tables_of copy) → tables_of f ≡ settled (tables_of changed) → u ≡ [] → after ≡ crashed pick (memory_of now)
+  crash_done pick calls copy changed same_calls copied again last none =
+      at_view (crashed pick) ((λ i. made_of (last i) (none i)) ∙ (λ i. made_of (settled (again i)) []) ∙ (λ i. made_of (settled (replayed (kept pick (same_calls i)) (tables_of (copied i)))) []))

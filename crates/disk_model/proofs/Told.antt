@@ -122,7 +122,7 @@ write_told_at now s k a n at bytes done turn result view ok err is =
 pub crash_told_at : (now : OverMemory) (s k : Contents) (a : Armed) (pick : ℕ) → record { contents = s; calls = a } ≡ now → memory_of k ≡ crashed pick (memory_of s) → Crashes (states_of now) (Holds (memory_of k))
 crash_told_at now s k a pick view is = subst (λ (z : OverMemory). Crashes (states_of z) (Holds (memory_of k))) view (crash_told (memory_of s) (memory_of k) pick is)
 
-pub ended_cause_at : (now : OverMemory) (s : Contents) (a mid new : Armed) (turn : Turn) (done : Result Unit AllocError) (result : Result Unit DiskFault) → record { contents = s; calls = a } ≡ now → HasCause a.faults mid.faults (Ok {T = Turn} turn) → mid.faults ≤ new.faults → new ≡ with_end turn done mid → result ≡ finished turn done
+pub ended_cause_at : (now : OverMemory) (s : Contents) (a mid new : Armed) (turn : Turn) (done : Result Unit AllocError) (result : Result Unit DiskFault) → record { contents = s; calls = a } ≡ now → HasCause {T = Turn} a.faults mid.faults (Ok turn) → mid.faults ≤ new.faults → new ≡ with_end turn done mid → result ≡ finished turn done
     → HasCause now.calls.faults new.faults result
 ended_cause_at now s a mid new turn done result view cause later e is =
     subst (λ (r : Result Unit DiskFault). HasCause now.calls.faults new.faults r) (sym is)

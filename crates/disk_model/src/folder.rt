@@ -82,7 +82,6 @@ fn put_names_down(files: &mut [MemFile])
 }
 
 /// Copies in which what surely stands is also what is read.
-#[tactic(auto, using(crate::proofs::Standing::settled_next))]
 fn settled_files(alloc: Global, files: &[MemFile]) -> Result<Vec<MemFile>, AllocError>
     ensures { IfOk result (λ copies. copies.items ≡ all_settled files.now) }
 {
@@ -238,7 +237,6 @@ impl Folder {
     }
 
     /// A copy in which what surely stands is also what is read.
-    #[tactic(auto, using(crate::proofs::Standing::settled_as))]
     pub(crate) fn settled(&self) -> Result<Folder, AllocError>
         ensures { IfOk result (λ folder. tables_of folder ≡ settled (tables_of self.now)) }
     {

@@ -80,7 +80,6 @@ impl MemDisk {
     /// The outcome of a crash by a pick: by that of the stop, where one came, else by `pick`. It is one of those that a
     /// crash may leave, and lasts. The disk is disarmed. Copies each file twice. `Err` is want of memory, and the disk
     /// is then as it was.
-    #[tactic(auto, using(crate::proofs::Told::crash_told_at))]
     pub fn crash(&mut self, pick: u64) -> Result<(), AllocError>
         ensures outcome { OnOk result (memory_of self.new.contents ≡ crashed (pick_of self.old.calls pick) (memory_of self.old.contents)) }
         ensures told { OnOk result (Crashes (states_of self.old) (states_of self.new)) }
@@ -129,7 +128,7 @@ impl Disk for MemDisk {
     }
 
     /// Copies the bytes twice.
-    #[tactic(auto, using(crate::proofs::Told::write_told_at, crate::proofs::Told::write_idle_at, crate::proofs::Told::ended_cause_at))]
+    #[tactic(auto, using(crate::proofs::Told::ended_cause_at))]
     fn write_at(&mut self, name: &str, at: u64, bytes: &[u8]) -> Result<(), DiskFault>
         requires { IsName name.now }
         ensures told { Known true (states_of self.old) (MayWrite name.now at) → Steps (WriteAt name.now at bytes.now) (states_of self.old) (states_of self.new) result }

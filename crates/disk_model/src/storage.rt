@@ -153,7 +153,6 @@ fn cover_names(calls: &mut Vec<Uncovered>, folder: &Folder)
 }
 
 /// Does the calls again, in turn, to what surely stands.
-#[tactic(auto, using(crate::proofs::Replaying::replayed_next))]
 fn replay(folder: &mut Folder, calls: &[Uncovered]) -> Result<(), AllocError>
     ensures { OnOk result (tables_of folder.new ≡ replayed calls.now (tables_of folder.old)) }
 {
@@ -192,7 +191,7 @@ fn keeps_half(pick: u64, count: usize) -> bool
 }
 
 /// Does the calls again that a pick keeps.
-#[tactic(auto, using(crate::proofs::Replaying::picked_half, crate::proofs::Replaying::picked_whole))]
+#[tactic(auto, using(crate::proofs::Replaying::picked_whole))]
 fn replay_picked(folder: &mut Folder, calls: &[Uncovered], pick: u64) -> Result<(), AllocError>
     ensures { OnOk result (tables_of folder.new ≡ replayed (kept pick calls.now) (tables_of folder.old)) }
 {
@@ -267,7 +266,6 @@ impl Storage {
     }
 
     /// Does a call to a file, and notes it.
-    #[tactic(auto, using(crate::proofs::Storing::note_done, crate::proofs::Storing::same_memory))]
     fn note(&mut self, name: &str, effect: Effect) -> Result<(), AllocError>
         requires { IsName name.now }
         ensures ok { OnOk result (memory_of self.new ≡ noted name.now effect (done_to effect) (memory_of self.old)) }
@@ -310,7 +308,6 @@ impl Storage {
     }
 
     /// Removes a file.
-    #[tactic(auto, using(crate::proofs::Storing::remove_done))]
     pub(crate) fn remove(&mut self, name: &str) -> Result<(), AllocError>
         requires { IsName name.now }
         ensures ok { OnOk result (memory_of self.new ≡ removed name.now (memory_of self.old)) }
@@ -329,7 +326,6 @@ impl Storage {
     }
 
     /// Puts the bytes of a file down. Copies them.
-    #[tactic(auto, using(crate::proofs::Storing::sync_done, crate::proofs::Storing::same_memory, crate::proofs::Storing::held_err))]
     pub(crate) fn sync(&mut self, name: &str) -> Result<(), AllocError>
         requires { IsName name.now }
         ensures ok { OnOk result (memory_of self.new ≡ synced name.now (memory_of self.old)) }
@@ -344,7 +340,6 @@ impl Storage {
     }
 
     /// Puts the names down.
-    #[tactic(auto, using(crate::proofs::Storing::names_done))]
     pub(crate) fn sync_names(&mut self)
         ensures { memory_of self.new ≡ names_synced (memory_of self.old) }
     {
@@ -353,7 +348,6 @@ impl Storage {
     }
 
     /// The outcome of a crash by a pick.
-    #[tactic(auto, using(crate::proofs::Storing::crash_done))]
     pub(crate) fn crash(&mut self, pick: u64) -> Result<(), AllocError>
         ensures ok { OnOk result (memory_of self.new ≡ crashed pick (memory_of self.old)) }
         ensures err { OnErr result (memory_of self.new ≡ memory_of self.old) }
