@@ -9,7 +9,7 @@ use Rattle.store_laws.specs.Chance.{Lawful}
 use Rattle.store_laws.specs.Settled.{Settled, Steady, file_log}
 use Rattle.disk_model.specs.Rest.{Rest}
 use Rattle.disk_model.specs.Writing.{replace_calls}
-use Rattle.store_laws.specs.Append.{batch_calls, append_calls, with_log, wanted, Takes, Writes, SameVersion}
+use Rattle.store_laws.specs.Append.{with_batch, batch_calls, append_calls, with_log, wanted, Takes, Writes, SameVersion}
 use Rattle.store_laws.specs.Load.{Still}
 use Rattle.store_laws.specs.Laws.{AnyMoment, AtOk, Comes, Append, EmptyStale}
 use Rattle.disk_model.proofs.Rests.{rest_only, same_found, synced_or_not}

@@ -21,3 +21,8 @@ pub mod LongMeta
 pub mod Olders
 pub mod OlderLogs
 pub mod Rooms
+pub mod Snaps
+pub mod SnapshotFile
+pub mod OlderSnapshots
+pub mod KeepLaw
+pub mod KeepSnapshot

@@ -3,7 +3,8 @@ use Rattle.std.proofs.Common.{◌≡◌, inl, inr, ℕ, zero, suc, ◌+◌, ◌-
 use Rattle.std.specs.Prelude.{◌==◌, ◌&&◌, nat_le, nat_lt}
 use Rattle.std.proofs.lemmas.List.{length-take-le}
 use Rattle.std.proofs.lemmas.Bool.{cases_Bool, cond-true, cond-false, cases_lt, and_parts, ltb-true, ltb-false, leb-true, leb-false}
-use Rattle.store_laws.specs.Store.{Log, Entry, Snap, put_batch, behind, nth_term, log_of}
+use Rattle.raft_rules.specs.Log.{Entry}
+use Rattle.store_laws.specs.Store.{Log, Snap, put_batch, behind, nth_term, log_of}
 use Rattle.store_laws.specs.Append.{wanted, Takes}
 use Rattle.store_laws.specs.Settled.{Steady, fits, ends_before}
 
@@ -16,6 +17,10 @@ pub log_push : (l : Log) (bs : List Log) (b : Log) → log_of l (bs ++ b ∷ [])
 unfolding log_of
 log_push l [] b = refl
 log_push l (x ∷ bs) b = log_push (put_batch l x) bs b
+
+pub log_one : (l b : Log) → log_of l (b ∷ []) ≡ put_batch l b
+unfolding log_of
+log_one l b = refl
 
 lt_true : (a b : ℕ) → a < b → nat_lt a b ≡ true
 lt_true a b h = elim (cases_Bool (nat_lt a b)) [ inl t ↦ t | inr t ↦ let l : b ≤ a = ltb-false _ _ t in absurd (omega arith) ]

@@ -2,11 +2,11 @@
 use Rattle.std.proofs.Common.{◌≡◌, inl, inr, ℕ, zero, suc, ◌≤◌, true, false, List, [], ◌∷◌, ◌++◌, refl, sym, ap, ◌∙◌, subst, arith, append_assoc}
 use Rattle.std.proofs.lemmas.List.{append-nil}
 use Rattle.std.proofs.lemmas.Bool.{cases_lt}
-use Rattle.store_laws.specs.Names.{Segment, NodeFiles}
+use Rattle.store_laws.specs.Names.{Segment, NodeFiles, NodeDisk}
 use Rattle.disk_model.specs.Disk.{Found}
 use Rattle.store_laws.specs.Store.{snap_in, Format, Log, meta_of, segments, sound, all_batches, is_whole, log_of, empty_log, behind, put_batch}
 use Rattle.store_laws.specs.Settled.{Steady}
-use Rattle.store_laws.specs.Load.{tail_of}
+use Rattle.store_laws.specs.Load.{Still, tail_of}
 use Rattle.store_laws.specs.Snapshots.{Longer, Stays, OlderLog}
 use Rattle.store_laws.proofs.Folders.{part, segments_suc, all_append, all_nil, sound_last, kept_by, answer_is}
 use Rattle.store_laws.proofs.Answers.{meta_same}
@@ -49,6 +49,24 @@ cancel : (xs ys zs : List Log) → xs ++ ys ≡ xs ++ zs → ys ≡ zs
 cancel [] ys zs e = e
 cancel (x ∷ xs) ys zs e = cancel xs ys zs (let q : xs ++ ys ≡ xs ++ zs = cc in q)
 
+-- no batch is left below where all segments are gone
+pub none_left : (f : Format) (r : NodeFiles) (k : ℕ) → all_batches f (segments k (tail_of r k)) ≡ []
+none_left f r k = ap (all_batches f) (none_low r k k (omega arith)) ∙ all_nil f
+
+-- the new batch stands alone in segment k, and behind what is left
+pub tail_batches : (f : Format) (k : ℕ) (d : NodeDisk) (new : Log) → all_batches f (segments (suc k) d.read) ≡ all_batches f (segments k d.read) ++ new ∷ [] → (m : ℕ) → m ≤ k
+    → all_batches f (segments (suc k) (tail_of d.read m)) ≡ all_batches f (segments k (tail_of d.read m)) ++ new ∷ []
+tail_batches f k d new last m h =
+    let left = all_batches f (segments k (tail_of d.read m)) in
+    let own : all_batches f (part (d.read (Segment k))) ≡ new ∷ [] = cancel (all_batches f (segments k d.read)) _ _ (sym (ap (all_batches f) (segments_suc k d.read) ∙ all_append f (segments k d.read) (part (d.read (Segment k)))) ∙ last) in
+    ap (all_batches f) (segments_suc k (tail_of d.read m)) ∙ all_append f (segments k (tail_of d.read m)) (part (tail_of d.read m (Segment k))) ∙ ap (λ (x : Found). left ++ all_batches f (part x)) (high d.read m k h) ∙ ap (λ (l : List Log). left ++ l) own
+
+pub sound_tail : (f : Format) (k : ℕ) (d : NodeDisk) → Still f k d → (m : ℕ) → m ≤ k → sound f (segments (suc k) (tail_of d.read m)) ≡ true
+sound_tail f k d s m h = ap (sound f) (segments_suc k (tail_of d.read m)) ∙ sound_last f k (tail_of d.read m) (λ j l. elim (cases_lt j m) [
+  | inl q ↦ λ y. let z : false ≡ true = sym (ap (λ (x : Found). x.there) (low d.read m j q)) ∙ y in absurd cc
+  | inr q ↦ subst (λ (x : Found). x.there ≡ true → is_whole f x.bytes ≡ true) (sym (high d.read m j q)) (s.below j l)
+]) (tail_of d.read m (Segment k))
+
 pub older_log_holds : OlderLog
 older_log_holds f law k d s new last stamp t lt steady stays low_enough m h = record {
   log = behind (snap_in f d.read) M;
@@ -69,18 +87,11 @@ older_log_holds f law k d s new last stamp t lt steady stays low_enough m h = re
     three : Longer (behind (snap_in f d.read) (log_of empty_log (p.gone ++ left))) new × Longer (behind (snap_in f d.read) M) new × Longer (log_of empty_log (p.gone ++ left ++ new ∷ [])) M
     three = snapshot_log_holds t (snap_in f d.read) lt p.gone left new (subst (λ (l : List Log). Steady t (log_of empty_log l)) p.is steady) (subst (λ (l : List Log). Stays (snap_in f d.read) (behind t (log_of empty_log l)) new) p.is stays)
 
-    -- the batches of segment k
-    own : all_batches f (part (d.read (Segment k))) ≡ new ∷ []
-    own = cancel (all_batches f (segments k d.read)) _ _ (sym (ap (all_batches f) (segments_suc k d.read) ∙ all_append f (segments k d.read) (part (d.read (Segment k)))) ∙ last)
-
     all : all_batches f (segments (suc k) (tail_of d.read m)) ≡ left ++ new ∷ []
-    all = ap (all_batches f) (segments_suc k (tail_of d.read m)) ∙ all_append f (segments k (tail_of d.read m)) (part (tail_of d.read m (Segment k))) ∙ ap (λ (x : Found). left ++ all_batches f (part x)) (high d.read m k h) ∙ ap (λ (l : List Log). left ++ l) own
+    all = tail_batches f k d new last m h
 
     sounds : sound f (segments (suc k) (tail_of d.read m)) ≡ true
-    sounds = ap (sound f) (segments_suc k (tail_of d.read m)) ∙ sound_last f k (tail_of d.read m) (λ j l. elim (cases_lt j m) [
-      | inl q ↦ λ y. let z : false ≡ true = sym (ap (λ (x : Found). x.there) (low d.read m j q)) ∙ y in absurd cc
-      | inr q ↦ subst (λ (x : Found). x.there ≡ true → is_whole f x.bytes ≡ true) (sym (high d.read m j q)) (s.below j l)
-    ]) (tail_of d.read m (Segment k))
+    sounds = sound_tail f k d s m h
 
     push : M ≡ put_batch (log_of empty_log left) new
     push = log_push empty_log left new

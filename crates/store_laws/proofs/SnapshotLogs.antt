@@ -2,7 +2,8 @@
 use Rattle.std.proofs.Common.{◌≡◌, inl, inr, ℕ, zero, suc, ◌+◌, ◌-◌, ◌≤◌, List, [], ◌∷◌, ◌++◌, length, take, drop, refl, sym, ap, ◌∙◌, subst, arith, length-append, length-drop}
 use Rattle.std.proofs.lemmas.List.{drop_all, drop_at, length-take-le}
 use Rattle.std.proofs.lemmas.Bool.{cases_lt}
-use Rattle.store_laws.specs.Store.{Log, Entry, put_batch, nth_term, log_of, empty_log}
+use Rattle.raft_rules.specs.Log.{Entry}
+use Rattle.store_laws.specs.Store.{Log, put_batch, nth_term, log_of, empty_log}
 use Rattle.store_laws.specs.Snapshots.{Longer}
 use Rattle.store_laws.proofs.Logs.{put_within, put_past, put_before}
 
@@ -77,7 +78,7 @@ log_both l m o [] = o
 log_both l m o (b ∷ bs) = log_both (put_batch l b) (put_batch m b) (put_both l m b o) bs
 
 -- the first batch is the whole log
-put_empty : (b : Log) → put_batch empty_log b ≡ b
+pub put_empty : (b : Log) → put_batch empty_log b ≡ b
 put_empty b = elim (cases_lt b.first 1) [
   | inl h ↦ put_before empty_log b h
   | inr h ↦ elim (cases_lt 1 b.first) [
