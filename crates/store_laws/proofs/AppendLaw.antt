@@ -11,7 +11,7 @@ use Rattle.disk_model.specs.Rest.{Rest}
 use Rattle.disk_model.specs.Writing.{replace_calls}
 use Rattle.store_laws.specs.Append.{with_batch, batch_calls, append_calls, with_log, wanted, Takes, Writes, SameVersion}
 use Rattle.store_laws.specs.Load.{Still}
-use Rattle.store_laws.specs.Laws.{AnyMoment, AtOk, Comes, Append, EmptyStale}
+use Rattle.store_laws.specs.Laws.{AnyMoment, Comes, Append, EmptyStale}
 use Rattle.disk_model.proofs.Rests.{rest_only, same_found, synced_or_not}
 use Rattle.disk_model.proofs.Elsewhere.{Elsewhere}
 use Rattle.disk_model.proofs.Rewrites.{Stage, same, written, synced, moments, Ended, whole_call}

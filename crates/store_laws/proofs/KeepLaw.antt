@@ -1,15 +1,15 @@
 -- A snapshot's file is written: the state before, or the new snapshot with the log behind it.
-use Rattle.std.proofs.Common.{◌≡◌, ◌≢◌, ◌⊎◌, inl, inr, ℕ, suc, ◌≤◌, ◌<◌, true, false, List, [], ◌∷◌, ◌++◌, length, drop, take, refl, sym, ap, ◌∙◌, subst, arith}
+use Rattle.std.proofs.Common.{◌≡◌, ◌≢◌, ◌⊎◌, inl, inr, ℕ, suc, ◌≤◌, ◌<◌, true, List, [], ◌++◌, length, drop, take, sym, ap, ◌∙◌, subst, arith}
 use Rattle.std.proofs.lemmas.List.{take-append-drop, append-nil}
 use Rattle.std.proofs.lemmas.Bool.{cases_eq}
 use Rattle.disk_model.specs.Disk.{Found, LeavesFile, Leaves}
 use Rattle.disk_model.specs.Rest.{Rest}
-use Rattle.store_laws.specs.Names.{Name, First, Second, Segment, Snapshot, NodeFiles, NodeDisk}
-use Rattle.store_laws.specs.Store.{Format, Snap, Log, Kept, Loaded, kept, meta_of, segments, sound, all_batches, behind, log_of, empty_log, put_batch, snap_in, snap_files, is_whole}
-use Rattle.store_laws.specs.Settled.{Settled, Steady, file_log}
+use Rattle.store_laws.specs.Names.{First, Second, Segment, Snapshot, NodeFiles, NodeDisk}
+use Rattle.store_laws.specs.Store.{Format, Snap, Log, Kept, Loaded, kept, meta_of, segments, sound, all_batches, behind, snap_in, snap_files, is_whole}
+use Rattle.store_laws.specs.Settled.{Settled, file_log}
 use Rattle.store_laws.specs.Load.{Still}
 use Rattle.store_laws.specs.Chance.{Lawful, NoChance}
-use Rattle.store_laws.specs.Snapshots.{Longer, Stays, IsLonger}
+use Rattle.store_laws.specs.Snapshots.{Stays, IsLonger}
 use Rattle.disk_model.proofs.Rests.{rest_only, rest_left}
 use Rattle.disk_model.proofs.Elsewhere.{Elsewhere}
 use Rattle.store_laws.proofs.Answers.{segments_same, meta_same, kept_same}

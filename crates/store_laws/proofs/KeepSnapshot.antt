@@ -1,5 +1,5 @@
 -- A snapshot is kept or not, at each moment of all its calls.
-use Rattle.std.proofs.Common.{◌≡◌, ◌≢◌, ◌⊎◌, inl, inr, ℕ, zero, suc, ◌+◌, ◌≤◌, ◌<◌, Bool, true, false, List, [], ◌∷◌, ◌++◌, length, refl, sym, ap, ◌∙◌, subst, cond, arith}
+use Rattle.std.proofs.Common.{◌≡◌, ◌≢◌, ◌⊎◌, inl, inr, ℕ, zero, suc, ◌+◌, ◌≤◌, ◌<◌, Bool, true, false, List, [], ◌∷◌, ◌++◌, refl, sym, ap, ◌∙◌, subst, cond, arith}
 use Rattle.std.proofs.lemmas.List.{append-nil}
 use Rattle.disk_model.specs.Disk.{Found, Leaves}
 use Rattle.disk_model.specs.Calls.{Remove, SyncNames, Done, Until}
@@ -9,10 +9,10 @@ use Rattle.store_laws.specs.Settled.{Settled, Steady, fits, file_log}
 use Rattle.store_laws.specs.Load.{Still, tail_of, remove_from}
 use Rattle.store_laws.specs.Chance.{Lawful, NoChance}
 use Rattle.store_laws.specs.Append.{append_calls, with_log, Takes, Writes}
-use Rattle.store_laws.specs.Laws.{OneOf, AnyMoment, Comes}
-use Rattle.store_laws.specs.Snapshots.{Longer, Stays, part, nothing, IsLonger, snapshot_calls, remove_snapshots, AllBelow, IsNewer, with_snapshot, BeforeOrLonger, keep_calls, KeepSnapshot}
+use Rattle.store_laws.specs.Laws.{AnyMoment, Comes}
+use Rattle.store_laws.specs.Snapshots.{Longer, Stays, part, nothing, IsLonger, snapshot_calls, remove_snapshots, AllBelow, keep_calls, KeepSnapshot}
 use Rattle.disk_model.proofs.Untils.{until_append, done_append}
-use Rattle.store_laws.proofs.Folders.{segments_suc, kept_by, answer_is, has_stamp, Parts}
+use Rattle.store_laws.proofs.Folders.{segments_suc, kept_by, answer_is, has_stamp}
 use Rattle.store_laws.proofs.AppendImages.{loaded_parts}
 use Rattle.store_laws.proofs.AppendLaw.{Grew, both, still_of, settled_of}
 use Rattle.store_laws.proofs.Logs.{log_one, behind_past}
@@ -242,5 +242,5 @@ keep_snapshot_holds f law k d s0 old is_old s enc can new stays upto word batch 
         | inr o ↦ inr (record { log = o.log; kept_is = o.kept_is ∙ (λ i. Loaded (record { term = sym it i; vote = sym iv i; snap = s; log = o.log })); longer = o.longer })
       ],
       λ e u. subst (Comes f (suc k) e) (λ i. record { term = sym it i; vote = sym iv i; snap = s; log = new })
-      (all_done f law k d sd absent p.no_gap stamp old is s enc past can.within can.reads new st upto word batch w gone low e u),
+          (all_done f law k d sd absent p.no_gap stamp old is s enc past can.within can.reads new st upto word batch w gone low e u),
     )

@@ -1,8 +1,8 @@
 -- What a metadata file reads as at each moment of a write to it.
-use Rattle.std.proofs.Common.{◌≡◌, ◌≢◌, ⊎_elim, ℕ, ◌≤◌, Bool, true, false, List, [], length, take, drop, refl, sym, ap, ◌∙◌, subst, arith, cond}
+use Rattle.std.proofs.Common.{◌≡◌, ◌≢◌, ⊎_elim, ℕ, ◌≤◌, Bool, List, [], length, take, drop, sym, ap, ◌∙◌, subst, arith}
 use Rattle.std.proofs.lemmas.List.{take_all}
 use Rattle.std.proofs.lemmas.Bool.{cases_eq}
-use Rattle.disk_model.specs.Disk.{Found, found, missing, Change, Held, LeavesFile, Standing, Sure, Absent}
+use Rattle.disk_model.specs.Disk.{Found, found, missing, Change, Held, LeavesFile}
 use Rattle.disk_model.specs.Calls.{after_write}
 use Rattle.store_laws.specs.Store.{Format, Meta, no_meta}
 use Rattle.store_laws.specs.Chance.{Lawful, MetaGenuine}

@@ -1,11 +1,11 @@
 -- Older snapshots go, and the files stand for the same.
-use Rattle.std.proofs.Common.{◌≡◌, ◌⊎◌, inl, inr, ℕ, ◌≤◌, ◌<◌, true, false, List, [], ◌∷◌, refl, sym, ap, ◌∙◌, subst, cond, arith}
+use Rattle.std.proofs.Common.{◌≡◌, inl, inr, ℕ, ◌≤◌, ◌<◌, true, List, [], ◌∷◌, refl, sym, ap, ◌∙◌, subst, cond, arith}
 use Rattle.std.proofs.lemmas.Bool.{cases_Bool, cases_eq, cond-true, cond-false}
-use Rattle.disk_model.specs.Disk.{Found, found, missing, Held, LeavesFile, Leaves}
+use Rattle.disk_model.specs.Disk.{Found, missing, Held, LeavesFile}
 use Rattle.disk_model.specs.Calls.{Remove, Done, Until, Does, Others, after_remove}
 use Rattle.disk_model.specs.Rest.{Rest}
-use Rattle.store_laws.specs.Names.{Name, First, Second, Segment, Snapshot, NodeFiles, NodeDisk}
-use Rattle.store_laws.specs.Store.{Format, Snap, Kept, Loaded, kept, newest_snap, snap_in, snap_files, segments, log_of, empty_log, all_batches, is_whole}
+use Rattle.store_laws.specs.Names.{First, Second, Segment, Snapshot, NodeDisk}
+use Rattle.store_laws.specs.Store.{Format, Snap, Kept, Loaded, kept, snap_in, snap_files, segments, log_of, empty_log, all_batches, is_whole}
 use Rattle.store_laws.specs.Settled.{Settled, Steady, file_log}
 use Rattle.store_laws.specs.Chance.{Lawful}
 use Rattle.store_laws.specs.Laws.{Comes}

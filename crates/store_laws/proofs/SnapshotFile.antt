@@ -1,9 +1,8 @@
 -- The moments of writing a snapshot's file.
-use Rattle.std.proofs.Common.{◌≡◌, ◌⊎◌, inl, inr, ⊎_elim, ℕ, ◌+◌, ◌≤◌, Bool, true, false, List, [], ◌∷◌, length, take, drop, refl, sym, ap, ◌∙◌, subst, cond, arith}
+use Rattle.std.proofs.Common.{◌≡◌, ◌⊎◌, inl, inr, ⊎_elim, ℕ, ◌≤◌, true, false, List, [], length, take, refl, sym, ap, ◌∙◌, subst, cond, arith}
 use Rattle.std.proofs.lemmas.Bool.{cases_Bool, cond-true, cond-false}
-use Rattle.std.proofs.lemmas.List.{append-nil, drop_all}
-use Rattle.disk_model.specs.Disk.{Found, found, Change, Held, Sure, Absent}
-use Rattle.disk_model.specs.Calls.{WriteAt, CutTo, Sync, SyncNames, Done, Until, Does, NamesSynced, Others, after_write, after_cut, after_sync, after_names, made, put}
+use Rattle.disk_model.specs.Disk.{Found, found, Change, Held, Sure}
+use Rattle.disk_model.specs.Calls.{WriteAt, CutTo, Sync, Done, Until, Does, NamesSynced, Others, after_write, after_cut, after_sync, after_names}
 use Rattle.disk_model.specs.Rest.{Rest}
 use Rattle.disk_model.specs.Genuine.{WasWritten}
 use Rattle.disk_model.specs.Writing.{replace_calls}

@@ -1,7 +1,7 @@
 -- No checksum matches by chance.
-use Rattle.std.specs.Prelude.{◌≡◌, ◌≢◌, ◌⊎◌, ℕ, ◌-◌, ◌%◌, ◌≤◌, Bool, true, false, List, [], ◌∷◌, ◌++◌, length, take, drop}
+use Rattle.std.specs.Prelude.{◌≡◌, ◌≢◌, ◌⊎◌, ℕ, ◌%◌, ◌≤◌, Bool, true, false, List, [], ◌++◌, length, take, drop}
 use Rattle.store_laws.specs.Names.{First, Second, Segment, Snapshot, NodeFiles, NodeDisk}
-use Rattle.disk_model.specs.Disk.{Change, Wrote, Cut, Held}
+use Rattle.disk_model.specs.Disk.{Held}
 use Rattle.disk_model.specs.Genuine.{Genuine, WasWritten}
 use Rattle.store_laws.specs.Store.{Format, Reader, opens, reader}
 

@@ -1,5 +1,5 @@
 -- What a load does to the disk: it syncs what it read, then repairs the last segment.
-use Rattle.std.specs.Prelude.{◌≡◌, ◌⊎◌, ℕ, zero, suc, ◌-◌, ◌<◌, ◌≤◌, nat_lt, true, false, cond, List, [], ◌∷◌, ◌++◌, length, drop}
+use Rattle.std.specs.Prelude.{◌≡◌, ℕ, zero, suc, ◌-◌, ◌<◌, ◌≤◌, nat_lt, true, false, cond, List, [], ◌∷◌, ◌++◌, length, drop}
 use Rattle.store_laws.specs.Names.{Name, First, Second, Segment, Snapshot, NodeFiles, NodeDisk, NodeCall}
 use Rattle.disk_model.specs.Disk.{Found, missing, LeavesFile, Leaves}
 use Rattle.store_laws.specs.Store.{Format, kept, is_whole, torn, opens, reader, snap_in}

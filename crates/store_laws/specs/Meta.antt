@@ -2,7 +2,7 @@
 use Rattle.std.specs.Prelude.{ℕ, suc, Bool, cond, ◌==◌, ◌%◌, List, [], ◌∷◌}
 use Rattle.store_laws.specs.Names.{Name, First, Second, NodeCall}
 use Rattle.store_laws.specs.Store.{Meta, Kept}
-use Rattle.disk_model.specs.Calls.{WriteAt, CutTo, Sync, SyncNames}
+use Rattle.disk_model.specs.Calls.{WriteAt, CutTo, Sync}
 
 -- version 1 is the first; a stamp is one more than the version
 abbrev pub next_stamp : Meta → ℕ

@@ -1,7 +1,7 @@
 -- Between two calls of the store: what is read is on the disk.
-use Rattle.std.specs.Prelude.{◌≡◌, ℕ, ◌+◌, ◌≤◌, true, false, cond, [], length}
+use Rattle.std.specs.Prelude.{◌≡◌, ℕ, ◌+◌, ◌≤◌, true, false, length}
 use Rattle.store_laws.specs.Names.{First, Second, Segment, Snapshot, NodeFiles, NodeDisk}
-use Rattle.disk_model.specs.Disk.{Found, Held, Sure, Absent, LeavesFile}
+use Rattle.disk_model.specs.Disk.{LeavesFile}
 use Rattle.disk_model.specs.Rest.{Rest}
 use Rattle.store_laws.specs.Store.{snap_in, Format, Snap, Log, is_whole, behind, log_of, empty_log, all_batches, segments}
 

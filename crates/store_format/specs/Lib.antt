@@ -1,0 +1,4 @@
+pub mod Sums
+pub mod Words
+pub mod Metadata
+pub mod Snapshots

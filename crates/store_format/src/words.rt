@@ -1,0 +1,32 @@
+ghost use Rattle.std.specs.Prelude.{◌≡◌, ◌≤◌, ◌+◌, length};
+ghost use Rattle.store_format.specs.Words.{word_from, is_known, format_in};
+
+use byteorder::{ByteOrder, LittleEndian};
+
+/// The word from a place on.
+pub(crate) fn word_from(bytes: &[u8], place: usize) -> u64
+    requires { place + 8 ≤ length bytes.now }
+    ensures { result ≡ word_from place bytes.now }
+{
+    let rest = &bytes[place..];
+    LittleEndian::read_u64(rest)
+}
+
+/// Whether files have this format: 1 or 2.
+pub(crate) fn is_known(format: u64) -> bool
+    ensures { result ≡ is_known format }
+{
+    format == 1 || format == 2
+}
+
+/// The format that a file's first word says, and 0 where it says none of the two. Takes no memory.
+#[tactic(auto, unfolding(crate::specs::Words::format_in))]
+pub fn format_in(bytes: &[u8]) -> u64
+    ensures { result ≡ format_in bytes.now }
+{
+    if bytes.len() < 8 {
+        return 0;
+    }
+    let format = word_from(bytes, 0);
+    if is_known(format) { format } else { 0 }
+}
