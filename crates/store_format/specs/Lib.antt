@@ -2,3 +2,4 @@ pub mod Sums
 pub mod Words
 pub mod Metadata
 pub mod Snapshots
+pub mod Files

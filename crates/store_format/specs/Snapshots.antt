@@ -1,11 +1,12 @@
 -- The file of a snapshot: five words, namely format, index, term, size and a sum, and the bytes with zeros to a whole
 -- word. The sum is that of index, term, size and bytes.
-use Rattle.std.specs.Prelude.{ℕ, ◌+◌, Bool, ◌&&◌, ◌==◌, cond, nat_lt, List, ◌++◌, length, take, drop, Option, Some, None}
+use Rattle.std.specs.Prelude.{ℕ, ◌+◌, Bool, ◌&&◌, ◌==◌, cond, nat_lt, nat_le, List, ◌++◌, length, take, drop, Option, Some, None}
 use Rattle.std.specs.Str.{bytes_eq}
 use Rattle.wire_words.specs.Items.{word, raw, gap}
 use Rattle.wire_words.specs.Reading.{are_zeros}
 use Rattle.store_laws.specs.Store.{Snap, no_snap}
-use Rattle.store_format.specs.Sums.{sum_bytes}
+use Rattle.store_format.specs.Sums.{sum_bytes, sum8_of, snapshot_summed}
+use Rattle.store_format.specs.declared.snapshot.SnapshotFile.{SnapshotFile}
 use Rattle.store_format.specs.Words.{word_from, is_known}
 
 abbrev pub size_in : List ℕ → ℕ
@@ -15,21 +16,32 @@ size_in x = word_from 24 x
 abbrev pub summed : List ℕ → List ℕ
 summed x = take 24 (drop 8 x) ++ take (size_in x) (drop 40 x)
 
--- a file is whole with a known format, the index of its name, all its bytes and no more, zeros behind them, and a
--- matching sum; an index is at least 1
+-- so many bytes, and zeros behind them to a whole word, and no more
+abbrev pub fills : ℕ → List ℕ → Bool
+fills size body = (length body == size + gap size) && are_zeros size (gap size) body
+
+-- a known format, and the index of the file's name, which is at least 1
+unfoldable pub head_fits : ℕ → List ℕ → Bool
+head_fits number x = nat_le 40 (length x) && nat_lt 0 number && is_known (word_from 0 x) && (word_from 8 x == number)
+
+-- a file is whole where all of that holds, with all its bytes, and the sum matches
 unfoldable pub is_snapshot : ℕ → List ℕ → Bool
 is_snapshot number x =
-    nat_lt 0 number && is_known (word_from 0 x) && (word_from 8 x == number)
-    && (length x == 40 + (size_in x + gap (size_in x))) && are_zeros (size_in x) (gap (size_in x)) (drop 40 x)
+    head_fits number x && fills (size_in x) (drop 40 x)
     && bytes_eq (take 8 (drop 32 x)) (sum_bytes (word_from 0 x) (summed x))
 
 -- the snapshot of a file of this number
 unfoldable pub snap_of : ℕ → List ℕ → Snap
 snap_of number x = cond (is_snapshot number x) (record { index = number; term = word_from 16 x; bytes = take (size_in x) (drop 40 x) }) no_snap
 
--- what the sum is taken of, and the file as it is written, in format 2
-abbrev pub snapshot_summed : Snap → List ℕ
-snapshot_summed s = word s.index ++ (word s.term ++ (word (length s.bytes) ++ s.bytes))
+-- the file as it is written, in format 2
+abbrev pub snapshot_head : ℕ → ℕ → ℕ → List ℕ
+snapshot_head index term size = word 2 ++ (word index ++ (word term ++ word size))
 
-abbrev pub snapshot_bytes : Snap → List ℕ
-snapshot_bytes s = word 2 ++ (word s.index ++ (word s.term ++ (word (length s.bytes) ++ (sum_bytes 2 (snapshot_summed s) ++ raw s.bytes))))
+abbrev pub snapshot_bytes : ℕ → ℕ → List ℕ → List ℕ
+snapshot_bytes index term bytes = snapshot_head index term (length bytes) ++ raw (sum8_of (snapshot_summed index term bytes)) ++ raw bytes
+
+-- the same by the code's value
+abbrev pub snap_of_found : Option SnapshotFile → Snap
+snap_of_found None = no_snap
+snap_of_found (Some s) = record { index = s.index; term = s.term; bytes = s.bytes.now }

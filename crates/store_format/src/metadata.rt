@@ -33,11 +33,10 @@ fn is_block(first: bool, bytes: &[u8]) -> bool
     if bytes.len() != 40 {
         return false;
     }
+    let (front, sum) = bytes.split_at(32);
     let format = word_from(bytes, 0);
-    if !is_known(format) || !fits_side(first, word_from(bytes, 8)) {
-        return false;
-    }
-    has_sum(format, &bytes[..32], &bytes[32..])
+    let version = word_from(bytes, 8);
+    is_known(format) && fits_side(first, version) && has_sum(format, front, sum)
 }
 
 /// What the bytes of the first or the second metadata file say. A file is valid with 40 bytes, format 1 or 2, a version

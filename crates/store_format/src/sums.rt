@@ -1,7 +1,7 @@
-ghost use Rattle.std.specs.Prelude.{◌≡◌, take, bit_xor};
+ghost use Rattle.std.specs.Prelude.{◌≡◌, ◌++◌, take, bit_xor};
 ghost use Rattle.std.specs.Str.{bytes_eq};
 ghost use Rattle.byteorder.specs.Endian.{little_bytes};
-ghost use Rattle.store_format.specs.Sums.{crc_bit, crc_bits, crc_byte, crc32_of, sum8_of, sum_bytes};
+ghost use Rattle.store_format.specs.Sums.{crc_bit, crc_bits, crc_from, crc_byte, crc32_of, sum8_of, sum_bytes, snapshot_summed};
 
 use byteorder::{ByteOrder, LittleEndian};
 use sha2::{Digest, Sha256};
@@ -37,17 +37,34 @@ fn next_byte(rest: u32, byte: u8) -> u32
     next_four(half)
 }
 
-/// The CRC-32 of the bytes: the reflected polynomial 0xEDB88320, the start and the final mask all ones, as in zlib and
-/// Ethernet. Takes no memory.
-#[tactic(auto, using(crate::proofs::Checking::crc_at, crate::proofs::Checking::crc_none), unfolding(crate::specs::Sums::crc32_of))]
-pub fn crc32(bytes: &[u8]) -> u32
-    ensures { result ≡ crc32_of bytes.now }
+// What is left of a CRC-32 after more bytes.
+#[tactic(auto, using(crate::proofs::Checking::crc_at, crate::proofs::Checking::crc_none))]
+fn crc_over(start: u32, bytes: &[u8]) -> u32
+    ensures { result ≡ crc_from start bytes.now }
 {
-    let mut rest = u32::MAX;
+    let mut rest = start;
     for byte in bytes {
         rest = next_byte(rest, *byte);
     }
-    rest ^ u32::MAX
+    rest
+}
+
+/// The CRC-32 of the bytes: the reflected polynomial 0xEDB88320, the start and the final mask all ones, as in zlib and
+/// Ethernet. Takes no memory.
+#[tactic(auto, unfolding(crate::specs::Sums::crc32_of))]
+pub fn crc32(bytes: &[u8]) -> u32
+    ensures { result ≡ crc32_of bytes.now }
+{
+    crc_over(u32::MAX, bytes) ^ u32::MAX
+}
+
+// The CRC-32 of two pieces taken as one.
+#[tactic(auto, using(crate::proofs::Checking::crc_both), unfolding(crate::specs::Sums::crc32_of))]
+fn crc32_of_both(front: &[u8], back: &[u8]) -> u32
+    ensures { result ≡ crc32_of (front.now ++ back.now) }
+{
+    let rest = crc_over(u32::MAX, front);
+    crc_over(rest, back) ^ u32::MAX
 }
 
 /// The first eight bytes of the SHA-256 of the bytes. Takes no memory.
@@ -56,6 +73,20 @@ pub fn sum8(bytes: &[u8]) -> [u8; 8]
     ensures { result ≡ sum8_of bytes.now }
 {
     let digest: [u8; 32] = Sha256::digest(bytes);
+    let mut sum = [0; 8];
+    sum.copy_from_slice(&digest[..8]);
+    sum
+}
+
+// The first eight bytes of the SHA-256 of two pieces taken as one.
+#[tactic(auto, unfolding(crate::specs::Sums::sum8_of))]
+fn sum8_of_both(front: &[u8], back: &[u8]) -> [u8; 8]
+    ensures { result ≡ sum8_of (front.now ++ back.now) }
+{
+    let mut hasher = Sha256::new();
+    hasher.update(front);
+    hasher.update(back);
+    let digest: [u8; 32] = hasher.finalize();
     let mut sum = [0; 8];
     sum.copy_from_slice(&digest[..8]);
     sum
@@ -86,4 +117,33 @@ pub(crate) fn has_sum(format: u64, bytes: &[u8], sum: &[u8]) -> bool
 {
     let wanted = sum_of(format, bytes);
     sum == wanted.as_slice()
+}
+
+/// Whether this is the sum of two pieces taken as one, in a format.
+pub(crate) fn have_sum(format: u64, front: &[u8], back: &[u8], sum: &[u8]) -> bool
+    ensures { result ≡ bytes_eq sum.now (sum_bytes format (front.now ++ back.now)) }
+{
+    let wanted = if format == 1 {
+        little(u64::from(crc32_of_both(front, back)))
+    } else {
+        sum8_of_both(front, back)
+    };
+    sum == wanted.as_slice()
+}
+
+/// The sum of a snapshot in format 2. Takes no memory.
+#[tactic(auto, unfolding(crate::specs::Sums::sum8_of))]
+pub(crate) fn snapshot_sum(index: u64, term: u64, bytes: &[u8]) -> [u8; 8]
+    ensures { result ≡ sum8_of (snapshot_summed index term bytes.now) }
+{
+    let (index, term, size) = (little(index), little(term), little(bytes.len() as u64));
+    let mut hasher = Sha256::new();
+    hasher.update(index.as_slice());
+    hasher.update(term.as_slice());
+    hasher.update(size.as_slice());
+    hasher.update(bytes);
+    let digest: [u8; 32] = hasher.finalize();
+    let mut sum = [0; 8];
+    sum.copy_from_slice(&digest[..8]);
+    sum
 }
