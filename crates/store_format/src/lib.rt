@@ -4,6 +4,8 @@
 mod metadata;
 mod snapshot;
 mod sums;
+#[cfg(test)]
+mod tests;
 mod words;
 
 pub use metadata::{Metadata, metadata_bytes, read_metadata};
