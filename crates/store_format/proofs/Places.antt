@@ -14,7 +14,7 @@ pub behind_both : (x : List ℕ) → drop 8 (drop 24 (drop 8 x)) ≡ drop 40 x
 behind_both x = ap (drop 8) (behind_numbers x) ∙ behind_sum x
 
 -- a word at a place doesn't depend on what follows the bytes
-little_front : (i n : ℕ) (x y : List ℕ) → i + n ≤ length x → little_from i n (x ++ y) ≡ little_from i n x
+pub little_front : (i n : ℕ) (x y : List ℕ) → i + n ≤ length x → little_from i n (x ++ y) ≡ little_from i n x
 little_front i zero x y h = refl
 little_front i (suc n) x y h =
     let here = get_or_append_left x y 0 i (omega arith) in

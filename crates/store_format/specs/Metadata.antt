@@ -1,10 +1,9 @@
 -- The metadata of a node: four words, namely format, version, term and vote, and the sum of these 32 bytes.
 use Rattle.std.specs.Prelude.{ℕ, suc, ◌%◌, Bool, true, false, ◌&&◌, ◌==◌, cond, List, ◌++◌, length, take, drop, Option, Some, None}
 use Rattle.std.specs.Str.{bytes_eq}
-use Rattle.wire_words.specs.Items.{word}
 use Rattle.store_laws.specs.Store.{Meta, no_meta}
 use Rattle.store_format.specs.Sums.{sum_bytes}
-use Rattle.store_format.specs.Words.{word_from, is_known}
+use Rattle.store_format.specs.Words.{word_from, is_known, front_bytes}
 use Rattle.store_format.specs.declared.metadata.Metadata.{Metadata}
 
 -- odd versions go to the first file
@@ -29,7 +28,7 @@ meta_of_found (Some m) = record { stamp = suc m.version; term = m.term; vote = m
 
 -- the block as it is written, in format 2
 abbrev pub block_front : Metadata → List ℕ
-block_front m = word 2 ++ (word m.version ++ (word m.term ++ word m.vote))
+block_front m = front_bytes m.version m.term m.vote
 
 abbrev pub block_bytes : Metadata → List ℕ
 block_bytes m = block_front m ++ sum_bytes 2 (block_front m)

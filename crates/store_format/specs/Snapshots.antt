@@ -2,12 +2,12 @@
 -- word. The sum is that of index, term, size and bytes.
 use Rattle.std.specs.Prelude.{ℕ, ◌+◌, Bool, ◌&&◌, ◌==◌, cond, nat_lt, nat_le, List, ◌++◌, length, take, drop, Option, Some, None}
 use Rattle.std.specs.Str.{bytes_eq}
-use Rattle.wire_words.specs.Items.{word, raw, gap}
+use Rattle.wire_words.specs.Items.{raw, gap}
 use Rattle.wire_words.specs.Reading.{are_zeros}
 use Rattle.store_laws.specs.Store.{Snap, no_snap}
-use Rattle.store_format.specs.Sums.{sum_bytes, sum8_of, snapshot_summed}
+use Rattle.store_format.specs.Sums.{sum_bytes, sum8_of}
 use Rattle.store_format.specs.declared.snapshot.SnapshotFile.{SnapshotFile}
-use Rattle.store_format.specs.Words.{word_from, is_known}
+use Rattle.store_format.specs.Words.{word_from, is_known, front_bytes}
 
 abbrev pub size_in : List ℕ → ℕ
 size_in x = word_from 24 x
@@ -34,12 +34,13 @@ is_snapshot number x =
 unfoldable pub snap_of : ℕ → List ℕ → Snap
 snap_of number x = cond (is_snapshot number x) (record { index = number; term = word_from 16 x; bytes = take (size_in x) (drop 40 x) }) no_snap
 
--- the file as it is written, in format 2
-abbrev pub snapshot_head : ℕ → ℕ → ℕ → List ℕ
-snapshot_head index term size = word 2 ++ (word index ++ (word term ++ word size))
+-- the file with this head: head, sum and bytes, each with zeros to a whole word
+abbrev pub with_head : List ℕ → List ℕ → List ℕ
+with_head head bytes = raw head ++ raw (sum8_of (drop 8 head ++ bytes)) ++ raw bytes
 
+-- the file as it is written, in format 2
 abbrev pub snapshot_bytes : ℕ → ℕ → List ℕ → List ℕ
-snapshot_bytes index term bytes = snapshot_head index term (length bytes) ++ raw (sum8_of (snapshot_summed index term bytes)) ++ raw bytes
+snapshot_bytes index term bytes = with_head (front_bytes index term (length bytes)) bytes
 
 -- the same by the code's value
 abbrev pub snap_of_found : Option SnapshotFile → Snap

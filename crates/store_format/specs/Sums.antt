@@ -1,5 +1,5 @@
 -- The sums that the files of a node carry.
-use Rattle.std.specs.Prelude.{ℕ, zero, suc, ◌/◌, ◌%◌, ◌==◌, cond, List, [], ◌∷◌, ◌++◌, length, take, bit_xor}
+use Rattle.std.specs.Prelude.{ℕ, zero, suc, ◌/◌, ◌%◌, ◌==◌, cond, List, [], ◌∷◌, take, bit_xor}
 use Rattle.byteorder.specs.Endian.{little_bytes}
 use Rattle.sha2.specs.Sha256.{sha256}
 
@@ -30,7 +30,3 @@ sum8_of bytes = take 8 (sha256 bytes)
 -- the sum of a format, as eight bytes: the CRC-32 as a number of 64 bits in format 1
 abbrev pub sum_bytes : ℕ → List ℕ → List ℕ
 sum_bytes format bytes = cond (format == 1) (little_bytes 8 (crc32_of bytes)) (sum8_of bytes)
-
--- what the sum of a snapshot is taken of: index, term, size and bytes
-abbrev pub snapshot_summed : ℕ → ℕ → List ℕ → List ℕ
-snapshot_summed index term bytes = little_bytes 8 index ++ little_bytes 8 term ++ little_bytes 8 (length bytes) ++ bytes

@@ -1,12 +1,11 @@
 ghost use Rattle.std.specs.Prelude.{◌≡◌, ◌≤◌, ◌==◌, length, drop, IfOk};
 ghost use Rattle.std.specs.Str.{bytes_eq};
 ghost use Rattle.store_format.specs.Sums.{sum_bytes};
-ghost use Rattle.store_format.specs.Metadata.{fits_side, is_block, meta_in, meta_of_found, block_front, block_bytes};
+ghost use Rattle.store_format.specs.Metadata.{fits_side, is_block, meta_in, meta_of_found, block_bytes};
 
 use crate::sums::{has_sum, sum8};
-use crate::words::{is_known, word_from};
+use crate::words::{front, is_known, word_from};
 use std::alloc::{AllocError, Global};
-use wire_words::Writer;
 
 /// What a metadata file says.
 #[derive(Clone, Copy, Debug, PartialEq, Eq)]
@@ -55,22 +54,11 @@ pub fn read_metadata(first: bool, bytes: &[u8]) -> Option<Metadata>
     })
 }
 
-fn front(alloc: Global, metadata: &Metadata) -> Result<Vec<u8>, AllocError>
-    ensures { IfOk result (λ front. front.items ≡ block_front metadata.now) }
-{
-    let mut out = Writer::new(alloc);
-    out.word(2)?;
-    out.word(metadata.version)?;
-    out.word(metadata.term)?;
-    out.word(metadata.vote)?;
-    Ok(out.finish().into_vec())
-}
-
 /// The 40 bytes of a metadata file, in format 2. `Err` is want of memory.
 pub fn metadata_bytes(alloc: Global, metadata: &Metadata) -> Result<Vec<u8>, AllocError>
     ensures { IfOk result (λ block. block.items ≡ block_bytes metadata.now) }
 {
-    let mut block = front(alloc, metadata)?;
+    let mut block = front(alloc, metadata.version, metadata.term, metadata.vote)?;
     let sum = sum8(block.as_slice());
     block.extend_from_slice(&sum)?;
     Ok(block)

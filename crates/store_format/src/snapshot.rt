@@ -1,8 +1,8 @@
-ghost use Rattle.std.specs.Prelude.{◌≡◌, ◌≤◌, ◌==◌, ◌++◌, true, false, length, take, drop, IfOk, OnOk, MatchOption};
-ghost use Rattle.store_format.specs.Snapshots.{fills, head_fits, is_snapshot, size_in, summed, snap_of, snap_of_found, snapshot_head, snapshot_bytes};
+ghost use Rattle.std.specs.Prelude.{◌≡◌, ◌≤◌, ◌==◌, ◌++◌, true, false, length, take, drop, IfOk, MatchOption};
+ghost use Rattle.store_format.specs.Snapshots.{fills, head_fits, is_snapshot, size_in, summed, snap_of, snap_of_found, snapshot_bytes};
 
-use crate::sums::{have_sum, snapshot_sum};
-use crate::words::{is_known, word_from};
+use crate::sums::{have_sum, sum8_of_both};
+use crate::words::{front, is_known, word_from};
 use std::alloc::{AllocError, Global};
 use wire_words::{Words, Writer};
 
@@ -41,7 +41,7 @@ fn content(body: &[u8], size: u64) -> Option<&[u8]>
 }
 
 // The numbers behind the format, the sum, and what follows.
-#[tactic(auto, using(crate::proofs::Places::behind_numbers, crate::proofs::Places::behind_both))]
+#[tactic(auto, using(crate::proofs::Places::behind_numbers))]
 fn parts(bytes: &[u8]) -> (&[u8], &[u8], &[u8])
     requires { 40 ≤ length bytes.now }
     ensures numbers { result.0.now ≡ take 24 (drop 8 bytes.now) }
@@ -85,22 +85,20 @@ pub fn read_snapshot(number: u64, bytes: &[u8]) -> Option<SnapshotFile<'_>>
     })
 }
 
-fn put_head(out: &mut Writer, index: u64, term: u64, size: u64) -> Result<(), AllocError>
-    ensures { OnOk result (out.new ≡ out.old ++ snapshot_head index term size) }
-{
-    out.word(2)?;
-    out.word(index)?;
-    out.word(term)?;
-    out.word(size)
-}
-
 /// The file of a snapshot, in format 2: the bytes are copied once. `Err` is want of memory.
-pub fn snapshot_bytes(alloc: Global, index: u64, term: u64, bytes: &[u8]) -> Result<Vec<u8>, AllocError>
+pub fn snapshot_bytes(
+    alloc: Global,
+    index: u64,
+    term: u64,
+    bytes: &[u8],
+) -> Result<Vec<u8>, AllocError>
     ensures { IfOk result (λ file. file.items ≡ snapshot_bytes index term bytes.now) }
 {
+    let head = front(alloc, index, term, bytes.len() as u64)?;
+    let (_, numbers) = head.as_slice().split_at(8);
+    let sum = sum8_of_both(numbers, bytes);
     let mut out = Writer::new(alloc);
-    put_head(&mut out, index, term, bytes.len() as u64)?;
-    let sum = snapshot_sum(index, term, bytes);
+    out.raw(head.as_slice())?;
     out.raw(&sum)?;
     out.raw(bytes)?;
     Ok(out.finish().into_vec())

@@ -1,7 +1,7 @@
 ghost use Rattle.std.specs.Prelude.{◌≡◌, ◌++◌, take, bit_xor};
 ghost use Rattle.std.specs.Str.{bytes_eq};
 ghost use Rattle.byteorder.specs.Endian.{little_bytes};
-ghost use Rattle.store_format.specs.Sums.{crc_bit, crc_bits, crc_from, crc_byte, crc32_of, sum8_of, sum_bytes, snapshot_summed};
+ghost use Rattle.store_format.specs.Sums.{crc_bit, crc_bits, crc_from, crc_byte, crc32_of, sum8_of, sum_bytes};
 
 use byteorder::{ByteOrder, LittleEndian};
 use sha2::{Digest, Sha256};
@@ -78,9 +78,9 @@ pub fn sum8(bytes: &[u8]) -> [u8; 8]
     sum
 }
 
-// The first eight bytes of the SHA-256 of two pieces taken as one.
+/// The first eight bytes of the SHA-256 of two pieces taken as one. Takes no memory.
 #[tactic(auto, unfolding(crate::specs::Sums::sum8_of))]
-fn sum8_of_both(front: &[u8], back: &[u8]) -> [u8; 8]
+pub(crate) fn sum8_of_both(front: &[u8], back: &[u8]) -> [u8; 8]
     ensures { result ≡ sum8_of (front.now ++ back.now) }
 {
     let mut hasher = Sha256::new();
@@ -129,21 +129,4 @@ pub(crate) fn have_sum(format: u64, front: &[u8], back: &[u8], sum: &[u8]) -> bo
         sum8_of_both(front, back)
     };
     sum == wanted.as_slice()
-}
-
-/// The sum of a snapshot in format 2. Takes no memory.
-#[tactic(auto, unfolding(crate::specs::Sums::sum8_of))]
-pub(crate) fn snapshot_sum(index: u64, term: u64, bytes: &[u8]) -> [u8; 8]
-    ensures { result ≡ sum8_of (snapshot_summed index term bytes.now) }
-{
-    let (index, term, size) = (little(index), little(term), little(bytes.len() as u64));
-    let mut hasher = Sha256::new();
-    hasher.update(index.as_slice());
-    hasher.update(term.as_slice());
-    hasher.update(size.as_slice());
-    hasher.update(bytes);
-    let digest: [u8; 32] = hasher.finalize();
-    let mut sum = [0; 8];
-    sum.copy_from_slice(&digest[..8]);
-    sum
 }

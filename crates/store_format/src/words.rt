@@ -1,7 +1,9 @@
-ghost use Rattle.std.specs.Prelude.{◌≡◌, ◌≤◌, ◌+◌, length};
-ghost use Rattle.store_format.specs.Words.{word_from, is_known, format_in};
+ghost use Rattle.std.specs.Prelude.{◌≡◌, ◌≤◌, ◌+◌, length, IfOk};
+ghost use Rattle.store_format.specs.Words.{word_from, is_known, format_in, front_bytes};
 
 use byteorder::{ByteOrder, LittleEndian};
+use std::alloc::{AllocError, Global};
+use wire_words::Writer;
 
 /// The word from a place on.
 pub(crate) fn word_from(bytes: &[u8], place: usize) -> u64
@@ -29,4 +31,23 @@ pub fn format_in(bytes: &[u8]) -> u64
     }
     let format = word_from(bytes, 0);
     if is_known(format) { format } else { 0 }
+}
+
+/// The first four words of a file in format 2.
+#[tactic(auto, unfolding(crate::specs::Words::front_bytes))]
+pub(crate) fn front(
+    alloc: Global,
+    first: u64,
+    second: u64,
+    third: u64,
+) -> Result<Vec<u8>, AllocError>
+    ensures bytes { IfOk result (λ front. front.items ≡ front_bytes first second third) }
+    ensures length { IfOk result (λ front. length front.items ≡ 32) }
+{
+    let mut out = Writer::new(alloc);
+    out.word(2)?;
+    out.word(first)?;
+    out.word(second)?;
+    out.word(third)?;
+    Ok(out.finish().into_vec())
 }
