@@ -8,12 +8,12 @@ mod sums;
 mod tests;
 mod words;
 
+ghost use Rattle.store_format.specs.Files.{ReadsLawfully};
+
 pub use metadata::{Metadata, metadata_bytes, read_metadata};
 pub use snapshot::{SnapshotFile, read_snapshot, snapshot_bytes};
 pub use sums::{crc32, sum8};
 pub use words::format_in;
-
-ghost use Rattle.store_format.specs.Files.{ReadsLawfully};
 
 /// With any lawful way of reading batches, the files of a node are read lawfully: a front of a file that is long enough
 /// says the same as the file, a metadata file and a snapshot are read whole or not at all, and versions go to their

@@ -37,7 +37,11 @@ fn content(body: &[u8], size: u64) -> Option<&[u8]>
     let Ok(content) = words.raw_slice(size) else {
         return None;
     };
-    if words.left() == 0 { Some(content) } else { None }
+    if words.left() == 0 {
+        Some(content)
+    } else {
+        None
+    }
 }
 
 // The numbers behind the format, the sum, and what follows.

@@ -15,11 +15,7 @@ fn file_of(alloc: Global, words: &[u64]) -> Result<Vec<u8>, AllocError> {
 }
 
 /// What the first or the second metadata file says with these words.
-fn metadata_of(
-    alloc: Global,
-    words: &[u64],
-    first: bool,
-) -> Result<Option<Metadata>, AllocError> {
+fn metadata_of(alloc: Global, words: &[u64], first: bool) -> Result<Option<Metadata>, AllocError> {
     let file = file_of(alloc, words)?;
     Ok(read_metadata(first, file.as_slice()))
 }
@@ -66,8 +62,11 @@ fn are_written(alloc: Global, block: &[u64], file: &[u64]) -> Result<bool, Alloc
 }
 
 const OLD_BLOCK: [u64; 5] = [1, 5, 3, 2, 0x6b1e_18f0];
+
 const NEW_BLOCK: [u64; 5] = [2, 6, 4, 0, 0x6288_889d_b51e_9f74];
+
 const OLD_SNAPSHOT: [u64; 6] = [1, 7, 2, 3, 0xef9c_ec15, 0x63_6261];
+
 const NEW_SNAPSHOT: [u64; 6] = [2, 7, 2, 3, 0x3ae4_e4b9_690a_1622, 0x63_6261];
 
 #[test]
