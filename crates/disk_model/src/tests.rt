@@ -5,6 +5,7 @@ use std::fs;
 use std::test::Fail;
 
 /// A call of a row, on the file `a` or else `b`.
+#[derive(Clone, Copy)]
 enum Step {
     Write(bool, u64, &'static [u8]),
     Cut(bool, u64),
@@ -40,142 +41,188 @@ fn run(disk: &mut MemDisk, a: &Name, b: &Name, steps: &[Step]) -> Result<(), Dis
     Ok(())
 }
 
-/// What is read of a file, where it is there.
-fn shown(alloc: Global, disk: &mut MemDisk, file: &Name) -> Result<Option<Vec<u8>>, Fail> {
-    let mut is_there = false;
-    for name in disk.list()?.into_vec() {
-        if name == *file {
-            is_there = true;
+/// Whether a file is there.
+fn is_listed(disk: &mut MemDisk, file: &Name) -> Result<bool, DiskFault> {
+    for name in disk.list()?.as_slice() {
+        if *name == *file {
+            return Ok(true);
         }
     }
-    if !is_there {
-        return Ok(None);
-    }
+    Ok(false)
+}
+
+/// Whether a file is there with these bytes, or else isn't there.
+fn is_left(disk: &mut MemDisk, file: &Name, wanted: Option<&[u8]>) -> Result<bool, DiskFault> {
     let mut buffer = [0u8; 8];
     let count = disk.read_at(file.as_str(), 0, &mut buffer)?;
-    let mut bytes = Vec::new(alloc);
-    bytes.extend_from_slice(&buffer[..count])?;
-    Ok(Some(bytes))
+    match wanted {
+        Some(bytes) => Ok(is_listed(disk, file)? && &buffer[..count] == bytes),
+        None => Ok(!is_listed(disk, file)? && count == 0),
+    }
 }
+
+/// Calls, the pick of the crash after them, and what is left of `a` and of `b`.
+struct Row {
+    steps: &'static [Step],
+    pick: u64,
+    a: Option<&'static [u8]>,
+    b: Option<&'static [u8]>,
+}
+
+/// Two files, whose names no sync covers.
+const TWO: &[Step] = &[Step::Write(A, 0, b"abcd"), Step::Write(B, 0, b"xyz")];
+
+/// A file whose bytes are synced and whose name isn't.
+const UNNAMED: &[Step] = &[Step::Write(A, 0, b"abcd"), Step::Sync(A)];
+
+/// The same with a write behind it.
+const LONGER: &[Step] = &[
+    Step::Write(A, 0, b"abcd"),
+    Step::Sync(A),
+    Step::Write(A, 4, b"ef"),
+];
+
+/// A file whose name is synced, and whose bytes aren't.
+const NAMED: &[Step] = &[Step::Write(A, 0, b"abcd"), Step::SyncNames];
+
+/// A cut that changes nothing, and one that does.
+const CUT: &[Step] = &[
+    Step::Write(A, 0, b"abcd"),
+    Step::Sync(A),
+    Step::SyncNames,
+    Step::Cut(A, 9),
+    Step::Cut(A, 1),
+];
+
+const REMOVED: &[Step] = &[
+    Step::Write(A, 0, b"abcd"),
+    Step::Sync(A),
+    Step::SyncNames,
+    Step::Remove(A),
+];
+
+/// A write of a file that is gone for sure, which is still counted.
+const GONE: &[Step] = &[
+    Step::Write(A, 0, b"abcd"),
+    Step::Remove(A),
+    Step::SyncNames,
+    Step::Write(B, 0, b"xyz"),
+];
+
+const ROWS: &[Row] = &[
+    Row {
+        steps: TWO,
+        pick: 0,
+        a: None,
+        b: None,
+    },
+    Row {
+        steps: TWO,
+        pick: 1,
+        a: Some(b"abcd"),
+        b: None,
+    },
+    Row {
+        steps: TWO,
+        pick: 2,
+        a: Some(b"abcd"),
+        b: Some(b"xyz"),
+    },
+    Row {
+        steps: TWO,
+        pick: 3,
+        a: Some(b"ab"),
+        b: None,
+    },
+    Row {
+        steps: TWO,
+        pick: 4,
+        a: Some(b"abcd"),
+        b: Some(b"x"),
+    },
+    Row {
+        steps: TWO,
+        pick: 6,
+        a: None,
+        b: None,
+    },
+    Row {
+        steps: UNNAMED,
+        pick: 0,
+        a: None,
+        b: None,
+    },
+    Row {
+        steps: UNNAMED,
+        pick: 2,
+        a: None,
+        b: None,
+    },
+    Row {
+        steps: LONGER,
+        pick: 4,
+        a: Some(b"abcde"),
+        b: None,
+    },
+    Row {
+        steps: NAMED,
+        pick: 0,
+        a: Some(b""),
+        b: None,
+    },
+    Row {
+        steps: NAMED,
+        pick: 2,
+        a: Some(b"ab"),
+        b: None,
+    },
+    Row {
+        steps: CUT,
+        pick: 0,
+        a: Some(b"abcd"),
+        b: None,
+    },
+    Row {
+        steps: CUT,
+        pick: 1,
+        a: Some(b"a"),
+        b: None,
+    },
+    Row {
+        steps: REMOVED,
+        pick: 2,
+        a: Some(b"abcd"),
+        b: None,
+    },
+    Row {
+        steps: REMOVED,
+        pick: 1,
+        a: None,
+        b: None,
+    },
+    Row {
+        steps: GONE,
+        pick: 1,
+        a: None,
+        b: None,
+    },
+    Row {
+        steps: GONE,
+        pick: 2,
+        a: None,
+        b: Some(b"xyz"),
+    },
+];
 
 #[test]
 fn a_pick_keeps_the_first_calls_and_maybe_half_of_the_next(rt: HostRuntime) -> Result<(), Fail> {
     let (a, b) = (name(rt.alloc(), "a")?, name(rt.alloc(), "b")?);
-    // The calls, the pick, and what is left of `a` and of `b`.
-    let two = [Step::Write(A, 0, b"abcd"), Step::Write(B, 0, b"xyz")];
-    let rows: [(&[Step], u64, Option<&[u8]>, Option<&[u8]>); 18] = [
-        // Two files, whose names no sync covers.
-        (&two, 0, None, None),
-        (&two, 1, Some(b"abcd"), None),
-        (&two, 2, Some(b"abcd"), Some(b"xyz")),
-        (&two, 3, Some(b"ab"), None),
-        (&two, 4, Some(b"abcd"), Some(b"x")),
-        (&two, 5, Some(b"abcd"), Some(b"xyz")),
-        (&two, 6, None, None),
-        // A creation whose bytes are synced and whose name isn't: no half of it is kept.
-        (&[Step::Write(A, 0, b"abcd"), Step::Sync(A)], 0, None, None),
-        (&[Step::Write(A, 0, b"abcd"), Step::Sync(A)], 2, None, None),
-        (
-            &[
-                Step::Write(A, 0, b"abcd"),
-                Step::Sync(A),
-                Step::Write(A, 4, b"ef"),
-            ],
-            4,
-            Some(b"abcde"),
-            None,
-        ),
-        // A name made between two syncs of the names: the file is there and empty.
-        (
-            &[Step::Write(A, 0, b"abcd"), Step::SyncNames],
-            0,
-            Some(b""),
-            None,
-        ),
-        (
-            &[Step::Write(A, 0, b"abcd"), Step::SyncNames],
-            2,
-            Some(b"ab"),
-            None,
-        ),
-        // A cut, and one that changes nothing.
-        (
-            &[
-                Step::Write(A, 0, b"abcd"),
-                Step::Sync(A),
-                Step::SyncNames,
-                Step::Cut(A, 9),
-                Step::Cut(A, 1),
-            ],
-            0,
-            Some(b"abcd"),
-            None,
-        ),
-        (
-            &[
-                Step::Write(A, 0, b"abcd"),
-                Step::Sync(A),
-                Step::SyncNames,
-                Step::Cut(A, 9),
-                Step::Cut(A, 1),
-            ],
-            1,
-            Some(b"a"),
-            None,
-        ),
-        // A removal, dropped and kept.
-        (
-            &[
-                Step::Write(A, 0, b"abcd"),
-                Step::Sync(A),
-                Step::SyncNames,
-                Step::Remove(A),
-            ],
-            2,
-            Some(b"abcd"),
-            None,
-        ),
-        (
-            &[
-                Step::Write(A, 0, b"abcd"),
-                Step::Sync(A),
-                Step::SyncNames,
-                Step::Remove(A),
-            ],
-            1,
-            None,
-            None,
-        ),
-        // The write of a file that is gone for sure is still counted.
-        (
-            &[
-                Step::Write(A, 0, b"abcd"),
-                Step::Remove(A),
-                Step::SyncNames,
-                Step::Write(B, 0, b"xyz"),
-            ],
-            1,
-            None,
-            None,
-        ),
-        (
-            &[
-                Step::Write(A, 0, b"abcd"),
-                Step::Remove(A),
-                Step::SyncNames,
-                Step::Write(B, 0, b"xyz"),
-            ],
-            2,
-            None,
-            Some(b"xyz"),
-        ),
-    ];
-    for (steps, pick, left_a, left_b) in rows {
+    for row in ROWS {
         let mut disk = MemDisk::new(rt.alloc());
-        run(&mut disk, &a, &b, steps)?;
-        disk.crash(pick)?;
-        assert_eq!(rt; shown(rt.alloc(), &mut disk, &a)?.as_deref(), left_a);
-        assert_eq!(rt; shown(rt.alloc(), &mut disk, &b)?.as_deref(), left_b);
+        run(&mut disk, &a, &b, row.steps)?;
+        disk.crash(row.pick)?;
+        assert!(rt; is_left(&mut disk, &a, row.a)?);
+        assert!(rt; is_left(&mut disk, &b, row.b)?);
     }
     Ok(())
 }
@@ -223,14 +270,47 @@ fn a_stopped_sync_is_not_made_and_a_failing_call_does_nothing(rt: HostRuntime) -
     disk.sync_names()?;
     assert_eq!(rt; disk.sync(a.as_str()), Err(DiskFault::Failed));
     disk.crash(0)?;
-    assert_eq!(rt;
-        shown(rt.alloc(), &mut disk, &a)?.as_deref(),
-        Some(b"".as_slice())
-    );
+    assert!(rt; is_left(&mut disk, &a, Some(b""))?);
     Ok(())
 }
 
 const FOLDER: &str = "disk_model_test";
+
+/// Writes `a`, and writes and removes `b`. A missing name is cut, synced and removed without a change.
+fn change(disk: &mut DirDisk<HostRuntime>, a: &Name, b: &Name) -> Result<(), DiskFault> {
+    disk.write_at(a.as_str(), 0, b"abcdef")?;
+    disk.write_at(a.as_str(), 4, b"EFGH")?;
+    disk.write_at(b.as_str(), 0, b"x")?;
+    disk.cut(a.as_str(), 7)?;
+    disk.cut(a.as_str(), 9)?;
+    disk.sync(a.as_str())?;
+    disk.remove(b.as_str())?;
+    disk.cut(b.as_str(), 0)?;
+    disk.sync(b.as_str())?;
+    disk.remove(b.as_str())?;
+    disk.sync_names()
+}
+
+/// Whether these bytes are read of a file from a place on, into a buffer of four.
+fn reads(
+    disk: &mut DirDisk<HostRuntime>,
+    file: &Name,
+    at: u64,
+    wanted: &[u8],
+) -> Result<bool, DiskFault> {
+    let mut buffer = [0u8; 4];
+    let count = disk.read_at(file.as_str(), at, &mut buffer)?;
+    Ok(&buffer[..count] == wanted)
+}
+
+/// Whether `a` is as it was written, and `b` isn't there.
+fn is_as_written(disk: &mut DirDisk<HostRuntime>, a: &Name, b: &Name) -> Result<bool, DiskFault> {
+    let front = reads(disk, a, 1, b"bcdE")?;
+    let end = reads(disk, a, 5, b"FG")?;
+    let none = reads(disk, b, 0, b"")?;
+    let names = disk.list()?;
+    Ok(front && end && none && names.len() == 1)
+}
 
 #[test]
 fn a_folder_keeps_files_under_flat_names(rt: HostRuntime) -> Result<(), Fail> {
@@ -239,30 +319,10 @@ fn a_folder_keeps_files_under_flat_names(rt: HostRuntime) -> Result<(), Fail> {
     let (a, b) = (name(rt.alloc(), "a")?, name(rt.alloc(), "b")?);
     let away = name(rt.alloc(), "../a")?;
     let mut disk = DirDisk::in_folder(rt.clone()?, FOLDER)?;
-    disk.write_at(a.as_str(), 0, b"abcdef")?;
-    disk.write_at(a.as_str(), 4, b"EFGH")?;
-    disk.write_at(b.as_str(), 0, b"x")?;
-    disk.cut(a.as_str(), 7)?;
-    disk.cut(a.as_str(), 9)?;
-    disk.sync(a.as_str())?;
-    disk.remove(b.as_str())?;
-    // A missing name is cut, synced and removed without a change.
-    disk.cut(b.as_str(), 0)?;
-    disk.sync(b.as_str())?;
-    disk.remove(b.as_str())?;
-    disk.sync_names()?;
-    let mut buffer = [0u8; 4];
-    assert_eq!(rt; disk.read_at(a.as_str(), 1, &mut buffer), Ok(4));
-    assert_eq!(rt; buffer, *b"bcdE");
-    assert_eq!(rt; disk.read_at(a.as_str(), 5, &mut buffer), Ok(2));
-    assert_eq!(rt; disk.read_at(b.as_str(), 0, &mut buffer), Ok(0));
-    let names = disk.list()?;
-    assert_eq!(rt; names.len(), 1);
+    change(&mut disk, &a, &b)?;
+    assert!(rt; is_as_written(&mut disk, &a, &b)?);
     assert_eq!(rt; disk.faults(), 0);
-    assert_eq!(rt;
-        disk.write_at(away.as_str(), 0, b"x"),
-        Err(DiskFault::Failed)
-    );
+    assert_eq!(rt; disk.remove(away.as_str()), Err(DiskFault::Failed));
     assert_eq!(rt; disk.faults(), 1);
     fs::remove_dir_all(&rt, FOLDER)?;
     Ok(())
