@@ -3,3 +3,4 @@ pub mod Words
 pub mod Metadata
 pub mod Snapshots
 pub mod Files
+pub mod Written

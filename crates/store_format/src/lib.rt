@@ -9,6 +9,7 @@ mod tests;
 mod words;
 
 ghost use Rattle.store_format.specs.Files.{ReadsLawfully};
+ghost use Rattle.store_format.specs.Written.{MetadataReadsBack};
 
 pub use metadata::{Metadata, metadata_bytes, read_metadata};
 pub use snapshot::{SnapshotFile, read_snapshot, snapshot_bytes};
@@ -21,4 +22,9 @@ pub use words::format_in;
 #[tactic(auto, using(crate::proofs::Lawfully::reads_lawfully))]
 pub fn reads_lawfully()
     ensures { ReadsLawfully }
+{}
+
+/// Metadata that is written has 40 bytes, and the file of its version's parity reads as it.
+pub fn metadata_reads_back()
+    ensures { MetadataReadsBack }
 {}
