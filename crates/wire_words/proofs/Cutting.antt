@@ -1,13 +1,13 @@
 -- Messages come off the front of bytes, however they are cut.
-use Rattle.std.proofs.Common.{◌≡◌, ◌+◌, ◌-◌, ◌*◌, ◌<◌, ◌≤◌, ℕ, zero, suc, Bool, true, false, cond, ltb, eqb, List, [], ◌∷◌, ◌++◌, length, take, drop, get_or, refl, sym, ap, subst, ◌∙◌, append_assoc, arith}
+use Rattle.std.proofs.Common.{◌≡◌, ◌+◌, ◌<◌, ◌≤◌, ℕ, zero, suc, Bool, true, false, cond, ltb, eqb, List, [], ◌∷◌, ◌++◌, length, take, drop, refl, sym, ap, ◌∙◌, arith}
 use Rattle.std.proofs.lemmas.Bool.{ltb-false, lt-ltb, le-ltb}
-use Rattle.std.proofs.lemmas.List.{length-append, length-drop, length-take-le, append-nil, take_at, drop_at, nil_from_length}
+use Rattle.std.proofs.lemmas.List.{length-append, length-drop, drop_at}
 use Rattle.byteorder.specs.Endian.{little_number}
 use Rattle.wire_words.specs.declared.message.Message.{Message}
 use Rattle.wire_words.specs.declared.message.Header.{Header}
 use Rattle.wire_words.specs.declared.splitter.SplitFault.TheVariants.{Version, TooLong}
 use Rattle.wire_words.specs.Message.{header_of}
-use Rattle.wire_words.specs.Stream.{Front, Part, Long, Whole, Stream, End, Opening, Rest, Broken, front, front_with, body_size, message_with, ended, one_before, after_messages, taken, taking, messages_in, versioned, stream, going_on}
+use Rattle.wire_words.specs.Stream.{Front, Part, Long, Whole, Stream, Opening, Rest, Broken, front, front_with, body_size, message_with, ended, one_before, after_messages, taken, taking, messages_in, versioned, stream, going_on}
 
 -- ---- fronts
 

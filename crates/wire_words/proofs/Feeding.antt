@@ -7,7 +7,7 @@ use Rattle.wire_words.specs.declared.splitter.SplitFault.{SplitFault}
 use Rattle.wire_words.specs.declared.splitter.SplitFault.TheVariants.{Version, TooLong, NoMemory}
 use Rattle.wire_words.specs.Stream.{Stream, End, Opening, Rest, Broken, Splitting, stream, going_on, fed, answer, answer_of, Answers, FeedFails, Feeds, Adds, BreaksWith, end_with}
 use Rattle.wire_words.specs.Holding.{IsOfStream}
-use Rattle.wire_words.proofs.Cutting.{added, stream_joined}
+use Rattle.wire_words.proofs.Cutting.{stream_joined}
 
 abbrev answered : List Message → Result (List Message) SplitFault
 answered messages = Ok messages

@@ -1,9 +1,9 @@
 -- What a splitter holds, and what it stands for.
-use Rattle.std.proofs.Common.{◌≡◌, ◌+◌, ◌<◌, ◌≤◌, ℕ, Bool, true, false, List, [], ◌++◌, length, take, Option, Some, None, is_some, refl, sym, ap, subst, ◌∙◌, arith}
+use Rattle.std.proofs.Common.{◌≡◌, ◌+◌, ℕ, Bool, true, false, List, [], length, take, Option, Some, None, is_some, refl, ap, arith}
 use Rattle.std.proofs.lemmas.List.{length-append, length-take-le}
 use Rattle.wire_words.specs.declared.splitter.SplitFault.{SplitFault}
 use Rattle.wire_words.specs.declared.unfinished.Unfinished.{Unfinished}
-use Rattle.wire_words.specs.Stream.{front, Part, End, Splitting, end_with, unread_bytes}
+use Rattle.wire_words.specs.Stream.{front, end_with, unread_bytes}
 use Rattle.wire_words.specs.Holding.{Holds, IsHead, held_bytes}
 
 head_short : (u : Unfinished) → IsHead u → held_bytes u ≡ [] → u.head_len ≡ 0

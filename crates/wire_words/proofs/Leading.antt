@@ -1,5 +1,5 @@
 -- What a piece adds to the unread bytes, by where it leaves them.
-use Rattle.std.proofs.Common.{◌≡◌, ◌+◌, ◌-◌, ◌*◌, ◌<◌, ◌≤◌, ℕ, Bool, true, false, cond, eqb, ltb, List, [], ◌∷◌, ◌++◌, length, take, drop, Option, Some, None, refl, sym, ap, subst, ◌∙◌, append_assoc, arith, inl, inr}
+use Rattle.std.proofs.Common.{◌≡◌, ◌<◌, ◌≤◌, ℕ, Bool, true, false, cond, eqb, ltb, List, [], ◌∷◌, ◌++◌, length, take, drop, None, refl, sym, ap, subst, ◌∙◌, append_assoc, arith, inl, inr}
 use Rattle.std.proofs.lemmas.Bool.{cases_lt, eqb-true, ltb-true, lt-ltb, le-ltb}
 use Rattle.std.proofs.lemmas.List.{length-append, length-take-le, append-nil, take_all, take_at, drop_at}
 use Rattle.byteorder.specs.Endian.{little_number}
@@ -9,9 +9,9 @@ use Rattle.wire_words.specs.declared.splitter.SplitFault.{SplitFault}
 use Rattle.wire_words.specs.declared.splitter.SplitFault.TheVariants.{Version, TooLong}
 use Rattle.wire_words.specs.declared.unfinished.Unfinished.{Unfinished}
 use Rattle.wire_words.specs.Message.{header_of}
-use Rattle.wire_words.specs.Stream.{Front, Part, Long, Whole, Stream, End, Opening, Rest, Broken, front, front_with, body_size, message_with, ended, one_before, after_messages, messages_in, versioned, stream, going_on, end_with}
+use Rattle.wire_words.specs.Stream.{Part, Long, Whole, Stream, Opening, Rest, Broken, front, front_with, body_size, message_with, ended, one_before, after_messages, messages_in, versioned, stream, going_on, end_with}
 use Rattle.wire_words.specs.Holding.{Holds, IsHead, held_bytes}
-use Rattle.wire_words.proofs.Cutting.{messages_part, messages_long, messages_whole, short_front, with_whole, with_long, with_part, front_head, stream_short, stream_long, word_front, drop_front}
+use Rattle.wire_words.proofs.Cutting.{messages_part, messages_long, messages_whole, short_front, with_whole, with_long, with_part, front_head, stream_short, stream_long, word_front}
 
 -- ---- taking messages off
 

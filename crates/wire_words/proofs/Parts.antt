@@ -1,15 +1,15 @@
 -- Parts that stand one after the other, and bytes that are filled up, are read exactly where their spelling stands.
-use Rattle.std.proofs.Common.{◌≡◌, ℕ, ◌+◌, ◌%◌, ◌<◌, ◌≤◌, Bool, true, false, cond, ltb, List, [], ◌∷◌, ◌++◌, length, take, drop, Ok, Err, refl, sym, ap, subst, ◌∙◌, append_assoc, arith}
+use Rattle.std.proofs.Common.{◌≡◌, ℕ, ◌+◌, ◌%◌, ◌≤◌, false, cond, ltb, List, ◌++◌, length, take, drop, Ok, Err, refl, sym, ap, subst, ◌∙◌, append_assoc, arith}
 use Rattle.std.specs.List.{list_all}
 use Rattle.std.proofs.lemmas.Bool.{ltb-false, le-ltb}
 use Rattle.std.proofs.lemmas.List.{length-append, length-take-le, length-drop, take_at, drop_at}
 use Rattle.wire_words.specs.declared.fault.WordFault.TheVariants.{Short, Pad}
 use Rattle.wire_words.specs.declared.value.Dialect.TheVariants as dialects
-use Rattle.wire_words.specs.Items.{gap, is_zero, AreBytes, IsWord, IsRaw, IsPadded}
+use Rattle.wire_words.specs.Items.{gap, is_zero, AreBytes, IsWord, IsRaw}
 use Rattle.wire_words.specs.Values.{IsRounded, Joined}
 use Rattle.wire_words.specs.declared.value.Dialect.{Dialect}
 use Rattle.wire_words.specs.Values as values
-use Rattle.wire_words.specs.Reading.{◌>>=◌, Unread, past, word_at, blob_at, filled_at, Took}
+use Rattle.wire_words.specs.Reading.{Unread, past, word_at, blob_at, filled_at, Took}
 use Rattle.wire_words.proofs.Numbers.{AreBytes-drop}
 use Rattle.wire_words.proofs.ReadBack.{refused_not, passed, ok_is, bind_ok, firsts, seconds, past_is, parts_are, take_parts, word_took, word_again}
 use Rattle.wire_words.proofs.Padding.{gap_is, filled_took, filled_again}

@@ -1,8 +1,8 @@
 -- Rows are read exactly where their spelling stands.
-use Rattle.std.proofs.Common.{◌≡◌, ℕ, zero, suc, ◌+◌, ◌-◌, ◌*◌, ◌/◌, ◌%◌, ◌<◌, ◌≤◌, Bool, true, false, ◌&&◌, cond, eqb, List, [], ◌∷◌, ◌++◌, length, take, drop, get_or, replicate, Option, Some, None, Ok, Err, inl, inr, refl, sym, ap, subst, ◌∙◌, append_assoc, arith}
+use Rattle.std.proofs.Common.{◌≡◌, ℕ, zero, suc, ◌+◌, ◌-◌, ◌*◌, ◌/◌, ◌%◌, ◌<◌, ◌≤◌, Bool, true, false, ◌&&◌, cond, eqb, List, [], ◌∷◌, ◌++◌, length, take, drop, get_or, replicate, Option, Some, None, Ok, Err, inl, inr, refl, sym, ap, subst, ◌∙◌, arith}
 use Rattle.std.specs.List.{list_all, list_any}
 use Rattle.std.proofs.lemmas.Bool.{eqb-true}
-use Rattle.std.proofs.lemmas.List.{length-append, length-replicate, length-take-le, length-drop, take_at, drop_at, take-append-drop, append-nil}
+use Rattle.std.proofs.lemmas.List.{length-append, length-replicate, length-take-le, take_at, append-nil}
 use Rattle.wire_words.specs.declared.fault.WordFault.TheVariants.{Pad, Float}
 use Rattle.wire_words.specs.declared.value.Value.{Value}
 use Rattle.wire_words.specs.declared.value.Value.TheVariants.{Integer, Text, Blob, Null}
@@ -10,15 +10,15 @@ use Rattle.wire_words.specs.declared.value.ValueType.{ValueType}
 use Rattle.wire_words.specs.declared.value.ValueType.TheVariants as types
 use Rattle.wire_words.specs.declared.value.Dialect.TheVariants as dialects
 use Rattle.wire_words.specs.Items.{gap, is_zero, AreBytes, IsPadded, IsRaw}
-use Rattle.wire_words.specs.Values.{code, codes, type_of, types_of, halves, IsValue, AreValues, Joined, IsRow}
+use Rattle.wire_words.specs.Values.{code, codes, type_of, types_of, halves, IsValue, AreValues, IsRow}
 use Rattle.wire_words.specs.Reading.{◌>>=◌, Unread, raw_at, Took}
 use Rattle.wire_words.specs.ReadingValues.{type_with, known, all_types, is_float, no_float, types_at, values_at, split_halves, row_head_size, row_types, row_head_at, row_at}
 use Rattle.wire_words.proofs.ReadBack.{refused_not, passed, ok_is, bind_ok}
 use Rattle.wire_words.proofs.Choices.{one_of, none_of}
 use Rattle.wire_words.proofs.Numbers.{AreBytes-take}
-use Rattle.wire_words.proofs.Padding.{raw_took, raw_again, zeros_are, all_zeros, raw_is_padded, padded_is_raw}
+use Rattle.wire_words.proofs.Padding.{raw_took, raw_again, all_zeros, padded_is_raw}
 use Rattle.wire_words.proofs.Parts.{took_both, took_parts, bytes_after}
-use Rattle.wire_words.proofs.ValueLaws.{values_took, values_again, values_length, codes_read, exact_types, codes_length, types_length, known_ok}
+use Rattle.wire_words.proofs.ValueLaws.{values_took, values_again, codes_read, exact_types, codes_length, types_length, known_ok}
 
 both_true : (a b : Bool) → (a && b) ≡ true → (a ≡ true) × (b ≡ true)
 both_true true b e = (refl, e)

@@ -1,17 +1,16 @@
 -- Each value, tuple and row has one spelling, and what is written is among what is read.
-use Rattle.std.proofs.Common.{◌≡◌, ℕ, ◌+◌, ◌*◌, ◌/◌, ◌%◌, ◌^◌, ◌<◌, ◌≤◌, ltb, true, false, List, [], ◌∷◌, ◌++◌, length, take, drop, replicate, refl, sym, ap, subst, ◌∙◌, append_assoc, arith}
-use Rattle.std.specs.Int.{w64, cast_signed, cast_unsigned}
+use Rattle.std.proofs.Common.{◌≡◌, ℕ, ◌^◌, ◌<◌, List, [], ◌∷◌, ◌++◌, length, replicate, refl, sym, ap, ◌∙◌, arith}
+use Rattle.std.specs.Int.{w64, cast_unsigned}
 use Rattle.std.specs.List.{AllByRecursion}
-use Rattle.std.proofs.lemmas.List.{length-append, length-replicate, take_at, drop_at}
+use Rattle.std.proofs.lemmas.List.{length-replicate}
 use Rattle.std.proofs.lemmas.Int.{to_z-of_z, of_z-to_z}
 use mir.ValLaws.{of_z_fits}
-use Rattle.byteorder.specs.Endian.{little_bytes, little_number}
+use Rattle.byteorder.specs.Endian.{little_bytes}
 use Rattle.wire_words.specs.declared.value.Value.{Value}
 use Rattle.wire_words.specs.declared.value.Value.TheVariants.{Integer, Text, Blob, Null}
-use Rattle.wire_words.specs.declared.value.ValueType.{ValueType}
 use Rattle.wire_words.specs.declared.value.Dialect.TheVariants as dialects
 use Rattle.wire_words.specs.Items.{word, raw, IsPadded}
-use Rattle.wire_words.specs.Values.{code, codes, type_of, types_of, value, values, tuple, row, halves, IsInRange, IsRounded, Joined, IsValue, AreValues, IsTuple, IsTupleRead, IsRow}
+use Rattle.wire_words.specs.Values.{codes, type_of, types_of, value, values, tuple, row, halves, IsInRange, IsRounded, IsValue, AreValues, IsTuple, IsTupleRead, IsRow}
 use Rattle.wire_words.proofs.Nul.{text_is_spelled, spelled_is_text}
 use Rattle.wire_words.proofs.Padding.{raw_is_padded, padded_is_raw}
 

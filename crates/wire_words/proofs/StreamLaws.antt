@@ -1,12 +1,12 @@
 -- A stream gives the messages that are spelled in it.
-use Rattle.std.proofs.Common.{◌≡◌, ℕ, ◌+◌, ◌*◌, ◌/◌, ◌%◌, ◌^◌, ◌<◌, ◌≤◌, ltb, false, List, [], ◌∷◌, ◌++◌, length, take, drop, refl, sym, ap, ◌∙◌, append_assoc, arith}
+use Rattle.std.proofs.Common.{◌≡◌, ℕ, ◌*◌, ◌/◌, ◌≤◌, ltb, false, List, [], ◌∷◌, ◌++◌, length, drop, refl, ap, ◌∙◌, append_assoc, arith}
 use Rattle.std.proofs.lemmas.Bool.{le-ltb}
 use Rattle.std.proofs.lemmas.List.{length-append, take_at, drop_at}
 use Rattle.byteorder.specs.Numbers.{little_number-reads_back}
 use Rattle.wire_words.specs.declared.message.Message.{Message}
 use Rattle.wire_words.specs.declared.message.Header.{Header}
 use Rattle.wire_words.specs.Message.{header, header_of, message, IsBody}
-use Rattle.wire_words.specs.Stream.{Whole, front, front_with, message_with, body_size, one_before, messages_in, version_word, stream}
+use Rattle.wire_words.specs.Stream.{Whole, front, front_with, one_before, messages_in, version_word, stream}
 use Rattle.wire_words.proofs.Cutting.{front_head, with_whole, messages_whole, stream_long}
 
 abbrev header_with : ℕ → ℕ → ℕ → Header

@@ -1,12 +1,10 @@
 -- Values, tuples and rows are read exactly where their spelling stands.
-use Rattle.std.proofs.Common.{◌≡◌, ℕ, zero, suc, ◌+◌, ◌*◌, ◌^◌, ◌%◌, ◌<◌, ◌≤◌, Bool, true, false, cond, eqb, ltb, ◌||◌, List, [], ◌∷◌, ◌++◌, length, take, drop, Option, Some, None, Result, Ok, Err, refl, sym, ap, subst, ◌∙◌, append_assoc, arith, inl, inr}
+use Rattle.std.proofs.Common.{◌≡◌, ℕ, suc, false, cond, eqb, List, [], ◌∷◌, ◌++◌, length, Option, Some, None, Result, Ok, Err, refl, sym, ap, subst, ◌∙◌, arith, inl, inr}
 use Rattle.std.specs.Int.{w64, cast_signed}
 use Rattle.std.specs.List.{list_any}
-use Rattle.std.proofs.lemmas.Bool.{eqb-true, ltb-false, le-ltb}
-use Rattle.std.proofs.lemmas.List.{length-append, length-take-le, length-drop, take_at, drop_at, take-append-drop, append-nil}
-use Rattle.byteorder.specs.Endian.{little_bytes, little_number}
+use Rattle.std.proofs.lemmas.Bool.{eqb-true}
 use Rattle.wire_words.specs.declared.fault.WordFault.{WordFault}
-use Rattle.wire_words.specs.declared.fault.WordFault.TheVariants.{Short, Pad, BadCode, Float}
+use Rattle.wire_words.specs.declared.fault.WordFault.TheVariants.{Pad, Float}
 use Rattle.wire_words.specs.declared.value.Value.{Value}
 use Rattle.wire_words.specs.declared.value.Value.TheVariants.{Integer, Text, Blob, Null}
 use Rattle.wire_words.specs.declared.value.ValueType.{ValueType}
@@ -14,13 +12,13 @@ use Rattle.wire_words.specs.declared.value.ValueType.TheVariants as types
 use Rattle.wire_words.specs.declared.value.Dialect.{Dialect}
 use Rattle.wire_words.specs.declared.value.Dialect.TheVariants as dialects
 use Rattle.wire_words.specs.Items.{AreBytes, IsWord, IsText}
-use Rattle.wire_words.specs.Values.{code, codes, type_of, types_of, IsInteger, IsBlob, IsRounded, IsValue, AreValues, Joined, IsTupleRead}
-use Rattle.wire_words.specs.Reading.{◌>>=◌, Unread, word_at, text_at, blob_at, filled_at, Took}
-use Rattle.wire_words.specs.ReadingValues.{client_type, type_with, known, all_types, is_float, no_float, types_at, integer_at, text_value_at, blob_value_at, null_at, value_at, values_at, codes_at, tuple_with, tuple_at}
+use Rattle.wire_words.specs.Values.{code, codes, type_of, types_of, IsInteger, IsValue, AreValues}
+use Rattle.wire_words.specs.Reading.{◌>>=◌, Unread, word_at, text_at, blob_at, Took}
+use Rattle.wire_words.specs.ReadingValues.{client_type, type_with, known, all_types, is_float, no_float, types_at, integer_at, text_value_at, blob_value_at, null_at, value_at, values_at}
 use Rattle.wire_words.proofs.Choices.{one_of, none_of}
 use Rattle.wire_words.proofs.ReadBack.{refused_not, passed, ok_is, bind_ok, same_unread, word_took, word_again}
 use Rattle.wire_words.proofs.Nul.{text_took, text_again}
-use Rattle.wire_words.proofs.Parts.{took_both, took_parts, bytes_after, client_took, client_again, blob_took, blob_again}
+use Rattle.wire_words.proofs.Parts.{took_both, took_parts, bytes_after, blob_took, blob_again}
 
 -- an item of one kind is one of another
 took_as : {P Q : List ℕ → Type 0} (old new : Unread) → ((item : List ℕ) → P item → Q item) → Took P old new → Took Q old new

@@ -1,10 +1,7 @@
 -- The parts of tuples and rows, one value on; and that what is written is whole words.
-use Rattle.std.proofs.Common.{◌≡◌, ℕ, zero, suc, ◌+◌, ◌*◌, ◌/◌, ◌%◌, ◌<◌, ◌≤◌, List, [], ◌∷◌, ◌++◌, length, take, drop, get_or, refl, sym, ap, ◌∙◌, append_assoc, arith}
-use Rattle.std.proofs.lemmas.List.{length-append, append-nil, take_more, take_all, take_at, at_drop_more, at_drop_all}
-use Rattle.std.specs.List.{AllByRecursion}
-use Rattle.byteorder.specs.Endian.{little_bytes}
+use Rattle.std.proofs.Common.{◌≡◌, ℕ, zero, suc, ◌+◌, ◌<◌, List, [], ◌∷◌, ◌++◌, length, take, get_or, refl, sym, ap, ◌∙◌, append_assoc, arith}
+use Rattle.std.proofs.lemmas.List.{append-nil, take_more}
 use Rattle.wire_words.specs.declared.value.Value.{Value}
-use Rattle.wire_words.specs.declared.value.ValueType.{ValueType}
 use Rattle.wire_words.specs.Values.{code, codes, type_of, types_of, value, values, IsWritable, AreWritable}
 
 codes_append : (xs ys : List Value) → codes (types_of (xs ++ ys)) ≡ codes (types_of xs) ++ codes (types_of ys)

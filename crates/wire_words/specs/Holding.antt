@@ -1,5 +1,5 @@
 -- What a splitter holds between two pieces.
-use Rattle.std.specs.Prelude.{◌≡◌, ◌<◌, ◌≤◌, ◌++◌, ℕ, Bool, true, false, List, [], length, take, Option, Some, None, Result, MatchResult}
+use Rattle.std.specs.Prelude.{◌≡◌, ◌<◌, ◌≤◌, ◌++◌, ℕ, false, List, [], length, take, Option, Some, None, Result, MatchResult}
 use Rattle.std.specs.declared.alloc.AllocError.{AllocError}
 use Rattle.wire_words.specs.declared.message.Message.{Message}
 use Rattle.wire_words.specs.declared.splitter.SplitFault.{SplitFault}

@@ -1,5 +1,5 @@
 -- A stream: the version word, and messages one after the other, cut anywhere.
-use Rattle.std.specs.Prelude.{◌≡◌, ◌==◌, ◌+◌, ◌*◌, ℕ, zero, suc, List, [], ◌∷◌, ◌++◌, length, take, drop, slice_index, Result, Ok, Err, Bool, true, false, Option, Some, None, nat_lt, if◌then◌else◌, MatchResult}
+use Rattle.std.specs.Prelude.{◌≡◌, ◌==◌, ◌*◌, ℕ, zero, suc, List, [], ◌∷◌, ◌++◌, length, take, drop, Result, Ok, Err, Bool, true, false, Option, Some, None, nat_lt, if◌then◌else◌, MatchResult}
 use Rattle.byteorder.specs.Endian.{little_bytes, little_number}
 use Rattle.wire_words.specs.declared.message.Message.{Message}
 use Rattle.wire_words.specs.declared.message.Header.{Header}

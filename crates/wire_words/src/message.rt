@@ -1,4 +1,4 @@
-ghost use Rattle.std.specs.Prelude.{◌≡◌};
+ghost use Rattle.std.specs.Prelude.{◌≡◌, ◌≤◌, length};
 ghost use Rattle.wire_words.specs.Message.{header_of};
 
 use crate::WireBytes;
@@ -32,10 +32,18 @@ impl Header {
     pub fn read(bytes: &[u8; 8]) -> Header
         ensures { result ≡ header_of bytes.now }
     {
-        Header {
-            words: LittleEndian::read_u32(bytes),
-            kind: bytes[4],
-            schema: bytes[5],
-        }
+        header_at(bytes)
+    }
+}
+
+/// The header in the first eight bytes.
+pub(crate) fn header_at(bytes: &[u8]) -> Header
+    requires { 8 ≤ length bytes.now }
+    ensures { result ≡ header_of bytes.now }
+{
+    Header {
+        words: LittleEndian::read_u32(bytes),
+        kind: bytes[4],
+        schema: bytes[5],
     }
 }

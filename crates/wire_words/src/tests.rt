@@ -126,8 +126,7 @@ fn is_as(value: &Value, wanted: &Wanted) -> bool {
     }
 }
 
-// The second and the third row are what a client sends that was recorded, with bytes of an earlier request behind the
-// codes.
+// The head of the second row is one that a real client sent, with bytes of an earlier request behind its code.
 #[test]
 fn tuples_are_read(rt: HostRuntime) -> Result<(), Fail> {
     let rows = [
@@ -169,7 +168,7 @@ fn tuples_are_read(rt: HostRuntime) -> Result<(), Fail> {
 fn faulty_tuples(rt: HostRuntime) {
     let rows = [
         (b"".as_slice(), WordFault::Short(0)),
-        (b"\x07\x02\x06\0\0\0\0\0", WordFault::Short(0)),
+        (b"\x08\x02\x06\0\0\0\0\0", WordFault::Short(0)),
         (b"\x02\x02\x06\0\0\0\0\0", WordFault::BadCode(0, 6)),
         (b"\x01\x02\0\0\0\0\0\0", WordFault::Float(0)),
         (b"\x01\x05\0\0\0\0\0\0\x01\0\0\0\0\0\0\0", WordFault::Pad(8)),
@@ -237,7 +236,7 @@ fn streams_are_cut(rt: HostRuntime) -> Result<(), Fail> {
     let mut splitter = Splitter::new(rt.alloc());
     let mut count = 0;
     for byte in stream {
-        count += splitter.feed(&[*byte])?.len();
+        count = splitter.feed(&[*byte])?.len().saturating_add(count);
     }
     assert_eq!(rt; count, 2);
     assert_eq!(rt; splitter.held(), 0);
@@ -313,25 +312,47 @@ fn texts_of_faults(rt: HostRuntime) -> Result<(), Fail> {
     Ok(())
 }
 
-// A blob and a message of a mebibyte, and a message that comes in pieces.
+fn sevens(alloc: Global) -> Result<Vec<u8>, AllocError> {
+    vec![in alloc; 7u8; 1_048_576]
+}
+
+// A blob of a mebibyte is written, and read out of a message that comes in pieces.
 #[test]
 fn calls_at_size(rt: HostRuntime) -> Result<(), Fail> {
-    let bytes = vec![in rt.alloc(); 7u8; 1_048_576]?;
+    let bytes = sevens(rt.alloc())?;
     let mut writer = Writer::new(rt.alloc());
     writer.header(3, 0)?;
     writer.blob(&bytes)?;
     let message = writer.finish_message()?;
     let mut splitter = Splitter::after_version(rt.alloc());
-    let mut count = 0;
+    let mut size = 0;
     for piece in message.as_slice().chunks(4_096) {
         for message in splitter.feed(piece)? {
-            count += 1;
-            assert_eq!(rt;
-                Words::new(message.body.as_slice()).blob(rt.alloc())?.len(),
-                1_048_576
-            );
+            size = Words::new(message.body.as_slice()).blob(rt.alloc())?.len();
         }
     }
-    assert_eq!(rt; count, 1);
+    assert_eq!(rt; size, 1_048_576);
+    Ok(())
+}
+
+#[test]
+fn single_values(rt: HostRuntime) -> Result<(), Fail> {
+    let mut writer = Writer::new(rt.alloc());
+    writer.value(&Value::Integer(-2))?;
+    writer.values(&[Value::Null])?;
+    writer.text("t")?;
+    writer.blob(b"b")?;
+    let bytes = writer.finish();
+    let mut words = Words::new(bytes.as_slice());
+    let value = words.value(rt.alloc(), Dialect::Exact, ValueType::Integer)?;
+    assert!(rt; is_as(&value, &Wanted::Integer(-2)));
+    assert!(rt; value.is_writable());
+    assert_eq!(rt; value.value_type(), ValueType::Integer);
+    let values = words.values(rt.alloc(), Dialect::Client, &[ValueType::Null])?;
+    assert_eq!(rt; values.len(), 1);
+    assert_eq!(rt; words.text_str(), Ok("t"));
+    assert_eq!(rt; words.blob_slice(), Ok(b"b".as_slice()));
+    assert_eq!(rt; ValueType::with_code(Dialect::Exact, 9), None);
+    assert_eq!(rt; ValueType::UnixTime.code(), 9);
     Ok(())
 }

@@ -4,7 +4,7 @@ ghost use Rattle.wire_words.specs.Stream.{Part, front, body_size, messages_in, v
 ghost use Rattle.wire_words.specs.Holding.{Holds, IsHead, IsOfStream, front_of, held_bytes, Leads};
 
 use crate::WireBytes;
-use crate::message::{Header, Message};
+use crate::message::{Header, Message, header_at};
 use crate::splitter::SplitFault;
 use byteorder::{ByteOrder, LittleEndian};
 use std::alloc::{AllocError, Global};
@@ -119,18 +119,6 @@ fn standing_at(limit: u32, bytes: &[u8]) -> Standing<'_>
     }
     let (body, rest) = behind.split_at(size);
     Standing::Whole(header, body, rest)
-}
-
-/// The header in the first eight bytes.
-fn header_at(bytes: &[u8]) -> Header
-    requires { 8 ≤ length bytes.now }
-    ensures { result ≡ header_of bytes.now }
-{
-    Header {
-        words: LittleEndian::read_u32(bytes),
-        kind: bytes[4],
-        schema: bytes[5],
-    }
 }
 
 /// Takes the whole messages off the front of bytes behind a version word, and pushes them.

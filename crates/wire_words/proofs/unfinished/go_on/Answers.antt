@@ -1,4 +1,4 @@
-use Rattle.std.proofs.Common.{◌≡◌, refl, sym, ap, subst, ◌∙◌, List, ℕ, arith}
+use Rattle.std.proofs.Common.{◌≡◌, refl, sym, ap, subst, ◌∙◌, ℕ, arith}
 use Rattle.wire_words.specs.Stream.{Stream, versioned}
 use Rattle.wire_words.specs.Holding.{Leads}
 use Rattle.wire_words.proofs.Leading.{short_piece, body_fits, whole_bytes, step_opening}

@@ -1,7 +1,5 @@
-use Rattle.std.proofs.Common.{sym, ap, ◌∙◌, List}
-use Rattle.wire_words.specs.declared.message.Message.{Message}
+use Rattle.std.proofs.Common.{◌∙◌}
 use Rattle.wire_words.specs.declared.splitter.SplitFault.TheVariants.{Version}
-use Rattle.wire_words.specs.Stream.{Stream, Broken}
 use Rattle.wire_words.proofs.Holding.{holds_nothing}
 use Rattle.wire_words.proofs.Leading.{other_version, broken_with}
 use Rattle.wire_words.proofs.unfinished.go_on_behind.Goals as goal

@@ -1,4 +1,4 @@
-use Rattle.std.proofs.Common.{◌≡◌, ◌<◌, ◌≤◌, ◌++◌, ◌*◌, ◌-◌, length, take, sym, ap, subst, ◌∙◌, List, ℕ, arith}
+use Rattle.std.proofs.Common.{◌<◌, ◌≤◌, ◌++◌, ◌*◌, ◌-◌, take, sym, ap, subst, ◌∙◌, List, ℕ, arith}
 use Rattle.std.proofs.lemmas.List.{length-append, take-append-drop, take_all}
 use Rattle.wire_words.specs.declared.message.Header.{Header}
 use Rattle.wire_words.specs.declared.splitter.SplitFault.TheVariants.{TooLong}

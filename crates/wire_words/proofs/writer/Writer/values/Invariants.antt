@@ -1,4 +1,4 @@
-use Rattle.std.proofs.Common.{◌≡◌, ◌++◌, ◌≤◌, length, take}
+use Rattle.std.proofs.Common.{◌≡◌, ◌++◌, take}
 use Rattle.wire_words.specs.Values.{values}
 use Rattle.wire_words.proofs.writer.Writer.values.Given as goal
 

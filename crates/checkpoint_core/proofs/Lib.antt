@@ -1,0 +1,11 @@
+pub mod Shown
+pub mod History
+pub mod SetLists
+pub mod SoundSets
+pub mod LaidSets
+pub mod LeastLengths
+pub mod FramesKept
+pub mod LaidBytes
+pub mod MarksSeen
+pub mod StoreKept
+pub mod ReadPages

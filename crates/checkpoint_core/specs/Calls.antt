@@ -1,0 +1,30 @@
+-- Any list of calls of a store, and what a live mark shows after it.
+use Rattle.std.specs.Prelude.{◌≡◌, ℕ, List, [], ◌∷◌, ◌++◌}
+use Rattle.dq_base.specs.declared.pages.NumberedPage.{NumberedPage}
+use Rattle.checkpoint_core.specs.Store.{Store, newest_image, image_under, committed, pinned, released, checkpointed}
+
+-- a call that was not refused: a commit of pages, a pin or a release of a mark, a checkpoint
+pub data Call : Type 0 where
+  Commit : List NumberedPage → Call
+  Pin : ℕ → Call
+  Release : ℕ → Call
+  Checkpoint : Call
+
+-- the store after one call
+abbrev pub after_call : Store → Call → Store
+after_call store (Commit pages) = committed store pages
+after_call store (Pin id) = pinned store id
+after_call store (Release id) = released store id
+after_call store Checkpoint = checkpointed store
+
+-- the store after calls in order
+abbrev pub run : Store → List Call → Store
+run store [] = store
+run store (call ∷ calls) = run (after_call store call) calls
+
+-- Among the calls is one that pinned the mark, and after all of them the mark shows the image that was newest then.
+pub record ShowsImagePinned (start : Store) (calls : List Call) (id : ℕ) : Type 0 where
+  pub before : List Call
+  pub later : List Call
+  pub split : calls ≡ before ++ (Pin id ∷ later)
+  pub shows : image_under (run start calls) id ≡ newest_image (run start before)

@@ -1,0 +1,183 @@
+ghost use Rattle.std.specs.Prelude.{◌≡◌, ◌≢◌, ℕ, ◌<◌, None, unwrap_or, IfOk, IfErr, OnOk, OnErr};
+ghost use Rattle.dq_base.specs.Images.{page_at};
+ghost use Rattle.dq_base.specs.Applying.{page_fault, IsRefusal};
+ghost use Rattle.read_marks.specs.Marks.{mark_at, live_count, least_mark};
+ghost use Rattle.read_marks.specs.declared.marks.MarkFault.TheVariants.{Full};
+ghost use Rattle.checkpoint_core.specs.Store.{fresh_store, newest, newest_image, IsLive, image_under, committed, pinned, released, checkpointed, pages_to_move, StillShows};
+
+use crate::files::{lay, make_room};
+use crate::frame_log::FrameLog;
+use crate::reading::{image_under, page_under};
+use crate::set_lengths::set_lengths;
+use dq_base::{Image, Page, PageFault, PageSet};
+use read_marks::{MarkFault, MarkId, Marks};
+use std::alloc::{AllocError, Global};
+use std::marker::Model;
+
+/// A database under readers. It has a base image and, over it, the pages of each later commit as frames. A reader pins a
+/// mark and sees the image that was newest then, whatever is committed or checkpointed later. A checkpoint moves frames
+/// into the base, up to the least live mark.
+///
+/// Contracts see it as the base, the list of page sets over it, the number of commits that are in the base, and a table
+/// of live marks, each with the number of sets that it sees.
+#[derive(Debug, Drop)]
+pub struct PageStore {
+    main: Vec<u8>,
+    side: Vec<u8>,
+    log: FrameLog,
+    marks: Marks,
+    newest: u64,
+    alloc: Global,
+}
+
+impl Model for PageStore {
+    ghost use Rattle.std.specs.Prelude.{vec_capacity};
+    ghost use Rattle.checkpoint_core.specs.Store.{Store};
+    ghost use Rattle.checkpoint_core.specs.Sets.{store_of};
+    ghost use Rattle.checkpoint_core.specs.Holding.{Holds};
+
+    ghost Value = { Store };
+
+    ghost view = { λ a. store_of (record { main = a.main.items; side = a.side.items }) a.log.pages a.newest a.marks };
+
+    ghost invariant = { λ a. Holds (vec_capacity a.main) (vec_capacity a.side) a.log.pages a.log.lengths a.newest a.marks };
+}
+
+impl PageStore {
+    /// A store over an image, before any commit. Takes no memory, and no byte is copied.
+    pub fn from_image(alloc: Global, image: Image) -> PageStore
+        ensures { result ≡ fresh_store image }
+    {
+        PageStore {
+            main: image.main.into_vec(),
+            side: image.side.into_vec(),
+            log: FrameLog::new(alloc),
+            marks: Marks::new(),
+            newest: 0,
+            alloc,
+        }
+    }
+
+    /// Adds the pages of a set as frames, and answers the number of commits so far. A set is refused as `dq_base::apply`
+    /// refuses it: by its first fault `NoSizes`, `Order` or `NotInLength`, and a set without a fault by `NoMemory` where
+    /// memory runs out or 2^64 commits would be passed. After every refusal the store is unchanged.
+    ///
+    /// It makes the room first that the base needs for the set's two lengths. It looks at the set's pages and costs a
+    /// look-up for each; now and then, as the frames or the base outgrow their room, they are moved.
+    pub fn commit(&mut self, set: &PageSet) -> Result<u64, PageFault>
+        ensures done { OnOk result (self.new ≡ committed self.old set.now.pages) }
+        ensures newest { IfOk result (λ mark. mark ≡ newest self.new) }
+        ensures sound { OnOk result (page_fault set.now.pages ≡ None) }
+        ensures refused { IfErr result (λ fault. IsRefusal fault (page_fault set.now.pages)) }
+        ensures kept { OnErr result (self.new ≡ self.old) }
+        ensures shown { (id : ℕ) → StillShows self.old self.new id }
+    {
+        let pages = set.pages.as_slice();
+        let lengths = set_lengths(pages)?;
+        let Some(newest) = self.newest.checked_add(1) else {
+            return Err(PageFault::NoMemory);
+        };
+        make_room(&mut self.main, lengths.main)?;
+        make_room(&mut self.side, lengths.side)?;
+        self.log.append(pages, lengths)?;
+        let _frames = self.log.len();
+        self.newest = newest;
+        Ok(newest)
+    }
+
+    /// How many commits there were. Constant cost; takes no memory.
+    pub fn newest(&self) -> u64
+        ensures { result ≡ newest self.now }
+    {
+        self.newest
+    }
+
+    /// Pins a mark that sees all commits so far. `Full(64)` exactly where 64 marks are live; the store is then unchanged.
+    /// Constant cost; takes no memory.
+    pub fn pin(&mut self) -> Result<MarkId, MarkFault>
+        ensures was_free { IfOk result (λ id. mark_at self.old.marks id ≡ None) }
+        ensures done { IfOk result (λ id. self.new ≡ pinned self.old id) }
+        ensures shows { IfOk result (λ id. IsLive self.new id × (image_under self.new id ≡ newest_image self.old)) }
+        ensures room { OnOk result (live_count self.old.marks < 64) }
+        ensures full { IfErr result (λ fault. fault ≡ Full 64) }
+        ensures all_live { OnErr result (live_count self.old.marks ≡ 64) }
+        ensures kept { OnErr result (self.new ≡ self.old) }
+        ensures shown { (id : ℕ) → StillShows self.old self.new id }
+    {
+        let count = self.log.len() as u64;
+        self.marks.pin(count)
+    }
+
+    /// Releases a mark that is live in this store; the id is spent. Constant cost; takes no memory.
+    pub fn release(&mut self, id: MarkId)
+        requires { IsLive self.old id }
+        ensures done { self.new ≡ released self.old id }
+        ensures shown { (other : ℕ) → other ≢ id → StillShows self.old self.new other }
+    {
+        self.marks.release(id);
+    }
+
+    /// The page of a number in the image that a live mark shows, a last page that its file only partly fills with zeros to
+    /// its end; `None` exactly where that image has no such page. Page 1 is the sizes page and always exists.
+    ///
+    /// Costs a look-up and the copy of one page; takes no memory.
+    pub fn page_under(&self, id: &MarkId, number: u64) -> Option<Page>
+        requires { IsLive self.now id.now }
+        ensures { result ≡ page_at (image_under self.now id.now) number }
+    {
+        let main = self.main.as_slice();
+        let side = self.side.as_slice();
+        let count = self.marks.at(id) as usize;
+        page_under(main, side, &self.log, count, number)
+    }
+
+    /// The image that a live mark shows. Copies the base, and lays the frames below the mark into the copy. `Err` is want
+    /// of memory.
+    pub fn image_at(&self, id: &MarkId) -> Result<Image, AllocError>
+        requires { IsLive self.now id.now }
+        ensures { IfOk result (λ image. image ≡ image_under self.now id.now) }
+    {
+        let main = self.main.as_slice();
+        let side = self.side.as_slice();
+        let count = self.marks.at(id) as usize;
+        image_under(self.alloc, main, side, &self.log, count)
+    }
+
+    /// The image with all commits. Copies the base, and lays all frames into the copy. `Err` is want of memory.
+    pub fn newest_image(&self) -> Result<Image, AllocError>
+        ensures { IfOk result (λ image. image ≡ newest_image self.now) }
+    {
+        let main = self.main.as_slice();
+        let side = self.side.as_slice();
+        let count = self.log.len();
+        image_under(self.alloc, main, side, &self.log, count)
+    }
+
+    /// Moves frames into the base: those up to the least live mark, or all where no mark is live. Answers how many moved,
+    /// which is the number of pages of the sets that moved. Every live mark shows what it showed before.
+    ///
+    /// Costs a look-up and the copy of a page for each frame that moves, and the bytes by which the files grow. The base
+    /// has the room already; takes no memory and can't fail.
+    pub fn checkpoint(&mut self) -> u64
+        ensures done { self.new ≡ checkpointed self.old }
+        ensures moved { result ≡ pages_to_move self.old }
+        ensures shown { (id : ℕ) → StillShows self.old self.new id }
+    {
+        let count = frames_to_move(&self.marks, self.log.len() as u64);
+        lay(&mut self.main, &self.log, count as usize, 0);
+        lay(&mut self.side, &self.log, count as usize, 1);
+        self.log.drop_first(count as usize);
+        self.marks.lower(count);
+        count
+    }
+}
+
+/// How many frames a checkpoint moves: those up to the least live mark, or all of so many where no mark is live.
+fn frames_to_move(marks: &Marks, frames: u64) -> u64
+    ensures { result ≡ unwrap_or (least_mark marks.now) frames }
+{
+    match marks.least() {
+        Some(least) => least,
+        None => frames,
+    }
+}

@@ -1,0 +1,74 @@
+-- Calls that are counted, of which one is to fail, and one is to stop the disk.
+use Rattle.std.specs.Prelude.{◌≡◌, ℕ, Bool, true, false, ◌||◌, ◌==◌, if◌then◌else◌, Option, Some, None, is_some, Result, Ok, Err}
+use Rattle.std.specs.declared.alloc.AllocError.{AllocError}
+use Rattle.dq_base.specs.Faults.{one_more}
+use Rattle.disk_model.specs.declared.faults.DiskFault.{DiskFault}
+use Rattle.disk_model.specs.declared.faults.DiskFault.TheVariants.{Failed, NoMemory}
+use Rattle.disk_model.specs.declared.armed.Stop.{Stop}
+use Rattle.disk_model.specs.declared.armed.Armed.{Armed}
+use Rattle.disk_model.specs.declared.armed.Turn.{Turn}
+use Rattle.disk_model.specs.declared.armed.Turn.TheVariants.{Goes, Stops}
+
+-- the pick of a stop, where it comes at this call
+abbrev pub pick_at : Option Stop → ℕ → Option ℕ
+pick_at None call = None
+pick_at (Some stop) call = if stop.call == call then Some stop.pick else None
+
+-- whether a number is this one
+abbrev pub is_number : Option ℕ → ℕ → Bool
+is_number None call = false
+is_number (Some number) call = number == call
+
+-- whether the disk is stopped after its next call: it was, or that call is the stop
+abbrev pub stopped_next : Armed → Option ℕ
+stopped_next a = if is_some a.stopped then a.stopped else pick_at a.stop (one_more a.made)
+
+-- whether the next call does nothing: the disk is stopped, or that call is to fail
+abbrev pub is_idle_next : Armed → Bool
+is_idle_next a = is_some a.stopped || is_number a.fail (one_more a.made)
+
+-- whether the next call answers Failed: the disk is then stopped, or that call is to fail
+abbrev pub fails_next : Armed → Bool
+fails_next a = is_some (stopped_next a) || is_number a.fail (one_more a.made)
+
+-- What a call made of the counts: one more call, maybe a stop, and a fault at most where the call was to answer Failed.
+pub record Counted (old new : Armed) : Type 0 where
+  pub made : new.made ≡ one_more old.made
+  pub stop : new.stop ≡ old.stop
+  pub fail : new.fail ≡ old.fail
+  pub stopped : new.stopped ≡ stopped_next old
+  pub faults : fails_next old ≡ false → new.faults ≡ old.faults
+
+-- how the call goes on
+abbrev pub IsTurn : Bool → Turn → Type 0
+IsTurn fails Goes = fails ≡ false
+IsTurn fails Stops = fails ≡ true
+
+-- the answer of a call that went on and did its part: the stop fails
+abbrev pub finished : Turn → Result Unit AllocError → Result Unit DiskFault
+finished turn (Err e) = Err NoMemory
+finished Goes (Ok x) = Ok x
+finished Stops (Ok x) = Err Failed
+
+-- the counts after it: the stop is a fault
+abbrev pub with_end : Turn → Result Unit AllocError → Armed → Armed
+with_end turn (Err e) a = a
+with_end Goes (Ok x) a = a
+with_end Stops (Ok x) a = record a { faults = one_more a.faults }
+
+-- the calls are counted anew, and these are to stop and to fail; a stop that came stands
+abbrev pub armed_with : Option Stop → Option ℕ → Armed → Armed
+armed_with stop fail a = record { made = 0; faults = a.faults; stop = stop; fail = fail; stopped = a.stopped }
+
+-- nothing is to stop or to fail
+abbrev pub disarmed : Armed → Armed
+disarmed a = record { made = 0; faults = a.faults; stop = None; fail = None; stopped = None }
+
+-- before the first call
+abbrev pub unarmed : Armed
+unarmed = record { made = 0; faults = 0; stop = None; fail = None; stopped = None }
+
+-- a pick of its own, or else another one
+abbrev pub picked : Option ℕ → ℕ → ℕ
+picked None pick = pick
+picked (Some own) pick = own

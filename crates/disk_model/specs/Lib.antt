@@ -1,0 +1,14 @@
+pub mod Disk
+pub mod Calls
+pub mod Rest
+pub mod Genuine
+pub mod SyncAll
+pub mod Writing
+pub mod Trait
+pub mod Memory
+pub mod Holds
+pub mod Folder
+pub mod Stored
+pub mod Armed
+pub mod Untold
+pub mod Spelled

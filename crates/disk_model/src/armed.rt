@@ -1,0 +1,172 @@
+ghost use Rattle.std.specs.Prelude.{◌≡◌, ◌≤◌, false, is_some, if◌then◌else◌, IfOk, OnOk};
+ghost use Rattle.dq_base.specs.Faults.{one_more};
+ghost use Rattle.disk_model.specs.Trait.{HasCause};
+ghost use Rattle.disk_model.specs.Armed.{pick_at, is_number, fails_next, Counted, IsTurn, finished, with_end, unarmed, armed_with, disarmed, picked};
+
+use crate::faults::DiskFault;
+use std::alloc::AllocError;
+
+/// Where a disk over memory stops: at a call, by its number from 1, with the pick of the outcome.
+#[derive(Clone, Copy, Debug, PartialEq, Eq)]
+pub struct Stop {
+    pub call: u64,
+    pub pick: u64,
+}
+
+/// Calls that are counted, of which one may be told to fail and one to stop the disk. Both counts stay at
+/// 18,446,744,073,709,551,615.
+#[derive(Clone, Copy, Debug)]
+pub struct Armed {
+    pub(crate) made: u64,
+    pub(crate) faults: u64,
+    pub(crate) stop: Option<Stop>,
+    pub(crate) fail: Option<u64>,
+    pub(crate) stopped: Option<u64>,
+}
+
+/// How a call goes on that doesn't fail at once.
+#[derive(Clone, Copy, Debug)]
+pub enum Turn {
+    Goes,
+    /// The disk stops in this call.
+    Stops,
+}
+
+fn pick_at(stop: Option<Stop>, call: u64) -> Option<u64>
+    ensures { result ≡ pick_at stop call }
+{
+    match stop {
+        Some(stop) => {
+            if stop.call == call {
+                Some(stop.pick)
+            } else {
+                None
+            }
+        }
+        None => None,
+    }
+}
+
+fn stopped_at(stopped: Option<u64>, stop: Option<Stop>, call: u64) -> Option<u64>
+    ensures { result ≡ (if is_some stopped then stopped else pick_at stop call) }
+{
+    if stopped.is_some() {
+        return stopped;
+    }
+    pick_at(stop, call)
+}
+
+fn is_number(number: Option<u64>, call: u64) -> bool
+    ensures { result ≡ is_number number call }
+{
+    match number {
+        Some(number) => number == call,
+        None => false,
+    }
+}
+
+impl Armed {
+    /// Before the first call, with nothing that is to stop or to fail.
+    pub(crate) fn unarmed() -> Armed
+        ensures { result ≡ unarmed }
+    {
+        Armed {
+            made: 0,
+            faults: 0,
+            stop: None,
+            fail: None,
+            stopped: None,
+        }
+    }
+
+    /// Counts the calls anew, of which these are to stop and to fail. A stop that came stands.
+    pub(crate) fn arm(&mut self, stop: Option<Stop>, fail: Option<u64>)
+        ensures { self.new ≡ armed_with stop fail self.old }
+    {
+        self.made = 0;
+        self.stop = stop;
+        self.fail = fail;
+    }
+
+    /// Nothing is to stop or to fail.
+    pub(crate) fn disarm(&mut self)
+        ensures { self.new ≡ disarmed self.old }
+    {
+        self.made = 0;
+        self.stop = None;
+        self.fail = None;
+        self.stopped = None;
+    }
+
+    /// The pick of a crash: that of the stop, where one came, else the one that is given.
+    pub(crate) fn pick_of(&self, pick: u64) -> u64
+        ensures { result ≡ picked self.now.stopped pick }
+    {
+        match self.stopped {
+            Some(own) => own,
+            None => pick,
+        }
+    }
+
+    /// Counts a fault.
+    pub(crate) fn fault(&mut self) -> DiskFault
+        ensures fault { result ≡ DiskFault.Failed }
+        ensures count { self.new ≡ record self.old { faults = one_more self.old.faults } }
+        ensures never_falls { self.old.faults ≤ self.new.faults }
+    {
+        self.faults = self.faults.saturating_add(1);
+        DiskFault::Failed
+    }
+
+    /// Starts the next call. It fails at once where the disk is stopped or the call is to fail; else the call goes on,
+    /// and the disk stops in it or not.
+    #[tactic(auto, using(crate::proofs::Counts::caused, crate::proofs::Counts::spared))]
+    pub(crate) fn start(&mut self) -> Result<Turn, DiskFault>
+        ensures counted { Counted self.old self.new }
+        ensures turn { IfOk result (IsTurn (fails_next self.old)) }
+        ensures cause { HasCause self.old.faults self.new.faults result }
+    {
+        let was_stopped = self.stopped.is_some();
+        self.made = self.made.saturating_add(1);
+        self.stopped = stopped_at(self.stopped, self.stop, self.made);
+        if was_stopped || is_number(self.fail, self.made) {
+            return Err(self.fault());
+        }
+        if self.stopped.is_some() {
+            return Ok(Turn::Stops);
+        }
+        Ok(Turn::Goes)
+    }
+
+    /// Ends a call that went on, where this came of it.
+    pub(crate) fn finish(
+        &mut self,
+        turn: Turn,
+        done: Result<(), AllocError>,
+    ) -> Result<(), DiskFault>
+        ensures answer { result ≡ finished turn done }
+        ensures count { self.new ≡ with_end turn done self.old }
+        ensures never_falls { self.old.faults ≤ self.new.faults }
+    {
+        match done {
+            Err(_) => Err(DiskFault::NoMemory),
+            Ok(()) => match turn {
+                Turn::Goes => Ok(()),
+                Turn::Stops => Err(self.fault()),
+            },
+        }
+    }
+
+    /// Starts the next call, which is not done where the disk stops in it.
+    #[tactic(auto, using(crate::proofs::Counts::caused, crate::proofs::Counts::counted_more))]
+    pub(crate) fn start_whole(&mut self) -> Result<(), DiskFault>
+        ensures counted { Counted self.old self.new }
+        ensures goes { OnOk result (fails_next self.old ≡ false) }
+        ensures cause { HasCause self.old.faults self.new.faults result }
+    {
+        match self.start()? {
+            Turn::Goes => Ok(()),
+            Turn::Stops => Err(self.fault()),
+        }
+    }
+}

@@ -1,0 +1,23 @@
+//! A disk that may fail at any call and crash at any moment: what its calls mean, one over memory that stops and fails
+//! where it is told to, and one over the files of the working folder.
+#![tactic(auto)]
+
+mod armed;
+mod directory;
+mod disk;
+mod faults;
+mod folder;
+mod memory;
+mod open_calls;
+mod replacing;
+mod storage;
+mod stored;
+#[cfg(test)]
+mod tests;
+
+pub use armed::Stop;
+pub use directory::DirDisk;
+pub use disk::Disk;
+pub use faults::DiskFault;
+pub use memory::MemDisk;
+pub use replacing::replace;

@@ -1,0 +1,25 @@
+use dq_base::{Bytes, Name};
+
+/// What a call that no sync covers yet did to its file, as far as a crash may still drop it.
+#[derive(Debug, Drop)]
+pub enum Effect {
+    /// The first write of a name, from the file's start on: a crash may drop the bytes and the name.
+    Creation { bytes: Bytes },
+    /// The first write of a name, whose bytes are synced: a crash may drop the name alone.
+    Naming,
+    /// A write to a file whose name isn't new.
+    Write { at: u64, bytes: Bytes },
+    /// A cut to a length.
+    Truncation { length: u64 },
+    /// The removal of the file.
+    Removal,
+    /// A write or a cut of a file that is gone for sure. It can't be seen any more, and is still counted.
+    Nothing,
+}
+
+/// A call that no sync covers yet: its file, and what it did.
+#[derive(Debug, Drop)]
+pub struct Uncovered {
+    pub(crate) name: Name,
+    pub(crate) effect: Effect,
+}

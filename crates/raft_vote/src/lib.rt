@@ -1,0 +1,36 @@
+//! The messages of Raft between nodes, with their bytes, configurations with theirs, and the votes of one node.
+#![tactic(auto)]
+
+mod configuration;
+mod entries;
+mod entry;
+mod fault;
+mod items;
+mod kind;
+mod laws;
+mod message;
+mod range;
+mod reading;
+mod server;
+mod servers_fault;
+mod votes;
+mod writing;
+
+pub use configuration::{read_servers, write_servers};
+pub use entries::{
+    EntryHead, read_entry_contents, read_entry_heads, write_entry_contents, write_entry_heads,
+};
+pub use entry::{Entries, Entry, EntryKind, LogEnd};
+pub use fault::PeerFault;
+pub use laws::{
+    configurations_read_back, messages_read_back, messages_stand_apart, out_of_range_is_refused,
+};
+pub use message::{RaftMessage, Snapshot, What};
+pub use reading::read_message;
+pub use server::{Server, ServerRole, Servers};
+pub use servers_fault::ServersFault;
+pub use votes::VoteCore;
+pub use writing::write_message;
+
+#[cfg(test)]
+mod tests;

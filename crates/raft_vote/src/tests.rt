@@ -1,0 +1,212 @@
+use super::*;
+use std::alloc::{AllocError, Global};
+use std::test::*;
+use wire_words::{Message, WireBytes, WordFault};
+
+// The bytes of these words.
+fn bytes(alloc: Global, words: &[u64]) -> Result<Vec<u8>, AllocError> {
+    let mut bytes = Vec::new(alloc);
+    for word in words {
+        bytes.extend_from_slice(&word.to_le_bytes())?;
+    }
+    Ok(bytes)
+}
+
+fn message(alloc: Global, kind: u8, schema: u8, words: &[u64]) -> Result<Message, AllocError> {
+    let body = WireBytes::new(bytes(alloc, words)?);
+    Ok(Message { kind, schema, body })
+}
+
+// What is written of the message that was read of this type and this body.
+fn written(alloc: Global, kind: u8, words: &[u64]) -> Result<WireBytes, Fail> {
+    let message = message(alloc, kind, 0, words)?;
+    let read = read_message(alloc, &message, 2)?;
+    Ok(write_message(alloc, &read)?)
+}
+
+// Whether it is the header and that body.
+fn reads_back(alloc: Global, kind: u8, header: u64, words: &[u64]) -> Result<bool, Fail> {
+    let mut wanted = bytes(alloc, &[header])?;
+    for word in words {
+        wanted.extend_from_slice(&word.to_le_bytes())?;
+    }
+    let written = written(alloc, kind, words)?;
+    Ok(written.as_slice() == wanted.as_slice())
+}
+
+#[test]
+fn messages_both_ways(rt: HostRuntime) -> Result<(), Fail> {
+    let rows = [
+        (1, 0x1_0000_0004, [1, 4, 3, 2].as_slice()),
+        (2, 0x2_0000_0003, &[1, 4, 1]),
+        (
+            3,
+            0x3_0000_0009,
+            &[1, 4, 3, 2, 1, 1, 4, 0x3_0000_0001, 0x63_6261],
+        ),
+        (4, 0x4_0000_0004, &[1, 4, 0, 7]),
+        (5, 0x5_0000_0006, &[1, 4, 5, 2, 2, 0x6968]),
+        (6, 0x6_0000_0002, &[1, 4]),
+    ];
+    for (kind, header, body) in rows {
+        assert!(rt; reads_back(rt.alloc(), kind, header, body)?);
+    }
+    Ok(())
+}
+
+fn fault(
+    alloc: Global,
+    kind: u8,
+    schema: u8,
+    words: &[u64],
+) -> Result<Option<PeerFault>, AllocError> {
+    let message = message(alloc, kind, schema, words)?;
+    Ok(read_message(alloc, &message, 2).err())
+}
+
+#[test]
+fn faults_of_messages(rt: HostRuntime) -> Result<(), Fail> {
+    let rows = [
+        (7, 0, [].as_slice(), PeerFault::Kind),
+        (2, 1, &[1, 4, 1], PeerFault::Kind),
+        (2, 0, &[1, 4], PeerFault::Word(WordFault::Short(16))),
+        (2, 0, &[1, 4, 2, 0], PeerFault::Range),
+        (6, 0, &[1, 0x1_0000_0000], PeerFault::Range),
+        (6, 0, &[1, 4, 0], PeerFault::Tail),
+        (
+            3,
+            0,
+            &[1, 4, 0, 0, 0, 1, 1, 0x104],
+            PeerFault::Word(WordFault::BadCode(56, 4)),
+        ),
+        (
+            3,
+            0,
+            &[1, 4, 0, 0, 0, 1, 1, 0x101],
+            PeerFault::Word(WordFault::Pad(56)),
+        ),
+    ];
+    for (kind, schema, body, wanted) in rows {
+        assert_eq!(rt; fault(rt.alloc(), kind, schema, body)?, Some(wanted));
+    }
+    Ok(())
+}
+
+const N1: u64 = 0x316e;
+
+// The place after the servers with which the bytes begin, where these are written again as the bytes up to there.
+fn place_after(alloc: Global, spelled: &[u64], behind: u64) -> Result<Option<u64>, Fail> {
+    let wanted = bytes(alloc, spelled)?;
+    let mut longer = bytes(alloc, spelled)?;
+    longer.extend_from_slice(&behind.to_le_bytes())?;
+    let (servers, place) = read_servers(alloc, &longer)?;
+    let written = write_servers(alloc, servers.as_slice())?;
+    let same = written.as_slice() == wanted.as_slice();
+    Ok(if same { Some(place) } else { None })
+}
+
+#[test]
+fn configurations_both_ways(rt: HostRuntime) -> Result<(), Fail> {
+    let rows = [([0].as_slice(), 8), (&[2, 1, N1, 0, 3, N1, 1], 56)];
+    for (spelled, place) in rows {
+        assert_eq!(rt; place_after(rt.alloc(), spelled, 9)?, Some(place));
+    }
+    Ok(())
+}
+
+fn servers_fault(alloc: Global, words: &[u64]) -> Result<Option<ServersFault>, AllocError> {
+    let bytes = bytes(alloc, words)?;
+    Ok(read_servers(alloc, &bytes).err())
+}
+
+// The fault of so many servers of this role.
+fn fault_of_many(alloc: Global, count: u64, role: u64) -> Result<Option<ServersFault>, AllocError> {
+    let mut words = vec![in alloc; count]?;
+    for id in 1..=count {
+        words.extend_from_slice(&[id, N1, role])?;
+    }
+    servers_fault(alloc, &words)
+}
+
+#[test]
+fn faults_of_configurations(rt: HostRuntime) -> Result<(), Fail> {
+    let rows = [
+        ([].as_slice(), ServersFault::Word(WordFault::Short(0))),
+        (&[1, 0, N1, 3], ServersFault::Order(8)),
+        (&[1, 1, N1, 3], ServersFault::Role(24)),
+    ];
+    for (words, wanted) in rows {
+        assert_eq!(rt; servers_fault(rt.alloc(), words)?, Some(wanted));
+    }
+    for (count, role, place) in [(10, 1, 224), (8, 0, 176)] {
+        let wanted = Some(ServersFault::Limit(place));
+        assert_eq!(rt; fault_of_many(rt.alloc(), count, role)?, wanted);
+    }
+    Ok(())
+}
+
+// Whether a fresh node votes for each of two candidates of one term that ask it in turn.
+fn two_candidates() -> (bool, bool) {
+    let empty = LogEnd { index: 0, term: 0 };
+    let mut votes = VoteCore::new(3, 0, 0);
+    let first = votes.on_request(1, 1, empty, empty);
+    let second = votes.on_request(2, 1, empty, empty);
+    (first, second)
+}
+
+// Whether a node of a term stands for election, and its term then.
+fn timeout_at(term: u64) -> (bool, u64) {
+    let mut votes = VoteCore::new(1, term, 2);
+    let stands = votes.on_timeout();
+    (stands, votes.term())
+}
+
+// Two candidates of one term: the first one that asks has the vote.
+#[test]
+fn one_vote_a_term(rt: HostRuntime) -> Result<(), Fail> {
+    assert_eq!(rt; two_candidates(), (true, false));
+    assert_eq!(rt; timeout_at(4_294_967_294), (true, 4_294_967_295));
+    assert_eq!(rt; timeout_at(4_294_967_295), (false, 4_294_967_295));
+    Ok(())
+}
+
+#[test]
+fn texts_of_faults(rt: HostRuntime) -> Result<(), Fail> {
+    let word = WordFault::Short(8);
+    let rows = [
+        (PeerFault::Kind, "no message of a peer has this type"),
+        (
+            PeerFault::Word(word),
+            "the message is malformed: the body ends within the item at byte 8",
+        ),
+        (
+            PeerFault::Range,
+            "a number of the message is out of its range",
+        ),
+        (PeerFault::Tail, "bytes follow the message"),
+        (PeerFault::NoMemory, "out of memory"),
+    ];
+    for (fault, wanted) in rows {
+        assert_eq!(rt; format!(in rt.alloc(); "{fault}")?.as_str(), wanted);
+    }
+    let rows = [
+        (
+            ServersFault::Word(word),
+            "the configuration is malformed: the body ends within the item at byte 8",
+        ),
+        (
+            ServersFault::Order(8),
+            "the server at byte 8 is out of order",
+        ),
+        (ServersFault::Role(24), "no role has the number at byte 24"),
+        (
+            ServersFault::Limit(8),
+            "the server at byte 8 is past a limit",
+        ),
+        (ServersFault::NoMemory, "out of memory"),
+    ];
+    for (fault, wanted) in rows {
+        assert_eq!(rt; format!(in rt.alloc(); "{fault}")?.as_str(), wanted);
+    }
+    Ok(())
+}

@@ -1,0 +1,3 @@
+pub mod MarkTables
+pub mod PairOrder
+pub mod PlacesKept

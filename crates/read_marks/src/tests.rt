@@ -1,0 +1,49 @@
+use super::*;
+use std::alloc::Global;
+use std::test::Fail;
+
+fn pin_each(marks: &mut Marks, count: u64) -> Option<MarkId> {
+    let mut last = None;
+    for mark in 0..count {
+        last = marks.pin(mark).ok();
+    }
+    last
+}
+
+#[test]
+fn the_65th_live_mark_is_full(rt: HostRuntime) -> Result<(), Fail> {
+    let mut marks = Marks::new();
+    assert!(rt; marks.least().is_none());
+    let last = pin_each(&mut marks, 64);
+    assert!(rt; last.is_some());
+    assert_eq!(rt; marks.least(), Some(0));
+    let full = marks.pin(9).map(|_| 0).err();
+    assert_eq!(rt; full, Some(MarkFault::Full(64)));
+    assert_eq!(rt;
+        MarkFault::Full(64).to_string(rt.alloc())?.as_str(),
+        "all 64 read marks are live"
+    );
+    Ok(())
+}
+
+fn frames(alloc: Global) -> Result<FrameIndex, Fail> {
+    let mut index = FrameIndex::new(alloc);
+    for number in [2, 3, 1, 2, 1] {
+        index.push(number)?;
+    }
+    Ok(index)
+}
+
+#[test]
+fn the_last_frame_of_a_page_below_a_mark(rt: HostRuntime) -> Result<(), Fail> {
+    let mut index = frames(rt.alloc())?;
+    assert_eq!(rt; index.last_at(2, 5), Some(4));
+    assert_eq!(rt; index.last_at(2, 3), Some(1));
+    assert_eq!(rt; index.last_at(9, 5), None);
+    index.drop_first(3);
+    assert_eq!(rt; index.last_at(2, 5), Some(1));
+    index.truncate(1);
+    assert_eq!(rt; index.last_at(1, 5), None);
+    assert_eq!(rt; index.len(), 1);
+    Ok(())
+}

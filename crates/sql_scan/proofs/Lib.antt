@@ -1,0 +1,17 @@
+pub mod Runs
+pub mod Closing
+pub mod Names
+pub mod Numbers
+pub mod Scanning
+pub mod ByteCases
+pub mod ReadBack
+pub mod TokenBack
+pub mod Drafts
+pub mod Spelled
+pub mod SpelledTokens
+pub mod Cutting
+pub mod Boundaries
+pub mod Standing
+pub mod Public
+pub mod KindLaw
+pub mod SentenceLaw

@@ -1,0 +1,10 @@
+use crate::heading::Heading;
+
+/// A statement as far as it was read.
+#[derive(Clone, Copy, Debug, PartialEq, Eq)]
+pub struct Draft {
+    pub start: u64,
+    pub end: u64,
+    pub params: u64,
+    pub heading: Heading,
+}

@@ -1,0 +1,4 @@
+pub mod Checking
+pub mod Places
+pub mod Lawfully
+pub mod Written

@@ -1,0 +1,109 @@
+ghost use Rattle.std.specs.Prelude.{◌≡◌, ◌≤◌, ◌==◌, ◌++◌, true, false, length, take, drop, IfOk, MatchOption};
+ghost use Rattle.store_format.specs.Snapshots.{fills, head_fits, is_snapshot, size_in, summed, snap_of, snap_of_found, snapshot_bytes};
+
+use crate::sums::{have_sum, sum8_of_both};
+use crate::words::{front, is_known, word_from};
+use std::alloc::{AllocError, Global};
+use wire_words::{Words, Writer};
+
+/// What the file of a snapshot says. The bytes are borrowed from the file.
+#[derive(Clone, Copy, Debug, PartialEq, Eq)]
+pub struct SnapshotFile<'a> {
+    /// The index of the last entry that it stands for, at least 1.
+    pub index: u64,
+    /// The term of that entry.
+    pub term: u64,
+    /// The state.
+    pub bytes: &'a [u8],
+}
+
+#[tactic(auto, unfolding(crate::specs::Snapshots::head_fits))]
+fn head_fits(number: u64, bytes: &[u8]) -> bool
+    ensures fits { result ≡ head_fits number bytes.now }
+    ensures long { result ≡ true → 40 ≤ length bytes.now }
+{
+    if bytes.len() < 40 || number == 0 {
+        return false;
+    }
+    is_known(word_from(bytes, 0)) && word_from(bytes, 8) == number
+}
+
+// So many bytes, where they and zeros to a whole word are all that there is.
+#[tactic(auto, unfolding(wire_words::specs::Reading::raw_at))]
+fn content(body: &[u8], size: u64) -> Option<&[u8]>
+    ensures { MatchOption result (fills size body.now ≡ false) (λ content. (fills size body.now ≡ true) × (content.now ≡ take size body.now)) }
+{
+    let mut words = Words::new(body);
+    let Ok(content) = words.raw_slice(size) else {
+        return None;
+    };
+    if words.left() == 0 {
+        Some(content)
+    } else {
+        None
+    }
+}
+
+// The numbers behind the format, the sum, and what follows.
+#[tactic(auto, using(crate::proofs::Places::behind_numbers))]
+fn parts(bytes: &[u8]) -> (&[u8], &[u8], &[u8])
+    requires { 40 ≤ length bytes.now }
+    ensures numbers { result.0.now ≡ take 24 (drop 8 bytes.now) }
+    ensures sum { result.1.now ≡ take 8 (drop 32 bytes.now) }
+    ensures body { result.2.now ≡ drop 40 bytes.now }
+{
+    let (_, behind) = bytes.split_at(8);
+    let (numbers, behind) = behind.split_at(24);
+    let (sum, body) = behind.split_at(8);
+    (numbers, sum, body)
+}
+
+// What stands behind a fitting head, where the rest of the file fits too.
+#[tactic(auto, unfolding(crate::specs::Snapshots::is_snapshot))]
+fn whole_content(number: u64, bytes: &[u8]) -> Option<&[u8]>
+    requires long { 40 ≤ length bytes.now }
+    requires head { head_fits number bytes.now ≡ true }
+    ensures { MatchOption result (is_snapshot number bytes.now ≡ false) (λ content. (is_snapshot number bytes.now ≡ true) × (content.now ≡ take (size_in bytes.now) (drop 40 bytes.now))) }
+{
+    let (numbers, sum, body) = parts(bytes);
+    let content = content(body, word_from(bytes, 24))?;
+    let fits = have_sum(word_from(bytes, 0), numbers, content, sum);
+    if fits { Some(content) } else { None }
+}
+
+/// What the bytes of the file of this number say. The file is whole with format 1 or 2, the number as its index, its
+/// size in bytes, zeros behind them to a whole word and nothing more, and a matching sum of index, term, size and bytes.
+/// Takes no memory.
+#[tactic(auto, unfolding(crate::specs::Snapshots::snap_of, crate::specs::Snapshots::is_snapshot))]
+pub fn read_snapshot(number: u64, bytes: &[u8]) -> Option<SnapshotFile<'_>>
+    ensures { snap_of_found result ≡ snap_of number bytes.now }
+{
+    if !head_fits(number, bytes) {
+        return None;
+    }
+    let content = whole_content(number, bytes)?;
+    Some(SnapshotFile {
+        index: number,
+        term: word_from(bytes, 16),
+        bytes: content,
+    })
+}
+
+/// The file of a snapshot, in format 2: the bytes are copied once. `Err` is want of memory.
+pub fn snapshot_bytes(
+    alloc: Global,
+    index: u64,
+    term: u64,
+    bytes: &[u8],
+) -> Result<Vec<u8>, AllocError>
+    ensures { IfOk result (λ file. file.items ≡ snapshot_bytes index term bytes.now) }
+{
+    let head = front(alloc, index, term, bytes.len() as u64)?;
+    let (_, numbers) = head.as_slice().split_at(8);
+    let sum = sum8_of_both(numbers, bytes);
+    let mut out = Writer::new(alloc);
+    out.raw(head.as_slice())?;
+    out.raw(&sum)?;
+    out.raw(bytes)?;
+    Ok(out.finish().into_vec())
+}

@@ -1,0 +1,127 @@
+use crate::{Metadata, crc32, metadata_bytes, read_metadata, read_snapshot, snapshot_bytes, sum8};
+use std::alloc::{AllocError, Global};
+use std::test::Fail;
+use wire_words::Writer;
+
+// The sums and the blocks were computed with Python's zlib and hashlib.
+
+/// These words as bytes.
+fn file_of(alloc: Global, words: &[u64]) -> Result<Vec<u8>, AllocError> {
+    let mut out = Writer::new(alloc);
+    for word in words {
+        out.word(*word)?;
+    }
+    Ok(out.finish().into_vec())
+}
+
+/// What the first or the second metadata file says with these words.
+fn metadata_of(alloc: Global, words: &[u64], first: bool) -> Result<Option<Metadata>, AllocError> {
+    let file = file_of(alloc, words)?;
+    Ok(read_metadata(first, file.as_slice()))
+}
+
+/// The term and the first byte of the snapshot in the file with these words and this number.
+fn snapshot_of(
+    alloc: Global,
+    words: &[u64],
+    number: u64,
+) -> Result<Option<(u64, usize)>, AllocError> {
+    let file = file_of(alloc, words)?;
+    let Some(found) = read_snapshot(number, file.as_slice()) else {
+        return Ok(None);
+    };
+    Ok(Some((found.term, found.bytes.len())))
+}
+
+/// How many fronts of the file, it left out, read as metadata of the first file or as snapshot 7.
+fn fronts_that_read(alloc: Global, words: &[u64]) -> Result<u64, AllocError> {
+    let file = file_of(alloc, words)?;
+    let bytes = file.as_slice();
+    let mut count: u64 = 0;
+    for end in 0..bytes.len() {
+        let front = &bytes[..end];
+        if read_metadata(true, front).is_some() || read_snapshot(7, front).is_some() {
+            count = count.saturating_add(1);
+        }
+    }
+    Ok(count)
+}
+
+/// Whether metadata of version 6, and snapshot 7, are written as these words.
+fn are_written(alloc: Global, block: &[u64], file: &[u64]) -> Result<bool, AllocError> {
+    let metadata = Metadata {
+        version: 6,
+        term: 4,
+        vote: 0,
+    };
+    let written = metadata_bytes(alloc, &metadata)?;
+    let snapshot = snapshot_bytes(alloc, 7, 2, b"abc")?;
+    let wanted = file_of(alloc, block)?;
+    let wanted_snapshot = file_of(alloc, file)?;
+    Ok(written.as_slice() == wanted.as_slice() && snapshot.as_slice() == wanted_snapshot.as_slice())
+}
+
+const OLD_BLOCK: [u64; 5] = [1, 5, 3, 2, 0x6b1e_18f0];
+
+const NEW_BLOCK: [u64; 5] = [2, 6, 4, 0, 0x6288_889d_b51e_9f74];
+
+const OLD_SNAPSHOT: [u64; 6] = [1, 7, 2, 3, 0xef9c_ec15, 0x63_6261];
+
+const NEW_SNAPSHOT: [u64; 6] = [2, 7, 2, 3, 0x3ae4_e4b9_690a_1622, 0x63_6261];
+
+#[test]
+fn sums_are_the_public_ones(rt: HostRuntime) {
+    assert_eq!(rt; crc32(b"123456789"), 0xcbf4_3926);
+    let empty = [0xe3, 0xb0, 0xc4, 0x42, 0x98, 0xfc, 0x1c, 0x14];
+    let abc = [0xba, 0x78, 0x16, 0xbf, 0x8f, 0x01, 0xcf, 0xea];
+    for (bytes, sum) in [(b"".as_slice(), empty), (b"abc".as_slice(), abc)] {
+        assert_eq!(rt; sum8(bytes), sum);
+    }
+}
+
+#[test]
+fn metadata_has_its_parity_and_sum(rt: HostRuntime) -> Result<(), Fail> {
+    let mut bad_sum = NEW_BLOCK;
+    bad_sum[4] = 0;
+    let mut bad_format = OLD_BLOCK;
+    bad_format[0] = 3;
+    for (words, first, version) in [
+        (OLD_BLOCK, true, Some(5)),
+        (OLD_BLOCK, false, None),
+        (NEW_BLOCK, false, Some(6)),
+        (NEW_BLOCK, true, None),
+        (bad_sum, false, None),
+        (bad_format, true, None),
+    ] {
+        let found = metadata_of(rt.alloc(), &words, first)?;
+        assert_eq!(rt; found.map(|found| found.version), version);
+    }
+    Ok(())
+}
+
+#[test]
+fn snapshots_are_whole(rt: HostRuntime) -> Result<(), Fail> {
+    let mut bad_padding = NEW_SNAPSHOT;
+    bad_padding[5] = 0x100_0000_0063_6261;
+    let mut bad_bytes = OLD_SNAPSHOT;
+    bad_bytes[5] = 0x63_6262;
+    for (words, number, found) in [
+        (OLD_SNAPSHOT, 7, Some((2, 3))),
+        (NEW_SNAPSHOT, 7, Some((2, 3))),
+        (NEW_SNAPSHOT, 8, None),
+        (bad_padding, 7, None),
+        (bad_bytes, 7, None),
+    ] {
+        assert_eq!(rt; snapshot_of(rt.alloc(), &words, number)?, found);
+    }
+    Ok(())
+}
+
+#[test]
+fn no_front_reads_and_format_2_is_written(rt: HostRuntime) -> Result<(), Fail> {
+    for words in [&OLD_BLOCK[..], &OLD_SNAPSHOT[..], &NEW_SNAPSHOT[..]] {
+        assert_eq!(rt; fronts_that_read(rt.alloc(), words)?, 0);
+    }
+    assert!(rt; are_written(rt.alloc(), &NEW_BLOCK, &NEW_SNAPSHOT)?);
+    Ok(())
+}

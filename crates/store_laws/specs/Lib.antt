@@ -1,0 +1,9 @@
+pub mod Names
+pub mod Store
+pub mod Chance
+pub mod Meta
+pub mod Settled
+pub mod Laws
+pub mod Append
+pub mod Load
+pub mod Snapshots

@@ -1,0 +1,6 @@
+pub mod Checksum
+pub mod Text
+pub mod Headers
+pub mod Valid
+pub mod Writing
+pub mod Lent

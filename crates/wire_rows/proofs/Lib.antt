@@ -1,0 +1,11 @@
+pub mod Cutting
+pub mod Ends
+pub mod FirstBytes
+pub mod Greedy
+pub mod GreedyLaws
+pub mod Lengths
+pub mod NulPlaces
+pub mod ReadLoops
+pub mod ReadBack
+pub mod Spelled
+pub mod Tables

@@ -1,0 +1,5 @@
+pub mod Spelling
+pub mod Cut
+pub mod Nuls
+pub mod Answering
+pub mod Reading
