@@ -27,6 +27,10 @@ raw bytes = bytes ++ zeros_after (length bytes)
 abbrev pub text : List ℕ → List ℕ
 text t = raw (t ++ 0 ∷ [])
 
+-- the length in a word, the bytes, and zeros to a whole word
+abbrev pub blob : List ℕ → List ℕ
+blob bytes = word (length bytes) ++ raw bytes
+
 -- each is a byte
 abbrev pub AreBytes : List ℕ → Type 0
 AreBytes bytes = (i : ℕ) → slice_index bytes i < 256

@@ -1,10 +1,12 @@
 -- Reading items from left to right, with the first fault that is met and the place of its item.
-use Rattle.std.specs.Prelude.{◌≡◌, ◌+◌, ℕ, Bool, not, List, ◌++◌, length, take, drop, Option, Some, None, Result, Ok, Err, MatchResult, nat_lt, if◌then◌else◌}
+use Rattle.std.specs.Prelude.{◌≡◌, ◌+◌, ℕ, Bool, true, not, List, ◌++◌, length, take, drop, Option, Some, None, Result, Ok, Err, MatchResult, nat_lt, if◌then◌else◌}
 use Rattle.std.specs.List.{list_all, position}
 use Rattle.std.specs.Str.{is_utf8}
 use Rattle.byteorder.specs.Endian.{little_number}
 use Rattle.wire_words.specs.declared.fault.WordFault.{WordFault}
 use Rattle.wire_words.specs.declared.fault.WordFault.TheVariants.{Short, NoNul, NotUtf8, Pad, NoMemory}
+use Rattle.wire_words.specs.declared.value.Dialect.{Dialect}
+use Rattle.wire_words.specs.declared.value.Dialect.TheVariants as dialects
 use Rattle.wire_words.specs.Items.{gap, is_zero}
 
 -- What a reader has left: its place in the body, and the bytes from there on.
@@ -42,6 +44,11 @@ pair_at left =
 abbrev pub are_zeros : ℕ → ℕ → List ℕ → Bool
 are_zeros size n bytes = list_all is_zero (take n (drop size bytes))
 
+-- whether these bytes may fill others up: zeros, or anything from a client
+abbrev pub may_fill : Dialect → List ℕ → Bool
+may_fill dialects.Exact bytes = list_all is_zero bytes
+may_fill dialects.Client bytes = true
+
 -- that many bytes, and zeros to a whole word
 unfoldable pub raw_at : ℕ → Unread → Result (List ℕ × Unread) WordFault
 raw_at size left =
@@ -64,6 +71,19 @@ text_to (Some n) left = text_of n left
 -- a text, which ends before the first NUL
 unfoldable pub text_at : Unread → Result (List ℕ × Unread) WordFault
 text_at left = text_to (position is_zero left.bytes) left
+
+-- so many bytes of an item that begins at this place, and what fills them up to a whole word
+abbrev pub filled_at : Dialect → ℕ → ℕ → Unread → Result (List ℕ × Unread) WordFault
+filled_at dialect at size left =
+    if nat_lt (length left.bytes) (size + gap size) then Err (Short at)
+    else if may_fill dialect (take (gap size) (drop size left.bytes)) then Ok (take size left.bytes, past (size + gap size) left)
+    else Err (Pad at)
+
+-- a blob: the number of its bytes in a word, and so many bytes with what fills them up
+unfoldable pub blob_at : Dialect → Unread → Result (List ℕ × Unread) WordFault
+blob_at dialect left = do
+  size ← word_at left
+  filled_at dialect left.at size.0 size.1
 
 -- A fault is the one that reading gives, unless memory ran out.
 abbrev pub Fails : {Y : Type 0} → WordFault → Result Y WordFault → Type 0

@@ -1,7 +1,14 @@
-ghost use Rattle.std.specs.Prelude.{◌≡◌, ◌<◌, ◌^◌, ℕ, List, [], ◌++◌, length, Ok, IsUtf8};
+ghost use Rattle.std.specs.Prelude.{◌≡◌, ◌<◌, ◌≤◌, ◌/◌, ◌^◌, ℕ, List, [], ◌++◌, length, Ok, IsUtf8};
+ghost use Rattle.std.specs.List.{AllByRecursion};
+ghost use Rattle.wire_words.specs.declared.value.Dialect.{Dialect};
+ghost use Rattle.wire_words.specs.declared.value.Value.{Value};
+ghost use Rattle.wire_words.specs.declared.value.ValueType.{ValueType};
 ghost use Rattle.wire_words.specs.Items.{word, pair, text, raw, AreBytes, HasNoNul, IsWord, IsPair, IsText, IsRaw};
 ghost use Rattle.wire_words.specs.Message.{message, IsBody};
-ghost use Rattle.wire_words.specs.Reading.{Unread, Took, word_at, pair_at, text_at, raw_at};
+ghost use Rattle.wire_words.specs.Reading.{Unread, Took, word_at, pair_at, text_at, raw_at, blob_at};
+ghost use Rattle.wire_words.specs.ReadingValues.{value_at, params_at, params_wide_at, row_at};
+ghost use Rattle.wire_words.specs.Values.{params, params_wide, row, IsInRange, IsBlob, IsValue, IsParams, IsParamsWide, IsParamsRead, IsParamsWideRead, IsRow};
+ghost use Rattle.wire_words.specs.Stream.{after_messages, one_before, messages_in, version_word, stream, going_on};
 
 /// A word is read exactly where its spelling stands: what is read is spelled so, and what is spelled so is read.
 pub fn words_read_back()
@@ -50,4 +57,64 @@ pub fn messages_stand_apart()
         (kind ≡ other) × (schema ≡ other_schema) × (body ≡ other_body) × (rest ≡ other_rest) }
     ensures prefix { (kind other schema other_schema : ℕ) (body other_body rest : List ℕ) → IsBody body → IsBody other_body →
         message kind schema body ++ rest ≡ message other other_schema other_body → rest ≡ [] }
+{}
+
+/// A blob is read exactly where its spelling stands.
+pub fn blobs_read_back()
+    ensures spelled { (old new : Unread) (bytes : List ℕ) → AreBytes old.bytes → blob_at Dialect.Exact old ≡ Ok (bytes, new) →
+        Took (IsBlob Dialect.Exact bytes) old new }
+    ensures read { (old new : Unread) (bytes : List ℕ) → Took (IsBlob Dialect.Exact bytes) old new →
+        blob_at Dialect.Exact old ≡ Ok (bytes, new) }
+{}
+
+/// A value of a type is read exactly where bytes stand that spell it so.
+pub fn values_read_back()
+    ensures spelled { (dialect : Dialect) (t : ValueType) (old new : Unread) (v : Value) → AreBytes old.bytes →
+        value_at dialect t old ≡ Ok (v, new) → Took (IsValue dialect t v) old new }
+    ensures read { (dialect : Dialect) (t : ValueType) (v : Value) (old new : Unread) → Took (IsValue dialect t v) old new →
+        value_at dialect t old ≡ Ok (v, new) }
+{}
+
+/// A tuple, with a count of either width, is read exactly where bytes stand as which a client may write it.
+pub fn params_read_back()
+    ensures spelled { (old new : Unread) (vs : List Value) → AreBytes old.bytes → params_at old ≡ Ok (vs, new) →
+        Took (IsParamsRead vs) old new }
+    ensures read { (old new : Unread) (vs : List Value) → Took (IsParamsRead vs) old new → params_at old ≡ Ok (vs, new) }
+    ensures wide_spelled { (old new : Unread) (vs : List Value) → AreBytes old.bytes → params_wide_at old ≡ Ok (vs, new) →
+        Took (IsParamsWideRead vs) old new }
+    ensures wide_read { (old new : Unread) (vs : List Value) → Took (IsParamsWideRead vs) old new →
+        params_wide_at old ≡ Ok (vs, new) }
+{}
+
+/// A row is read exactly where its spelling stands.
+pub fn rows_read_back()
+    ensures count { (count : ℕ) (old new : Unread) (vs : List Value) → AreBytes old.bytes → row_at count old ≡ Ok (vs, new) →
+        length vs ≡ count }
+    ensures spelled { (count : ℕ) (old new : Unread) (vs : List Value) → AreBytes old.bytes → row_at count old ≡ Ok (vs, new) →
+        Took (IsRow vs) old new }
+    ensures read { (old new : Unread) (vs : List Value) → Took (IsRow vs) old new → row_at (length vs) old ≡ Ok (vs, new) }
+{}
+
+/// Each tuple and each row has one spelling, which the writers write, and a tuple so spelled is among those that are
+/// read.
+pub fn one_spelling_of_values()
+    ensures params { (vs : List Value) → length vs < 2 ^ 8 → AllByRecursion IsInRange vs → IsParams vs (params vs) }
+    ensures only_params { (vs : List Value) (bytes : List ℕ) → IsParams vs bytes → bytes ≡ params vs }
+    ensures read_params { (vs : List Value) (bytes : List ℕ) → IsParams vs bytes → IsParamsRead vs bytes }
+    ensures params_wide { (vs : List Value) → length vs < 2 ^ 32 → AllByRecursion IsInRange vs → IsParamsWide vs (params_wide vs) }
+    ensures only_params_wide { (vs : List Value) (bytes : List ℕ) → IsParamsWide vs bytes → bytes ≡ params_wide vs }
+    ensures read_params_wide { (vs : List Value) (bytes : List ℕ) → IsParamsWide vs bytes → IsParamsWideRead vs bytes }
+    ensures row { (vs : List Value) → AllByRecursion IsInRange vs → IsRow vs (row vs) }
+    ensures only_row { (vs : List Value) (bytes : List ℕ) → IsRow vs bytes → bytes ≡ row vs }
+{}
+
+/// A stream is its version word and then its messages, each of which is given where its spelling stands; and the stream
+/// of bytes in two pieces is that of the first with what the second adds to it.
+pub fn streams_read_back()
+    ensures begins { (limit : ℕ) (bytes : List ℕ) → stream limit (version_word ++ bytes) ≡ messages_in limit bytes }
+    ensures read { (limit kind schema : ℕ) (body rest : List ℕ) → IsBody body → length body / 8 ≤ limit →
+        messages_in limit (message kind schema body ++ rest) ≡
+        one_before (record { kind = kind; schema = schema; body = body }) (messages_in limit rest) }
+    ensures joined { (limit : ℕ) (bytes more : List ℕ) → stream limit (bytes ++ more) ≡
+        after_messages (stream limit bytes).messages (going_on limit (stream limit bytes).end more) }
 {}

@@ -5,17 +5,24 @@
 mod fault;
 mod laws;
 mod message;
+mod splitter;
 mod text;
+mod unfinished;
+mod value;
+mod values;
 mod words;
 mod writer;
 
 pub use fault::WordFault;
 pub use laws::{
-    messages_stand_apart, one_spelling, pairs_read_back, raw_reads_back, texts_read_back,
-    words_read_back,
+    blobs_read_back, messages_stand_apart, one_spelling, one_spelling_of_values, pairs_read_back,
+    params_read_back, raw_reads_back, rows_read_back, streams_read_back, texts_read_back,
+    values_read_back, words_read_back,
 };
 pub use message::{Header, Message};
+pub use splitter::{CLIENT_LIMIT, SplitFault, Splitter};
 pub use text::WireText;
+pub use value::{Dialect, Value, ValueType};
 pub use words::Words;
 pub use writer::Writer;
 

@@ -1,13 +1,14 @@
-ghost use Rattle.std.specs.Prelude.{◌≡◌, ◌+◌, ◌≤◌, drop, true, false, nat_lt, if◌then◌else◌, length, IfOk, IsErrOf, MatchOption};
+ghost use Rattle.std.specs.Prelude.{◌≡◌, ◌+◌, ◌≤◌, drop, true, false, nat_lt, if◌then◌else◌, length, IfOk, IsOk, IsErrOf, MatchOption};
 ghost use Rattle.std.specs.List.{list_all, position};
 ghost use Rattle.std.specs.Str.{is_utf8};
 ghost use Rattle.byteorder.specs.Endian.{little_number};
 ghost use Rattle.wire_words.specs.Items.{gap, is_zero};
-ghost use Rattle.wire_words.specs.Reading.{Gives, unread, word_at, pair_at, raw_at, text_at};
+ghost use Rattle.wire_words.specs.Reading.{Gives, unread, word_at, pair_at, raw_at, text_at, blob_at, filled_at, may_fill};
 
 use crate::WireBytes;
 use crate::fault::WordFault;
 use crate::text::WireText;
+use crate::value::Dialect;
 use crate::writer::filling;
 use byteorder::{ByteOrder, LittleEndian};
 use std::alloc::Global;
@@ -57,10 +58,20 @@ fn two_numbers(bytes: &[u8]) -> (u32, u32)
     (LittleEndian::read_u32(first), LittleEndian::read_u32(rest))
 }
 
-fn are_zero(bytes: &[u8]) -> bool
+pub(crate) fn are_zero(bytes: &[u8]) -> bool
     ensures { result ≡ list_all is_zero bytes.now }
 {
     bytes.iter().all(|b| *b == 0)
+}
+
+// Whether the bytes may stand behind others to fill them up.
+fn may_fill(dialect: Dialect, bytes: &[u8]) -> bool
+    ensures { result ≡ may_fill dialect bytes.now }
+{
+    match dialect {
+        Dialect::Exact => are_zero(bytes),
+        Dialect::Client => true,
+    }
 }
 
 // The place of the first NUL.
@@ -131,6 +142,46 @@ impl<'a> Words<'a> {
         Ok(numbers)
     }
 
+    // A second reader at the same place.
+    pub(crate) fn ahead(&self) -> Words<'a>
+        ensures { result ≡ self.now }
+    {
+        Words {
+            body: self.body,
+            place: self.place,
+        }
+    }
+
+    // The bytes that are left.
+    pub(crate) fn rest(&self) -> &'a [u8]
+        ensures { result.now ≡ self.now.bytes }
+    {
+        &self.body[self.place..]
+    }
+
+    // So many bytes of an item that begins at `at`, which may be before here, and what fills them up to a whole word.
+    pub(crate) fn filled_slice(
+        &mut self,
+        dialect: Dialect,
+        at: u64,
+        size: u64,
+    ) -> Result<&'a [u8], WordFault>
+        ensures exact { Gives (λ bytes. bytes.now) (filled_at dialect at size) self.old self.new result }
+        ensures size { IfOk result (λ bytes. length bytes.now ≡ size) }
+        ensures memory { IsErrOf result WordFault.NoMemory → ⊥ }
+    {
+        let left = &self.body[self.place..];
+        let Some(len) = filled(left.len(), size) else {
+            return Err(WordFault::Short(at));
+        };
+        let size = size as usize;
+        if !may_fill(dialect, &left[size..len]) {
+            return Err(WordFault::Pad(at));
+        }
+        self.place += len;
+        Ok(&left[..size])
+    }
+
     /// Reads that many bytes, and zeros that fill them up to a whole word, and lends the bytes. `Short` where the bytes and
     /// the zeros aren't all there, and else `Pad` where a byte in place of a zero isn't one. Takes no memory.
     #[tactic(auto, unfolding(crate::specs::Reading::raw_at))]
@@ -139,39 +190,27 @@ impl<'a> Words<'a> {
         ensures size { IfOk result (λ bytes. length bytes.now ≡ size) }
         ensures memory { IsErrOf result WordFault.NoMemory → ⊥ }
     {
-        let at = self.place as u64;
-        let left = &self.body[self.place..];
-        let Some(len) = filled(left.len(), size) else {
-            return Err(WordFault::Short(at));
-        };
-        let size = size as usize;
-        if !are_zero(&left[size..len]) {
-            return Err(WordFault::Pad(at));
-        }
-        self.place += len;
-        Ok(&left[..size])
+        let at = self.place();
+        self.filled_slice(Dialect::Exact, at, size)
     }
 
     /// Reads as `raw_slice` does, and copies the bytes. `NoMemory` is want of memory for the copy.
     pub fn raw(&mut self, alloc: Global, size: u64) -> Result<WireBytes, WordFault>
         ensures exact { Gives (λ bytes. bytes) (raw_at size) self.old self.new result }
         ensures size { IfOk result (λ bytes. length bytes ≡ size) }
+        ensures memory { IsErrOf result WordFault.NoMemory → IsOk (raw_at size self.old) }
     {
-        let mut ahead = Words {
-            body: self.body,
-            place: self.place,
-        };
+        let mut ahead = self.ahead();
         let bytes = Vec::from_slice(alloc, ahead.raw_slice(size)?)?;
         *self = ahead;
         Ok(WireBytes::new(bytes))
     }
 
-    /// Reads a text: UTF-8 up to the first NUL, that NUL, and zeros up to a whole word. `NoNul` where no NUL is left, and
-    /// else `Short` where the zeros aren't all there, `NotUtf8`, and `Pad` where a byte in place of a zero isn't one.
-    /// `NoMemory` is want of memory for the text.
+    /// Reads a text as `text` does, and lends it. Takes no memory.
     #[tactic(auto, unfolding(crate::specs::Reading::text_at, crate::specs::Reading::text_of))]
-    pub fn text(&mut self, alloc: Global) -> Result<WireText, WordFault>
-        ensures exact { Gives (λ text. text) text_at self.old self.new result }
+    pub fn text_str(&mut self) -> Result<&'a str, WordFault>
+        ensures exact { Gives (λ text. text.now) text_at self.old self.new result }
+        ensures memory { IsErrOf result WordFault.NoMemory → ⊥ }
     {
         let at = self.place as u64;
         let left = &self.body[self.place..];
@@ -187,8 +226,55 @@ impl<'a> Words<'a> {
         if !are_zero(&left[size + 1..len]) {
             return Err(WordFault::Pad(at));
         }
-        let text = String::from_str(alloc, text)?;
         self.place += len;
+        Ok(text)
+    }
+
+    /// Reads a text: UTF-8 up to the first NUL, that NUL, and zeros up to a whole word. `NoNul` where no NUL is left, and
+    /// else `Short` where the zeros aren't all there, `NotUtf8`, and `Pad` where a byte in place of a zero isn't one.
+    /// `NoMemory` is want of memory for the text.
+    pub fn text(&mut self, alloc: Global) -> Result<WireText, WordFault>
+        ensures exact { Gives (λ text. text) text_at self.old self.new result }
+        ensures memory { IsErrOf result WordFault.NoMemory → IsOk (text_at self.old) }
+    {
+        let mut ahead = self.ahead();
+        let text = String::from_str(alloc, ahead.text_str()?)?;
+        *self = ahead;
         Ok(WireText::new(text))
+    }
+
+    // The number of a blob's bytes in a word, and so many bytes with what fills them up.
+    #[tactic(auto, unfolding(crate::specs::Reading::blob_at))]
+    pub(crate) fn blob_in(&mut self, dialect: Dialect) -> Result<&'a [u8], WordFault>
+        ensures exact { Gives (λ bytes. bytes.now) (blob_at dialect) self.old self.new result }
+        ensures memory { IsErrOf result WordFault.NoMemory → ⊥ }
+    {
+        let at = self.place();
+        let mut ahead = self.ahead();
+        let size = ahead.u64()?;
+        let bytes = ahead.filled_slice(dialect, at, size)?;
+        *self = ahead;
+        Ok(bytes)
+    }
+
+    /// Reads a blob and lends it: a word with the number of its bytes, and so many bytes with zeros that fill them up to a
+    /// whole word. `Short` where they aren't all there, and else `Pad` where a byte in place of a zero isn't one. Takes no
+    /// memory.
+    pub fn blob_slice(&mut self) -> Result<&'a [u8], WordFault>
+        ensures exact { Gives (λ bytes. bytes.now) (blob_at Dialect.Exact) self.old self.new result }
+        ensures memory { IsErrOf result WordFault.NoMemory → ⊥ }
+    {
+        self.blob_in(Dialect::Exact)
+    }
+
+    /// Reads a blob as `blob_slice` does, and copies it. `NoMemory` is want of memory for the copy.
+    pub fn blob(&mut self, alloc: Global) -> Result<WireBytes, WordFault>
+        ensures exact { Gives (λ bytes. bytes) (blob_at Dialect.Exact) self.old self.new result }
+        ensures memory { IsErrOf result WordFault.NoMemory → IsOk (blob_at Dialect.Exact self.old) }
+    {
+        let mut ahead = self.ahead();
+        let bytes = Vec::from_slice(alloc, ahead.blob_slice()?)?;
+        *self = ahead;
+        Ok(WireBytes::new(bytes))
     }
 }

@@ -1,10 +1,12 @@
-ghost use Rattle.std.specs.Prelude.{◌≡◌, ◌<◌, ◌≤◌, ◌+◌, ◌%◌, ◌↔◌, ◌∷◌, ◌++◌, ℕ, List, [], length, IfOk, IsErr};
+ghost use Rattle.std.specs.Prelude.{◌≡◌, ◌<◌, ◌≤◌, ◌+◌, ◌*◌, ◌%◌, ◌↔◌, ◌∷◌, ◌++◌, ℕ, List, [], length, IfOk, IsErr};
 ghost use Rattle.byteorder.specs.Endian.{little_bytes};
-ghost use Rattle.wire_words.specs.Items.{word, pair, text, raw, HasNoNul, gap};
+ghost use Rattle.wire_words.specs.Items.{word, pair, text, raw, blob, HasNoNul, gap};
+ghost use Rattle.wire_words.specs.Values.{value, values, code, codes, type_of, types_of, halves, params, params_wide, row, IsWritable, AreWritable};
 ghost use Rattle.wire_words.specs.Message.{header, message, counted, words_after_header};
 ghost use Rattle.wire_words.specs.Writing.{AppendsOrKeeps};
 
 use crate::WireBytes;
+use crate::value::Value;
 use byteorder::{ByteOrder, LittleEndian};
 use std::alloc::{AllocError, Global};
 use std::marker::Model;
@@ -13,6 +15,7 @@ use std::marker::Model;
 /// are whole words. A call that finds no memory leaves them as they were.
 #[derive(Debug, Drop)]
 pub struct Writer {
+    alloc: Global,
     out: Vec<u8>,
 }
 
@@ -45,14 +48,64 @@ fn little(value: u32) -> [u8; 4]
     bytes
 }
 
+// The count and behind it the code of each value.
+fn codes_of(alloc: Global, count: &[u8], contents: &[Value]) -> Result<Vec<u8>, AllocError>
+    ensures { IfOk result (λ head. head.items ≡ count.now ++ codes (types_of contents.now)) }
+{
+    let mut head = Vec::from_slice(alloc, count)?;
+    for content in contents {
+        head.push(content.code())?;
+    }
+    Ok(head)
+}
+
+// The codes of the values, four bits each, the first in the low half of a byte.
+fn halves_of(alloc: Global, contents: &[Value]) -> Result<Vec<u8>, AllocError>
+    ensures { IfOk result (λ head. head.items ≡ halves (codes (types_of contents.now))) }
+{
+    let mut head = Vec::new(alloc);
+    let mut rest = contents;
+    loop {
+        match rest {
+            [] => return Ok(head),
+            [last] => {
+                head.push(last.code())?;
+                return Ok(head);
+            }
+            [first, second, others @ ..] => {
+                head.push(two_codes(first, second))?;
+                rest = others;
+            }
+        }
+    }
+}
+
+// The codes of both in one byte.
+fn two_codes(first: &Value, second: &Value) -> u8
+    ensures { result ≡ code (type_of first.now) + 16 * code (type_of second.now) }
+{
+    first.code() + 16 * second.code()
+}
+
 impl Writer {
     /// A writer that has written nothing. Takes no memory.
     pub fn new(alloc: Global) -> Writer
         ensures { result ≡ [] }
     {
         Writer {
+            alloc,
             out: Vec::new(alloc),
         }
+    }
+
+    /// A writer that has written nothing, with room for so many bytes. `Err` is want of memory.
+    pub fn with_capacity(alloc: Global, bytes: usize) -> Result<Writer, AllocError>
+        ensures { IfOk result (λ writer. writer ≡ []) }
+    {
+        Ok(Writer {
+            alloc,
+            out: Vec::with_capacity(alloc, bytes)?,
+        })
     }
 
     /// Writes a number of 64 bits. `Err` is want of memory, and leaves what was written; so in all calls that write.
@@ -101,6 +154,92 @@ impl Writer {
     {
         let padding = filling(bytes.len());
         self.both(bytes, &ZEROS[..padding])
+    }
+
+    /// Writes a blob: the number of its bytes in a word, the bytes, and zeros to a whole word.
+    pub fn blob(&mut self, bytes: &[u8]) -> Result<(), AllocError>
+        ensures { AppendsOrKeeps self.old self.new (blob bytes.now) result }
+    {
+        let start = self.out.len();
+        self.word(bytes.len() as u64)?;
+        let finished = self.raw(bytes);
+        if finished.is_err() {
+            self.out.truncate(start);
+        }
+        finished
+    }
+
+    /// Writes the words of a value: for an integer one, in two's complement, and for a null one of zeros. A text may hold
+    /// no NUL. Its code is written by a tuple or a row.
+    pub fn value(&mut self, content: &Value) -> Result<(), AllocError>
+        requires { IsWritable content.now }
+        ensures { AppendsOrKeeps self.old self.new (value content.now) result }
+    {
+        match content {
+            Value::Integer(number) => self.word(number.cast_unsigned()),
+            Value::Text(content) => self.text(content.as_str()),
+            Value::Blob(content) => self.blob(content.as_slice()),
+            Value::Null => self.word(0),
+        }
+    }
+
+    /// Writes the words of values, one value after the other. No text may hold a NUL.
+    pub fn values(&mut self, contents: &[Value]) -> Result<(), AllocError>
+        requires { AreWritable contents.now }
+        ensures { AppendsOrKeeps self.old self.new (values contents.now) result }
+    {
+        let start = self.out.len();
+        for content in contents {
+            if let Err(error) = self.value(content) {
+                self.out.truncate(start);
+                return Err(error);
+            }
+        }
+        Ok(())
+    }
+
+    // Writes the head of a tuple or a row, zeros to a whole word, and the values.
+    fn headed(&mut self, head: &[u8], contents: &[Value]) -> Result<(), AllocError>
+        requires { AreWritable contents.now }
+        ensures { AppendsOrKeeps self.old self.new (raw head.now ++ values contents.now) result }
+    {
+        let start = self.out.len();
+        self.raw(head)?;
+        let finished = self.values(contents);
+        if finished.is_err() {
+            self.out.truncate(start);
+        }
+        finished
+    }
+
+    /// Writes a tuple of at most 255 parameters: their number in one byte, a code for each, zeros to a whole word, and the
+    /// values. No text may hold a NUL.
+    pub fn params(&mut self, contents: &[Value]) -> Result<(), AllocError>
+        requires count { length contents.now ≤ 255 }
+        requires writable { AreWritable contents.now }
+        ensures { AppendsOrKeeps self.old self.new (params contents.now) result }
+    {
+        let head = codes_of(self.alloc, &[contents.len() as u8], contents)?;
+        self.headed(&head, contents)
+    }
+
+    /// Writes a wide tuple of at most 32,766 parameters, whose number has 32 bits. No text may hold a NUL.
+    pub fn params_wide(&mut self, contents: &[Value]) -> Result<(), AllocError>
+        requires count { length contents.now ≤ 32766 }
+        requires writable { AreWritable contents.now }
+        ensures { AppendsOrKeeps self.old self.new (params_wide contents.now) result }
+    {
+        let head = codes_of(self.alloc, &little(contents.len() as u32), contents)?;
+        self.headed(&head, contents)
+    }
+
+    /// Writes a row: a code of four bits for each value, zeros to a whole word, and the values. No text may hold a NUL.
+    pub fn row(&mut self, contents: &[Value]) -> Result<(), AllocError>
+        requires { AreWritable contents.now }
+        ensures { AppendsOrKeeps self.old self.new (row contents.now) result }
+    {
+        let head = halves_of(self.alloc, contents)?;
+        self.headed(&head, contents)
     }
 
     /// Writes the header of a message whose count of words is still 0; `finish_message` writes that count.
