@@ -1,4 +1,4 @@
-use Rattle.std.proofs.Common.{◌≡◌, ◌+◌, ◌∙◌, length, drop, sym, ap, arith, ⊎_elim, length-drop}
+use Rattle.std.proofs.Common.{◌≡◌, ◌∙◌, length, drop, sym, ap, arith, ⊎_elim, length-drop}
 use Rattle.std.specs.Prelude.{true, false, not}
 use Rattle.std.proofs.lemmas.Bool.{cases_Bool}
 use Rattle.raft_rules.specs.Log.{Entry, nth_term}

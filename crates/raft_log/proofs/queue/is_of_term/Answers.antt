@@ -1,4 +1,4 @@
-use Rattle.std.proofs.Common.{◌≡◌, ◌+◌, length, drop, ap, ◌∙◌, sym, nat_eq, arith, length-drop}
+use Rattle.std.proofs.Common.{◌+◌, drop, ap, ◌∙◌, sym, nat_eq, arith, length-drop}
 use Rattle.raft_log.proofs.Agreeing.{has_nth, has_none, has_dropped}
 use Rattle.raft_log.proofs.queue.is_of_term.Goals as goal
 

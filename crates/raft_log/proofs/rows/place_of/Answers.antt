@@ -1,4 +1,4 @@
-use Rattle.std.proofs.Common.{◌≡◌, ◌≢◌, ◌∙◌, sym, ap, add-one}
+use Rattle.std.proofs.Common.{◌≢◌, ◌∙◌, ap, add-one}
 use Rattle.raft_rules.specs.Progress.{PeerProgress}
 use Rattle.raft_log.proofs.PeerTables.{passes}
 use Rattle.raft_log.proofs.rows.place_of.Goals as goal

@@ -1,7 +1,6 @@
-use Rattle.std.proofs.Common.{◌≡◌, ◌≤◌, ◌+◌, ◌-◌, ◌∙◌, length, sym, ap, subst, arith}
-use Rattle.std.specs.Prelude.{Option}
-use Rattle.raft_rules.specs.Log.{LogEnd, Entry, accept}
-use Rattle.raft_rules.specs.Compaction.{CutLog, whole_log, StartsAt}
+use Rattle.std.proofs.Common.{◌≤◌, ◌-◌, length, ap, arith}
+use Rattle.raft_rules.specs.Log.{LogEnd}
+use Rattle.raft_rules.specs.Compaction.{CutLog}
 use Rattle.raft_log.proofs.Places.{whole_count, meets_parts}
 use Rattle.raft_log.proofs.Taking.{taken_length, answered}
 use Rattle.raft_log.proofs.log.Log.take_past.Goals as goal
