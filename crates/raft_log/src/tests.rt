@@ -68,18 +68,19 @@ fn entries_are_taken(rt: HostRuntime) -> Result<(), Fail> {
 }
 
 // The commit index of node 1 of five, at term 3 with commit index 1, after good Acks.
-fn committed(alloc: Global, acks: &[(u64, u64)]) -> Result<u64, AllocError> {
+fn committed(alloc: Global, acks: &[(u64, u32)]) -> Result<u64, AllocError> {
     let log = log_of(alloc, &[1, 1, 3], 0)?;
     let mut progress = Progress::new(&[1, 2, 3, 4, 5], 1, 4);
     for (from, index) in acks {
-        progress.on_ack(*from, true, *index);
+        let index = u64::from(*index);
+        progress.on_ack(*from, true, index);
     }
     Ok(progress.commit_index(&log, 3, 1))
 }
 
 #[test]
 fn only_the_own_term_is_counted(rt: HostRuntime) -> Result<(), Fail> {
-    let rows: [(&[(u64, u64)], u64); 3] = [
+    let rows: [(&[(u64, u32)], u64); 3] = [
         (&[(2, 2), (3, 2)], 1),
         (&[(2, 2), (3, 2), (2, 3)], 1),
         (&[(2, 2), (3, 2), (2, 3), (3, 3)], 3),
