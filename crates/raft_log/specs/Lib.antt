@@ -1,0 +1,4 @@
+pub mod Agreeing
+pub mod Places
+pub mod Answers
+pub mod Rows

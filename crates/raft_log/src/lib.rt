@@ -1,0 +1,13 @@
+//! The log of one node of Raft, and a leader's progress of its peers.
+#![tactic(auto)]
+
+mod log;
+mod progress;
+mod queue;
+mod rows;
+#[cfg(test)]
+mod tests;
+
+pub use log::{Accepted, Log};
+pub use progress::{MOST_VOTERS, Progress};
+pub use rows::MOST_PEERS;
