@@ -1,0 +1,37 @@
+use crate::read_batch;
+use std::alloc::{AllocError, Global};
+use std::test::Fail;
+
+/// One entry of term 2 at index 3, with the command `abc`, in format 1 and in format 2, as another program spells it.
+const OLD: &[u8] =
+    b"\x26\xb2\x8f\x08\x74\x5f\x2a\xeb\x03\x00\x00\x00\x00\x00\x00\x00\x01\x00\x00\x00\x00\x00\x00\x00\x02\x00\x00\x00\x00\x00\x00\x00\x01\x00\x00\x00\x03\x00\x00\x00\x61\x62\x63\x00\x00\x00\x00\x00";
+
+const NEW: &[u8] =
+    b"\x1b\x7a\x8c\xfc\x36\x71\xd0\xe6\xce\x31\x72\x86\x0f\x25\x3e\x5b\x03\x00\x00\x00\x00\x00\x00\x00\x01\x00\x00\x00\x00\x00\x00\x00\x02\x00\x00\x00\x00\x00\x00\x00\x01\x00\x00\x00\x03\x00\x00\x00\x61\x62\x63\x00\x00\x00\x00\x00";
+
+/// The first index, the number of entries and the size of the batch that bytes begin with.
+fn found(
+    alloc: Global,
+    format: u64,
+    bytes: &[u8],
+) -> Result<Option<(u64, usize, usize)>, AllocError> {
+    let batch = read_batch(alloc, format, bytes)?;
+    Ok(batch.map(|batch| (batch.first, batch.entries.len(), batch.size)))
+}
+
+#[test]
+fn batches_are_read_in_the_format_of_their_segment(rt: HostRuntime) -> Result<(), Fail> {
+    let last = NEW.len() - 1;
+    let rows: [(u64, &[u8], Option<(u64, usize, usize)>); 6] = [
+        (1, OLD, Some((3, 1, 48))),
+        (2, NEW, Some((3, 1, 56))),
+        (1, NEW, None),
+        (2, OLD, None),
+        (2, &NEW[..last], None),
+        (2, &[], None),
+    ];
+    for (format, bytes, wanted) in rows {
+        assert_eq!(rt; found(rt.alloc(), format, bytes)?, wanted);
+    }
+    Ok(())
+}
