@@ -7,10 +7,10 @@ use Rattle.dq_base.specs.declared.images.Image.{Image}
 use Rattle.dq_base.specs.declared.pages.NumberedPage.{NumberedPage}
 use Rattle.dq_base.specs.declared.sizes.Lengths.{Lengths}
 use Rattle.dq_base.specs.Images.{resized, zeros, page_start, is_page_of}
-use Rattle.dq_base.specs.Applying.{put_pages, applied}
+use Rattle.dq_base.specs.Applying.{put_pages, applied, lengths_in}
 use Rattle.dq_base.proofs.FileBytes.{length-resized, length-replaced}
 use Rattle.checkpoint_core.specs.Store.{after_sets, view}
-use Rattle.checkpoint_core.specs.Sets.{sets_of, lengths_in, lengths_of_set}
+use Rattle.checkpoint_core.specs.Sets.{sets_of, lengths_of_set}
 use Rattle.checkpoint_core.specs.Laying.{length_of, put_one, laid_one, laid}
 use Rattle.checkpoint_core.specs.Log.{Log, laid_image, IsSized}
 use Rattle.checkpoint_core.specs.Holding.{IsSoundSet, IsEnd}

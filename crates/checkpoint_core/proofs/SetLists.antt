@@ -5,7 +5,8 @@ use Rattle.std.specs.List.{flat_map}
 use Rattle.std.proofs.lemmas.List.{length_push, length-append, length-map, length-drop, take-append-drop, take_at, drop_at, take_all, take-append-le}
 use Rattle.std.proofs.lemmas.List.Sums.{sum_by-cons}
 use Rattle.dq_base.specs.declared.pages.NumberedPage.{NumberedPage}
-use Rattle.checkpoint_core.specs.Sets.{sets_from, sets_of, open_after, lengths_in, lengths_of_set}
+use Rattle.dq_base.specs.Applying.{lengths_in}
+use Rattle.checkpoint_core.specs.Sets.{sets_from, sets_of, open_after, lengths_of_set}
 use Rattle.checkpoint_core.specs.Holding.{IsEnd}
 use Rattle.checkpoint_core.proofs.Shown.{take_split}
 

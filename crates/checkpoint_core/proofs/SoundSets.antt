@@ -9,8 +9,8 @@ use Rattle.dq_base.specs.declared.pages.NumberedPage.{NumberedPage}
 use Rattle.dq_base.specs.declared.page_fault.PageFault.{PageFault}
 use Rattle.dq_base.specs.declared.page_fault.PageFault.TheVariants.{NoSizes, Order}
 use Rattle.dq_base.specs.Images.{resized, is_main, is_side}
-use Rattle.dq_base.specs.Applying.{stated_main, stated_side, put_pages, last_page, applied_with, applied, is_sizes, order_fault, length_fault, earlier, fault_before}
-use Rattle.checkpoint_core.specs.Sets.{sets_from, sets_of, open_after, lengths_stated, lengths_in}
+use Rattle.dq_base.specs.Applying.{stated_main, stated_side, put_pages, last_page, applied_with, applied, is_sizes, order_fault, length_fault, earlier, fault_before, lengths_stated, lengths_in}
+use Rattle.checkpoint_core.specs.Sets.{sets_from, sets_of, open_after}
 use Rattle.checkpoint_core.specs.Holding.{IsSoundSet}
 use Rattle.checkpoint_core.proofs.SetLists.{sets_from-append, open_after-append}
 

@@ -10,8 +10,9 @@ use Rattle.dq_base.specs.declared.pages.NumberedPage.{NumberedPage}
 use Rattle.dq_base.specs.declared.sizes.Lengths.{Lengths}
 use Rattle.read_marks.specs.Marks.{no_marks, mark_at, Pinned, with_mark, without_mark, least_mark, lowered}
 use Rattle.read_marks.proofs.MarkTables.{least_mark-none, least_mark-some}
+use Rattle.dq_base.specs.Applying.{lengths_in}
 use Rattle.checkpoint_core.specs.Store.{Store, after_sets, view, fresh_store, newest, newest_image, IsLive, image_under, committed, pinned, released, sets_to_move, moved, checkpointed, pages_to_move, StillShows, MarksWithin}
-use Rattle.checkpoint_core.specs.Sets.{sets_of, open_after, lengths_in, lengths_of_set, seen, store_of}
+use Rattle.checkpoint_core.specs.Sets.{sets_of, open_after, lengths_of_set, seen, store_of}
 use Rattle.checkpoint_core.specs.Laying.{length_of, length_at, no_lengths, Room}
 use Rattle.checkpoint_core.specs.Log.{Log, IsSized, laid_image}
 use Rattle.checkpoint_core.specs.Holding.{IsSoundSet, IsEnd, Holds}

@@ -3,7 +3,7 @@ use Rattle.std.specs.Prelude.{ℕ, ◌-◌, ◌==◌, if◌then◌else◌, List,
 use Rattle.dq_base.specs.declared.images.Image.{Image}
 use Rattle.dq_base.specs.declared.pages.NumberedPage.{NumberedPage}
 use Rattle.dq_base.specs.declared.sizes.Lengths.{Lengths}
-use Rattle.dq_base.specs.Applying.{stated_main, stated_side, last_page}
+use Rattle.dq_base.specs.Applying.{lengths_in}
 use Rattle.checkpoint_core.specs.Store.{Store}
 
 -- the sets in a list of pages, where some pages of the first set came before
@@ -19,15 +19,6 @@ sets_of pages = sets_from [] pages
 abbrev pub open_after : List NumberedPage → List NumberedPage → List NumberedPage
 open_after begun [] = begun
 open_after begun (p ∷ ps) = if p.number == 1 then open_after [] ps else open_after (begun ++ p ∷ []) ps
-
--- the lengths that a sizes page states
-abbrev pub lengths_stated : Option NumberedPage → Lengths
-lengths_stated None = record { main = 0; side = 0 }
-lengths_stated (Some sizes) = record { main = stated_main sizes.page; side = stated_side sizes.page }
-
--- the lengths that a set states
-abbrev pub lengths_in : List NumberedPage → Lengths
-lengths_in set = lengths_stated (last_page set)
 
 -- each page of a set has the set's lengths
 abbrev pub lengths_of_set : List NumberedPage → List Lengths

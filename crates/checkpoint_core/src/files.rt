@@ -5,8 +5,7 @@ ghost use Rattle.checkpoint_core.specs.Laying.{length_of, laid_one, laid, Room};
 ghost use Rattle.checkpoint_core.specs.Log.{first_of};
 
 use crate::frame_log::FrameLog;
-use crate::set_lengths::start_within;
-use dq_base::{Lengths, NumberedPage, PAGE_SIZE};
+use dq_base::{Lengths, NumberedPage, PAGE_SIZE, start_within};
 use std::alloc::AllocError;
 
 /// Lays the first frames of a log into one file: parity 0 is the main file, and 1 the side file. The file grows in the

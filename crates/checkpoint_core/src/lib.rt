@@ -7,7 +7,6 @@ mod frame_log;
 mod laws;
 mod page_bytes;
 mod reading;
-mod set_lengths;
 mod store;
 #[cfg(test)]
 mod tests;

@@ -6,8 +6,7 @@ ghost use Rattle.checkpoint_core.specs.Log.{laid_image, PageOfFrame, PageOfBase}
 use crate::files::{lay, length_of, make_room_for};
 use crate::frame_log::FrameLog;
 use crate::page_bytes::{padded_page, sizes_page};
-use crate::set_lengths::start_within;
-use dq_base::{Bytes, Image, Lengths, PAGE_SIZE, Page};
+use dq_base::{Bytes, Image, Lengths, PAGE_SIZE, Page, start_within};
 use std::alloc::{AllocError, Global};
 
 /// The page of a number in the image that the first frames of a log make of a base.

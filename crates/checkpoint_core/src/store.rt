@@ -8,8 +8,7 @@ ghost use Rattle.checkpoint_core.specs.Store.{fresh_store, newest, newest_image,
 use crate::files::{lay, make_room};
 use crate::frame_log::FrameLog;
 use crate::reading::{image_under, page_under};
-use crate::set_lengths::set_lengths;
-use dq_base::{Image, Page, PageFault, PageSet};
+use dq_base::{Image, Page, PageFault, PageSet, set_lengths};
 use read_marks::{MarkFault, MarkId, Marks};
 use std::alloc::{AllocError, Global};
 use std::marker::Model;

@@ -6,6 +6,7 @@ use Rattle.dq_base.specs.declared.images.Image.{Image}
 use Rattle.dq_base.specs.declared.pages.NumberedPage.{NumberedPage}
 use Rattle.dq_base.specs.declared.page_fault.PageFault.{PageFault}
 use Rattle.dq_base.specs.declared.page_fault.PageFault.TheVariants.{NoSizes, Order, NotInLength, NoMemory}
+use Rattle.dq_base.specs.declared.sizes.Lengths.{Lengths}
 use Rattle.dq_base.specs.Images.{resized, page_start, is_main, is_side}
 
 -- the lengths that the bytes of a sizes page state
@@ -85,3 +86,12 @@ IsRefusal fault found = found ≡ Some fault
 -- the pages state these lengths: applying them resizes to them
 abbrev pub StateLengths : List NumberedPage → ℕ → ℕ → Type 0
 StateLengths pages main side = (image : Image) → applied image pages ≡ applied_at main side pages image
+
+-- the lengths that a sizes page states
+abbrev pub lengths_stated : Option NumberedPage → Lengths
+lengths_stated None = record { main = 0; side = 0 }
+lengths_stated (Some sizes) = record { main = stated_main sizes.page; side = stated_side sizes.page }
+
+-- the lengths that a set states
+abbrev pub lengths_in : List NumberedPage → Lengths
+lengths_in set = lengths_stated (last_page set)

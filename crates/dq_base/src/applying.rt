@@ -1,12 +1,13 @@
-ghost use Rattle.std.specs.Prelude.{◌≡◌, ◌≤◌, ◌==◌, ◌%◌, nat_le, if◌then◌else◌, None, Some, MatchResult, IfErr, OnOk, OnErr, IsOk, vec_capacity};
+ghost use Rattle.std.specs.Prelude.{◌≡◌, ◌≤◌, None, IfErr, OnOk, OnErr, IsOk, vec_capacity};
 ghost use Rattle.dq_base.specs.Images.{resized, page_start, is_page_of};
-ghost use Rattle.dq_base.specs.Applying.{replaced, put_pages, applied, order_fault, length_fault, page_fault, StateLengths, IsRefusal};
+ghost use Rattle.dq_base.specs.Applying.{replaced, put_pages, applied, page_fault, IsRefusal};
 
 use crate::images::Image;
 use crate::page_fault::PageFault;
 use crate::page_numbers::start_within;
 use crate::pages::{NumberedPage, PAGE_SIZE, PageSet};
-use crate::sizes::{Lengths, stated_lengths};
+use crate::set_checks::set_lengths;
+use crate::sizes::Lengths;
 use std::alloc::AllocError;
 
 /// Applies a page set: both files are cut to the lengths that its sizes page states or grown to them with zeros, and
@@ -33,69 +34,13 @@ pub fn apply_pages(image: &mut Image, pages: &[NumberedPage]) -> Result<(), Page
     ensures refused { IfErr result (λ fault. IsRefusal fault (page_fault pages.now)) }
     ensures kept { OnErr result (image.new ≡ image.old) }
 {
-    let lengths = lengths_of(pages)?;
+    let lengths = set_lengths(pages)?;
     let main = &mut image.main;
     let side = &mut image.side;
     resize_both(&mut main.inner, &mut side.inner, lengths)?;
     put_all(&mut main.inner, pages, 0);
     put_all(&mut side.inner, pages, 1);
     Ok(())
-}
-
-/// The lengths that the last page of a set states, or the set's first fault.
-fn lengths_of(pages: &[NumberedPage]) -> Result<Lengths, PageFault>
-    ensures { MatchResult result
-        (λ lengths. (page_fault pages.now ≡ None) × StateLengths pages.now lengths.main lengths.side)
-        (λ fault. page_fault pages.now ≡ Some fault) }
-{
-    let Some((last, front)) = pages.split_last() else {
-        return Err(PageFault::NoSizes);
-    };
-    let Some(lengths) = stated_lengths(last) else {
-        return Err(PageFault::NoSizes);
-    };
-    check_order(front)?;
-    check_lengths(front, lengths)?;
-    Ok(lengths)
-}
-
-/// Refuses the first number that isn't above the one before it, or is 0 or 1.
-fn check_order(front: &[NumberedPage]) -> Result<(), PageFault>
-    ensures { MatchResult result (λ _. order_fault 1 front.now ≡ None) (λ fault. order_fault 1 front.now ≡ Some fault) }
-{
-    let mut before = 1;
-    for page in front {
-        if page.number <= before {
-            return Err(PageFault::Order(page.number));
-        }
-        before = page.number;
-    }
-    Ok(())
-}
-
-/// Refuses the first page that lies wholly past its file's length.
-fn check_lengths(front: &[NumberedPage], lengths: Lengths) -> Result<(), PageFault>
-    ensures { MatchResult result
-        (λ _. length_fault lengths.main lengths.side front.now ≡ None)
-        (λ fault. length_fault lengths.main lengths.side front.now ≡ Some fault) }
-{
-    for page in front {
-        if is_past_end(page.number, lengths) {
-            return Err(PageFault::NotInLength(page.number));
-        }
-    }
-    Ok(())
-}
-
-/// Whether the page of a number lies wholly past its file's length.
-fn is_past_end(number: u64, lengths: Lengths) -> bool
-    ensures { result ≡ nat_le (if number % 2 == 0 then lengths.main else lengths.side) (page_start number) }
-{
-    if number % 2 == 0 {
-        start_within(number, lengths.main).is_none()
-    } else {
-        start_within(number, lengths.side).is_none()
-    }
 }
 
 /// Cuts or grows both files, or neither where there is no room.

@@ -4,7 +4,7 @@ ghost use Rattle.dq_base.specs.Images.{page_start};
 use crate::pages::PAGE_SIZE;
 
 /// Where the page of a number begins in its file, if a file of this length reaches there.
-pub(crate) fn start_within(number: u64, len: usize) -> Option<usize>
+pub fn start_within(number: u64, len: usize) -> Option<usize>
     ensures { MatchOption result (len ≤ page_start number)
         (λ start. (start ≡ page_start number) × (start < len)) }
 {

@@ -1,14 +1,18 @@
-ghost use Rattle.std.specs.Prelude.{◌≡◌, ◌≤◌, ◌<◌, ◌==◌, ◌%◌, nat_le, if◌then◌else◌, None, Some, MatchResult, MatchOption};
+ghost use Rattle.std.specs.Prelude.{◌≡◌, ◌==◌, ◌%◌, nat_le, if◌then◌else◌, None, Some, MatchResult};
 ghost use Rattle.dq_base.specs.Images.{page_start};
-ghost use Rattle.dq_base.specs.Applying.{order_fault, length_fault, page_fault};
-ghost use Rattle.checkpoint_core.specs.Sets.{lengths_in};
+ghost use Rattle.dq_base.specs.Applying.{order_fault, length_fault, page_fault, lengths_in, StateLengths};
 
-use dq_base::{Lengths, NumberedPage, PAGE_SIZE, PageFault, stated_lengths};
+use crate::page_fault::PageFault;
+use crate::page_numbers::start_within;
+use crate::pages::NumberedPage;
+use crate::sizes::{Lengths, stated_lengths};
 
-/// The lengths that the last page of a set states, or the set's first fault. Takes no memory.
-pub(crate) fn set_lengths(pages: &[NumberedPage]) -> Result<Lengths, PageFault>
+/// The lengths that the last page of a set states, to which applying the set resizes both files, or the set's first
+/// fault: `NoSizes`, then `Order`, then `NotInLength`. Looks at each page's number, and at the bytes of the last page
+/// alone; takes no memory.
+pub fn set_lengths(pages: &[NumberedPage]) -> Result<Lengths, PageFault>
     ensures { MatchResult result
-        (λ lengths. (page_fault pages.now ≡ None) × (lengths ≡ lengths_in pages.now))
+        (λ lengths. (page_fault pages.now ≡ None) × (lengths ≡ lengths_in pages.now) × StateLengths pages.now lengths.main lengths.side)
         (λ fault. page_fault pages.now ≡ Some fault) }
 {
     let Some((last, front)) = pages.split_last() else {
@@ -59,17 +63,4 @@ fn is_past_end(number: u64, lengths: Lengths) -> bool
     } else {
         start_within(number, lengths.side).is_none()
     }
-}
-
-/// Where the page of a number begins in its file, if a file of this length reaches there.
-pub(crate) fn start_within(number: u64, len: usize) -> Option<usize>
-    ensures { MatchOption result (len ≤ page_start number)
-        (λ start. (start ≡ page_start number) × (start < len)) }
-{
-    let index = (number / 2).saturating_sub(1);
-    if index > (len / PAGE_SIZE) as u64 {
-        return None;
-    }
-    let start = index as usize * PAGE_SIZE;
-    if start < len { Some(start) } else { None }
 }

@@ -1,7 +1,7 @@
 use Rattle.std.proofs.Common.{sym, ◌∙◌}
 use Rattle.dq_base.specs.Applying.{length_fault}
 use Rattle.dq_base.proofs.Steps.{length_refused, length_more, length_all}
-use Rattle.dq_base.proofs.applying.check_lengths.Goals as goal
+use Rattle.dq_base.proofs.set_checks.check_lengths.Goals as goal
 
 pub returns-then-is_past_end : goal.returns-then-is_past_end
 returns-then-is_past_end c =

@@ -1,6 +1,6 @@
 use Rattle.dq_base.specs.Applying.{order_fault}
 use Rattle.dq_base.proofs.Steps.{order_refused, order_more, order_all}
-use Rattle.checkpoint_core.proofs.set_lengths.check_order.Goals as goal
+use Rattle.dq_base.proofs.set_checks.check_order.Goals as goal
 
 pub returns-then-page-before : goal.returns-then-page-before
 returns-then-page-before c =
