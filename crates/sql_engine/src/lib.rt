@@ -3,12 +3,17 @@
 #![tactic(auto)]
 
 mod answer;
+mod cell_changes;
+mod cell_statement;
+mod cell_text;
 mod engine;
 mod fault;
 mod kind;
 mod laws;
+mod page_bytes;
 
 pub use answer::Ran;
+pub use cell_statement::CellStatement;
 pub use engine::Engine;
 pub use fault::EngineFault;
 pub use kind::EngineKind;
