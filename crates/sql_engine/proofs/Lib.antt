@@ -9,3 +9,5 @@ pub mod ChangeLists
 pub mod CellSteps
 pub mod CountPages
 pub mod CellChanged
+pub mod SpelledCells
+pub mod CellOutcomes

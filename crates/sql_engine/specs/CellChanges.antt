@@ -1,7 +1,8 @@
 -- The pages that setting a cell lists.
-use Rattle.std.specs.Prelude.{ℕ, zero, suc, ◌+◌, ◌*◌, ◌%◌, ◌^◌, ◌==◌, if◌then◌else◌, List, [], ◌∷◌, ◌++◌, Some}
+use Rattle.std.specs.Prelude.{ℕ, zero, suc, ◌+◌, ◌*◌, ◌%◌, ◌^◌, ◌==◌, if◌then◌else◌, List, [], ◌∷◌, ◌++◌, length, Some}
 use Rattle.dq_base.specs.declared.images.Image.{Image}
 use Rattle.dq_base.specs.declared.pages.NumberedPage.{NumberedPage}
+use Rattle.dq_base.specs.declared.sizes.Lengths.{Lengths}
 use Rattle.dq_base.specs.Images.{zeros, page_at}
 use Rattle.dq_base.specs.Changes.{changed_page}
 use Rattle.sql_engine.specs.Cells.{cell_page, changes_in}
@@ -18,3 +19,7 @@ cells_from image page value index (suc count) = changed_page (2 * index) (page_a
 -- page 1 of the side file, with one change more
 abbrev pub count_page : Image → NumberedPage
 count_page image = record { number = 3; page = cell_page ((changes_in image + 1) % 2 ^ 64) }
+
+-- the lengths of an image's files
+abbrev pub lengths_of : Image → Lengths
+lengths_of image = record { main = length image.main; side = length image.side }

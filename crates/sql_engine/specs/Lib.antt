@@ -4,3 +4,4 @@ pub mod Runs
 pub mod CellTexts
 pub mod Cells
 pub mod CellChanges
+pub mod CellAnswers

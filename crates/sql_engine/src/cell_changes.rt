@@ -2,11 +2,12 @@ ghost use Rattle.std.specs.Prelude.{◌≡◌, ◌≤◌, ◌++◌, ◌-◌, ◌
 ghost use Rattle.dq_base.specs.Images.{page_at, sizes_page};
 ghost use Rattle.dq_base.specs.Changes.{changed, changed_page};
 ghost use Rattle.sql_engine.specs.CellTexts.{IsCellPage};
+ghost use Rattle.sql_engine.specs.Meanings.{IsShort};
 ghost use Rattle.sql_engine.specs.Cells.{changes_in, with_cell, wiped};
-ghost use Rattle.sql_engine.specs.CellChanges.{new_page, cells_from, count_page};
+ghost use Rattle.sql_engine.specs.CellChanges.{new_page, cells_from, count_page, lengths_of};
 
 use crate::page_bytes::{cell_page, number_of, pages_in, sizes_page};
-use dq_base::{Image, NumberedPage, PAGE_SIZE, Page, page_at};
+use dq_base::{Image, Lengths, NumberedPage, PAGE_SIZE, Page, page_at};
 use std::alloc::{AllocError, Global};
 
 /// The pages that setting a cell changes, in their order, the sizes page last: the pages up to the cell's that were not
@@ -15,18 +16,24 @@ use std::alloc::{AllocError, Global};
 pub(crate) fn set_changes(
     alloc: Global,
     image: &Image,
+    lengths: Lengths,
     page: u64,
     value: u64,
 ) -> Result<Vec<NumberedPage>, AllocError>
-    requires { IsCellPage page }
+    requires page { IsCellPage page }
+    requires lengths { lengths ≡ lengths_of image.now }
     ensures { IfOk result (λ pages. pages.items ≡ changed image.now (with_cell image.now page value)) }
 {
-    let first = page.min(pages_in(image.main.len()) + 1);
+    let first = page.min(pages_in(lengths.main) + 1);
     let mut pages = Vec::new(alloc);
     list_cells(&mut pages, image, page, value, first, 2)?;
     list_count(&mut pages, image)?;
     list_cells(&mut pages, image, page, value, first.max(2), page + 1)?;
-    list_sizes(&mut pages, image, image.main.len().max(PAGE_SIZE * page as usize))?;
+    list_sizes(
+        &mut pages,
+        lengths.main.max(PAGE_SIZE * page as usize),
+        lengths.side.max(PAGE_SIZE),
+    )?;
     Ok(pages)
 }
 
@@ -35,18 +42,20 @@ pub(crate) fn set_changes(
 pub(crate) fn wipe_changes(
     alloc: Global,
     image: &Image,
+    lengths: Lengths,
     pages: u64,
 ) -> Result<Vec<NumberedPage>, AllocError>
-    requires { pages ≤ 8192 }
+    requires pages { pages ≤ 8192 }
+    requires lengths { lengths ≡ lengths_of image.now }
     ensures { IfOk result (λ changes. changes.items ≡ changed image.now (wiped image.now pages)) }
 {
     let kept = PAGE_SIZE * pages as usize;
     let mut changes = Vec::new(alloc);
-    if image.main.len() <= kept {
+    if lengths.main <= kept {
         return Ok(changes);
     }
     list_count(&mut changes, image)?;
-    list_sizes(&mut changes, image, kept)?;
+    list_sizes(&mut changes, kept, lengths.side.max(PAGE_SIZE))?;
     Ok(changes)
 }
 
@@ -113,11 +122,22 @@ fn list_count(pages: &mut Vec<NumberedPage>, image: &Image) -> Result<(), AllocE
     Ok(())
 }
 
-/// Lists the sizes page, for a main file of this length and a side file that has its page 1.
-fn list_sizes(pages: &mut Vec<NumberedPage>, image: &Image, main: usize) -> Result<(), AllocError>
-    ensures { IfOk result (λ _. pages.new.items ≡ pages.old.items ++ (record { number = 1; page = sizes_page main (max (length image.now.side) 4096) }) ∷ []) }
+/// Lists the sizes page of files with these lengths.
+fn list_sizes(pages: &mut Vec<NumberedPage>, main: usize, side: usize) -> Result<(), AllocError>
+    ensures { IfOk result (λ _. pages.new.items ≡ pages.old.items ++ (record { number = 1; page = sizes_page main side }) ∷ []) }
 {
-    let page = sizes_page(main as u64, image.side.len().max(PAGE_SIZE) as u64);
+    let page = sizes_page(main as u64, side as u64);
     pages.push(NumberedPage { number: 1, page })?;
     Ok(())
+}
+
+/// The lengths of an image's files.
+pub(crate) fn lengths_of(image: &Image) -> Lengths
+    ensures lengths { result ≡ lengths_of image.now }
+    ensures short { IsShort image.now }
+{
+    Lengths {
+        main: image.main.len(),
+        side: image.side.len(),
+    }
 }
