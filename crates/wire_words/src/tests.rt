@@ -1,14 +1,9 @@
-ghost use Rattle.std.specs.Prelude.{◌≡◌, IfOk};
+ghost use Rattle.std.specs.Prelude.{◌≤◌, length, IsTrue};
+ghost use Rattle.wire_words.specs.Values.{AreWritable};
 
 use super::*;
 use std::alloc::{AllocError, Global};
 use std::test::*;
-
-fn wire_text(alloc: Global, text: &str) -> Result<WireText, AllocError>
-    ensures { IfOk result (λ made. made ≡ text.now) }
-{
-    Ok(WireText::new(String::from_str(alloc, text)?))
-}
 
 #[test]
 fn headers(rt: HostRuntime) {
@@ -23,21 +18,44 @@ fn headers(rt: HostRuntime) {
     );
 }
 
-#[test]
-fn numbers(rt: HostRuntime) {
-    let body = [8, 7, 6, 5, 4, 3, 2, 1, 1, 0, 0, 0, 2, 0, 0, 128, 5];
-    let mut words = Words::new(&body);
-    assert_eq!(rt; words.u64(), Ok(0x0102_0304_0506_0708));
-    assert_eq!(rt; words.u32_pair(), Ok((1, 0x8000_0002)));
-    assert_eq!(rt; words.left(), 1);
-    assert_eq!(rt; words.place(), 16);
-    assert_eq!(rt; words.u64(), Err(WordFault::Short(16)));
-    assert_eq!(rt; words.u32_pair(), Err(WordFault::Short(16)));
-    assert_eq!(rt; words.left(), 1);
+/// A word and a pair, and behind them the faults of another word and another pair with the place and what is left then.
+fn numbers_of(body: &[u8]) -> Option<(u64, (u32, u32), [WordFault; 2], u64, u64)> {
+    let mut words = Words::new(body);
+    let word = words.u64().ok()?;
+    let pair = words.u32_pair().ok()?;
+    let faults = [words.u64().err()?, words.u32_pair().err()?];
+    Some((word, pair, faults, words.place(), words.left()))
 }
 
 #[test]
-fn texts(rt: HostRuntime) -> Result<(), Fail> {
+fn numbers(rt: HostRuntime) {
+    let body = [8, 7, 6, 5, 4, 3, 2, 1, 1, 0, 0, 0, 2, 0, 0, 128, 5];
+    assert_eq!(rt;
+        numbers_of(&body),
+        Some((
+            0x0102_0304_0506_0708,
+            (1, 0x8000_0002),
+            [WordFault::Short(16); 2],
+            16,
+            1
+        ))
+    );
+}
+
+/// Whether a body is read as this text alone, lent and copied, and the text is written back so.
+fn text_passes(alloc: Global, body: &[u8], wanted: &str) -> Result<bool, WordFault> {
+    let mut words = Words::new(body);
+    let text = words.text(alloc)?;
+    if text.has_nul() || words.left() != 0 || text.as_str() != wanted {
+        return Ok(false);
+    }
+    let mut writer = Writer::new(alloc);
+    writer.text(text.as_str())?;
+    Ok(writer.finish().as_slice() == body)
+}
+
+#[test]
+fn texts(rt: HostRuntime) {
     let rows = [
         (b"\0\0\0\0\0\0\0\0".as_slice(), ""),
         (b"n1\0\0\0\0\0\0".as_slice(), "n1"),
@@ -46,14 +64,29 @@ fn texts(rt: HostRuntime) -> Result<(), Fail> {
         (b"\xc3\xa9\0\0\0\0\0\0".as_slice(), "\u{e9}"),
     ];
     for (body, wanted) in rows {
-        let mut words = Words::new(body);
-        let text = words.text(rt.alloc())?;
-        assert_eq!(rt; text.as_str(), wanted);
-        assert!(rt; !text.has_nul());
-        assert_eq!(rt; words.left(), 0);
+        assert_eq!(rt; text_passes(rt.alloc(), body, wanted), Ok(true));
+        assert_eq!(rt; Words::new(body).text_str(), Ok(wanted));
     }
-    assert!(rt; wire_text(rt.alloc(), "a\0b")?.has_nul());
+}
+
+fn text_has_nul(alloc: Global, text: &str) -> Result<bool, AllocError> {
+    Ok(WireText::new(String::from_str(alloc, text)?).has_nul())
+}
+
+#[test]
+fn nuls_in_texts(rt: HostRuntime) -> Result<(), Fail> {
+    for (text, wanted) in [("a\0b", true), ("ab", false)] {
+        let found = text_has_nul(rt.alloc(), text)?;
+        assert_eq!(rt; found, wanted);
+    }
     Ok(())
+}
+
+/// The fault of the text at the front of a body, and whether all of the body is left then.
+fn text_fault(alloc: Global, body: &[u8]) -> Option<(WordFault, bool)> {
+    let mut words = Words::new(body);
+    let fault = words.text(alloc).err()?;
+    Some((fault, words.left() == body.len() as u64))
 }
 
 #[test]
@@ -67,48 +100,84 @@ fn faulty_texts(rt: HostRuntime) {
         (b"\xff\0\0\0\0\0\0".as_slice(), WordFault::Short(0)),
     ];
     for (body, fault) in rows {
-        let mut words = Words::new(body);
-        assert_eq!(rt; words.text(rt.alloc()).err(), Some(fault));
-        assert_eq!(rt; words.left(), body.len() as u64);
+        assert_eq!(rt; text_fault(rt.alloc(), body), Some((fault, true)));
+    }
+}
+
+/// Whether bytes that were copied are as they were lent.
+fn is_copy(copied: Result<WireBytes, WordFault>, lent: Result<&[u8], WordFault>) -> bool {
+    match copied {
+        Ok(bytes) => lent == Ok(bytes.as_slice()),
+        Err(fault) => lent == Err(fault),
+    }
+}
+
+/// A reader behind the first word of a body.
+fn behind_word(body: &[u8]) -> Words<'_> {
+    let mut words = Words::new(body);
+    let _word = words.u64();
+    words
+}
+
+#[test]
+fn raw_bytes(rt: HostRuntime) {
+    let body = b"wordword\x01\x02\x03\0\0\0\0\0\x09";
+    let rows = [
+        (3, Ok(b"\x01\x02\x03".as_slice())),
+        (0, Ok(b"".as_slice())),
+        (8, Ok(b"\x01\x02\x03\0\0\0\0\0".as_slice())),
+        (2, Err(WordFault::Pad(8))),
+        (9, Err(WordFault::Short(8))),
+        (u64::MAX, Err(WordFault::Short(8))),
+    ];
+    for (size, wanted) in rows {
+        assert_eq!(rt; behind_word(body).raw_slice(size), wanted);
+        assert!(rt; is_copy(behind_word(body).raw(rt.alloc(), size), wanted));
     }
 }
 
 #[test]
-fn raw_bytes(rt: HostRuntime) -> Result<(), Fail> {
-    let mut words = Words::new(b"\x01\x02\x03\0\0\0\0\0\x09\0\0\0\0\0\0\x01\0\0\0");
-    assert_eq!(rt; words.raw(rt.alloc(), 3)?.as_slice(), [1, 2, 3].as_slice());
-    assert_eq!(rt; words.raw_slice(0), Ok([].as_slice()));
-    assert_eq!(rt; words.raw(rt.alloc(), 1).err(), Some(WordFault::Pad(8)));
-    assert_eq!(rt; words.raw_slice(1), Err(WordFault::Pad(8)));
-    assert_eq!(rt; words.raw(rt.alloc(), 8)?.len(), 8);
-    assert_eq!(rt; words.raw(rt.alloc(), 1).err(), Some(WordFault::Short(16)));
-    assert_eq!(rt;
-        words.raw(rt.alloc(), u64::MAX).err(),
-        Some(WordFault::Short(16))
-    );
-    assert_eq!(rt; words.left(), 3);
-    Ok(())
+fn blobs(rt: HostRuntime) {
+    let rows = [
+        (
+            b"\x01\0\0\0\0\0\0\0b\0\0\0\0\0\0\0".as_slice(),
+            Ok(b"b".as_slice()),
+        ),
+        (b"\0\0\0\0\0\0\0\0", Ok(b"")),
+        (
+            b"\x01\0\0\0\0\0\0\0b\0\0\0\0\0\0\x01",
+            Err(WordFault::Pad(0)),
+        ),
+        (b"\x01\0\0\0\0\0\0\0b\0\0\0\0\0\0", Err(WordFault::Short(0))),
+    ];
+    for (body, wanted) in rows {
+        assert_eq!(rt; Words::new(body).blob_slice(), wanted);
+        assert!(rt; is_copy(Words::new(body).blob(rt.alloc()), wanted));
+    }
 }
 
-#[test]
-fn messages(rt: HostRuntime) -> Result<(), Fail> {
-    let mut writer = Writer::new(rt.alloc());
+fn message_of_items(alloc: Global) -> Result<WireBytes, AllocError> {
+    let mut writer = Writer::new(alloc);
     writer.header(3, 1)?;
     writer.word(258)?;
     writer.pair(1, 2)?;
     writer.text("12345678")?;
     writer.raw(&[9])?;
-    let wanted =
-        b"\x05\0\0\0\x03\x01\0\0\x02\x01\0\0\0\0\0\0\x01\0\0\0\x02\0\0\012345678\0\0\0\0\0\0\0\0\x09\0\0\0\0\0\0\0";
-    assert_eq!(rt; writer.finish_message()?.as_slice(), wanted.as_slice());
-    let mut writer = Writer::new(rt.alloc());
-    writer.text("")?;
-    writer.raw(&[])?;
-    assert_eq!(rt; writer.finish().as_slice(), [0; 8].as_slice());
+    writer.finish_message()
+}
+
+#[test]
+fn messages(rt: HostRuntime) -> Result<(), Fail> {
+    let message = message_of_items(rt.alloc())?;
+    assert_eq!(rt;
+        message.as_slice(),
+        b"\x05\0\0\0\x03\x01\0\0\x02\x01\0\0\0\0\0\0\x01\0\0\0\x02\0\0\012345678\0\0\0\0\0\0\0\0\x09\0\0\0\0\0\0\0".as_slice()
+    );
     Ok(())
 }
 
 /// What a value is to be.
+#[derive(Clone, Copy)]
 enum Wanted {
     Integer(i64),
     Text(&'static str),
@@ -126,17 +195,114 @@ fn is_as(value: &Value, wanted: &Wanted) -> bool {
     }
 }
 
-// The head of the second row is one that a real client sent, with bytes of an earlier request behind its code.
+fn are_as(values: &[Value], wanted: &[Wanted]) -> bool {
+    values.len() == wanted.len()
+        && values
+            .iter()
+            .zip(wanted)
+            .all(|(value, wanted)| is_as(value, wanted))
+}
+
+/// How values stand in a body: as a tuple, as a wide one, as a row of so many, or alone with these types.
+#[derive(Clone, Copy)]
+enum Form {
+    Tuple,
+    Wide,
+    Row(u64),
+    Alone(&'static [ValueType]),
+}
+
+fn read_values(alloc: Global, words: &mut Words<'_>, form: Form) -> Result<Vec<Value>, WordFault> {
+    match form {
+        Form::Tuple => words.params(alloc),
+        Form::Wide => words.params_wide(alloc),
+        Form::Row(count) => words.row(alloc, count),
+        Form::Alone(types) => words.values(alloc, Dialect::Exact, types),
+    }
+}
+
+fn write_values(writer: &mut Writer, form: Form, values: &[Value]) -> Result<(), AllocError>
+    requires count { length values.now ≤ 255 }
+    requires writable { AreWritable values.now }
+{
+    match form {
+        Form::Tuple => writer.params(values),
+        Form::Wide => writer.params_wide(values),
+        Form::Row(_) => writer.row(values),
+        Form::Alone(_) => writer.values(values),
+    }
+}
+
+fn are_writable(values: &[Value]) -> bool
+    ensures { IsTrue result → AreWritable values.now }
+{
+    values.iter().all(|value| value.is_writable())
+}
+
+/// Whether these bytes are what is written of the values.
+fn writes_back(
+    alloc: Global,
+    form: Form,
+    values: &[Value],
+    bytes: &[u8],
+) -> Result<bool, AllocError> {
+    if values.len() > 255 || !are_writable(values) {
+        return Ok(false);
+    }
+    let mut writer = Writer::with_capacity(alloc, 64)?;
+    write_values(&mut writer, form, values)?;
+    Ok(writer.finish().as_slice() == bytes)
+}
+
+/// Whether a body is read as these values alone, and is written back so where it is exact, and otherwise where not.
+fn values_pass(
+    alloc: Global,
+    form: Form,
+    bytes: &[u8],
+    wanted: &[Wanted],
+    exact: bool,
+) -> Result<bool, WordFault> {
+    let mut words = Words::new(bytes);
+    let values = read_values(alloc, &mut words, form)?;
+    if words.left() != 0 || !are_as(&values, wanted) {
+        return Ok(false);
+    }
+    Ok(writes_back(alloc, form, &values, bytes)? == exact)
+}
+
+const FIVE_VALUES: &[Wanted] = &[
+    Wanted::Integer(i64::MIN),
+    Wanted::Blob(b""),
+    Wanted::Null,
+    Wanted::Text("abcdefg"),
+    Wanted::Text("abcdefgh"),
+];
+
+// The head of the second tuple is one that a real client sent, with bytes of an earlier request behind its code. The
+// first wide tuple is that of a real EXEC.
 #[test]
-fn tuples_are_read(rt: HostRuntime) -> Result<(), Fail> {
+fn values_are_read_and_written_back(rt: HostRuntime) {
     let rows = [
-        (b"\0\0\0\0\0\0\0\0".as_slice(), [].as_slice()),
-        (b"\x01\x03SERT Ix\0\0\0\0\0\0\0", &[Wanted::Text("x")]),
         (
-            b"\x02\x01\x03\xff\xff\xff\xff\xff\x05\0\0\0\0\0\0\0x\0\0\0\0\0\0\0",
-            &[Wanted::Integer(5), Wanted::Text("x")],
+            Form::Tuple,
+            b"\0\0\0\0\0\0\0\0".as_slice(),
+            [].as_slice(),
+            true,
         ),
         (
+            Form::Tuple,
+            b"\x01\x03SERT Ix\0\0\0\0\0\0\0",
+            &[Wanted::Text("x")],
+            false,
+        ),
+        (
+            Form::Tuple,
+            b"\x02\x01\x03\xff\xff\xff\xff\xff\x05\0\0\0\0\0\0\0x\0\0\0\0\0\0\0",
+            &[Wanted::Integer(5), Wanted::Text("x")],
+            false,
+        ),
+        (
+            Form::Tuple,
             b"\x05\x09\x0a\x0b\x04\x05\0\0\xff\xff\xff\xff\xff\xff\xff\xff2026\0\0\0\0\x01\0\0\0\0\0\0\0\x01\0\0\0\0\0\0\0b1234567\0\0\0\0\0\0\0\0",
             &[
                 Wanted::Integer(-1),
@@ -145,131 +311,187 @@ fn tuples_are_read(rt: HostRuntime) -> Result<(), Fail> {
                 Wanted::Blob(b"b"),
                 Wanted::Null,
             ],
+            false,
+        ),
+        (
+            Form::Wide,
+            b"\x02\0\0\0\x01\x03\0\0\x05\0\0\0\0\0\0\0x\0\0\0\0\0\0\0",
+            &[Wanted::Integer(5), Wanted::Text("x")],
+            true,
+        ),
+        (
+            Form::Tuple,
+            b"\x05\x01\x04\x05\x03\x03\0\0\0\0\0\0\0\0\0\x80\0\0\0\0\0\0\0\0\0\0\0\0\0\0\0\0abcdefg\0abcdefgh\0\0\0\0\0\0\0\0",
+            FIVE_VALUES,
+            true,
+        ),
+        (
+            Form::Wide,
+            b"\x05\0\0\0\x01\x04\x05\x03\x03\0\0\0\0\0\0\0\0\0\0\0\0\0\0\x80\0\0\0\0\0\0\0\0\0\0\0\0\0\0\0\0abcdefg\0abcdefgh\0\0\0\0\0\0\0\0",
+            FIVE_VALUES,
+            true,
+        ),
+        (
+            Form::Row(5),
+            b"\x41\x35\x03\0\0\0\0\0\0\0\0\0\0\0\0\x80\0\0\0\0\0\0\0\0\0\0\0\0\0\0\0\0abcdefg\0abcdefgh\0\0\0\0\0\0\0\0",
+            FIVE_VALUES,
+            true,
+        ),
+        (
+            Form::Alone(&[ValueType::Null, ValueType::Blob]),
+            b"\0\0\0\0\0\0\0\0\x01\0\0\0\0\0\0\0b\0\0\0\0\0\0\0",
+            &[Wanted::Null, Wanted::Blob(b"b")],
+            true,
         ),
     ];
-    for (bytes, wanted) in rows {
-        let mut words = Words::new(bytes);
-        let values = words.params(rt.alloc())?;
-        assert_eq!(rt; values.len(), wanted.len());
-        assert!(rt;
-            values
-                .iter()
-                .zip(wanted)
-                .all(|(value, wanted)| is_as(value, wanted))
+    for (form, bytes, wanted, exact) in rows {
+        assert_eq!(rt;
+            values_pass(rt.alloc(), form, bytes, wanted, exact),
+            Ok(true)
         );
-        assert_eq!(rt; words.left(), 0);
     }
-    let mut words = Words::new(b"\x02\0\0\0\x01\x03\0\0\x05\0\0\0\0\0\0\0x\0\0\0\0\0\0\0");
-    assert_eq!(rt; words.params_wide(rt.alloc())?.len(), 2);
-    Ok(())
+}
+
+/// The fault of the values at the front of a body, and the place of the reader then.
+fn fault_of_values(alloc: Global, form: Form, bytes: &[u8]) -> Option<(WordFault, u64)> {
+    let mut words = Words::new(bytes);
+    let fault = read_values(alloc, &mut words, form).err()?;
+    Some((fault, words.place()))
 }
 
 #[test]
-fn faulty_tuples(rt: HostRuntime) {
+fn faulty_values(rt: HostRuntime) {
     let rows = [
-        (b"".as_slice(), WordFault::Short(0)),
-        (b"\x08\x02\x06\0\0\0\0\0", WordFault::Short(0)),
-        (b"\x02\x02\x06\0\0\0\0\0", WordFault::BadCode(0, 6)),
-        (b"\x01\x02\0\0\0\0\0\0", WordFault::Float(0)),
-        (b"\x01\x05\0\0\0\0\0\0\x01\0\0\0\0\0\0\0", WordFault::Pad(8)),
-        (b"\x01\x03\0\0\0\0\0\0a\0\0\0\0\0\0\x01", WordFault::Pad(8)),
+        (Form::Tuple, b"".as_slice(), WordFault::Short(0)),
+        (Form::Tuple, b"\x08\x02\x06\0\0\0\0\0", WordFault::Short(0)),
         (
+            Form::Tuple,
+            b"\x02\x02\x06\0\0\0\0\0",
+            WordFault::BadCode(0, 6),
+        ),
+        (Form::Tuple, b"\x01\x02\0\0\0\0\0\0", WordFault::Float(0)),
+        (
+            Form::Tuple,
+            b"\x01\x05\0\0\0\0\0\0\x01\0\0\0\0\0\0\0",
+            WordFault::Pad(8),
+        ),
+        (
+            Form::Tuple,
+            b"\x01\x03\0\0\0\0\0\0a\0\0\0\0\0\0\x01",
+            WordFault::Pad(8),
+        ),
+        (
+            Form::Tuple,
             b"\x01\x04\0\0\0\0\0\0\x01\0\0\0\0\0\0\0",
             WordFault::Short(8),
         ),
+        (Form::Wide, b"\x01\0\0", WordFault::Short(0)),
+        (
+            Form::Row(1),
+            b"\x09\0\0\0\0\0\0\0\0\0\0\0\0\0\0\0",
+            WordFault::BadCode(0, 9),
+        ),
+        (
+            Form::Row(1),
+            b"\x15\0\0\0\0\0\0\0\0\0\0\0\0\0\0\0",
+            WordFault::Pad(0),
+        ),
     ];
-    for (bytes, fault) in rows {
-        let mut words = Words::new(bytes);
-        assert_eq!(rt; words.params(rt.alloc()).err(), Some(fault));
-        assert_eq!(rt; words.place(), 0);
+    for (form, bytes, fault) in rows {
+        assert_eq!(rt; fault_of_values(rt.alloc(), form, bytes), Some((fault, 0)));
     }
-    let mut row = Words::new(b"\x09\0\0\0\0\0\0\0\0\0\0\0\0\0\0\0");
-    assert_eq!(rt;
-        row.row(rt.alloc(), 1).err(),
-        Some(WordFault::BadCode(0, 9))
-    );
-    let mut row = Words::new(b"\x15\0\0\0\0\0\0\0\0\0\0\0\0\0\0\0");
-    assert_eq!(rt; row.row(rt.alloc(), 1).err(), Some(WordFault::Pad(0)));
-    let mut blob = Words::new(b"\x01\0\0\0\0\0\0\0b\0\0\0\0\0\0\x01");
-    assert_eq!(rt; blob.blob(rt.alloc()).err(), Some(WordFault::Pad(0)));
+}
+
+/// Whether a body is read as this value, of a type that is its own, and the value is written back so.
+fn value_passes(
+    alloc: Global,
+    value_type: ValueType,
+    body: &[u8],
+    wanted: &Wanted,
+) -> Result<bool, WordFault> {
+    let value = Words::new(body).value(alloc, Dialect::Exact, value_type)?;
+    if !value.is_writable() || value.value_type() != value_type || !is_as(&value, wanted) {
+        return Ok(false);
+    }
+    let mut writer = Writer::new(alloc);
+    writer.value(&value)?;
+    Ok(writer.finish().as_slice() == body)
 }
 
 #[test]
-fn values_are_written(rt: HostRuntime) -> Result<(), Fail> {
-    let values = [
-        Value::Integer(i64::MIN),
-        Value::Blob(WireBytes::new(Vec::new(rt.alloc()))),
-        Value::Null,
-        Value::Text(wire_text(rt.alloc(), "abcdefg")?),
-        Value::Text(wire_text(rt.alloc(), "abcdefgh")?),
+fn single_values(rt: HostRuntime) {
+    let rows = [
+        (
+            ValueType::Integer,
+            b"\xfe\xff\xff\xff\xff\xff\xff\xff".as_slice(),
+            Wanted::Integer(-2),
+        ),
+        (ValueType::Text, b"t\0\0\0\0\0\0\0", Wanted::Text("t")),
+        (ValueType::Null, b"\0\0\0\0\0\0\0\0", Wanted::Null),
     ];
-    let words =
-        b"\0\0\0\0\0\0\0\x80\0\0\0\0\0\0\0\0\0\0\0\0\0\0\0\0abcdefg\0abcdefgh\0\0\0\0\0\0\0\0";
-    let mut row = Writer::new(rt.alloc());
-    row.row(&values)?;
-    let row = row.finish();
-    assert_eq!(rt; &row.as_slice()[..8], b"\x41\x35\x03\0\0\0\0\0".as_slice());
-    assert_eq!(rt; &row.as_slice()[8..], words.as_slice());
-    assert_eq!(rt; Words::new(row.as_slice()).row(rt.alloc(), 5)?.len(), 5);
-    let mut tuple = Writer::with_capacity(rt.alloc(), 64)?;
-    tuple.params(&values)?;
-    assert_eq!(rt;
-        &tuple.finish().as_slice()[..8],
-        b"\x05\x01\x04\x05\x03\x03\0\0".as_slice()
-    );
-    let mut tuple = Writer::new(rt.alloc());
-    tuple.params_wide(&values)?;
-    let tuple = tuple.finish();
-    assert_eq!(rt;
-        &tuple.as_slice()[..16],
-        b"\x05\0\0\0\x01\x04\x05\x03\x03\0\0\0\0\0\0\0".as_slice()
-    );
-    assert_eq!(rt; &tuple.as_slice()[16..], words.as_slice());
-    Ok(())
+    for (value_type, body, wanted) in rows {
+        assert_eq!(rt;
+            value_passes(rt.alloc(), value_type, body, &wanted),
+            Ok(true)
+        );
+    }
 }
 
 #[test]
-fn streams_are_cut(rt: HostRuntime) -> Result<(), Fail> {
-    let stream = b"\x01\0\0\0\0\0\0\0\0\0\0\0\x05\x01\xff\xff\x01\0\0\0\x07\0\0\0bodybody";
-    let mut splitter = Splitter::new(rt.alloc());
-    assert_eq!(rt; splitter.feed(stream)?.len(), 2);
-    let mut splitter = Splitter::new(rt.alloc());
+fn codes(rt: HostRuntime) {
+    assert_eq!(rt; ValueType::with_code(Dialect::Exact, 9), None);
+    assert_eq!(rt;
+        ValueType::with_code(Dialect::Client, 9),
+        Some(ValueType::UnixTime)
+    );
+    assert_eq!(rt; ValueType::UnixTime.code(), 9);
+}
+
+/// How many messages a stream has that comes in pieces of this size, and how many bytes are unread at its end.
+fn fed(mut splitter: Splitter, stream: &[u8], size: usize) -> Result<(usize, u64), SplitFault> {
     let mut count = 0;
-    for byte in stream {
-        count = splitter.feed(&[*byte])?.len().saturating_add(count);
+    for piece in stream.chunks(size.max(1)) {
+        count = splitter.feed(piece)?.len().saturating_add(count);
     }
-    assert_eq!(rt; count, 2);
-    assert_eq!(rt; splitter.held(), 0);
-    let mut splitter = Splitter::after_version(rt.alloc());
-    assert!(rt; splitter.feed(b"\0\0\x20\0\0\0\0\0")?.is_empty());
-    assert_eq!(rt; splitter.held(), 8);
-    Ok(())
+    Ok((count, splitter.held()))
 }
 
 #[test]
-fn broken_streams(rt: HostRuntime) -> Result<(), Fail> {
-    let mut splitter = Splitter::new(rt.alloc());
+fn streams_are_cut(rt: HostRuntime) {
+    let stream = b"\x01\0\0\0\0\0\0\0\0\0\0\0\x05\x01\xff\xff\x01\0\0\0\x07\0\0\0bodybody";
+    let rows = [
+        (stream.as_slice(), 32, Ok((2, 0))),
+        (stream, 1, Ok((2, 0))),
+        (b"\x01\0\0\0\0\0\0\0\0\0\x20\0\0\0\0\0", 16, Ok((0, 8))),
+        (b"\x02\0\0\0\0\0\0\0", 8, Err(SplitFault::Version(2))),
+    ];
+    for (bytes, size, wanted) in rows {
+        assert_eq!(rt; fed(Splitter::new(rt.alloc()), bytes, size), wanted);
+    }
+    let broken = b"\0\0\0\0\0\0\0\0\x01\0\x20\0\0\0\0\0";
+    for (size, wanted) in [(16, Ok((1, 0))), (8, Err(SplitFault::TooLong(2_097_153)))] {
+        assert_eq!(rt;
+            fed(Splitter::after_version(rt.alloc()), broken, size),
+            wanted
+        );
+    }
+}
+
+/// The fault of a piece, and then that of a byte, behind the messages that one piece gave; and what is held then.
+fn faults_behind(alloc: Global, stream: &[u8], piece: &[u8]) -> Option<([SplitFault; 2], u64)> {
+    let mut splitter = Splitter::after_version(alloc);
+    splitter.feed(stream).ok()?;
+    let first = splitter.feed(piece).err()?;
+    let second = splitter.feed(b"\0").err()?;
+    Some(([first, second], splitter.held()))
+}
+
+#[test]
+fn faults_stay(rt: HostRuntime) {
     assert_eq!(rt;
-        splitter.feed(b"\x02\0\0\0\0\0\0\0").err(),
-        Some(SplitFault::Version(2))
+        faults_behind(rt.alloc(), b"\0\0\0\0\0\0\0\0\x01\0\x20\0\0\0\0\0", b""),
+        Some(([SplitFault::TooLong(2_097_153); 2], 0))
     );
-    let mut splitter = Splitter::after_version(rt.alloc());
-    assert_eq!(rt;
-        splitter
-            .feed(b"\0\0\0\0\0\0\0\0\x01\0\x20\0\0\0\0\0")?
-            .len(),
-        1
-    );
-    assert_eq!(rt;
-        splitter.feed(b"").err(),
-        Some(SplitFault::TooLong(2_097_153))
-    );
-    assert_eq!(rt;
-        splitter.feed(b"\0").err(),
-        Some(SplitFault::TooLong(2_097_153))
-    );
-    assert_eq!(rt; splitter.held(), 0);
-    Ok(())
 }
 
 #[test]
@@ -312,47 +534,39 @@ fn texts_of_faults(rt: HostRuntime) -> Result<(), Fail> {
     Ok(())
 }
 
-fn sevens(alloc: Global) -> Result<Vec<u8>, AllocError> {
-    vec![in alloc; 7u8; 1_048_576]
-}
-
-// A blob of a mebibyte is written, and read out of a message that comes in pieces.
-#[test]
-fn calls_at_size(rt: HostRuntime) -> Result<(), Fail> {
-    let bytes = sevens(rt.alloc())?;
-    let mut writer = Writer::new(rt.alloc());
+/// A message with a blob of a mebibyte.
+fn large_message(alloc: Global) -> Result<WireBytes, AllocError> {
+    let bytes = vec![in alloc; 7u8; 1_048_576]?;
+    let mut writer = Writer::new(alloc);
     writer.header(3, 0)?;
     writer.blob(&bytes)?;
-    let message = writer.finish_message()?;
-    let mut splitter = Splitter::after_version(rt.alloc());
-    let mut size = 0;
-    for piece in message.as_slice().chunks(4_096) {
-        for message in splitter.feed(piece)? {
-            size = Words::new(message.body.as_slice()).blob(rt.alloc())?.len();
-        }
+    writer.finish_message()
+}
+
+/// How many bytes the blob of the last message has, where there is a message.
+fn blob_size(alloc: Global, messages: &[Message]) -> Option<u64> {
+    let blob = Words::new(messages.last()?.body.as_slice())
+        .blob(alloc)
+        .ok()?;
+    Some(blob.len() as u64)
+}
+
+/// That of the last piece of a stream.
+fn last_blob_size(alloc: Global, stream: &[u8]) -> Option<u64> {
+    let mut splitter = Splitter::after_version(alloc);
+    let mut size = None;
+    for piece in stream.chunks(4_096) {
+        size = blob_size(alloc, &splitter.feed(piece).ok()?);
     }
-    assert_eq!(rt; size, 1_048_576);
-    Ok(())
+    size
 }
 
 #[test]
-fn single_values(rt: HostRuntime) -> Result<(), Fail> {
-    let mut writer = Writer::new(rt.alloc());
-    writer.value(&Value::Integer(-2))?;
-    writer.values(&[Value::Null])?;
-    writer.text("t")?;
-    writer.blob(b"b")?;
-    let bytes = writer.finish();
-    let mut words = Words::new(bytes.as_slice());
-    let value = words.value(rt.alloc(), Dialect::Exact, ValueType::Integer)?;
-    assert!(rt; is_as(&value, &Wanted::Integer(-2)));
-    assert!(rt; value.is_writable());
-    assert_eq!(rt; value.value_type(), ValueType::Integer);
-    let values = words.values(rt.alloc(), Dialect::Client, &[ValueType::Null])?;
-    assert_eq!(rt; values.len(), 1);
-    assert_eq!(rt; words.text_str(), Ok("t"));
-    assert_eq!(rt; words.blob_slice(), Ok(b"b".as_slice()));
-    assert_eq!(rt; ValueType::with_code(Dialect::Exact, 9), None);
-    assert_eq!(rt; ValueType::UnixTime.code(), 9);
+fn calls_at_size(rt: HostRuntime) -> Result<(), Fail> {
+    let message = large_message(rt.alloc())?;
+    assert_eq!(rt;
+        last_blob_size(rt.alloc(), message.as_slice()),
+        Some(1_048_576)
+    );
     Ok(())
 }
