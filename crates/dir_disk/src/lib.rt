@@ -2,7 +2,5 @@
 #![tactic(auto)]
 
 mod directory;
-#[cfg(test)]
-mod tests;
 
 pub use directory::DirDisk;

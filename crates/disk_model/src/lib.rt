@@ -11,8 +11,6 @@ mod open_calls;
 mod replacing;
 mod storage;
 mod stored;
-#[cfg(test)]
-mod tests;
 
 pub use armed::Stop;
 pub use disk::Disk;

@@ -1,6 +1,6 @@
 ghost use Rattle.dq_base.specs.Names.{IsName};
 
-use super::*;
+use disk_model::*;
 use std::alloc::Global;
 use std::test::Fail;
 

@@ -1,6 +1,6 @@
 ghost use Rattle.dq_base.specs.Names.{IsName};
 
-use super::*;
+use dir_disk::DirDisk;
 use disk_model::{Disk, DiskFault};
 use std::fs;
 use std::test::Fail;
