@@ -1,5 +1,5 @@
-ghost use Rattle.std.specs.Prelude.{IfOk};
-ghost use Rattle.wire_words.specs.Items.{HasNoNul};
+ghost use Rattle.std.specs.Prelude.{◌≤◌, length, IsTrue};
+ghost use Rattle.wire_words.specs.Values.{AreWritable};
 ghost use Rattle.wire_msgs.specs.Requests.{IsWritableRequest};
 ghost use Rattle.wire_msgs.specs.Responses.{IsWritable};
 
@@ -7,7 +7,7 @@ use super::*;
 use dq_base::Items;
 use std::alloc::{AllocError, Global};
 use std::test::*;
-use wire_words::{Message, Value, WireBytes, WireText, WordFault};
+use wire_words::{Message, Value, WireBytes, WordFault};
 
 fn message(alloc: Global, kind: u8, schema: u8, body: &[u8]) -> Result<Message, AllocError> {
     let body = WireBytes::new(Vec::from_slice(alloc, body)?);
@@ -211,84 +211,119 @@ fn responses_are_read(rt: HostRuntime) -> Result<(), Fail> {
     Ok(())
 }
 
-fn text(alloc: Global, text: &str) -> Result<WireText, Fail>
-    ensures { IfOk result HasNoNul }
+fn are_writable(values: &[Value]) -> bool
+    ensures { IsTrue result → AreWritable values.now }
 {
-    let text = WireText::new(String::from_str(alloc, text)?);
-    if text.has_nul() {
-        return Err("a NUL in a text".into());
-    }
-    Ok(text)
+    values.iter().all(|value| value.is_writable())
 }
 
-fn exec(alloc: Global, wide: bool) -> Result<Request, Fail>
-    ensures { IfOk result IsWritableRequest }
+/// Whether a tuple of these parameters can be written, which is not to have more than the narrow one may have.
+fn params_fit(params: &Items<Value>) -> bool
+    ensures { IsTrue result → (length params.now ≤ 255) × AreWritable params.now }
 {
-    let mut values = Vec::new(alloc);
-    values.push(Value::Integer(5))?;
-    Ok(Request::Exec {
-        db: 1,
-        statement: 2,
-        params: Items::new(values),
-        wide,
-    })
+    params.len() <= 255 && are_writable(params.as_slice())
 }
 
-fn request_written(alloc: Global, wide: bool) -> Result<WireBytes, Fail> {
-    Ok(write_request(alloc, &exec(alloc, wide)?)?)
-}
-
-fn stmt(tail: Option<u64>) -> Response
-    ensures { IsWritable result }
+/// Whether a request can be written, of those that the table below has.
+fn request_fits(request: &Request) -> bool
+    ensures { IsTrue result → IsWritableRequest request.now }
 {
-    Response::Stmt {
-        db: 0,
-        id: 1,
-        params: 2,
-        tail,
+    match request {
+        Request::Leader | Request::Client { .. } => true,
+        Request::Open { name, vfs, .. } => !name.has_nul() && !vfs.has_nul(),
+        Request::Prepare { sql, .. } => !sql.has_nul(),
+        Request::Exec { params, .. } => params_fit(params),
+        Request::ExecSql { sql, params, .. } => !sql.has_nul() && params_fit(params),
+        Request::Dump { name } => !name.has_nul(),
+        _ => false,
     }
 }
 
-fn failure(alloc: Global) -> Result<Response, Fail>
-    ensures { IfOk result IsWritable }
-{
-    let message = text(alloc, "bad request")?;
-    Ok(Response::Failure {
-        code: 1005,
-        message,
-    })
+/// The message of these bytes, header and body.
+fn message_in(alloc: Global, bytes: &[u8]) -> Option<Message> {
+    if bytes.len() < 8 {
+        return None;
+    }
+    message(alloc, bytes[4], bytes[5], &bytes[8..]).ok()
+}
+
+/// What is written of the request that is read in a message.
+fn request_again(alloc: Global, message: &Message) -> Option<WireBytes> {
+    let request = read_request(alloc, message).ok()?;
+    if request_fits(&request) {
+        write_request(alloc, &request).ok()
+    } else {
+        None
+    }
+}
+
+fn request_is_mirrored(alloc: Global, bytes: &[u8]) -> Option<bool> {
+    let message = message_in(alloc, bytes)?;
+    let written = request_again(alloc, &message)?;
+    Some(written.as_slice() == bytes)
 }
 
 #[test]
-fn messages_are_written(rt: HostRuntime) -> Result<(), Fail> {
-    for (wide, wanted) in [
-        (
-            false,
-            b"\x03\0\0\0\x05\0\0\0\x01\0\0\0\x02\0\0\0\x01\x01\0\0\0\0\0\0\x05\0\0\0\0\0\0\0".as_slice(),
-        ),
-        (
-            true,
-            b"\x03\0\0\0\x05\x01\0\0\x01\0\0\0\x02\0\0\0\x01\0\0\0\x01\0\0\0\x05\0\0\0\0\0\0\0",
-        ),
+fn requests_are_mirrored(rt: HostRuntime) {
+    for bytes in [
+        b"\x01\0\0\0\0\0\0\0\0\0\0\0\0\0\0\0".as_slice(),
+        b"\x01\0\0\0\x01\0\0\0\x07\0\0\0\0\0\0\0",
+        b"\x04\0\0\0\x03\0\0\0d\0\0\0\0\0\0\0\0\0\0\0\0\0\0\0volatile\0\0\0\0\0\0\0\0",
+        b"\x03\0\0\0\x04\x01\0\0\0\0\0\0\0\0\0\0GET 1;GET 2\0\0\0\0\0",
+        b"\x01\0\0\0\x05\0\0\0\x01\0\0\0\x02\0\0\0",
+        b"\x03\0\0\0\x05\0\0\0\x01\0\0\0\x02\0\0\0\x01\x01\0\0\0\0\0\0\x05\0\0\0\0\0\0\0",
+        b"\x04\0\0\0\x05\x01\0\0\0\0\0\0\0\0\0\0\x02\0\0\0\x01\x03\0\0\x05\0\0\0\0\0\0\0x\0\0\0\0\0\0\0",
+        b"\x04\0\0\0\x08\0\0\0\x01\0\0\0\0\0\0\0x\0\0\0\0\0\0\0\x01\x05\0\0\0\0\0\0\0\0\0\0\0\0\0\0",
+        b"\x01\0\0\0\x0f\0\0\0d\0\0\0\0\0\0\0",
     ] {
-        assert_eq!(rt; request_written(rt.alloc(), wide)?.as_slice(), wanted);
+        assert_eq!(rt; request_is_mirrored(rt.alloc(), bytes), Some(true));
     }
-    for (tail, wanted) in [
-        (
-            None,
-            b"\x02\0\0\0\x05\0\0\0\0\0\0\0\x01\0\0\0\x02\0\0\0\0\0\0\0".as_slice(),
-        ),
-        (
-            Some(6),
-            b"\x03\0\0\0\x05\x01\0\0\0\0\0\0\x01\0\0\0\x02\0\0\0\0\0\0\0\x06\0\0\0\0\0\0\0",
-        ),
+}
+
+/// Whether a response can be written, of those that the table below has.
+fn response_fits(response: &Response) -> bool
+    ensures { IsTrue result → IsWritable response.now }
+{
+    match response {
+        Response::Failure { message, .. } => !message.has_nul(),
+        Response::Server { address, .. } => !address.has_nul(),
+        Response::Rows { body } => body.len() % 8 == 0,
+        Response::Servers { .. } | Response::Files { .. } => false,
+        _ => true,
+    }
+}
+
+/// What is written of the response that is read in a message.
+fn response_again(alloc: Global, message: &Message) -> Option<WireBytes> {
+    let response = read_response(alloc, message, 1).ok()?;
+    if response_fits(&response) {
+        write_response(alloc, &response).ok()
+    } else {
+        None
+    }
+}
+
+fn response_is_mirrored(alloc: Global, bytes: &[u8]) -> Option<bool> {
+    let message = message_in(alloc, bytes)?;
+    let written = response_again(alloc, &message)?;
+    Some(written.as_slice() == bytes)
+}
+
+#[test]
+fn responses_are_mirrored(rt: HostRuntime) {
+    for bytes in [
+        b"\x03\0\0\0\0\0\0\0\xed\x03\0\0\0\0\0\0bad request\0\0\0\0\0".as_slice(),
+        b"\x02\0\0\0\x01\0\0\0\x01\0\0\0\0\0\0\0n1\0\0\0\0\0\0",
+        b"\x01\0\0\0\x02\0\0\0\x98\x3a\0\0\0\0\0\0",
+        b"\x01\0\0\0\x04\0\0\0\x01\0\0\0\0\0\0\0",
+        b"\x02\0\0\0\x05\0\0\0\0\0\0\0\x01\0\0\0\x02\0\0\0\0\0\0\0",
+        b"\x03\0\0\0\x05\x01\0\0\0\0\0\0\x01\0\0\0\x02\0\0\0\0\0\0\0\x06\0\0\0\0\0\0\0",
+        b"\x02\0\0\0\x06\0\0\0\0\0\0\0\0\0\0\0\x01\0\0\0\0\0\0\0",
+        b"\x02\0\0\0\x07\0\0\0\0\0\0\0\0\0\0\0\xff\xff\xff\xff\xff\xff\xff\xff",
+        b"\x01\0\0\0\x08\0\0\0\0\0\0\0\0\0\0\0",
     ] {
-        assert_eq!(rt; write_response(rt.alloc(), &stmt(tail))?.as_slice(), wanted);
+        assert_eq!(rt; response_is_mirrored(rt.alloc(), bytes), Some(true));
     }
-    let bytes = write_response(rt.alloc(), &failure(rt.alloc())?)?;
-    let wanted = b"\x03\0\0\0\0\0\0\0\xed\x03\0\0\0\0\0\0bad request\0\0\0\0\0".as_slice();
-    assert_eq!(rt; bytes.as_slice(), wanted);
-    Ok(())
 }
 
 #[test]

@@ -47,81 +47,114 @@ fn parts_of_row(alloc: Global, values: Vec<Value>) -> Result<Vec<WireBytes>, Row
     parts(alloc, names.as_slice(), rows.as_slice())
 }
 
+/// The row of five values.
+fn five_values(alloc: Global) -> Result<Vec<Value>, AllocError> {
+    let mut values = Vec::with_capacity(alloc, 5)?;
+    values.push(Value::Integer(i64::MIN))?;
+    values.push(Value::Blob(WireBytes::new(Vec::new(alloc))))?;
+    values.push(Value::Null)?;
+    values.push(Value::Text(text(alloc, "abcdefg")?))?;
+    values.push(Value::Text(text(alloc, "abcdefgh")?))?;
+    Ok(values)
+}
+
+/// The body of the only part.
+fn only_body(bodies: &[WireBytes]) -> Option<&[u8]> {
+    match bodies {
+        [body] => Some(body.as_slice()),
+        _ => None,
+    }
+}
+
+/// How many columns and rows are read in a body, and whether parts follow.
+fn read_counts(alloc: Global, body: &[u8]) -> Option<(usize, usize, More)> {
+    let (part, more) = read_part(alloc, body).ok()?;
+    Some((part.columns.len(), part.rows.len(), more))
+}
+
 #[test]
 fn a_row(rt: HostRuntime) -> Result<(), Fail> {
-    let alloc = rt.alloc();
-    let values = vec![in alloc;
-        Value::Integer(i64::MIN),
-        Value::Blob(WireBytes::new(Vec::new(alloc))),
-        Value::Null,
-        Value::Text(text(alloc, "abcdefg")?),
-        Value::Text(text(alloc, "abcdefgh")?),
-    ]?;
-    let bodies = parts_of_row(alloc, values)?;
-    assert_eq!(rt; bodies.len(), 1);
-    let body = &bodies[0];
-    let wanted = b"\x41\x35\x03\0\0\0\0\0\0\0\0\0\0\0\0\x80\0\0\0\0\0\0\0\0\0\0\0\0\0\0\0\0\
+    let wanted = b"\x05\0\0\0\0\0\0\0columnab\0\0\0\0\0\0\0\0columnab\0\0\0\0\0\0\0\0\
+        columnab\0\0\0\0\0\0\0\0columnab\0\0\0\0\0\0\0\0columnab\0\0\0\0\0\0\0\0\
+        \x41\x35\x03\0\0\0\0\0\0\0\0\0\0\0\0\x80\0\0\0\0\0\0\0\0\0\0\0\0\0\0\0\0\
         abcdefg\0abcdefgh\0\0\0\0\0\0\0\0\xff\xff\xff\xff\xff\xff\xff\xff";
-    assert_eq!(rt; body.len(), 8 + 5 * 16 + wanted.len());
-    assert!(rt; body.as_slice().ends_with(wanted));
-    let (part, more) = read_part(alloc, body.as_slice())?;
-    assert_eq!(rt; more, More::Last);
-    assert_eq!(rt; part.columns.len(), 5);
-    assert_eq!(rt; part.rows.len(), 1);
+    let bodies = parts_of_row(rt.alloc(), five_values(rt.alloc())?)?;
+    assert_eq!(rt; only_body(&bodies), Some(wanted.as_slice()));
+    assert_eq!(rt; read_counts(rt.alloc(), wanted), Some((5, 1, More::Last)));
     Ok(())
+}
+
+/// The bodies of so many rows of one integer.
+fn parts_of_integers(alloc: Global, count: usize) -> Result<Vec<WireBytes>, RowFault> {
+    let names = columns(alloc, 1)?;
+    let rows = integers(alloc, count)?;
+    parts(alloc, names.as_slice(), rows.as_slice())
+}
+
+/// How long the body of a part is and how it ends, and how many rows are read in it.
+fn size_end_rows(alloc: Global, bodies: &[WireBytes], place: usize) -> Option<(usize, u8, usize)> {
+    let body = bodies.get(place)?.as_slice();
+    let end = body.last_chunk::<8>()?;
+    if end.iter().any(|byte| *byte != end[0]) {
+        return None;
+    }
+    let (_, rows, _) = read_counts(alloc, body)?;
+    Some((body.len(), end[0], rows))
 }
 
 #[test]
 fn cut_at_the_limit(rt: HostRuntime) -> Result<(), Fail> {
-    let alloc = rt.alloc();
-    let names = columns(alloc, 1)?;
-    let rows = integers(alloc, 4_095)?;
-    let all = parts(alloc, names.as_slice(), rows.as_slice())?;
-    assert_eq!(rt; all.len(), 2);
-    assert_eq!(rt; all[0].len(), 65_536);
-    assert!(rt; all[0].as_slice().ends_with(&[0xee; 8]));
-    assert_eq!(rt; all[1].len(), 48);
-    assert!(rt; all[1].as_slice().ends_with(&[0xff; 8]));
-    let (part, more) = read_part(alloc, all[0].as_slice())?;
-    assert_eq!(rt; more, More::Follows);
-    assert_eq!(rt; part.rows.len(), 4_094);
-    let rows = integers(alloc, 4_094)?;
-    let all = parts(alloc, names.as_slice(), rows.as_slice())?;
-    assert_eq!(rt; all.len(), 1);
-    assert!(rt; all[0].as_slice().ends_with(&[0xff; 8]));
-    Ok(())
-}
-
-#[test]
-fn refusals(rt: HostRuntime) -> Result<(), Fail> {
-    let alloc = rt.alloc();
-    let values = vec![in alloc; Value::Text(text(alloc, "a\0")?)]?;
-    assert_eq!(rt;
-        parts_of_row(alloc, values).err(),
-        Some(RowFault::Nul(0, 0))
-    );
-    let large = vec![in alloc; 0; 16_777_216]?;
-    let values = vec![in alloc; Value::Blob(WireBytes::new(large))]?;
-    assert_eq!(rt;
-        parts_of_row(alloc, values).err(),
-        Some(RowFault::TooBig(16_777_264))
-    );
-    Ok(())
-}
-
-#[test]
-fn no_rows(rt: HostRuntime) -> Result<(), Fail> {
-    let alloc = rt.alloc();
-    for count in 0..2 {
-        let names = columns(alloc, count)?;
-        let all = parts(alloc, names.as_slice(), &[])?;
-        assert_eq!(rt; all.len(), 1);
-        let (part, more) = read_part(alloc, all[0].as_slice())?;
-        assert_eq!(rt; part.columns.len(), count);
-        assert!(rt; part.rows.is_empty());
-        assert_eq!(rt; more, More::Last);
+    for (count, first, second) in [
+        (4_094, Some((65_536, 0xff, 4_094)), None),
+        (4_095, Some((65_536, 0xee, 4_094)), Some((48, 0xff, 1))),
+    ] {
+        let bodies = parts_of_integers(rt.alloc(), count)?;
+        assert_eq!(rt; size_end_rows(rt.alloc(), &bodies, 0), first);
+        assert_eq!(rt; size_end_rows(rt.alloc(), &bodies, 1), second);
     }
     Ok(())
+}
+
+/// The fault of a row of one text.
+fn fault_of_text(alloc: Global, content: &str) -> Result<Option<RowFault>, AllocError> {
+    let values = vec![in alloc; Value::Text(text(alloc, content)?)]?;
+    Ok(parts_of_row(alloc, values).err())
+}
+
+/// The fault of a row of one blob with so many bytes.
+fn fault_of_blob(alloc: Global, size: usize) -> Result<Option<RowFault>, AllocError> {
+    let bytes = WireBytes::new(vec![in alloc; 0; size]?);
+    let values = vec![in alloc; Value::Blob(bytes)]?;
+    Ok(parts_of_row(alloc, values).err())
+}
+
+#[test]
+fn refusals(rt: HostRuntime) {
+    assert_eq!(rt;
+        fault_of_text(rt.alloc(), "a\0"),
+        Ok(Some(RowFault::Nul(0, 0)))
+    );
+    assert_eq!(rt;
+        fault_of_blob(rt.alloc(), 16_777_216),
+        Ok(Some(RowFault::TooBig(16_777_264)))
+    );
+}
+
+/// What is read in the only part of an answer without rows that has so many columns.
+fn read_without_rows(alloc: Global, count: usize) -> Option<(usize, usize, More)> {
+    let names = columns(alloc, count).ok()?;
+    let bodies = parts(alloc, names.as_slice(), &[]).ok()?;
+    read_counts(alloc, only_body(&bodies)?)
+}
+
+#[test]
+fn no_rows(rt: HostRuntime) {
+    for count in 0..2 {
+        assert_eq!(rt;
+            read_without_rows(rt.alloc(), count),
+            Some((count, 0, More::Last))
+        );
+    }
 }
 
 #[test]
@@ -162,36 +195,26 @@ fn faults_of_parts(rt: HostRuntime) {
 
 #[test]
 fn texts_of_faults(rt: HostRuntime) -> Result<(), Fail> {
-    let alloc = rt.alloc();
-    assert_eq!(rt;
-        RowFault::Nul(1, 2).to_string(alloc)?.as_str(),
-        "the text in row 1, column 2 holds a NUL"
-    );
-    assert_eq!(rt;
-        RowFault::TooBig(9).to_string(alloc)?.as_str(),
-        "the answer has 9 bytes"
-    );
-    assert_eq!(rt;
-        RowFault::NoMemory.to_string(alloc)?.as_str(),
-        "out of memory"
-    );
-    assert_eq!(rt;
-        RowReadFault::Word(WordFault::Short(3))
-            .to_string(alloc)?
-            .as_str(),
-        "the part is malformed: the body ends within the item at byte 3"
-    );
-    assert_eq!(rt;
-        RowReadFault::NoEnd.to_string(alloc)?.as_str(),
-        "the part has no end word"
-    );
-    assert_eq!(rt;
-        RowReadFault::Tail(2).to_string(alloc)?.as_str(),
-        "2 words follow the end word"
-    );
-    assert_eq!(rt;
-        RowReadFault::NoMemory.to_string(alloc)?.as_str(),
-        "out of memory"
-    );
+    for (fault, wanted) in [
+        (
+            RowFault::Nul(1, 2),
+            "the text in row 1, column 2 holds a NUL",
+        ),
+        (RowFault::TooBig(9), "the answer has 9 bytes"),
+        (RowFault::NoMemory, "out of memory"),
+    ] {
+        assert_eq!(rt; fault.to_string(rt.alloc())?.as_str(), wanted);
+    }
+    for (fault, wanted) in [
+        (
+            RowReadFault::Word(WordFault::Short(3)),
+            "the part is malformed: the body ends within the item at byte 3",
+        ),
+        (RowReadFault::NoEnd, "the part has no end word"),
+        (RowReadFault::Tail(2), "2 words follow the end word"),
+        (RowReadFault::NoMemory, "out of memory"),
+    ] {
+        assert_eq!(rt; fault.to_string(rt.alloc())?.as_str(), wanted);
+    }
     Ok(())
 }
