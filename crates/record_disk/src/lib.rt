@@ -5,14 +5,14 @@
 mod before;
 mod page_file;
 mod pair;
-
 mod steps;
 mod taking;
+#[cfg(test)]
+mod tests;
 mod touched;
 mod writes;
 
-pub use page_file::PageFile;
 pub use before::Before;
-
+pub use page_file::PageFile;
 pub use pair::{PairDisk, PairFiles};
 pub use steps::Steps;

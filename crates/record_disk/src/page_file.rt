@@ -1,7 +1,8 @@
-ghost use Rattle.std.specs.Prelude.{◌≡◌, ◌+◌, ◌≤◌, ◌^◌, ◌<◌, [], ℕ, List, length, min, max, is_ok, true, false, IsTrue, OnOk, refl};
-ghost use Rattle.sqlite_disk.specs.Disk.{Holds, Torn, Mixed, Cut, Follows, CountsFault};
+ghost use Rattle.std.specs.Prelude.{◌≡◌, ◌+◌, ◌≤◌, ◌^◌, ◌<◌, [], ℕ, List, length, min, max, is_ok, true, false, IsOk, Ok, OnOk, OnErr, refl};
+ghost use Rattle.sqlite_disk.specs.Disk.{Holds, Torn, Cut, CountsFault, CountsFaultIf};
+ghost use Rattle.sqlite_disk.specs.Digest.{digest};
 ghost use Rattle.sqlite_disk.specs.Refusal.{finds_no_room};
-ghost use Rattle.sqlite_disk.specs.Tally.{CountsRefusal};
+ghost use Rattle.sqlite_disk.specs.Tally.{CountsCatch};
 ghost use Rattle.record_disk.specs.Recording.{touched_count, pages_between, IsRecorded};
 ghost use Rattle.std.specs.Str.{bytes_eq};
 
@@ -107,11 +108,18 @@ impl Disk for PageFile {
         true
     }
 
-    fn len(&mut self) -> io::Result<usize> {
+    fn len(&mut self) -> io::Result<usize>
+        ensures len { result ≡ Ok (length self.old.after) }
+        ensures same { self.new ≡ self.old }
+    {
         Ok(self.bytes.len())
     }
 
-    fn read_at(&mut self, at: usize, buf: &mut [u8]) -> io::Result<()> {
+    fn read_at(&mut self, at: usize, buf: &mut [u8]) -> io::Result<()>
+        ensures read { OnOk result (Holds self.old.after at buf.new) }
+        ensures short { OnErr result (length self.old.after < at + length buf.old) }
+        ensures same { self.new ≡ self.old }
+    {
         if at > self.bytes.len() || buf.len() > self.bytes.len() - at {
             return Err(io::ErrorKind::UnexpectedEof.into());
         }
@@ -119,7 +127,13 @@ impl Disk for PageFile {
         Ok(())
     }
 
-    fn read_checked(&mut self, key: u64, want: u64, at: usize, buf: &mut [u8]) -> io::Result<()> {
+    fn read_checked(&mut self, key: u64, want: u64, at: usize, buf: &mut [u8]) -> io::Result<()>
+        ensures read { OnOk result (Holds self.old.after at buf.new) }
+        ensures tested { OnOk result (digest key buf.new ≡ want) }
+        ensures faults { CountsFaultIf (at + length buf.old ≤ length self.old.after) result self.old.faults self.new.faults }
+        ensures caught { CountsCatch result (record { caught = self.old.caught; refused = 0 }) (record { caught = self.new.caught; refused = 0 }) }
+        ensures same { self.new ≡ record self.old { faults = self.new.faults; caught = self.new.caught } }
+    {
         self.read_at(at, buf)?;
         if digest_of(key, buf) != want {
             self.faults = self.faults.saturating_add(1);
@@ -129,17 +143,38 @@ impl Disk for PageFile {
         Ok(())
     }
 
-    fn write_at(&mut self, at: usize, bytes: &[u8]) -> io::Result<()> {
+    /// It notes each page from the place, or the file's end where that comes first, up to the end of what is written.
+    fn write_at(&mut self, at: usize, bytes: &[u8]) -> io::Result<()>
+        ensures written { OnOk result (Holds self.new.after at bytes.now) }
+        ensures others { Torn at (length bytes.now) self.old.after self.new.after }
+        ensures faults { CountsFault result self.old.faults self.new.faults }
+        ensures room { finds_no_room result ≡ false }
+        ensures caught { self.new.caught ≡ self.old.caught }
+        ensures before { self.new.before ≡ self.old.before }
+        ensures touches { touched_count self.new.touched ≤ touched_count self.old.touched + pages_between (min at (length self.old.after)) (at + length bytes.now) }
+    {
         let outcome = write(&mut self.bytes, &mut self.touched, at, bytes);
         count(outcome, &mut self.faults)
     }
 
-    fn set_len(&mut self, len: usize) -> io::Result<()> {
+    /// It notes each page that is cut or grown.
+    fn set_len(&mut self, len: usize) -> io::Result<()>
+        ensures len { OnOk result (length self.new.after ≡ len) }
+        ensures others { Cut len self.old.after self.new.after }
+        ensures faults { CountsFault result self.old.faults self.new.faults }
+        ensures room { finds_no_room result ≡ false }
+        ensures caught { self.new.caught ≡ self.old.caught }
+        ensures before { self.new.before ≡ self.old.before }
+        ensures touches { touched_count self.new.touched ≤ touched_count self.old.touched + pages_between (min len (length self.old.after)) (max len (length self.old.after)) }
+    {
         let outcome = set_length(&mut self.bytes, &mut self.touched, len);
         count(outcome, &mut self.faults)
     }
 
-    fn sync(&mut self) -> io::Result<()> {
+    fn sync(&mut self) -> io::Result<()>
+        ensures ok { IsOk result }
+        ensures same { self.new ≡ self.old }
+    {
         Ok(())
     }
 }
