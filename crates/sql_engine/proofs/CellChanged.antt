@@ -1,12 +1,11 @@
 -- What the statements of cells change, as the lists that they make.
-use Rattle.std.proofs.Common.{◌≡◌, ℕ, zero, suc, ◌+◌, ◌-◌, ◌*◌, ◌/◌, ◌%◌, ◌^◌, ◌<◌, ◌≤◌, ◌⊎◌, max, min, Bool, true, false, cond, eqb, List, [], ◌∷◌, ◌++◌, length, take, Option, Some, None, refl, sym, ap, subst, ◌∙◌, append_assoc, arith, inl, inr}
+use Rattle.std.proofs.Common.{◌≡◌, ℕ, zero, suc, ◌+◌, ◌-◌, ◌*◌, ◌%◌, ◌^◌, ◌<◌, ◌≤◌, ◌⊎◌, max, min, eqb, List, [], ◌∷◌, ◌++◌, length, take, Option, Some, refl, sym, ap, ◌∙◌, append_assoc, arith, inl, inr}
 use Rattle.std.proofs.lemmas.Bool.{cases_lt, cond-true, cond-false, lt-ltb, le-ltb, eq-eqb, ne_eqb}
 use Rattle.std.proofs.lemmas.List.{append-nil, length-take}
 use Rattle.dq_base.specs.declared.images.Image.{Image}
 use Rattle.dq_base.specs.declared.pages.NumberedPage.{NumberedPage}
-use Rattle.dq_base.specs.Images.{zeros, page_from, page_at, pages_in, pages_of, sizes_page}
+use Rattle.dq_base.specs.Images.{zeros, page_from, page_at, pages_in, sizes_page}
 use Rattle.dq_base.specs.Changes.{changed_page, numbers_above_one, sizes_of, changed}
-use Rattle.sql_engine.specs.CellTexts.{IsCellPage}
 use Rattle.sql_engine.specs.Cells.{cell_page, with_page, changes_in, with_main, with_cell, wiped}
 use Rattle.sql_engine.specs.CellChanges.{new_page, cells_from, count_page}
 use Rattle.sql_engine.proofs.CellFiles.{length-cell_page, length-with_page, page_there, page_else, page_past, page_before_cut}

@@ -1,7 +1,7 @@
 -- The pages of a file in which a page was put, and of one that was cut.
-use Rattle.std.proofs.Common.{◌≡◌, ◌≢◌, ℕ, ◌+◌, ◌-◌, ◌*◌, ◌<◌, ◌≤◌, ◌⊎◌, max, List, ◌++◌, length, get_or, take, drop, refl, sym, ap, ◌∙◌, arith, inl, inr}
+use Rattle.std.proofs.Common.{◌≡◌, ℕ, ◌+◌, ◌-◌, ◌*◌, ◌<◌, ◌≤◌, ◌⊎◌, max, List, length, get_or, take, sym, ◌∙◌, arith, inl, inr}
 use Rattle.std.proofs.lemmas.Bool.{cases_lt}
-use Rattle.std.proofs.lemmas.List.{ext_get_or, length-append, length-take, get_or-take, get_or-replicate, get_or_past}
+use Rattle.std.proofs.lemmas.List.{ext_get_or, length-append, get_or-take, get_or-replicate, get_or_past}
 use Rattle.byteorder.specs.Endian.{little_bytes}
 use Rattle.dq_base.specs.Images.{zeros, resized, page_from}
 use Rattle.dq_base.specs.Applying.{replaced}

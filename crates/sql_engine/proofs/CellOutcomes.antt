@@ -1,9 +1,7 @@
 -- What answers tell of the outcomes of statements of cells.
-use Rattle.std.proofs.Common.{◌≡◌, ◌⊎◌, ℕ, ◌-◌, ◌*◌, ◌%◌, ◌+◌, ◌^◌, ◌<◌, ◌≤◌, max, Bool, true, false, cond, eqb, ltb, List, [], ◌∷◌, length, take, codes, Option, Some, None, Result, Ok, Err, IfOk, IfErr, refl, sym, ap, subst, ◌∙◌, arith, inl, inr}
-use Rattle.std.specs.Int.{w64, cast_signed}
-use Rattle.std.proofs.lemmas.Bool.{cases_lt, cond-true, cond-false, lt-ltb, le-ltb, eq-eqb, ne_eqb}
+use Rattle.std.proofs.Common.{◌≡◌, ℕ, ◌*◌, ◌%◌, ◌+◌, ◌^◌, ◌<◌, ◌≤◌, true, false, cond, eqb, ltb, List, [], ◌∷◌, length, take, codes, Option, Some, None, Result, Ok, Err, IfOk, IfErr, refl, sym, ap, subst, ◌∙◌, arith, inl, inr}
+use Rattle.std.proofs.lemmas.Bool.{cond-true, cond-false, eq-eqb, ne_eqb}
 use Rattle.std.proofs.lemmas.List.{length-take}
-use Rattle.byteorder.specs.Endian.{little_number}
 use Rattle.dq_base.specs.declared.images.Image.{Image}
 use Rattle.dq_base.specs.Images.{page_at}
 use Rattle.dq_base.specs.Changes.{changed}
@@ -11,12 +9,11 @@ use Rattle.wire_words.specs.declared.value.Value.{Value}
 use Rattle.sql_engine.specs.declared.answer.Ran.{Ran}
 use Rattle.sql_engine.specs.declared.cell_statement.CellStatement.{CellStatement}
 use Rattle.sql_engine.specs.declared.fault.EngineFault.{EngineFault}
-use Rattle.sql_engine.specs.declared.fault.EngineFault.TheVariants as faults
 use Rattle.sql_engine.specs.declared.kind.EngineKind.TheVariants.{Cells}
 use Rattle.sql_engine.specs.Replies.{Statement, Reply, fault_in, plain_rows, IsTable}
-use Rattle.sql_engine.specs.Meanings.{Refusal, constraint, sql, IsShort, reply_of, Answers, Faults}
+use Rattle.sql_engine.specs.Meanings.{Refusal, constraint, sql, IsShort, Answers, Faults}
 use Rattle.sql_engine.specs.CellTexts.{statement_of}
-use Rattle.sql_engine.specs.Cells.{cell_page, with_page, changes_in, with_main, with_cell, wiped, Outcome, told, cell_rows, read, cell_outcome, outcome_of, cells}
+use Rattle.sql_engine.specs.Cells.{cell_page, with_page, changes_in, with_main, with_cell, wiped, told, cell_rows, read, cell_outcome, outcome_of, cells}
 use Rattle.sql_engine.specs.CellAnswers.{TellsOutcome, fault_of, Performs}
 use Rattle.sql_engine.proofs.CellFiles.{length-cell_page, length-with_page}
 

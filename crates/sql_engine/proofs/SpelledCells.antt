@@ -1,5 +1,5 @@
 -- A text is read as a statement of cells exactly where it is spelled so.
-use Rattle.std.proofs.Common.{◌≡◌, ℕ, ◌<◌, ◌≤◌, ◌^◌, Bool, true, false, cond, ltb, leb, ◌&&◌, inl, inr, List, [], ◌∷◌, ◌++◌, length, take, drop, codes, Option, Some, None, refl, sym, ap, subst, ◌∙◌, take-append-drop, arith}
+use Rattle.std.proofs.Common.{◌≡◌, ℕ, ◌<◌, ◌≤◌, ◌^◌, true, ltb, leb, ◌&&◌, inl, inr, List, ◌++◌, length, take, drop, codes, Option, Some, None, refl, sym, ap, subst, ◌∙◌, take-append-drop, arith}
 use Rattle.std.specs.Prelude.{bytes_eq}
 use Rattle.std.specs.Fmt.{decimal}
 use Rattle.std.specs.Str.Parse.{digits_value}
@@ -7,7 +7,7 @@ use Rattle.std.proofs.lemmas.Bool.{and_parts, and_from, ltb-true, lt-ltb, leb-tr
 use Rattle.std.proofs.lemmas.Slice.Eq.{bytes_eq-Decides}
 use Rattle.sql_engine.specs.declared.cell_statement.CellStatement.{CellStatement}
 use Rattle.sql_engine.specs.declared.cell_statement.CellStatement.TheVariants.{Set, Get, Wipe}
-use Rattle.sql_engine.specs.CellTexts.{IsCellPage, IsInRange, Says, number, halves, behind, is_cell_page, set_of, get_of, wipe_of, set_in, or_else, statement_of}
+use Rattle.sql_engine.specs.CellTexts.{IsCellPage, IsInRange, Says, number, halves, behind, is_cell_page, set_of, get_of, wipe_of, set_in, statement_of}
 use Rattle.sql_engine.proofs.Choices.{some_is, passed, chosen}
 use Rattle.sql_engine.proofs.Numbers.{IsNumber, number_some}
 use Rattle.sql_engine.proofs.Halves.{halves_cut, halves_of, decimal_no_space}

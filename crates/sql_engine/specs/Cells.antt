@@ -1,6 +1,6 @@
 -- What the statements of cells do to an image. Each page of the main file is a cell, which holds a number in its first eight
 -- bytes; page 1 of the side file counts the changes.
-use Rattle.std.specs.Prelude.{◌≡◌, ◌==◌, ℕ, ◌+◌, ◌-◌, ◌*◌, ◌%◌, ◌^◌, max, nat_lt, nat_le, Bool, if◌then◌else◌, List, [], ◌∷◌, ◌++◌, length, take, codes, Option, Some, None, Result, Ok, Err}
+use Rattle.std.specs.Prelude.{◌≡◌, ◌==◌, ℕ, ◌+◌, ◌-◌, ◌*◌, ◌%◌, ◌^◌, max, nat_lt, nat_le, if◌then◌else◌, List, [], ◌∷◌, ◌++◌, length, take, codes, Option, Some, None, Result, Ok, Err}
 use Rattle.std.specs.Int.{w64, cast_signed}
 use Rattle.byteorder.specs.Endian.{little_bytes, little_number}
 use Rattle.dq_base.specs.declared.images.Image.{Image}
@@ -10,7 +10,7 @@ use Rattle.wire_words.specs.declared.value.Value.{Value}
 use Rattle.wire_words.specs.declared.value.Value.TheVariants.{Integer}
 use Rattle.sql_engine.specs.declared.cell_statement.CellStatement.{CellStatement}
 use Rattle.sql_engine.specs.declared.cell_statement.CellStatement.TheVariants.{Set, Get, Wipe}
-use Rattle.sql_engine.specs.Replies.{Shown, plain_rows, Reply, Statement}
+use Rattle.sql_engine.specs.Replies.{plain_rows, Reply, Statement}
 use Rattle.sql_engine.specs.Meanings.{Meaning, Refusal, constraint, sql}
 use Rattle.sql_engine.specs.CellTexts.{statement_of}
 

@@ -1,6 +1,5 @@
 use Rattle.std.proofs.Common.{List, refl, sym, ap, ◌∙◌}
 use Rattle.dq_base.specs.declared.pages.NumberedPage.{NumberedPage}
-use Rattle.sql_engine.specs.declared.answer.Ran.{Ran}
 use Rattle.sql_engine.specs.Cells.{cell_rows}
 use Rattle.sql_engine.proofs.ChangeLists.{changed_none}
 use Rattle.sql_engine.proofs.CellOutcomes.{tells_read}

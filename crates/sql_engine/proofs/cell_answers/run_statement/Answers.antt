@@ -1,8 +1,5 @@
-use Rattle.std.proofs.Common.{◌≡◌, List, ℕ, Bool, true, false, eqb, length, Option, Some, None, Result, Err, refl, sym, ap, subst, ◌∙◌, inr}
+use Rattle.std.proofs.Common.{◌≡◌, eqb, length, Some, None, Result, refl, sym, ap, subst, ◌∙◌, inr}
 use Rattle.std.proofs.lemmas.Bool.{eqb-true, eq-eqb, both_ways}
-use Rattle.sql_engine.specs.declared.answer.Ran.{Ran}
-use Rattle.sql_engine.specs.declared.fault.EngineFault.{EngineFault}
-use Rattle.sql_engine.specs.declared.cell_statement.CellStatement.{CellStatement}
 use Rattle.sql_engine.specs.Replies.{Statement}
 use Rattle.sql_engine.specs.Meanings.{Refusal, sql}
 use Rattle.sql_engine.specs.CellTexts.{statement_of}

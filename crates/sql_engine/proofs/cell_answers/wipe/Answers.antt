@@ -1,4 +1,4 @@
-use Rattle.std.proofs.Common.{◌≡◌, ℕ, ◌-◌, List, length, refl, ap, ◌∙◌}
+use Rattle.std.proofs.Common.{◌≡◌, ◌-◌, List, length, refl, ap, ◌∙◌}
 use Rattle.dq_base.specs.Images.{pages_in}
 use Rattle.dq_base.specs.declared.sizes.Lengths.{Lengths}
 use Rattle.dq_base.specs.declared.pages.NumberedPage.{NumberedPage}
