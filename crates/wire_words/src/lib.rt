@@ -28,6 +28,3 @@ pub use writer::Writer;
 
 /// Bytes of the wire.
 pub type WireBytes = dq_base::Items<u8>;
-
-#[cfg(test)]
-mod tests;

@@ -1,9 +1,9 @@
 ghost use Rattle.std.specs.Prelude.{◌≡◌, ◌≤◌, ℕ, false, length, IfOk};
 ghost use Rattle.dq_base.specs.Faults.{Rose};
-ghost use Rattle.disk_model.specs.Untold.{no_states};
+ghost use Rattle.disk_model.specs.declared.faults.DiskFault;
+ghost use Rattle.dir_disk.specs.Untold.{no_states};
 
-use crate::disk::Disk;
-use crate::faults::DiskFault;
+use disk_model::{Disk, DiskFault};
 use dq_base::{Items, Name};
 use std::alloc::AllocError;
 use std::fs::{File, OpenOptions};

@@ -1,9 +1,9 @@
 ghost use Rattle.std.specs.Prelude.{◌≤◌, length, IsTrue};
 ghost use Rattle.wire_words.specs.Values.{AreWritable};
 
-use super::*;
 use std::alloc::{AllocError, Global};
 use std::test::*;
+use wire_words::*;
 
 #[test]
 fn headers(rt: HostRuntime) {

@@ -3,7 +3,7 @@ use Rattle.std.proofs.Common.{Result}
 use Rattle.disk_model.specs.Disk.{Disk}
 use Rattle.disk_model.specs.Calls.{Call}
 use Rattle.disk_model.specs.Trait.{Text, Steps, Looks}
-use Rattle.disk_model.specs.Untold.{no_states}
+use Rattle.dir_disk.specs.Untold.{no_states}
 use Rattle.disk_model.specs.declared.faults.DiskFault.{DiskFault}
 
 pub steps_untold : {T : Type 0} (call : Call Text) (result : Result T DiskFault) → Steps call no_states no_states result
