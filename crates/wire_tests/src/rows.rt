@@ -1,9 +1,9 @@
 ghost use Rattle.std.specs.Prelude.{◌≡◌, ◌∷◌, [], length, IfOk};
 ghost use Rattle.wire_rows.specs.Spelling.{HaveNoNul, HaveWidth};
 
-use super::*;
 use std::alloc::{AllocError, Global};
 use std::test::*;
+use wire_rows::*;
 use wire_words::{Value, WireBytes, WireText, WordFault};
 
 fn text(alloc: Global, text: &str) -> Result<WireText, AllocError> {

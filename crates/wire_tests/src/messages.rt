@@ -3,10 +3,10 @@ ghost use Rattle.wire_words.specs.Values.{AreWritable};
 ghost use Rattle.wire_msgs.specs.Requests.{IsWritableRequest};
 ghost use Rattle.wire_msgs.specs.Responses.{IsWritable};
 
-use super::*;
 use dq_base::Items;
 use std::alloc::{AllocError, Global};
 use std::test::*;
+use wire_msgs::*;
 use wire_words::{Message, Value, WireBytes, WordFault};
 
 fn message(alloc: Global, kind: u8, schema: u8, body: &[u8]) -> Result<Message, AllocError> {
