@@ -1,4 +1,4 @@
-use super::*;
+use read_marks::*;
 use std::alloc::Global;
 use std::test::Fail;
 

@@ -1,4 +1,4 @@
-use Rattle.checkpoint_core.proofs.tests.moves.Goals as goal
+use Rattle.page_tests.proofs.store.moves.Goals as goal
 
 pub first_byte-byte-requires : goal.first_byte-byte-requires
 first_byte-byte-requires c = (c.checkpoint-again.ensures.shown c.args.pin).live ((c.checkpoint-first.ensures.shown c.args.pin).live c.requires)

@@ -1,6 +1,6 @@
 ghost use Rattle.checkpoint_core.specs.Store.{IsLive};
 
-use super::*;
+use checkpoint_core::*;
 use dq_base::{Bytes, Image, Items, NumberedPage, PageSet, page_at};
 use std::alloc::{AllocError, Global};
 use std::test::Fail;

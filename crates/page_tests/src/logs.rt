@@ -1,7 +1,7 @@
-use super::*;
 use dq_base::{PAGE_SIZE, Page};
 use std::alloc::{AllocError, Global};
 use std::test::Fail;
+use wal_frames::*;
 
 /// A log without frames, of sequence number 0.
 const EMPTY: [u8; 32] =
