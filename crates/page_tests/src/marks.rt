@@ -2,27 +2,37 @@ use read_marks::*;
 use std::alloc::Global;
 use std::test::Fail;
 
-fn pin_each(marks: &mut Marks, count: u64) -> Option<MarkId> {
-    let mut last = None;
+/// Whether so many marks are pinned.
+fn pins(marks: &mut Marks, count: u64) -> bool {
     for mark in 0..count {
-        last = marks.pin(mark).ok();
+        if marks.pin(mark).is_err() {
+            return false;
+        }
     }
-    last
+    true
+}
+
+/// Why one mark more is not pinned.
+fn refusal(marks: &mut Marks) -> Option<MarkFault> {
+    match marks.pin(9) {
+        Ok(_) => None,
+        Err(fault) => Some(fault),
+    }
 }
 
 #[test]
-fn the_65th_live_mark_is_full(rt: HostRuntime) -> Result<(), Fail> {
+fn the_65th_live_mark_is_full(rt: HostRuntime) {
     let mut marks = Marks::new();
     assert!(rt; marks.least().is_none());
-    let last = pin_each(&mut marks, 64);
-    assert!(rt; last.is_some());
+    assert!(rt; pins(&mut marks, 64));
     assert_eq!(rt; marks.least(), Some(0));
-    let full = marks.pin(9).map(|_| 0).err();
-    assert_eq!(rt; full, Some(MarkFault::Full(64)));
-    assert_eq!(rt;
-        MarkFault::Full(64).to_string(rt.alloc())?.as_str(),
-        "all 64 read marks are live"
-    );
+    assert_eq!(rt; refusal(&mut marks), Some(MarkFault::Full(64)));
+}
+
+#[test]
+fn faults_say_why(rt: HostRuntime) -> Result<(), Fail> {
+    let text = MarkFault::Full(64).to_string(rt.alloc())?;
+    assert_eq!(rt; text.as_str(), "all 64 read marks are live");
     Ok(())
 }
 
