@@ -203,11 +203,7 @@ impl Log {
 
     /// Takes the entries of an Append as `accept` does, where the log is known to agree with the sender's up to the index
     /// `after`. Answers the first index that was replaced or added, if any. Where memory runs out, the log stays.
-    pub fn take_after(
-        &mut self,
-        after: u64,
-        entries: Vec<Entry>,
-    ) -> Result<Option<u64>, AllocError>
+    pub fn take_after(&mut self, after: u64, entries: Vec<Entry>) -> Result<Option<u64>, AllocError>
         requires low { self.old.first.index ≤ after }
         requires high { after ≤ length (whole_log self.old) }
         ensures ok { IfOk result (λ from. TakesAfter self.old self.new after entries.items from) }
