@@ -1,0 +1,4 @@
+pub mod Sql
+pub mod Errors
+pub mod Values
+pub mod Meant
