@@ -23,6 +23,7 @@ use Rattle.sqlite_schema.specs.declared.schema.Schema.{Schema}
 use Rattle.sqlite_resolve.specs.declared.compiled.Compiled.{Compiled}
 use Rattle.sqlite_resolve.specs.Compile.{compiled}
 use Rattle.sqlite_engine.specs.Sql.{files_of, Finds, Closed, ShowsOnly, HasColumns, is_of_store}
+use Rattle.sqlite_engine.specs.Shows.{FailsSomehow}
 use Rattle.sqlite.specs.Steps.{Outlines}
 use Rattle.sqlite.specs.declared.error.Error.{Error}
 
@@ -136,3 +137,7 @@ execute_keeps sql params old new e other h = not_of_store old new e other (execu
 
 pub outline_keeps : (sql : List ℕ) (params : Row) (old new : State) (e : Error) → is_of_store e ≡ false → IsNotRun old new sql params e → IsUnchanged old new
 outline_keeps sql params old new e other h = not_of_store old new e other (not_run_refused sql params old new e h)
+
+pub somehow_keeps : (sql : List ℕ) (params : Row) (old new : State) (e : Error) → is_of_store e ≡ false → FailsSomehow sql params old new e → IsUnchanged old new
+somehow_keeps sql params old new e other (inl h) = execute_keeps sql params old new e other h
+somehow_keeps sql params old new e other (inr h) = query_keeps sql params old new e other h

@@ -11,7 +11,7 @@ use sqlite::{Connection, Error, ErrorCode, FileStore, Options, Row, Statement};
 use std::alloc::Global;
 
 /// A connection of the crate `sqlite` over two files in memory.
-pub type Conn = Connection<FileStore<PageFile>>;
+pub(crate) type Conn = Connection<FileStore<PageFile>>;
 
 /// Why files were not opened.
 #[derive(Clone, Copy, Debug, PartialEq, Eq)]
@@ -79,11 +79,7 @@ pub(crate) fn outline(conn: &mut Conn, text: &str) -> Result<Statement, Error>
 }
 
 /// Runs a statement that shows no rows.
-pub(crate) fn execute(
-    conn: &mut Conn,
-    text: &str,
-    params: &[ValueRef<'_>],
-) -> Result<usize, Error>
+pub(crate) fn execute(conn: &mut Conn, text: &str, params: &[ValueRef<'_>]) -> Result<usize, Error>
     ensures runs { Executes text.now (bound params.now) (file_state conn.old) (file_state conn.new) result }
     ensures limit { (file_state conn.new).step_limit ≡ (file_state conn.old).step_limit }
 {
@@ -91,11 +87,7 @@ pub(crate) fn execute(
 }
 
 /// Runs a statement that shows rows.
-pub(crate) fn query(
-    conn: &mut Conn,
-    text: &str,
-    params: &[ValueRef<'_>],
-) -> Result<Vec<Row>, Error>
+pub(crate) fn query(conn: &mut Conn, text: &str, params: &[ValueRef<'_>]) -> Result<Vec<Row>, Error>
     ensures ok { IfOk result (λ rows. Shown text.now (bound params.now) (file_state conn.old) (file_state conn.new) rows.items) }
     ensures err { IfErr result (FailsToQuery text.now (bound params.now) (file_state conn.old) (file_state conn.new)) }
     ensures limit { (file_state conn.new).step_limit ≡ (file_state conn.old).step_limit }

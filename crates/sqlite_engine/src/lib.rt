@@ -3,7 +3,14 @@
 #![tactic(auto)]
 
 mod connection;
+mod engine;
 mod errors;
+mod kept;
+mod names;
+mod places;
 mod plan;
+mod running;
+mod shows;
+mod values;
 
-pub use connection::Conn;
+pub use engine::SqliteEngine;
