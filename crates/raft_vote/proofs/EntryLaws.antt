@@ -14,7 +14,7 @@ use Rattle.raft_vote.specs.declared.entry.EntryKind.TheVariants as kinds
 use Rattle.raft_vote.specs.declared.entries.EntryHead.{EntryHead}
 use Rattle.raft_vote.specs.Kinds.{kind_value, kind_number, kind_code, kind_with}
 use Rattle.raft_vote.specs.Entries.{head_bytes, heads_bytes, contents_bytes, HasHead, HaveHeads, known_kind, head_at, heads_at, entry_at, contents_at}
-use Rattle.raft_vote.proofs.Passing.{Passed, passed_none, pass_none, passed_both, between, passed_first, passed_second, bytes_after, word_passed, word_stood, pair_passed, pair_stood, raw_passed, raw_stood}
+use Rattle.wire_words.proofs.Passing.{Passed, passed_none, pass_none, passed_both, between, passed_first, passed_second, bytes_after, word_passed, word_stood, pair_passed, pair_stood, raw_passed, raw_stood}
 
 -- ---- the kind
 

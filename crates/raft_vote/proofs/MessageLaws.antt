@@ -22,7 +22,7 @@ use Rattle.raft_vote.specs.declared.items.Said.{Said}
 use Rattle.raft_vote.specs.Entries.{heads_bytes, contents_bytes, heads_at, contents_at}
 use Rattle.raft_vote.specs.Messages.{Field, Word, Entries, Blob, flag, what_number, what_fields, message_fields, field_bytes, fields_bytes, body_bytes, Holds, AllHold, numbers_fit, Reads}
 use Rattle.raft_vote.specs.Reading.{in_message, message_kind, log_end_at, entries_at, ask_vote_at, vote_at, append_at, ack_at, install_at, said_at, items_at, ended, message_in, peer_message_of, Gives}
-use Rattle.raft_vote.proofs.Passing.{Passed, passed_none, pass_none, passed_both, between, passed_first, passed_second, bytes_after, word_passed, word_stood, blob_passed, blob_stood}
+use Rattle.wire_words.proofs.Passing.{Passed, passed_none, pass_none, passed_both, between, passed_first, passed_second, bytes_after, word_passed, word_stood, blob_passed, blob_stood}
 use Rattle.raft_vote.proofs.EntryLaws.{read_heads, heads_passed, heads_stood, contents_passed, contents_stood, heads_of, heads_are, heads_fit, as_many}
 
 -- ---- fields that a reader passed one after the other

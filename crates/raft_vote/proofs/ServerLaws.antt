@@ -13,7 +13,7 @@ use Rattle.wire_words.proofs.ReadBack.{bind_ok, passed}
 use Rattle.raft_vote.specs.declared.servers_fault.ServersFault.{ServersFault}
 use Rattle.raft_vote.specs.declared.servers_fault.ServersFault.TheVariants.{Order, Role, Limit}
 use Rattle.raft_vote.specs.Servers.{Ascend, IsServer, IsConfiguration, server_bytes, each_bytes, servers_bytes, HoldsServer, WritesServers, in_servers, votes_as, last_from, has_room, joined, server_at, more_servers_at, servers_at, with_place, servers_of, GivesServers}
-use Rattle.raft_vote.proofs.Passing.{Passed, passed_none, pass_none, passed_both, between, passed_first, passed_second, bytes_after, word_passed, word_stood, text_passed, text_stood}
+use Rattle.wire_words.proofs.Passing.{Passed, passed_none, pass_none, passed_both, between, passed_first, passed_second, bytes_after, word_passed, word_stood, text_passed, text_stood}
 
 -- ---- results
 
