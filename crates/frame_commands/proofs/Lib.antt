@@ -9,3 +9,4 @@ pub mod PageLaws
 pub mod FrameLaws
 pub mod CommandLaws
 pub mod InOtherWords
+pub mod SplitFits

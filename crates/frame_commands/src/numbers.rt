@@ -6,7 +6,7 @@ use crate::command::Command;
 use dq_base::{NumberedPage, PAGE_SIZE, stated_lengths};
 
 /// The most pages of one command.
-const MOST_PAGES: usize = 64;
+pub(crate) const MOST_PAGES: usize = 64;
 
 impl Command {
     /// Whether no number of the command is out of its range. Frames have 1 to 64 pages. With `commit` the last is a sizes
@@ -16,7 +16,7 @@ impl Command {
         ensures { result ≡ numbers_fit self.now }
     {
         match self {
-            Command::OpenDb { .. } => true,
+            Command::OpenDb { .. } | Command::Undo { .. } | Command::Checkpoint { .. } => true,
             Command::Frames {
                 truncate,
                 commit,
@@ -56,7 +56,7 @@ fn ends_with(truncate: u32, last: &NumberedPage) -> bool
 }
 
 /// The page count that a sizes page states; `None` where the page is none.
-fn stated_count(last: &NumberedPage) -> Option<u64>
+pub(crate) fn stated_count(last: &NumberedPage) -> Option<u64>
     ensures { MatchOption result (is_sizes last.now ≡ false)
         (λ count. (is_sizes last.now ≡ true) × (count ≡ stated_count last.now.page)) }
 {
