@@ -20,7 +20,7 @@ not_false : (b : Bool) → not b ≡ true → b ≡ false
 not_false true e = absurd cc
 not_false false e = refl
 
-steps_of : (least : ℕ) (ps : List NumberedPage) → numbers_ascend least ps ≡ true → Steps least ps
+pub steps_of : (least : ℕ) (ps : List NumberedPage) → numbers_ascend least ps ≡ true → Steps least ps
 unfolding numbers_ascend
 steps_of least [] e = tt
 steps_of least (p ∷ ps) e =

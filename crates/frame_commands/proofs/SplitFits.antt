@@ -4,19 +4,19 @@ use Rattle.std.specs.Prelude.{IfOk}
 use Rattle.std.specs.List.{All, AllByRecursion}
 use Rattle.std.proofs.lemmas.Bool.{leb-true, le-leb, leb-false, eq-eqb}
 use Rattle.std.proofs.lemmas.List.{length-take-le, length-drop, take-append-le, drop-append-le, take_at, length_push}
-use Rattle.std.proofs.lemmas.List.Elements.{recursion_from_All, All-from_recursion, All-take, All-drop}
+use Rattle.std.proofs.lemmas.List.Elements.{recursion_from_All, All-take}
 use Rattle.dq_base.specs.declared.pages.NumberedPage.{NumberedPage}
 use Rattle.dq_base.specs.declared.pages.PageSet.{PageSet}
 use Rattle.dq_base.specs.declared.page_fault.PageFault.{PageFault}
-use Rattle.dq_base.specs.declared.page_fault.PageFault.TheVariants.{Order}
-use Rattle.dq_base.specs.Applying.{is_sizes, stated_main, stated_side, longest_file, order_fault, last_page}
+use Rattle.dq_base.specs.declared.page_fault.PageFault.TheVariants.{NoSizes, Order}
+use Rattle.dq_base.specs.Applying.{is_sizes, stated_main, stated_side, longest_file, order_fault, length_fault, earlier, fault_before, page_fault, last_page}
 use Rattle.dq_base.proofs.PageFaults.{last_page-push}
 use Rattle.frame_commands.specs.declared.command.Command.{Command}
 use Rattle.frame_commands.specs.declared.command.Command.TheVariants.{Frames}
 use Rattle.frame_commands.specs.Numbers.{numbers_ascend, highest_number, most_pages, stated_count, pages_before_last, ends_with, frames_fit, numbers_fit}
-use Rattle.frame_commands.specs.Splitting.{count_stated, split_from, before_last, split, CanSplit}
+use Rattle.frame_commands.specs.Splitting.{count_stated, split_from, before_last, split, ends_in_sizes, can_split}
 use Rattle.frame_commands.proofs.ItemFacts.{both_true}
-use Rattle.frame_commands.proofs.InOtherWords.{Steps, test_of, HasLast, has_last}
+use Rattle.frame_commands.proofs.InOtherWords.{Steps, steps_of, test_of, HasLast, has_last}
 use Rattle.frame_commands.proofs.Ranges.{frames_fit-push}
 
 -- ---- the page count
@@ -32,43 +32,24 @@ small_count p e =
 
 -- ---- the numbers of pages that ascend
 
-none_or_order : (low : Bool) (n : ℕ) (rest : Option PageFault) → cond low (Some (Order n)) rest ≡ None → (low ≡ false) × (rest ≡ None)
-none_or_order true n rest e = absurd cc
-none_or_order false n rest e = (refl, e)
+steps_take : (least n : ℕ) (ps : List NumberedPage) → Steps least ps → Steps least (take n ps)
+steps_take least zero ps s = tt
+steps_take least (suc n) [] s = tt
+steps_take least (suc n) (p ∷ ps) s = (s.0, s.1, s.2, steps_take (p.number + 1) n ps s.3)
 
-abbrev AreLow : List NumberedPage → Type 0
-AreLow ps = AllByRecursion (λ p. p.number ≤ highest_number) ps
-
-steps_of_order : (before least : ℕ) (ps : List NumberedPage) → 1 ≤ before → least ≤ before + 1 → order_fault before ps ≡ None → AreLow ps → Steps least ps
-unfolding order_fault
-steps_of_order before least [] from le e low = tt
-steps_of_order before least (p ∷ ps) from le e low =
-    let a = none_or_order (leb p.number before) p.number (order_fault p.number ps) e in
-    let above : before < p.number = leb-false p.number before a.0 in
-    (omega (arith, above, le), omega (arith, above, from), low.0, steps_of_order p.number (p.number + 1) ps (omega (arith, above)) (omega arith) a.1 low.1)
-
-order_take : (before n : ℕ) (ps : List NumberedPage) → order_fault before ps ≡ None → order_fault before (take n ps) ≡ None
-unfolding order_fault
-order_take before zero ps e = refl
-order_take before (suc n) [] e = refl
-order_take before (suc n) (p ∷ ps) e =
-    let a = none_or_order (leb p.number before) p.number (order_fault p.number ps) e in
-    rw a.0 (order_take p.number n ps a.1)
-
--- the numbers ascend from one that is at least 1
+-- the numbers ascend from some number on
 record Ascends (ps : List NumberedPage) : Type 0 where
-  before : ℕ
-  from : 1 ≤ before
-  ordered : order_fault before ps ≡ None
+  least : ℕ
+  steps : Steps least ps
 
-order_drop : (before n : ℕ) (ps : List NumberedPage) → 1 ≤ before → order_fault before ps ≡ None → Ascends (drop n ps)
-unfolding order_fault
-order_drop before zero ps from e = record { before = before; from = from; ordered = e }
-order_drop before (suc n) [] from e = record { before = before; from = from; ordered = refl }
-order_drop before (suc n) (p ∷ ps) from e =
-    let a = none_or_order (leb p.number before) p.number (order_fault p.number ps) e in
-    let above : before < p.number = leb-false p.number before a.0 in
-    order_drop p.number n ps (omega (arith, above, from)) a.1
+steps_drop : (least n : ℕ) (ps : List NumberedPage) → Steps least ps → Ascends (drop n ps)
+steps_drop least zero ps s = record { least = least; steps = s }
+steps_drop least (suc n) [] s = record { least = least; steps = tt }
+steps_drop least (suc n) (p ∷ ps) s = steps_drop (p.number + 1) n ps s.3
+
+from_zero : (ps : List NumberedPage) → Ascends ps → numbers_ascend 0 ps ≡ true
+from_zero [] a = test_of 0 [] tt
+from_zero (p ∷ ps) a = test_of 0 (p ∷ ps) (omega arith, a.steps.1, a.steps.2, a.steps.3)
 
 -- ---- pages that may be split, behind some that were
 
@@ -79,14 +60,13 @@ record Fits (ps : List NumberedPage) : Type 0 where
   parts : ps ≡ front ++ last ∷ []
   sizes : is_sizes last ≡ true
   ascends : Ascends front
-  low : AreLow front
 
 last_fits : (name : List ℕ) (tx : ℕ) (ps : List NumberedPage) → Fits ps → length ps ≤ 64 → numbers_fit (Frames name tx (count_stated (last_page ps)) true ps) ≡ true
 unfolding ends_with
 last_fits name tx ps f few =
     let last : last_page ps ≡ Some f.last = ap last_page f.parts ∙ last_page-push f.front f.last in
     let count : count_stated (last_page ps) ≡ stated_count f.last.page = ap count_stated last ∙ ap (λ (b : Bool). cond b (stated_count f.last.page) 0) f.sizes in
-    let ascend : numbers_ascend 0 f.front ≡ true = test_of 0 f.front (steps_of_order f.ascends.before 0 f.front f.ascends.from (omega arith) f.ascends.ordered f.low) in
+    let ascend : numbers_ascend 0 f.front ≡ true = from_zero f.front f.ascends in
     frames_fit-push (count_stated (last_page ps)) true ps f.front f.last f.parts few ∙ rw (f.sizes, eq-eqb (count_stated (last_page ps)) (stated_count f.last.page) count, ascend) refl
 
 piece_fits : (name : List ℕ) (tx : ℕ) (ps : List NumberedPage) → Fits ps → 64 < length ps → numbers_fit (Frames name tx 0 false (take 64 ps)) ≡ true
@@ -95,9 +75,8 @@ piece_fits name tx ps f many =
     let size : length (take 64 ps) ≡ 64 = length-take-le 64 ps (omega (arith, many)) in
     let long : 64 ≤ length f.front = omega (arith, many, ap length f.parts, length_push f.front f.last) in
     let in_front : take 64 ps ≡ take 64 f.front = ap (take 64) f.parts ∙ take-append-le 64 f.front (f.last ∷ []) long in
-    let low = recursion_from_All (λ p. p.number ≤ highest_number) (take 64 f.front) (All-take (λ p. p.number ≤ highest_number) 64 f.front (All-from_recursion (λ p. p.number ≤ highest_number) f.front f.low)) in
     let ascend : numbers_ascend 0 (take 64 ps) ≡ true =
-    ap (numbers_ascend 0) in_front ∙ test_of 0 (take 64 f.front) (steps_of_order f.ascends.before 0 (take 64 f.front) f.ascends.from (omega arith) (order_take f.ascends.before 64 f.front f.ascends.ordered) low) in
+    ap (numbers_ascend 0) in_front ∙ from_zero (take 64 f.front) (record { least = f.ascends.least; steps = steps_take f.ascends.least 64 f.front f.ascends.steps }) in
     rw (size, ascend) refl
 
 rest_fits : (ps : List NumberedPage) → Fits ps → 64 < length ps → Fits (drop 64 ps)
@@ -108,8 +87,7 @@ rest_fits ps f many =
       last = f.last;
       parts = ap (drop 64) f.parts ∙ drop-append-le 64 f.front (f.last ∷ []) long;
       sizes = f.sizes;
-      ascends = order_drop f.ascends.before 64 f.front f.ascends.from f.ascends.ordered;
-      low = recursion_from_All (λ p. p.number ≤ highest_number) (drop 64 f.front) (All-drop (λ p. p.number ≤ highest_number) 64 f.front (All-from_recursion (λ p. p.number ≤ highest_number) f.front f.low));
+      ascends = steps_drop f.ascends.least 64 f.front f.ascends.steps;
     }
 
 abbrev AllFit : List Command → Type 0
@@ -123,40 +101,72 @@ split_from_fits (suc more) name tx ps f e =
     let fewer : before_last (drop 64 ps) ≡ more = omega (arith, e, length-drop 64 ps) in
     (piece_fits name tx ps f many, split_from_fits more name tx (drop 64 ps) (rest_fits ps f many) fewer)
 
-of_set : (ps : List NumberedPage) → CanSplit ps → Fits ps
-of_set ps can = by ps can refl
+before_push : (front : List NumberedPage) (last : NumberedPage) → pages_before_last (front ++ last ∷ []) ≡ front
+before_push front last = take_at front (last ∷ []) (length (front ++ last ∷ []) - 1) (omega (arith, length_push front last))
+
+-- the test of pages that end in a last one
+can_split-push : (front : List NumberedPage) (last : NumberedPage) → can_split (front ++ last ∷ []) ≡ (is_sizes last && numbers_ascend 2 front)
+can_split-push front last =
+    ap (λ (o : Option NumberedPage). ends_in_sizes o && numbers_ascend 2 (pages_before_last (front ++ last ∷ []))) (last_page-push front last)
+    ∙ ap (λ (ps : List NumberedPage). is_sizes last && numbers_ascend 2 ps) (before_push front last)
+
+pub can_split_of : (pages front : List NumberedPage) (last : NumberedPage) → pages ≡ front ++ last ∷ [] → can_split pages ≡ (is_sizes last && numbers_ascend 2 front)
+can_split_of pages front last e = ap can_split e ∙ can_split-push front last
+
+some_pages : (ps : List NumberedPage) → can_split ps ≡ true → 1 ≤ length ps
+some_pages [] can = absurd cc
+some_pages (p ∷ ps) can = omega arith
+
+of_set : (ps : List NumberedPage) → can_split ps ≡ true → Fits ps
+of_set ps can =
+    let h = has_last ps (some_pages ps can) in
+    let both = both_true (is_sizes h.last) (numbers_ascend 2 h.front) (sym (ap can_split h.parts ∙ can_split-push h.front h.last) ∙ can) in
+    record { front = h.front; last = h.last; parts = h.parts; sizes = both.0; ascends = record { least = 2; steps = steps_of 2 h.front both.1 } }
+
+-- ---- sets that can be applied
+
+none_or_order : (low : Bool) (n : ℕ) (rest : Option PageFault) → cond low (Some (Order n)) rest ≡ None → (low ≡ false) × (rest ≡ None)
+none_or_order true n rest e = absurd cc
+none_or_order false n rest e = (refl, e)
+
+steps_of_order : (before : ℕ) (ps : List NumberedPage) → 1 ≤ before → order_fault before ps ≡ None → AllByRecursion (λ p. p.number ≤ highest_number) ps → Steps (before + 1) ps
+unfolding order_fault
+steps_of_order before [] from e low = tt
+steps_of_order before (p ∷ ps) from e low =
+    let a = none_or_order (leb p.number before) p.number (order_fault p.number ps) e in
+    let above : before < p.number = leb-false p.number before a.0 in
+    (omega (arith, above), omega (arith, above, from), low.0, steps_of_order p.number ps (omega (arith, above)) a.1 low.1)
+
+-- a list without a fault ends in a sizes page, and its numbers are in order
+no_fault : (last : NumberedPage) (front : List NumberedPage) → fault_before (Some last) front ≡ None → (is_sizes last ≡ true) × (order_fault 1 front ≡ None)
+unfolding fault_before
+no_fault last front e = by (is_sizes last) (order_fault 1 front) refl refl e
   where
-    some : (qs : List NumberedPage) → CanSplit qs → 1 ≤ length qs
-    some [] can = absurd (none can.is_last)
-      where
-        none : last_page [] ≡ Some can.last → ⊥
-        none e = cc
-    some (q ∷ qs) can = omega arith
+    by : (b : Bool) (o : Option PageFault) → is_sizes last ≡ b → order_fault 1 front ≡ o
+        → cond b (earlier o (length_fault (stated_main last.page) (stated_side last.page) front)) (Some NoSizes) ≡ None → (is_sizes last ≡ true) × (order_fault 1 front ≡ None)
+    by true None sizes order e = (sizes, order)
+    by true (Some fault) sizes order e = absurd cc
+    by false o sizes order e = absurd cc
 
-    by : (qs : List NumberedPage) → CanSplit qs → qs ≡ ps → Fits qs
-    by qs can e =
-        let h = has_last qs (some qs can) in
-        let last : h.last ≡ can.last = some_is h.last can.last (sym (ap last_page h.parts ∙ last_page-push h.front h.last) ∙ can.is_last) in
-        let front : pages_before_last qs ≡ h.front = ap pages_before_last h.parts ∙ before_push h.front h.last in
-        record {
-          front = h.front;
-          last = h.last;
-          parts = h.parts;
-          sizes = ap is_sizes last ∙ can.sizes;
-          ascends = record { before = 1; from = omega arith; ordered = ap (order_fault 1) (sym front) ∙ can.ordered };
-          low = subst AreLow front (recursion_from_All (λ p. p.number ≤ highest_number) (pages_before_last qs) (All-take (λ p. p.number ≤ highest_number) (length qs - 1) qs can.low));
-        }
-      where
-        some_is : (a b : NumberedPage) → Some a ≡ Some b → a ≡ b
-        some_is a b e = cc
+some_of_fault : (qs : List NumberedPage) → page_fault qs ≡ None → 1 ≤ length qs
+unfolding fault_before
+some_of_fault [] e = absurd cc
+some_of_fault (q ∷ qs) e = omega arith
 
-        before_push : (front : List NumberedPage) (last : NumberedPage) → pages_before_last (front ++ last ∷ []) ≡ front
-        before_push front last = take_at front (last ∷ []) (length (front ++ last ∷ []) - 1) (omega (arith, length_push front last))
+pub applied_can_split : (ps : List NumberedPage) → page_fault ps ≡ None → All (λ p. p.number ≤ 4294967295) ps → can_split ps ≡ true
+applied_can_split ps e low =
+    let h = has_last ps (some_of_fault ps e) in
+    let fault : page_fault ps ≡ fault_before (Some h.last) h.front =
+    ap page_fault h.parts ∙ ap (λ (o : Option NumberedPage). fault_before o (pages_before_last (h.front ++ h.last ∷ []))) (last_page-push h.front h.last) ∙ ap (fault_before (Some h.last)) (before_push h.front h.last) in
+    let sound = no_fault h.last h.front (sym fault ∙ e) in
+    let in_front : All (λ p. p.number ≤ highest_number) h.front = subst (All (λ p. p.number ≤ highest_number)) (ap pages_before_last h.parts ∙ before_push h.front h.last) (All-take (λ p. p.number ≤ highest_number) (length ps - 1) ps low) in
+    let steps = steps_of_order 1 h.front (omega arith) sound.1 (recursion_from_All (λ p. p.number ≤ highest_number) h.front in_front) in
+    ap can_split h.parts ∙ can_split-push h.front h.last ∙ rw (sound.0, test_of 2 h.front steps) refl
 
-pub split_fits : (name : List ℕ) (set : PageSet) → CanSplit set.pages → AllFit (split name set)
+pub split_fits : (name : List ℕ) (set : PageSet) → can_split set.pages ≡ true → AllFit (split name set)
 split_fits name set can = split_from_fits (before_last set.pages) name set.tx set.pages (of_set set.pages can) refl
 
-pub all_fit : {V F : Type 0} (items : V → List Command) (name : List ℕ) (set : PageSet) (result : Result V F) → CanSplit set.pages → IfOk result (λ made. items made ≡ split name set) → IfOk result (λ made. AllFit (items made))
+pub all_fit : {V F : Type 0} (items : V → List Command) (name : List ℕ) (set : PageSet) (result : Result V F) → can_split set.pages ≡ true → IfOk result (λ made. items made ≡ split name set) → IfOk result (λ made. AllFit (items made))
 all_fit items name set (Ok made) can e = subst AllFit (sym e) (split_fits name set can)
 all_fit items name set (Err fault) can e = tt
 

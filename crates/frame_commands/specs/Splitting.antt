@@ -1,12 +1,11 @@
 -- The commands that bring a page set to every node: its pages in pieces of 64, of which the last commits them all.
-use Rattle.std.specs.Prelude.{◌≡◌, ℕ, zero, suc, ◌-◌, ◌/◌, ◌≤◌, true, false, if◌then◌else◌, List, [], ◌∷◌, length, take, drop, Option, Some, None}
-use Rattle.std.specs.List.{All}
+use Rattle.std.specs.Prelude.{ℕ, zero, suc, ◌-◌, ◌/◌, Bool, true, false, ◌&&◌, if◌then◌else◌, List, [], ◌∷◌, length, take, drop, Option, Some, None}
 use Rattle.dq_base.specs.declared.pages.NumberedPage.{NumberedPage}
 use Rattle.dq_base.specs.declared.pages.PageSet.{PageSet}
-use Rattle.dq_base.specs.Applying.{is_sizes, order_fault, last_page}
+use Rattle.dq_base.specs.Applying.{is_sizes, last_page}
 use Rattle.frame_commands.specs.declared.command.Command.{Command}
 use Rattle.frame_commands.specs.declared.command.Command.TheVariants.{Frames}
-use Rattle.frame_commands.specs.Numbers.{highest_number, stated_count, pages_before_last}
+use Rattle.frame_commands.specs.Numbers.{numbers_ascend, stated_count, pages_before_last}
 
 -- the page count of the image after pages, as their last one states it; 0 where it is no sizes page
 abbrev pub count_stated : Option NumberedPage → ℕ
@@ -27,10 +26,11 @@ before_last pages = (length pages - 1) / 64
 abbrev pub split : List ℕ → PageSet → List Command
 split name set = split_from (before_last set.pages) name set.tx set.pages
 
--- Pages that may be split: the last is a sizes page, the numbers before it ascend from 2 on, and none is above the highest.
-pub record CanSplit (pages : List NumberedPage) : Type 0 where
-  pub last : NumberedPage
-  pub is_last : last_page pages ≡ Some last
-  pub sizes : is_sizes last ≡ true
-  pub ordered : order_fault 1 (pages_before_last pages) ≡ None
-  pub low : All (λ p. p.number ≤ highest_number) pages
+-- a list ends with a sizes page
+abbrev pub ends_in_sizes : Option NumberedPage → Bool
+ends_in_sizes None = false
+ends_in_sizes (Some last) = is_sizes last
+
+-- whether pages may be split: the last is a sizes page, and the numbers before it ascend from 2 on, none above the highest
+abbrev pub can_split : List NumberedPage → Bool
+can_split pages = ends_in_sizes (last_page pages) && numbers_ascend 2 (pages_before_last pages)

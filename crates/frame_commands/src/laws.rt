@@ -1,4 +1,7 @@
-ghost use Rattle.std.specs.Prelude.{◌≡◌, ℕ, Bool, true, List, [], ◌++◌, Ok};
+ghost use Rattle.std.specs.Prelude.{◌≡◌, ℕ, ◌≤◌, Bool, true, List, [], ◌++◌, None, Ok};
+ghost use Rattle.std.specs.List.{All};
+ghost use Rattle.dq_base.specs.Applying.{page_fault};
+ghost use Rattle.frame_commands.specs.Splitting.{can_split};
 ghost use Rattle.dq_base.specs.declared.pages.NumberedPage.{NumberedPage};
 ghost use Rattle.wire_words.specs.Items.{AreBytes};
 ghost use Rattle.frame_commands.specs.declared.command.Command.{Command};
@@ -33,4 +36,9 @@ pub fn numbers_are_in_range()
         numbers_fit (Frames name tx truncate commit pages) ≡ true → AreInRange truncate commit pages }
     ensures complete { (name : List ℕ) (tx truncate : ℕ) (commit : Bool) (pages : List NumberedPage) →
         AreInRange truncate commit pages → numbers_fit (Frames name tx truncate commit pages) ≡ true }
+{}
+
+/// A set that can be applied may be split, where none of its numbers is above 4,294,967,295.
+pub fn sets_that_apply_can_be_split()
+    ensures { (pages : List NumberedPage) → page_fault pages ≡ None → All (λ p. p.number ≤ 4294967295) pages → can_split pages ≡ true }
 {}

@@ -13,9 +13,11 @@ mod writing;
 
 pub use command::Command;
 pub use fault::CommandFault;
-pub use laws::{commands_read_back, commands_stand_apart, numbers_are_in_range};
+pub use laws::{
+    commands_read_back, commands_stand_apart, numbers_are_in_range, sets_that_apply_can_be_split,
+};
 pub use reading::read_command;
-pub use splitting::split;
+pub use splitting::{can_split, split};
 pub use writing::write_command;
 
 #[cfg(test)]

@@ -38,9 +38,9 @@ fn frames_fit(truncate: u32, commit: bool, pages: &[NumberedPage]) -> bool
         return false;
     }
     if commit {
-        ends_with(truncate, last) && ascend(front)
+        ends_with(truncate, last) && ascend(0, front)
     } else {
-        truncate == 0 && ascend(pages)
+        truncate == 0 && ascend(0, pages)
     }
 }
 
@@ -66,11 +66,11 @@ pub(crate) fn stated_count(last: &NumberedPage) -> Option<u64>
     Some(1 + main as u64 + side as u64)
 }
 
-/// Whether the numbers ascend, none of them is 1, and none is above 4,294,967,295.
-fn ascend(pages: &[NumberedPage]) -> bool
-    ensures { result ≡ numbers_ascend 0 pages.now }
+/// Whether the numbers ascend from one on, none of them is 1, and none is above 4,294,967,295.
+pub(crate) fn ascend(first: u64, pages: &[NumberedPage]) -> bool
+    ensures { result ≡ numbers_ascend first pages.now }
 {
-    let mut least = 0;
+    let mut least = first;
     for page in pages {
         let number = page.number;
         if number < least || number == 1 || number > u64::from(u32::MAX) {
