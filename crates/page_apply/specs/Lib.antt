@@ -1,0 +1,6 @@
+pub mod ByName
+pub mod Files
+pub mod Databases
+pub mod Pins
+pub mod Machines
+pub mod Stated
