@@ -1,9 +1,9 @@
 -- What a change of a file leaves of what a crash may leave.
-use Rattle.std.proofs.Common.{◌≡◌, ◌⊎◌, inl, inr, ⊎_elim, ℕ, zero, suc, ◌+◌, ◌-◌, ◌<◌, ◌≤◌, max, Bool, true, false, ◌&&◌, ◌||◌, nat_le, nat_lt, List, [], ◌∷◌, ◌++◌, length, take, drop, refl, sym, ap, ◌∙◌, arith, length-drop, append_assoc}
-use Rattle.std.proofs.lemmas.Bool.{or_parts, and_cases, leb-false, ltb-false, cases_lt}
-use Rattle.std.proofs.lemmas.List.{length-append, length-take-le, take_all}
-use Rattle.disk_model.specs.Disk.{Change, Wrote, Cut, Standing, Sure, Made, Gone, Absent, Held, Found, found, missing, byte_at, loose, reach, LeavesBytes, LeavesFile}
-use Rattle.disk_model.specs.Calls.{made, gone, put, after_write, after_cut, after_remove}
+use Rattle.std.proofs.Common.{◌≡◌, ◌⊎◌, inl, inr, ⊎_elim, ℕ, zero, suc, ◌+◌, ◌-◌, ◌<◌, ◌≤◌, max, false, ◌&&◌, nat_le, nat_lt, List, [], ◌∷◌, ◌++◌, length, take, drop, refl, ap, ◌∙◌, arith, length-drop}
+use Rattle.std.proofs.lemmas.Bool.{or_parts, and_cases, leb-false, ltb-false}
+use Rattle.std.proofs.lemmas.List.{length-append, length-take-le}
+use Rattle.disk_model.specs.Disk.{Change, Wrote, Cut, Standing, Sure, Made, Gone, Absent, byte_at, loose, reach, LeavesBytes}
+use Rattle.disk_model.specs.Calls.{made, gone, put}
 
 byte_front : (xs ys : List ℕ) (i : ℕ) → i < length xs → byte_at (xs ++ ys) i ≡ byte_at xs i
 byte_front [] ys i h = absurd (omega arith)

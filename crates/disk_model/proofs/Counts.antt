@@ -1,5 +1,5 @@
 -- Counts of faults that rose.
-use Rattle.std.proofs.Common.{◌≡◌, ℕ, ◌≤◌, min, true, false, refl, sym, ◌∙◌, Result, Ok, Err, OnOk, OnErr, arith}
+use Rattle.std.proofs.Common.{◌≡◌, ℕ, ◌≤◌, true, false, sym, ◌∙◌, Result, Ok, Err, arith}
 use Rattle.std.specs.declared.alloc.AllocError.{AllocError}
 use Rattle.dq_base.specs.Faults.{one_more, Rose}
 use Rattle.disk_model.specs.Trait.{HasCause}

@@ -1,14 +1,14 @@
 -- One file of a disk over memory, through syncs and crashes.
-use Rattle.std.proofs.Common.{◌≡◌, ◌⊎◌, inl, inr, ⊎_elim, ℕ, zero, suc, ◌≤◌, Bool, true, false, cond, List, [], ◌∷◌, ◌++◌, length, take, drop, refl, sym, ap, ◌∙◌, subst, arith}
+use Rattle.std.proofs.Common.{◌≡◌, inl, inr, ℕ, Bool, true, false, cond, List, [], ◌∷◌, ◌++◌, refl, sym, ap, ◌∙◌, subst}
 use Rattle.std.proofs.lemmas.Bool.{cases_Bool, cond-true, cond-false}
-use Rattle.disk_model.specs.Disk.{Found, found, missing, Change, Held, Sure, Gone, Absent, LeavesBytes, LeavesFile}
-use Rattle.disk_model.specs.Calls.{put, after_sync, after_names}
+use Rattle.disk_model.specs.Disk.{Found, found, missing, Held, Sure, Absent, LeavesBytes}
+use Rattle.disk_model.specs.Calls.{after_names}
 use Rattle.disk_model.specs.Memory.{done_to, half_of, done_in_turn, shown, named, after_file_sync, after_names_sync}
 use Rattle.disk_model.specs.Holds.{Fits, Allows, HoldsFile}
 use Rattle.disk_model.specs.declared.open_calls.Effect.{Effect}
 use Rattle.disk_model.specs.declared.open_calls.Effect.TheVariants.{Creation, Naming, Write, Truncation, Removal, Nothing}
 use Rattle.disk_model.proofs.Changes.{same_bytes}
-use Rattle.disk_model.proofs.Fitting.{shown_there, shown_not, allows_now, allows_first}
+use Rattle.disk_model.proofs.Fitting.{shown_there, shown_not}
 
 -- the effects that are left of each
 abbrev pub all_left : (Effect → List Effect) → List Effect → List Effect

@@ -1,11 +1,11 @@
 -- The effects on one file, among the calls that no sync covers.
-use Rattle.std.proofs.Common.{◌≡◌, inl, inr, ℕ, zero, suc, Bool, true, false, cond, List, [], ◌∷◌, ◌++◌, length, take, drop, refl, sym, ap, ◌∙◌, subst, append_assoc}
+use Rattle.std.proofs.Common.{◌≡◌, inl, inr, ℕ, zero, suc, Bool, true, false, cond, List, [], ◌∷◌, ◌++◌, length, take, drop, refl, sym, ap, ◌∙◌}
 use Rattle.std.specs.Str.{bytes_eq}
-use Rattle.std.proofs.lemmas.Bool.{cases_Bool, cond-true, cond-false}
+use Rattle.std.proofs.lemmas.Bool.{cases_Bool}
 use Rattle.std.proofs.lemmas.Slice.Eq.{bytes_eq-Decides}
-use Rattle.disk_model.specs.Disk.{Found, Held, Files, LeavesFile}
+use Rattle.disk_model.specs.Disk.{Found, Held, Files}
 use Rattle.disk_model.specs.Trait.{Text}
-use Rattle.disk_model.specs.Memory.{done_to, half_of, done_in_turn, effects_on, shown, first_half, kept, whole_calls, keeps_half, after_file_sync, after_names_sync, all_on, left_by_file_sync, left_by_names_sync, each_left}
+use Rattle.disk_model.specs.Memory.{done_to, half_of, done_in_turn, effects_on, first_half, kept, whole_calls, keeps_half, after_file_sync, after_names_sync, all_on, left_by_file_sync, left_by_names_sync, each_left}
 use Rattle.disk_model.specs.Holds.{Fits, Allows}
 use Rattle.disk_model.specs.declared.open_calls.Effect.{Effect}
 use Rattle.disk_model.specs.declared.open_calls.Uncovered.{Uncovered}

@@ -1,14 +1,14 @@
 -- One file of a disk over memory, through calls that succeed and calls that fail.
-use Rattle.std.proofs.Common.{◌≡◌, ◌⊎◌, inl, inr, ⊎_elim, ℕ, zero, suc, ◌+◌, ◌/◌, ◌≤◌, Bool, true, false, cond, List, [], ◌∷◌, ◌++◌, length, take, drop, refl, sym, ap, ◌∙◌, subst, arith}
+use Rattle.std.proofs.Common.{◌≡◌, inl, inr, ⊎_elim, ℕ, ◌+◌, ◌/◌, ◌≤◌, Bool, true, false, List, [], ◌∷◌, ◌++◌, length, take, drop, refl, sym, ap, ◌∙◌, subst, arith}
 use Rattle.std.proofs.lemmas.Bool.{cases_Bool, cond-true, cond-false}
-use Rattle.std.proofs.lemmas.List.{take-append-drop, drop_all, append-nil}
-use Rattle.disk_model.specs.Disk.{Found, found, missing, Change, Wrote, Held, Sure, Gone, Absent, LeavesBytes, LeavesFile}
-use Rattle.disk_model.specs.Calls.{put, after_write, after_cut, after_sync, after_remove, after_names, made, gone}
-use Rattle.disk_model.specs.Memory.{done_to, half_of, half, done_in_turn, shown, named}
+use Rattle.std.proofs.lemmas.List.{take-append-drop, append-nil}
+use Rattle.disk_model.specs.Disk.{Found, found, missing, Wrote, Held, Gone, Absent, LeavesBytes, LeavesFile}
+use Rattle.disk_model.specs.Calls.{put, after_write, after_cut, after_remove}
+use Rattle.disk_model.specs.Memory.{done_to, half_of, half, done_in_turn, shown}
 use Rattle.disk_model.specs.Holds.{Fits, Allows, HoldsFile}
 use Rattle.disk_model.specs.declared.open_calls.Effect.{Effect}
-use Rattle.disk_model.specs.declared.open_calls.Effect.TheVariants.{Creation, Naming, Write, Truncation, Removal, Nothing}
-use Rattle.disk_model.proofs.Changes.{still_bytes, put_bytes, put_front, cut_bytes, same_bytes, made_sure, made_present, made_stays, gone_unsure, gone_absent, gone_now}
+use Rattle.disk_model.specs.declared.open_calls.Effect.TheVariants.{Creation, Write, Truncation, Removal}
+use Rattle.disk_model.proofs.Changes.{still_bytes, put_bytes, put_front, cut_bytes, made_sure, made_present, gone_unsure, gone_absent, gone_now}
 
 pub shown_there : (f : Found) → f.there ≡ true → shown f ≡ found f.bytes
 shown_there f t = cond-true f.there (found f.bytes) missing t

@@ -15,7 +15,6 @@ pub mod Standing
 pub mod Replaying
 pub mod Listing
 pub mod Told
-pub mod Telling
 pub mod Spelling
 pub mod Seen
 pub mod Counts

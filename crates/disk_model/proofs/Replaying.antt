@@ -1,7 +1,7 @@
 -- Calls that are covered, and calls that are done again.
-use Rattle.std.proofs.Common.{◌≡◌, inl, inr, ℕ, zero, suc, ◌+◌, ◌<◌, ◌≤◌, Bool, true, false, cond, List, [], ◌∷◌, ◌++◌, length, take, drop, set, get_or, remove, refl, sym, ap, ◌∙◌, subst, arith, append_assoc, Result, OnOk}
+use Rattle.std.proofs.Common.{◌≡◌, ℕ, zero, suc, ◌+◌, ◌<◌, ◌≤◌, Bool, true, false, cond, List, [], ◌∷◌, ◌++◌, length, take, drop, set, get_or, remove, refl, sym, ap, ◌∙◌, arith, Result, OnOk}
 use Rattle.std.specs.Str.{bytes_eq}
-use Rattle.disk_model.specs.Disk.{Found, Files}
+use Rattle.disk_model.specs.Disk.{Found}
 use Rattle.disk_model.specs.Memory.{done_to, half_of, done_in_turn, effects_on, at_name, each_left, first_half, kept, whole_calls, keeps_half}
 use Rattle.disk_model.specs.Trait.{Text, Reads}
 use Rattle.disk_model.specs.Folder.{Tables, tables_of, base_changed, replayed}

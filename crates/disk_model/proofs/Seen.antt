@@ -1,9 +1,9 @@
 -- What is read of a file is what a crash may leave: so it stays through calls.
-use Rattle.std.proofs.Common.{◌≡◌, ℕ, ◌≤◌, true, false, List, [], ◌∷◌, length, take, refl, sym, ap, ◌∙◌, subst, arith}
+use Rattle.std.proofs.Common.{◌≡◌, ℕ, ◌≤◌, true, false, List, length, take, refl, sym, ◌∙◌, subst, arith}
 use Rattle.disk_model.specs.Disk.{Found, found, missing, Change, Held, LeavesBytes, LeavesFile}
 use Rattle.disk_model.specs.Calls.{put, after_write, after_cut, after_remove}
 use Rattle.disk_model.specs.Rest.{Rest}
-use Rattle.disk_model.proofs.Changes.{put_bytes, cut_bytes, still_bytes, same_bytes, made_present, gone_unsure}
+use Rattle.disk_model.proofs.Changes.{put_bytes, cut_bytes, same_bytes, made_present, gone_unsure}
 
 -- a write to a file that is there
 pub seen_write : (h : Held) (f : Found) (at : ℕ) (bytes : List ℕ) → f.there ≡ true → at ≤ length f.bytes → LeavesFile h f → LeavesFile (after_write at bytes h) (found (put at bytes f.bytes))

@@ -1,5 +1,5 @@
 -- Calls on spelled names are calls on what they spell, where no two names are spelled alike.
-use Rattle.std.proofs.Common.{◌≡◌, ◌⊎◌, inl, inr, List, [], ◌∷◌, ap}
+use Rattle.std.proofs.Common.{◌≡◌, inl, inr, List, [], ◌∷◌, ap}
 use Rattle.disk_model.specs.Disk.{Files, Disk, Leaves}
 use Rattle.disk_model.specs.Calls.{Call, WriteAt, CutTo, Sync, Remove, SyncNames, Others, Does, Fails, Done, Until}
 use Rattle.disk_model.specs.Spelled.{files_under, under, spelled, all_spelled}

@@ -1,21 +1,21 @@
 -- A disk over memory through its calls: the state that it may be said to be in goes along.
-use Rattle.std.proofs.Common.{◌≡◌, ◌⊎◌, inl, inr, ℕ, ◌<◌, ◌≤◌, nat_lt, Bool, true, false, cond, List, [], ◌∷◌, ◌++◌, length, take, refl, sym, ap, ◌∙◌, subst, arith}
+use Rattle.std.proofs.Common.{◌≡◌, inl, inr, ℕ, ◌<◌, ◌≤◌, nat_lt, Bool, true, false, cond, List, [], ◌∷◌, ◌++◌, length, take, refl, sym, ap, ◌∙◌, subst, arith}
 use Rattle.std.specs.Str.{bytes_eq}
 use Rattle.std.proofs.lemmas.Bool.{cases_Bool, cond-true, cond-false, ltb-false, ltb-true}
 use Rattle.std.proofs.lemmas.List.{take_all}
-use Rattle.disk_model.specs.Disk.{Found, found, missing, Held, Disk, Sure, Gone, Absent, LeavesFile, Leaves, no_files}
-use Rattle.disk_model.specs.Calls.{WriteAt, CutTo, Sync, Remove, SyncNames, Does, Fails, Turns, Breaks, NamesSynced, MayWrite, put, after_write, after_cut, after_sync, after_remove, after_names}
+use Rattle.disk_model.specs.Disk.{Found, found, missing, Held, Disk, Sure, Absent, LeavesFile, no_files}
+use Rattle.disk_model.specs.Calls.{WriteAt, CutTo, Sync, Remove, SyncNames, Does, Fails, Turns, Breaks, MayWrite, put, after_write, after_cut, after_sync, after_remove, after_names}
 use Rattle.disk_model.specs.Rest.{Rest, AfterCrash}
 use Rattle.disk_model.specs.Trait.{Text}
-use Rattle.disk_model.specs.Memory.{Memory, no_memory, effects_on, done_to, done_in_turn, kept, each_left, left_by_file_sync, after_file_sync, shown, at_name, noted, is_none, wrote, truncated, removed, synced, names_synced, crashed, outcome, named}
-use Rattle.disk_model.specs.Holds.{Fits, Allows, HoldsFile, Holds}
+use Rattle.disk_model.specs.Memory.{Memory, no_memory, effects_on, done_to, done_in_turn, kept, each_left, left_by_file_sync, after_file_sync, shown, at_name, noted, is_none, wrote, truncated, removed, synced, names_synced, crashed, named}
+use Rattle.disk_model.specs.Holds.{HoldsFile, Holds}
 use Rattle.disk_model.specs.declared.open_calls.Effect.{Effect}
-use Rattle.disk_model.specs.declared.open_calls.Effect.TheVariants.{Creation, Naming, Write, Truncation, Removal, Nothing}
+use Rattle.disk_model.specs.declared.open_calls.Effect.TheVariants.{Creation, Write, Truncation, Removal}
 use Rattle.disk_model.proofs.Changes.{same_bytes}
 use Rattle.disk_model.proofs.Fitting.{fits_left, there_shown, shown_empty, read_left, written, written_nothing, cut_down, cut_not, taken_away, not_taken, made_new, not_written, no_bytes}
 use Rattle.disk_model.proofs.Covered.{file_synced, file_named, at_rest, all_left}
 use Rattle.disk_model.proofs.Effects.{eq_here, eq_else, tell, on_one, on_other, left_here, left_else, left_named, pick_fits}
-use Rattle.disk_model.proofs.Names.{Apart, same, apart}
+use Rattle.disk_model.proofs.Names.{same, apart}
 
 pub holds_none : Holds no_memory no_files
 holds_none = record {

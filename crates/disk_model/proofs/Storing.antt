@@ -1,9 +1,8 @@
 -- What the calls make of the contents of a disk over memory.
-use Rattle.std.proofs.Common.{◌≡◌, ℕ, Bool, true, false, cond, List, [], ◌∷◌, ◌++◌, length, take, drop, refl, sym, ap, ◌∙◌, subst, Result, Ok, Err, OnOk, OnErr}
+use Rattle.std.proofs.Common.{◌≡◌, ℕ, true, List, [], ◌∷◌, ◌++◌, sym, ap, ◌∙◌, Result, Ok, Err, OnErr}
 use Rattle.std.specs.declared.alloc.AllocError.{AllocError}
-use Rattle.std.specs.Str.{bytes_eq}
 use Rattle.std.proofs.lemmas.Bool.{cond-true}
-use Rattle.disk_model.specs.Disk.{Found, missing}
+use Rattle.disk_model.specs.Disk.{missing}
 use Rattle.disk_model.specs.Trait.{Text}
 use Rattle.disk_model.specs.Memory.{Memory, done_to, noted, removed, synced, names_synced, crashed, kept, left_by_file_sync, left_by_names_sync, each_left}
 use Rattle.disk_model.specs.Folder.{Tables, tables_of, read_changed, file_put_down, names_put_down, settled, replayed}

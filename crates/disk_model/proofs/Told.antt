@@ -1,13 +1,11 @@
 -- The clauses of a disk over memory.
-use Rattle.std.proofs.Common.{◌≡◌, ◌≤◌, ℕ, true, false, List, refl, sym, ap, ◌∙◌, subst, Result, Ok, Err, OnOk, OnErr}
+use Rattle.std.proofs.Common.{◌≡◌, ◌≤◌, ℕ, true, List, refl, sym, ap, ◌∙◌, subst, Result, Ok, Err, OnOk, OnErr}
 use Rattle.std.specs.declared.alloc.AllocError.{AllocError}
 use Rattle.disk_model.specs.Disk.{Disk, Found, Held, LeavesFile, no_files}
 use Rattle.disk_model.specs.Calls.{Call, WriteAt, CutTo, Sync, Remove, SyncNames, Does, Fails, Turns, Breaks, MayWrite}
-use Rattle.disk_model.specs.Rest.{AfterCrash}
-use Rattle.disk_model.specs.SyncAll.{Among}
 use Rattle.disk_model.specs.Trait.{Text, Known, told, untold, Steps, Looks, Lists, Reads, HasCause, Crashes}
 use Rattle.disk_model.specs.Memory.{Memory, no_memory, effects_on, wrote, truncated, removed, synced, names_synced, crashed}
-use Rattle.disk_model.specs.Folder.{file_of, ListsFiles}
+use Rattle.disk_model.specs.Folder.{ListsFiles}
 use Rattle.disk_model.specs.Stored.{Contents, OverMemory, memory_of, states_of}
 use Rattle.disk_model.specs.Holds.{Holds}
 use Rattle.disk_model.specs.Armed.{finished, with_end}
@@ -15,7 +13,6 @@ use Rattle.disk_model.specs.declared.armed.Armed.{Armed}
 use Rattle.disk_model.specs.declared.armed.Turn.{Turn}
 use Rattle.disk_model.specs.declared.armed.Turn.TheVariants.{Goes, Stops}
 use Rattle.disk_model.specs.declared.faults.DiskFault.{DiskFault}
-use Rattle.disk_model.specs.declared.faults.DiskFault.TheVariants.{Failed, NoMemory}
 use Rattle.disk_model.proofs.Counts.{ended_cause}
 use Rattle.disk_model.proofs.Fitting.{read_left}
 use Rattle.disk_model.proofs.Stepping.{holds_none, Writable, writable, write_does, write_fails, cut_does, cut_fails, remove_does, remove_fails, sync_does, names_does, crash_does}

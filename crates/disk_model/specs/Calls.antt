@@ -1,6 +1,6 @@
 -- The calls of a disk, and runs of them that end anywhere.
 use Rattle.std.specs.Prelude.{◌≡◌, ◌≢◌, ◌≤◌, ◌⊎◌, ℕ, ◌+◌, cond, List, [], ◌∷◌, ◌++◌, length, take, drop}
-use Rattle.disk_model.specs.Disk.{Found, found, missing, Change, Wrote, Cut, Standing, Sure, Made, Gone, Absent, Held, Disk, LeavesFile}
+use Rattle.disk_model.specs.Disk.{Found, found, missing, Wrote, Cut, Standing, Sure, Made, Gone, Absent, Held, Disk, LeavesFile}
 
 -- a call that may change the disk
 pub data Call (N : Type 0) : Type 0 where

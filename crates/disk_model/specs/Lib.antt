@@ -10,5 +10,4 @@ pub mod Holds
 pub mod Folder
 pub mod Stored
 pub mod Armed
-pub mod Untold
 pub mod Spelled

@@ -1,6 +1,6 @@
 -- A disk over memory: what is read, what surely stands, and the calls that no sync covers yet. And which of these calls
 -- a crash keeps, by a number that picks.
-use Rattle.std.specs.Prelude.{◌≡◌, ℕ, suc, ◌+◌, ◌/◌, ◌%◌, Bool, true, false, cond, ◌==◌, nat_lt, List, [], ◌∷◌, ◌++◌, length, take, drop}
+use Rattle.std.specs.Prelude.{ℕ, ◌+◌, ◌/◌, ◌%◌, Bool, true, false, cond, ◌==◌, nat_lt, List, [], ◌∷◌, ◌++◌, length, take, drop}
 use Rattle.std.specs.Str.{bytes_eq}
 use Rattle.disk_model.specs.Disk.{Found, found, missing, Files}
 use Rattle.disk_model.specs.Calls.{put}

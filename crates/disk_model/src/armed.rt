@@ -1,7 +1,7 @@
 ghost use Rattle.std.specs.Prelude.{◌≡◌, ◌≤◌, false, is_some, if◌then◌else◌, IfOk, OnOk};
 ghost use Rattle.dq_base.specs.Faults.{one_more};
 ghost use Rattle.disk_model.specs.Trait.{HasCause};
-ghost use Rattle.disk_model.specs.Armed.{pick_at, is_number, fails_next, Counted, IsTurn, finished, with_end, unarmed, armed_with, disarmed, picked};
+ghost use Rattle.disk_model.specs.Armed.{pick_at, is_number, is_idle_next, fails_next, Counted, IsTurn, finished, with_end, unarmed, armed_with, disarmed, picked};
 
 use crate::faults::DiskFault;
 use std::alloc::AllocError;
@@ -118,6 +118,13 @@ impl Armed {
         DiskFault::Failed
     }
 
+    /// Whether the next call does nothing: the disk is stopped, or that call is to fail.
+    fn is_idle_next(&self) -> bool
+        ensures { result ≡ is_idle_next self.now }
+    {
+        self.stopped.is_some() || is_number(self.fail, self.made.saturating_add(1))
+    }
+
     /// Starts the next call. It fails at once where the disk is stopped or the call is to fail; else the call goes on,
     /// and the disk stops in it or not.
     #[tactic(auto, using(crate::proofs::Counts::caused, crate::proofs::Counts::spared))]
@@ -126,10 +133,10 @@ impl Armed {
         ensures turn { IfOk result (IsTurn (fails_next self.old)) }
         ensures cause { HasCause self.old.faults self.new.faults result }
     {
-        let was_stopped = self.stopped.is_some();
+        let is_idle = self.is_idle_next();
         self.made = self.made.saturating_add(1);
         self.stopped = stopped_at(self.stopped, self.stop, self.made);
-        if was_stopped || is_number(self.fail, self.made) {
+        if is_idle {
             return Err(self.fault());
         }
         if self.stopped.is_some() {

@@ -3,7 +3,6 @@ pub mod Loops
 pub mod Ascending
 pub mod Ranges
 pub mod InTurn
-pub mod Passing
 pub mod Halves
 pub mod PageLaws
 pub mod FrameLaws

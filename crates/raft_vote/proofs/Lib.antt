@@ -1,7 +1,6 @@
 pub mod Grants
 pub mod Loops
 pub mod InTurn
-pub mod Passing
 pub mod EntryLaws
 pub mod MessageLaws
 pub mod Written

@@ -2,19 +2,11 @@
 use Rattle.std.proofs.Common.{◌≡◌, ℕ, suc, ◌+◌, ◌-◌, ◌<◌, ◌≤◌, List, [], ◌∷◌, ◌++◌, length, drop, get_or, Result, Ok, Err, refl, sym, ap, subst, ◌∙◌, append_assoc, arith}
 use Rattle.std.proofs.lemmas.List.{append-nil, at_drop_more, at_drop_all}
 use Rattle.wire_words.specs.declared.fault.WordFault.{WordFault}
-use Rattle.wire_words.specs.Reading.{◌>>=◌, Unread, Fails}
-use Rattle.wire_words.proofs.ReadingLoops.{fails_so}
+use Rattle.wire_words.specs.Reading.{Unread, Fails}
+use Rattle.wire_words.proofs.ReadingLoops.{with_front, regroup, fails_so}
 use Rattle.raft_rules.specs.Log.{Entry}
 use Rattle.raft_vote.specs.declared.entries.EntryHead.{EntryHead}
 use Rattle.raft_vote.specs.Entries.{head_bytes, heads_bytes, HasHead, HaveHeads, head_at, heads_at, entry_at, contents_at}
-
--- what was read before, and what is still read
-abbrev pub with_front : {A : Type 0} → List A → Result (List A × Unread) WordFault → Result (List A × Unread) WordFault
-with_front front read = read >>= λ x. Ok (front ++ x.0, x.1)
-
-regroup : {A : Type 0} (front : List A) (n : A) (read : Result (List A × Unread) WordFault) → with_front front (read >>= λ x. Ok (n ∷ x.0, x.1)) ≡ with_front (front ++ n ∷ []) read
-regroup front n (Ok x) = ap (λ ns. Ok (ns, x.1)) (sym (append_assoc front (n ∷ []) x.0))
-regroup front n (Err f) = refl
 
 -- ---- heads
 

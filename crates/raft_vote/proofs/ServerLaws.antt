@@ -1,8 +1,8 @@
 -- A configuration is read exactly where its spelling stands.
-use Rattle.std.proofs.Common.{◌≡◌, ℕ, zero, suc, ◌+◌, ◌<◌, ◌≤◌, ◌^◌, Bool, true, false, cond, ◌&&◌, ◌||◌, not, eqb, leb, ltb, List, [], ◌∷◌, ◌++◌, length, take, map, Result, Ok, Err, refl, sym, ap, subst, ◌∙◌, append_assoc, arith}
-use Rattle.std.specs.Prelude.{◌==◌, nat_lt, nat_le, IfOk, IsUtf8}
+use Rattle.std.proofs.Common.{◌≡◌, ℕ, zero, suc, ◌+◌, ◌<◌, ◌≤◌, ◌^◌, Bool, true, false, cond, ◌&&◌, ◌||◌, not, List, [], ◌∷◌, ◌++◌, length, take, map, Result, Ok, Err, refl, sym, ap, subst, ◌∙◌, append_assoc, arith}
+use Rattle.std.specs.Prelude.{◌==◌, nat_lt, nat_le, IfOk}
 use Rattle.std.specs.List.{AllByRecursion, filter}
-use Rattle.std.proofs.lemmas.Bool.{eqb-true, eqb-false, ltb-true, lt-ltb, leb-true, le-leb}
+use Rattle.std.proofs.lemmas.Bool.{ltb-true, lt-ltb, leb-true, le-leb}
 use Rattle.std.proofs.lemmas.List.{append-nil, length-append, length_push, map-append, take_at}
 use Rattle.std.proofs.lemmas.List.Elements.{filter-append}
 use Rattle.raft_rules.specs.Node.{Server, voters}
@@ -13,7 +13,7 @@ use Rattle.wire_words.proofs.ReadBack.{bind_ok, passed}
 use Rattle.raft_vote.specs.declared.servers_fault.ServersFault.{ServersFault}
 use Rattle.raft_vote.specs.declared.servers_fault.ServersFault.TheVariants.{Order, Role, Limit}
 use Rattle.raft_vote.specs.Servers.{Ascend, IsServer, IsConfiguration, server_bytes, each_bytes, servers_bytes, HoldsServer, WritesServers, in_servers, votes_as, last_from, has_room, joined, server_at, more_servers_at, servers_at, with_place, servers_of, GivesServers}
-use Rattle.raft_vote.proofs.Passing.{Passed, passed_none, pass_none, passed_both, between, passed_first, passed_second, bytes_after, word_passed, word_stood, text_passed, text_stood}
+use Rattle.wire_words.proofs.Passing.{Passed, passed_none, pass_none, passed_both, between, passed_first, passed_second, bytes_after, word_passed, word_stood, text_passed, text_stood}
 
 -- ---- results
 

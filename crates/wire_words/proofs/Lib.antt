@@ -7,6 +7,7 @@ pub mod Nul
 pub mod Numbers
 pub mod Padding
 pub mod Parts
+pub mod Passing
 pub mod Prefix
 pub mod ReadBack
 pub mod ReadingLoops
@@ -17,3 +18,4 @@ pub mod TupleLaws
 pub mod Utf8
 pub mod ValueLaws
 pub mod Whole
+pub mod Writable

@@ -6,8 +6,8 @@ ghost use Rattle.wire_words.specs.declared.value.ValueType.{ValueType};
 ghost use Rattle.wire_words.specs.Items.{word, pair, text, raw, AreBytes, HasNoNul, IsWord, IsPair, IsText, IsRaw};
 ghost use Rattle.wire_words.specs.Message.{message, IsBody};
 ghost use Rattle.wire_words.specs.Reading.{Unread, Took, word_at, pair_at, text_at, raw_at, blob_at};
-ghost use Rattle.wire_words.specs.ReadingValues.{value_at, params_at, params_wide_at, row_at};
-ghost use Rattle.wire_words.specs.Values.{params, params_wide, row, IsInRange, IsBlob, IsValue, IsParams, IsParamsWide, IsParamsRead, IsParamsWideRead, IsRow};
+ghost use Rattle.wire_words.specs.ReadingValues.{value_at, values_at, params_at, params_wide_at, row_at};
+ghost use Rattle.wire_words.specs.Values.{params, params_wide, row, AreWritable, IsInRange, IsBlob, IsValue, IsParams, IsParamsWide, IsParamsRead, IsParamsWideRead, IsRow};
 ghost use Rattle.wire_words.specs.Stream.{after_messages, one_before, messages_in, version_word, stream, going_on};
 
 /// A word is read exactly where its spelling stands: what is read is spelled so, and what is spelled so is read.
@@ -106,6 +106,19 @@ pub fn one_spelling_of_values()
     ensures read_params_wide { (vs : List Value) (bytes : List ℕ) → IsParamsWide vs bytes → IsParamsWideRead vs bytes }
     ensures row { (vs : List Value) → AllByRecursion IsInRange vs → IsRow vs (row vs) }
     ensures only_row { (vs : List Value) (bytes : List ℕ) → IsRow vs bytes → bytes ≡ row vs }
+{}
+
+/// What is read can be written: no text that is read holds a NUL, and a tuple has no more values than one that is written
+/// may have. Only a wide tuple may have more, since its count has 32 bits.
+pub fn what_is_read_can_be_written()
+    ensures values { (dialect : Dialect) (types : List ValueType) (old new : Unread) (vs : List Value) → AreBytes old.bytes →
+        values_at dialect types old ≡ Ok (vs, new) → AreWritable vs }
+    ensures params { (old new : Unread) (vs : List Value) → AreBytes old.bytes → params_at old ≡ Ok (vs, new) →
+        AreWritable vs × (length vs ≤ 255) }
+    ensures params_wide { (old new : Unread) (vs : List Value) → AreBytes old.bytes → params_wide_at old ≡ Ok (vs, new) →
+        AreWritable vs }
+    ensures row { (count : ℕ) (old new : Unread) (vs : List Value) → AreBytes old.bytes → row_at count old ≡ Ok (vs, new) →
+        AreWritable vs }
 {}
 
 /// A stream is its version word and then its messages, each of which is given where its spelling stands; and the stream

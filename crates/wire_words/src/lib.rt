@@ -17,7 +17,7 @@ pub use fault::WordFault;
 pub use laws::{
     blobs_read_back, messages_stand_apart, one_spelling, one_spelling_of_values, pairs_read_back,
     params_read_back, raw_reads_back, rows_read_back, streams_read_back, texts_read_back,
-    values_read_back, words_read_back,
+    values_read_back, what_is_read_can_be_written, words_read_back,
 };
 pub use message::{Header, Message};
 pub use splitter::{CLIENT_LIMIT, SplitFault, Splitter};
@@ -28,6 +28,3 @@ pub use writer::Writer;
 
 /// Bytes of the wire.
 pub type WireBytes = dq_base::Items<u8>;
-
-#[cfg(test)]
-mod tests;

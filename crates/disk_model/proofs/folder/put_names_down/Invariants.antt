@@ -1,4 +1,4 @@
-use Rattle.std.proofs.Common.{◌≡◌, ◌≤◌, ◌<◌, ℕ, length, get_or}
+use Rattle.std.proofs.Common.{◌≡◌, ◌≤◌, ◌<◌, ℕ, get_or}
 use Rattle.disk_model.specs.Folder.{named_file}
 use Rattle.disk_model.specs.declared.folder.MemFile.{MemFile}
 use Rattle.disk_model.proofs.folder.put_names_down.Given as goal

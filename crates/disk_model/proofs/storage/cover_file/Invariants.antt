@@ -1,6 +1,5 @@
 use Rattle.std.proofs.Common.{◌≡◌, ◌-◌, ◌++◌, ◌≤◌, length, take, drop, vec_len}
-use Rattle.disk_model.specs.Memory.{each_left, left_by_file_sync, left_by_names_sync}
-use Rattle.disk_model.specs.Folder.{tables_of}
+use Rattle.disk_model.specs.Memory.{each_left, left_by_file_sync}
 use Rattle.disk_model.proofs.storage.cover_file.Given as goal
 
 abbrev pub invariant-loop-place : goal.invariant-loop-place

@@ -1,4 +1,4 @@
-use Rattle.std.proofs.Common.{◌≡◌, List, length, refl, sym, ap, ◌∙◌}
+use Rattle.std.proofs.Common.{List, length, refl, sym, ap, ◌∙◌}
 use Rattle.disk_model.specs.Memory.{first_half}
 use Rattle.disk_model.specs.Folder.{tables_of, replayed}
 use Rattle.disk_model.specs.declared.open_calls.Uncovered.{Uncovered}

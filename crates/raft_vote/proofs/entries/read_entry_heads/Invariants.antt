@@ -1,6 +1,6 @@
 use Rattle.std.proofs.Common.{◌≡◌, ◌-◌}
 use Rattle.raft_vote.specs.Entries.{heads_at}
-use Rattle.raft_vote.proofs.Loops.{with_front}
+use Rattle.wire_words.proofs.ReadingLoops.{with_front}
 use Rattle.raft_vote.proofs.entries.read_entry_heads.Given as goal
 
 abbrev pub invariant-loop : goal.invariant-loop

@@ -1,4 +1,4 @@
-use Rattle.std.proofs.Common.{rules, ◌≡◌, List, [], ◌++◌, sym, ap, ◌∙◌}
+use Rattle.std.proofs.Common.{rules}
 use Rattle.disk_model.proofs.Standing.{put_down_done}
 use Rattle.disk_model.proofs.folder.Folder.put_down.Goals as goal
 

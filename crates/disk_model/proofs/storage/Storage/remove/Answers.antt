@@ -1,4 +1,4 @@
-use Rattle.std.proofs.Common.{rules, ◌≡◌, true, refl, sym}
+use Rattle.std.proofs.Common.{rules, ◌≡◌, true}
 use Rattle.disk_model.specs.Stored.{memory_of}
 use Rattle.disk_model.proofs.Storing.{remove_done}
 use Rattle.disk_model.proofs.storage.Storage.remove.Goals as goal

@@ -1,0 +1,256 @@
+ghost use Rattle.std.specs.Prelude.{◌≡◌, ◌≤◌, ℕ, false, length, IfOk};
+ghost use Rattle.dq_base.specs.Faults.{Rose};
+ghost use Rattle.disk_model.specs.declared.faults.DiskFault;
+ghost use Rattle.dir_disk.specs.Untold.{no_states};
+
+use disk_model::{Disk, DiskFault};
+use dq_base::{Items, Name};
+use std::alloc::AllocError;
+use std::fs::{File, OpenOptions};
+use std::io::ErrorKind;
+use std::marker::Model;
+use std::os::unix::fs::FileExt;
+use std::rt::Files;
+use std::{fs, io};
+
+/// A disk over the files of a folder of the operating system.
+///
+/// It tells nothing of what is on it: that real files follow what the trait says is trusted, and with it that an `Ok` of
+/// a sync after one that failed makes all sure, which some systems break. A name that has a `/`, or is `.` or `..`, is
+/// none of the folder: each call with it answers `Failed` and does nothing. Each call opens the file anew and makes its
+/// path, which takes memory in the order of its name. Its count of faults rises at each `Failed`, and stays at
+/// 18,446,744,073,709,551,615.
+#[derive(Drop)]
+pub struct DirDisk<R: Files<File = File> + AllocGlobal + Clone + Drop> {
+    rt: R,
+    folder: String,
+    faults: u64,
+}
+
+impl<R: Files<File = File> + AllocGlobal + Clone + Drop> Model for DirDisk<R> {
+    ghost use Rattle.std.specs.Prelude.{ℕ};
+
+    ghost Value = { ℕ };
+
+    ghost view = { λ a. a.faults };
+}
+
+/// Refuses a name that isn't one of a flat folder.
+fn check_flat(name: &str) -> io::Result<()> {
+    if name.contains('/') || name == "." || name == ".." {
+        return Err(ErrorKind::InvalidFilename.into());
+    }
+    Ok(())
+}
+
+/// Opens a file where there is one.
+fn opened<R: Files<File = File>>(
+    rt: &R,
+    options: &OpenOptions,
+    path: &str,
+) -> io::Result<Option<File>> {
+    match options.open(rt, path) {
+        Ok(file) => Ok(Some(file)),
+        Err(error) if error.kind() == ErrorKind::NotFound => Ok(None),
+        Err(error) => Err(error),
+    }
+}
+
+/// Fills a buffer with the bytes of a file from a place on, as many as there are and fit.
+fn fill(file: &File, at: u64, into: &mut [u8]) -> io::Result<usize>
+    ensures { IfOk result (λ count. count ≤ length into.new) }
+{
+    let mut count = 0;
+    'reads: for _ in 0..u64::MAX {
+        if count >= into.len() {
+            break;
+        }
+        match file.read_at(&mut into[count..], at.saturating_add(count as u64)) {
+            Ok(0) => break,
+            Ok(more) => count += more,
+            Err(error) if error.kind() == ErrorKind::Interrupted => {}
+            Err(error) => return Err(error),
+        }
+    }
+    Ok(count)
+}
+
+impl<R: Files<File = File> + AllocGlobal + Clone + Drop> DirDisk<R> {
+    /// A disk over the working folder, with no fault so far. `Err` is want of memory.
+    pub fn new(rt: R) -> Result<DirDisk<R>, AllocError>
+        ensures { IfOk result (λ disk. disk ≡ 0) }
+    {
+        DirDisk::in_folder(rt, ".")
+    }
+
+    /// A disk over the folder of a path, which is there. `Err` is want of memory.
+    pub fn in_folder(rt: R, folder: &str) -> Result<DirDisk<R>, AllocError>
+        ensures { IfOk result (λ disk. disk ≡ 0) }
+    {
+        let folder = String::from_str(rt.alloc(), folder)?;
+        Ok(DirDisk {
+            rt,
+            folder,
+            faults: 0,
+        })
+    }
+
+    /// How often a call answered `Failed`.
+    pub fn faults(&self) -> u64
+        ensures { result ≡ self.now }
+    {
+        self.faults
+    }
+
+    /// Counts a fault, and not want of memory.
+    fn fault(&mut self, error: io::Error) -> DiskFault
+        ensures never_falls { self.old ≤ self.new }
+        ensures rose { result ≡ DiskFault.Failed → Rose self.old self.new }
+    {
+        if error.kind() == ErrorKind::OutOfMemory {
+            return DiskFault::NoMemory;
+        }
+        self.faults = self.faults.saturating_add(1);
+        DiskFault::Failed
+    }
+
+    fn path(&self, name: &str) -> io::Result<String> {
+        check_flat(name)?;
+        let mut path = String::from_str(self.rt.alloc(), self.folder.as_str())?;
+        path.push('/')?;
+        path.push_str(name)?;
+        Ok(path)
+    }
+
+    fn names(&self) -> io::Result<Vec<Name>> {
+        let mut names = Vec::new(self.rt.alloc());
+        for entry in fs::read_dir(&self.rt, self.folder.as_str())? {
+            let entry = entry?;
+            if !entry.metadata()?.is_file() {
+                continue;
+            }
+            let text = String::from_str(self.rt.alloc(), entry.file_name())?;
+            if let Some(name) = Name::new(text) {
+                names.push(name)?;
+            }
+        }
+        Ok(names)
+    }
+
+    fn read_from(&self, name: &str, at: u64, into: &mut [u8]) -> io::Result<usize>
+        ensures { IfOk result (λ count. count ≤ length into.new) }
+    {
+        let path = self.path(name)?;
+        match opened(&self.rt, OpenOptions::new().read(true), path.as_str())? {
+            Some(file) => fill(&file, at, into),
+            None => Ok(0),
+        }
+    }
+
+    fn write_to(&self, name: &str, at: u64, bytes: &[u8]) -> io::Result<()> {
+        let path = self.path(name)?;
+        let file = OpenOptions::new()
+            .write(true)
+            .create(true)
+            .open(&self.rt, path.as_str())?;
+        file.write_all_at(bytes, at)
+    }
+
+    fn cut_to(&self, name: &str, length: u64) -> io::Result<()> {
+        let path = self.path(name)?;
+        if let Some(file) = opened(&self.rt, OpenOptions::new().write(true), path.as_str())? {
+            if file.metadata()?.len() > length {
+                file.set_len(length)?;
+            }
+        }
+        Ok(())
+    }
+
+    fn sync_file(&self, name: &str) -> io::Result<()> {
+        let path = self.path(name)?;
+        if let Some(file) = opened(&self.rt, OpenOptions::new().read(true), path.as_str())? {
+            file.sync_data()?;
+        }
+        Ok(())
+    }
+
+    fn remove_file(&self, name: &str) -> io::Result<()> {
+        let path = self.path(name)?;
+        match fs::remove_file(&self.rt, path.as_str()) {
+            Err(error) if error.kind() != ErrorKind::NotFound => Err(error),
+            _ => Ok(()),
+        }
+    }
+
+    fn sync_folder(&self) -> io::Result<()> {
+        File::open(&self.rt, self.folder.as_str())?.sync_all()
+    }
+}
+
+impl<R: Files<File = File> + AllocGlobal + Clone + Drop> Disk for DirDisk<R> {
+    ghost tells = { false };
+
+    ghost states = { λ disk. no_states };
+
+    ghost faults = { λ disk. disk };
+
+    /// The files of the folder whose names are names of a `Name`; folders and links aren't listed.
+    #[tactic(auto, using(crate::proofs::Telling::looks_untold))]
+    fn list(&mut self) -> Result<Items<Name>, DiskFault> {
+        match self.names() {
+            Ok(names) => Ok(Items::new(names)),
+            Err(error) => Err(self.fault(error)),
+        }
+    }
+
+    #[tactic(auto, using(crate::proofs::Telling::looks_untold))]
+    fn read_at(&mut self, name: &str, at: u64, into: &mut [u8]) -> Result<usize, DiskFault> {
+        match self.read_from(name, at, into) {
+            Ok(count) => Ok(count),
+            Err(error) => Err(self.fault(error)),
+        }
+    }
+
+    /// One positioned write of all bytes.
+    #[tactic(auto, using(crate::proofs::Telling::steps_untold))]
+    fn write_at(&mut self, name: &str, at: u64, bytes: &[u8]) -> Result<(), DiskFault> {
+        match self.write_to(name, at, bytes) {
+            Ok(()) => Ok(()),
+            Err(error) => Err(self.fault(error)),
+        }
+    }
+
+    #[tactic(auto, using(crate::proofs::Telling::steps_untold))]
+    fn cut(&mut self, name: &str, length: u64) -> Result<(), DiskFault> {
+        match self.cut_to(name, length) {
+            Ok(()) => Ok(()),
+            Err(error) => Err(self.fault(error)),
+        }
+    }
+
+    /// An `fdatasync`.
+    #[tactic(auto, using(crate::proofs::Telling::steps_untold))]
+    fn sync(&mut self, name: &str) -> Result<(), DiskFault> {
+        match self.sync_file(name) {
+            Ok(()) => Ok(()),
+            Err(error) => Err(self.fault(error)),
+        }
+    }
+
+    #[tactic(auto, using(crate::proofs::Telling::steps_untold))]
+    fn remove(&mut self, name: &str) -> Result<(), DiskFault> {
+        match self.remove_file(name) {
+            Ok(()) => Ok(()),
+            Err(error) => Err(self.fault(error)),
+        }
+    }
+
+    /// An `fsync` of the folder.
+    #[tactic(auto, using(crate::proofs::Telling::steps_untold))]
+    fn sync_names(&mut self) -> Result<(), DiskFault> {
+        match self.sync_folder() {
+            Ok(()) => Ok(()),
+            Err(error) => Err(self.fault(error)),
+        }
+    }
+}

@@ -1,0 +1,6 @@
+//! A disk over the files of a folder of the operating system.
+#![tactic(auto)]
+
+mod directory;
+
+pub use directory::DirDisk;

@@ -1,0 +1,2 @@
+pub mod TouchedPages
+pub mod TakenPages

@@ -1,0 +1,18 @@
+//! Two files in memory for the crate `sqlite`, which note the pages that are written, cut or grown, and keep the image
+//! before; and the set of pages that differ in the end, by those pages alone.
+#![tactic(auto)]
+
+mod before;
+mod page_file;
+mod pair;
+mod steps;
+mod taking;
+#[cfg(test)]
+mod tests;
+mod touched;
+mod writes;
+
+pub use before::Before;
+pub use page_file::PageFile;
+pub use pair::{PairDisk, PairFiles};
+pub use steps::Steps;

@@ -1,0 +1,10 @@
+//! The tests of the crates of the wire, which call them from outside. A crate with tests of its own is proved once more
+//! with them, so these stand here.
+#![tactic(auto)]
+
+#[cfg(test)]
+mod messages;
+#[cfg(test)]
+mod rows;
+#[cfg(test)]
+mod words;
