@@ -1,16 +1,15 @@
 -- What stays true of a machine's databases, and what live pins show, after each change of one of them or of each.
 use Rattle.std.proofs.Common.{◌≡◌, ◌≢◌, ℕ, suc, ◌+◌, ◌<◌, ◌≤◌, Bool, true, false, cond, eqb, inl, inr, ◌⊎◌, List, [], ◌∷◌, length, map, Option, Some, None, refl, sym, ap, subst, ◌∙◌, arith, Ordering, Less, Equal, Greater}
 use Rattle.std.specs.List.{AllByRecursion, find}
-use Rattle.std.specs.Ordering.{match_ordering, ordering_reverse}
-use Rattle.std.specs.List.Sorted.{IsStrictlySortedBy}
+use Rattle.std.specs.Ordering.{match_ordering}
 use Rattle.std.proofs.lemmas.Bool.{eqb-true, ne_eqb}
-use Rattle.std.proofs.lemmas.Cmp.{nat_list_cmp_total}
 use Rattle.checkpoint_core.specs.Store.{Store, StillShows, MarksWithin}
 use Rattle.page_apply.specs.declared.database.Database.{Database}
-use Rattle.page_apply.specs.ByName.{at_name, change_first}
-use Rattle.page_apply.specs.Machines.{names_of, Ascend, AreApart, AreBelow, AllWithin, IsMachine}
+use Rattle.page_apply.specs.ByName.{at_name, change_first, Ascend}
+use Rattle.page_apply.specs.Machines.{names_of, AreApart, AreBelow, AllWithin, IsMachine}
 use Rattle.page_apply.specs.Pins.{Pinning, has_place, at_place, IsPinned, pinned_image, StillPinned}
 use Rattle.page_apply.proofs.Named.{compare}
+use Rattle.page_apply.proofs.Ordered.{order_kept, same_names}
 
 -- a change of a database that keeps what a machine needs
 pub record Keeps (f : Database → Database) : Type 0 where
@@ -19,42 +18,6 @@ pub record Keeps (f : Database → Database) : Type 0 where
   pub marks : (d : Database) → MarksWithin d.store → MarksWithin (f d).store
 
 -- ---- names in order
-
-all_above : (x y : List ℕ) (names : List (List ℕ)) → compare x y ≡ Less → AllByRecursion (λ z. compare y z ≡ Less) names → AllByRecursion (λ z. compare x z ≡ Less) names
-all_above x y [] e above = tt
-all_above x y (z ∷ names) e above = (nat_list_cmp_total.trans x y z e above.0, all_above x y names e above.1)
-
-module _ (new : Database) (name : List ℕ) (is : new.name ≡ name) (f : Database → Database) (keeps : (d : Database) → (f d).name ≡ d.name) where
-  new_name : (f new).name ≡ name
-  new_name = keeps new ∙ is
-
-  all_names : (P : List ℕ → Type 0) → P name → (ds : List Database) → AllByRecursion P (names_of ds) → AllByRecursion P (names_of (at_name (λ d. d.name) new name f ds))
-  unfolding at_name
-  all_names P p [] all = (subst P (sym new_name) p, tt)
-  all_names P p (d ∷ ds) all =
-      let Q : Ordering → Type 0 = λ o. AllByRecursion P (names_of (match_ordering o (f new ∷ d ∷ ds) (f d ∷ ds) (d ∷ at_name (λ d. d.name) new name f ds))) in
-      elim (compare name d.name) as Q [
-        | Less ↦ (subst P (sym new_name) p, all)
-        | Equal ↦ (subst P (sym (keeps d)) all.0, all.1)
-        | Greater ↦ (all.0, all_names P p ds all.1)
-      ]
-
-  pub order_kept : (ds : List Database) → Ascend (names_of ds) → Ascend (names_of (at_name (λ d. d.name) new name f ds))
-  unfolding at_name IsStrictlySortedBy
-  order_kept [] order = (tt, tt)
-  order_kept (d ∷ ds) order =
-      let Q : Ordering → Type 0 = λ o. compare name d.name ≡ o → Ascend (names_of (match_ordering o (f new ∷ d ∷ ds) (f d ∷ ds) (d ∷ at_name (λ d. d.name) new name f ds))) in
-      let go : (o : Ordering) → Q o =
-      λ o. elim o as Q [
-        | Less ↦ λ e. (subst (λ (n : List ℕ). AllByRecursion (λ z. compare n z ≡ Less) (d.name ∷ names_of ds)) (sym new_name) (e, all_above name d.name (names_of ds) e order.0), order)
-        | Equal ↦ λ e. (subst (λ (n : List ℕ). AllByRecursion (λ z. compare n z ≡ Less) (names_of ds)) (sym (keeps d)) order.0, order.1)
-        | Greater ↦ λ e. (all_names (λ z. compare d.name z ≡ Less) (nat_list_cmp_total.antisymm d.name name ∙ ap ordering_reverse e) ds order.0, order_kept ds order.1)
-      ] in
-      go (compare name d.name) refl
-
-same_names_each : (f : Database → Database) → ((d : Database) → (f d).name ≡ d.name) → (ds : List Database) → names_of (map f ds) ≡ names_of ds
-same_names_each f keeps [] = refl
-same_names_each f keeps (d ∷ ds) = rw (keeps d, same_names_each f keeps ds) refl
 
 same_names_first : (test : Database → Bool) (f : Database → Database) → ((d : Database) → (f d).name ≡ d.name) → (ds : List Database) → names_of (change_first test f ds) ≡ names_of ds
 unfolding change_first
@@ -144,7 +107,7 @@ module _ (f : Database → Database) (keeps : Keeps f) (new : Database) (name : 
 
   pub machine_at : (ds : List Database) → new.name ≡ name → new.place ≡ length ds → MarksWithin new.store → IsMachine ds → IsMachine (at_name (λ (d : Database). d.name) new name f ds)
   machine_at ds is place fresh m = record {
-    in_order = order_kept new name is f keeps.name ds m.in_order;
+    in_order = order_kept (λ (d : Database). d.name) new name is f keeps.name ds m.in_order;
     below = below_kept ds place m.below;
     apart = apart_kept (length ds) ds place m.below m.apart;
     marks = marks_kept fresh ds m.marks;
@@ -212,7 +175,7 @@ module _ (f : Database → Database) (keeps : Keeps f) where
 
   pub machine_each : (ds : List Database) → IsMachine ds → IsMachine (map f ds)
   machine_each ds m = record {
-    in_order = subst Ascend (sym (same_names_each f keeps.name ds)) m.in_order;
+    in_order = subst Ascend (sym (same_names (λ (d : Database). d.name) f keeps.name ds)) m.in_order;
     below = subst (λ (k : ℕ). AreBelow k (map f ds)) (sym (as_many_each ds)) (all_each (λ d. d.place < length ds) (lower (length ds)) ds m.below);
     apart = apart_each ds m.apart;
     marks = all_each (λ d. MarksWithin d.store) keeps.marks ds m.marks;

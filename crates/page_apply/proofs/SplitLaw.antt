@@ -10,7 +10,7 @@ use Rattle.frame_commands.specs.Splitting.{split_from, before_last, split}
 use Rattle.page_apply.specs.Files.{Content, new_content, pending_of, image_after, frames, changed, act, applied_set, NonePending}
 use Rattle.page_apply.proofs.Named.{at_name_twice, at_name_alike}
 
-frames_keep : (tx : ℕ) (commit : Bool) (pages : List NumberedPage) (c : Content) → (frames tx commit pages c).name ≡ c.name
+pub frames_keep : (tx : ℕ) (commit : Bool) (pages : List NumberedPage) (c : Content) → (frames tx commit pages c).name ≡ c.name
 unfolding frames
 frames_keep tx true pages c = refl
 frames_keep tx false pages c = refl

@@ -2,6 +2,7 @@
 use Rattle.std.specs.Prelude.{◌≡◌, ℕ, ◌<◌, Bool, List, [], ◌∷◌, find, length, set, get_or, Some, if◌then◌else◌}
 use Rattle.std.specs.Ordering.{nat_cmp, match_ordering}
 use Rattle.std.specs.Cmp.Lexicographic.{slice_cmp}
+use Rattle.std.specs.List.Sorted.{IsStrictlySortedBy}
 
 -- What is done to the item of a name; where there is none, it is done to a new one, which is put into its place by the
 -- bytes of the names.
@@ -19,3 +20,7 @@ pub record FirstAt {X : Type 0} (test : X → Bool) (xs : List X) (place : ℕ) 
   pub within : place < length xs
   pub found : (x : X) → find test xs ≡ Some (get_or xs place x)
   pub changed : (f : X → X) (x : X) → change_first test f xs ≡ set xs place (f (get_or xs place x))
+
+-- names ascend strictly by their bytes, so each is there once
+abbrev pub Ascend : List (List ℕ) → Type 0
+Ascend names = IsStrictlySortedBy (slice_cmp nat_cmp) names

@@ -1,5 +1,6 @@
 pub mod ByName
 pub mod Files
+pub mod AsMap
 pub mod Databases
 pub mod Pins
 pub mod Machines

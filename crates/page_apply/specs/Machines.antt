@@ -1,19 +1,13 @@
 -- What is true of the databases of every machine.
 use Rattle.std.specs.Prelude.{◌≡◌, ◌≢◌, ℕ, ◌<◌, List, [], ◌∷◌, length, map}
-use Rattle.std.specs.Ordering.{nat_cmp}
-use Rattle.std.specs.Cmp.Lexicographic.{slice_cmp}
 use Rattle.std.specs.List.{AllByRecursion}
-use Rattle.std.specs.List.Sorted.{IsStrictlySortedBy}
 use Rattle.checkpoint_core.specs.Store.{MarksWithin}
 use Rattle.page_apply.specs.declared.database.Database.{Database}
+use Rattle.page_apply.specs.ByName.{Ascend}
 
 -- the names of databases, as they stand
 abbrev pub names_of : List Database → List (List ℕ)
 names_of databases = map (λ (database : Database). database.name) databases
-
--- names ascend strictly by their bytes, so each is there once
-abbrev pub Ascend : List (List ℕ) → Type 0
-Ascend names = IsStrictlySortedBy (slice_cmp nat_cmp) names
 
 -- no two databases were opened at one place
 abbrev pub AreApart : List Database → Type 0

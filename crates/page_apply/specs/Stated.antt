@@ -33,3 +33,15 @@ length_of_files image = length image.main + length image.side
 -- some bytes stand for the command, so it may have been read
 abbrev pub IsSpelled : Command → Type 0
 IsSpelled command = (bytes : List ℕ) × Writes command bytes
+
+-- the name of the database that a command opens, and names behind it
+abbrev pub opened_by : Command → List (List ℕ) → List (List ℕ)
+opened_by (OpenDb name) names = name ∷ names
+opened_by (Frames name tx truncate commit pages) names = name ∷ names
+opened_by (Undo tx) names = names
+opened_by (Checkpoint name) names = names
+
+-- the names of the databases that commands open
+abbrev pub names_opened : List Command → List (List ℕ)
+names_opened [] = []
+names_opened (command ∷ commands) = opened_by command (names_opened commands)

@@ -8,7 +8,10 @@ mod machine;
 mod pin;
 mod readers;
 
-pub use laws::{files_are_no_longer_than_stated, machines_show_files, split_sets_apply_whole};
+pub use laws::{
+    commands_do_what_they_say, files_are_no_longer_than_stated, limit_bounds_files,
+    machines_show_files, split_sets_apply_whole,
+};
 pub use machine::Machine;
 pub use pin::{Pin, PinFault};
 

@@ -4,10 +4,10 @@ ghost use Rattle.std.specs.Prelude.{◌≡◌, [], map, OnOk, OnErr, IfOk};
 ghost use Rattle.std.specs.Option.{option_map};
 ghost use Rattle.dq_base.specs.Images.{page_count};
 ghost use Rattle.checkpoint_core.specs.Store.{newest, newest_image};
-ghost use Rattle.page_apply.specs.ByName.{change_first};
+ghost use Rattle.page_apply.specs.ByName.{change_first, Ascend};
 ghost use Rattle.page_apply.specs.declared.database.Database.{Database};
 ghost use Rattle.page_apply.specs.Files as of_files;
-ghost use Rattle.page_apply.specs.Machines.{names_of, Ascend};
+ghost use Rattle.page_apply.specs.Machines.{names_of};
 ghost use Rattle.page_apply.specs.Pins.{Pinning, StillPinned};
 ghost use Rattle.page_apply.specs.Databases.{contents_of, has_name, named, frames, undone, moved, changed, act, tx_pending};
 
