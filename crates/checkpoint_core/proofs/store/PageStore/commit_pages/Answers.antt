@@ -12,18 +12,18 @@ use Rattle.checkpoint_core.specs.Log.{Log, IsSized}
 use Rattle.checkpoint_core.specs.Holding.{Holds}
 use Rattle.checkpoint_core.proofs.Shown.{commit_shows}
 use Rattle.checkpoint_core.proofs.StoreKept.{marks_within, holds_commit, commit_is, next_newest}
-use Rattle.checkpoint_core.proofs.store.PageStore.commit.Goals as goal
+use Rattle.checkpoint_core.proofs.store.PageStore.commit_pages.Goals as goal
 
 pub returns-in_err-lengths-clause-refused : goal.returns-in_err-lengths-clause-refused
 returns-in_err-lengths-clause-refused c =
     let p = err_from_is_err_and c.from_residual.result c.from_residual.ensures.1 in
-    let found : page_fault c.args.set.now.pages ≡ Some c.in_err-lengths.field-0.0 = ap page_fault (sym c.as_slice-pages.ensures) ∙ c.in_err-lengths.ensures in
-    rw (p.1, p.2) (page_fault-refuses c.args.set.now.pages c.in_err-lengths.field-0.0 found)
+    let found : page_fault c.args.pages.now ≡ Some c.in_err-lengths.field-0.0 = c.in_err-lengths.ensures in
+    rw (p.1, p.2) (page_fault-refuses c.args.pages.now c.in_err-lengths.field-0.0 found)
 
 pub invariant_of-self-2 : goal.invariant_of-self-2
 invariant_of-self-2 c =
     let a = c.self.inside in
-    let set : List NumberedPage = c.as_slice-pages.result.now in
+    let set : List NumberedPage = c.args.pages.now in
     let main : ℕ = vec_capacity c.make_room.new.file in
     let side : ℕ = vec_capacity c.make_room-2.new.file in
     let done = c.in_ok-append.ensures.done in
@@ -36,18 +36,17 @@ invariant_of-self-2 c =
 pub returns-clause-done : goal.returns-clause-done
 returns-clause-done c =
     let a = c.self.inside in
-    let set : List NumberedPage = c.as_slice-pages.result.now in
+    let set : List NumberedPage = c.args.pages.now in
     let base : Image = record { main = a.main.items; side = a.side.items } in
     let next : c.in-Some.newest ≡ a.newest + 1 = omega (arith, c.in-Some.ensures) in
     (λ i. store_of (record { main = c.make_room.ensures.kept i; side = c.make_room-2.ensures.kept i }) (c.in_ok-append.ensures.done i).pages (next i) a.marks)
     ∙ commit_is base (vec_capacity a.main) (vec_capacity a.side) a.log.pages set a.log.lengths a.newest a.marks c.self.invariant c.in_ok-lengths.ensures.0
     ∙ ap (λ (s : Store). committed s set) c.self.view_is
-    ∙ ap (committed c.args.self.now) c.as_slice-pages.ensures
 
 pub returns-clause-newest : goal.returns-clause-newest
 returns-clause-newest c =
     let a = c.self.inside in
-    let set : List NumberedPage = c.as_slice-pages.result.now in
+    let set : List NumberedPage = c.args.pages.now in
     let base : Image = record { main = a.main.items; side = a.side.items } in
     let next : c.in-Some.newest ≡ a.newest + 1 = omega (arith, c.in-Some.ensures) in
     let done : store_of (record { main = c.make_room.new.file.items; side = c.make_room-2.new.file.items }) c.append.new.self.pages c.in-Some.newest a.marks ≡ committed (store_of base a.log.pages a.newest a.marks) set =
@@ -58,7 +57,7 @@ returns-clause-newest c =
 pub returns-clause-shown : goal.returns-clause-shown
 returns-clause-shown c id =
     let a = c.self.inside in
-    let set : List NumberedPage = c.as_slice-pages.result.now in
+    let set : List NumberedPage = c.args.pages.now in
     let base : Image = record { main = a.main.items; side = a.side.items } in
     let next : c.in-Some.newest ≡ a.newest + 1 = omega (arith, c.in-Some.ensures) in
     let done : store_of (record { main = c.make_room.new.file.items; side = c.make_room-2.new.file.items }) c.append.new.self.pages c.in-Some.newest a.marks ≡ committed c.args.self.now set =
