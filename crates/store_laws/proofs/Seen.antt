@@ -193,7 +193,7 @@ load_seen f k d was ns = seen (sync_all ns ++ repair_calls f k (d.read (Segment 
 
 -- ---- behind a settled disk
 
-all_seen : (f : Format) (top : ℕ) (d : NodeDisk) → Settled f top d → AllSeen d
+pub all_seen : (f : Format) (top : ℕ) (d : NodeDisk) → Settled f top d → AllSeen d
 all_seen f top d s = record { each = each }
   where
     each : (n : Name) → LeavesFile (d.held n) (d.read n)
