@@ -1,19 +1,16 @@
 -- A batch is kept by an open store.
-use Rattle.std.proofs.Common.{◌≡◌, ◌≢◌, inl, inr, ℕ, zero, suc, ◌+◌, ◌<◌, ◌≤◌, Bool, true, false, cond, List, [], ◌∷◌, ◌++◌, length, Option, Some, None, refl, sym, ap, ◌∙◌, subst, arith, length-append}
+use Rattle.std.proofs.Common.{◌≡◌, ℕ, suc, ◌+◌, ◌≤◌, Bool, true, false, cond, List, ◌++◌, length, Option, Some, refl, sym, ap, ◌∙◌, subst, arith, length-append}
 use Rattle.std.specs.Prelude.{nat_lt}
-use Rattle.std.proofs.lemmas.Bool.{cases_Bool, lt-ltb}
-use Rattle.disk_model.specs.Disk.{Disk, Found, found, Leaves}
+use Rattle.disk_model.specs.Disk.{Disk, Found}
 use Rattle.disk_model.specs.Calls.{Call, Done, Until}
 use Rattle.disk_model.specs.Trait.{Text}
-use Rattle.disk_model.specs.Rest.{Rest}
 use Rattle.disk_model.specs.Spelled.{all_spelled}
 use Rattle.disk_model.proofs.Spelling.{done_under, until_under}
-use Rattle.store_laws.specs.Names.{Name, First, Second, Segment, NodeFiles, NodeDisk, NodeCall}
+use Rattle.store_laws.specs.Names.{First, Second, Segment, NodeDisk, NodeCall}
 use Rattle.store_laws.specs.Store.{Meta, Log, Kept, Loaded, kept, meta_of}
 use Rattle.store_laws.specs.Append.{append_calls, with_batch, CanAppend, Writes}
 use Rattle.store_laws.specs.Settled.{Settled}
 use Rattle.store_laws.specs.Laws.{AnyMoment, AtOk}
-use Rattle.store_laws.specs.Seen.{ReadsSeen}
 use Rattle.store_laws.specs.Written.{Replaced}
 use Rattle.store_laws.proofs.AppendLaw.{append_holds}
 use Rattle.store_laws.proofs.Rooms.{more_room_holds}
@@ -27,8 +24,8 @@ use Rattle.store_batches.specs.Files.{node_format}
 use Rattle.store_batches.proofs.Lawfully.{is_lawful}
 use Rattle.store_batches.proofs.Written.{batches_read_back}
 use Rattle.segment_store.specs.FileNames.{file_name}
-use Rattle.segment_store.specs.Open.{Open, HasSize, MayGrow, Grows, IsOpen, stamp_of}
-use Rattle.segment_store.specs.Grow.{grow_calls, begin_calls, appended_to}
+use Rattle.segment_store.specs.Open.{Open, HasSize, IsOpen, stamp_of}
+use Rattle.segment_store.specs.Grow.{grow_calls, begin_calls}
 use Rattle.segment_store.specs.Keeps.{folder, OldOrNew, HasNew}
 use Rattle.segment_store.proofs.NoTwoAlike.{no_two_alike}
 

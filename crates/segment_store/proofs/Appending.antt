@@ -1,7 +1,7 @@
 -- From the calls that write a batch to what is kept.
-use Rattle.std.proofs.Common.{◌≡◌, ℕ, suc, ◌+◌, ◌-◌, ◌<◌, ◌≤◌, Bool, true, false, cond, List, length, Option, Some, None, Result, Ok, Err, refl, sym, ap, ◌∙◌, subst, arith}
-use Rattle.std.specs.Prelude.{nat_lt, OnOk, OnErr}
-use Rattle.disk_model.specs.Disk.{Disk, Found}
+use Rattle.std.proofs.Common.{◌≡◌, inl, ℕ, suc, ◌+◌, ◌-◌, ◌^◌, ◌<◌, Bool, true, false, cond, List, length, Option, Some, None, Result, Ok, Err, sym, ap, ◌∙◌, subst, arith}
+use Rattle.std.specs.Prelude.{nat_lt, OnOk}
+use Rattle.disk_model.specs.Disk.{Disk}
 use Rattle.disk_model.specs.Calls.{Call, Done, Until, MayWrite}
 use Rattle.disk_model.specs.Trait.{Text, Known, Ran}
 use Rattle.disk_model.specs.declared.faults.DiskFault.{DiskFault as DiskFaultOf}
@@ -9,6 +9,11 @@ use Rattle.disk_model.proofs.Runs.{known_map}
 use Rattle.store_laws.specs.Names.{Segment}
 use Rattle.store_laws.specs.Store.{Log, Kept}
 use Rattle.store_laws.specs.Append.{with_batch, CanAppend}
+use Rattle.store_laws.proofs.Answers.{settled_images}
+use Rattle.store_laws.proofs.Rooms.{more_room_holds}
+use Rattle.store_laws.proofs.Seen.{all_seen}
+use Rattle.raft_vote.specs.Entries.{HaveHeads}
+use Rattle.store_batches.specs.Files.{node_format}
 use Rattle.store_batches.specs.Batches.{batch_bytes}
 use Rattle.store_batches.specs.Written.{segment_word, Fits}
 use Rattle.segment_store.specs.FileNames.{file_name}
@@ -16,7 +21,7 @@ use Rattle.segment_store.specs.Open.{Open, Grows, MayGrow, IsOpen}
 use Rattle.segment_store.specs.Grow.{grow_calls, begin_calls, IsFree, room_in, appended_to, with_appended}
 use Rattle.segment_store.specs.Keeps.{folder, OldOrNew, HasNew, Keeps, Went}
 use Rattle.segment_store.proofs.Segments.{not_gone}
-use Rattle.segment_store.proofs.Keeping.{known_went, as_noted, went_err, went_ok}
+use Rattle.segment_store.proofs.Keeping.{nothing_called, known_went, as_noted, went_err, went_ok}
 use Rattle.segment_store.proofs.AppendKeeps.{grow_done, grow_until, begin_done, begin_until}
 
 -- a segment with room is the one that is there
@@ -82,3 +87,38 @@ module _ (n wanted : Text) (tells : Bool) (before after : Disk Text → Type 0) 
 
   pub named_ok : {E : Type 0} (x y : Unit {0}) → (Known tells before (P n) → Ran (calls n) before after (Ok x)) → Known tells before (P wanted) → Went {E = E} (calls wanted) before after (Ok y)
   named_ok x y ran known = went_ok (calls wanted) before after x y (subst (λ (t : Text). Ran {T = Unit {0}} (calls t) before after (Ok x)) is_name (ran (subst (λ (t : Text). Known tells before (P t)) (sym is_name) known)))
+
+-- ---- of the code's calls
+
+module _ {E : Type 0} (tells : Bool) (before after : Disk Text → Type 0) (s now : Open) (k : Kept) (b : Log) (batch : List ℕ) (is : batch ≡ batch_bytes b) (fits : Fits b) (can : CanAppend k b) (result : Result Unit E) where
+  pub grown : (l number : ℕ) → room_in s.size ≡ Some l → number ≡ s.next - 1 → OnOk result (now ≡ appended_to (Some l) (length batch) s)
+      → (Known tells before (MayWrite (file_name (Segment number)) l) → Went (grow_calls (file_name (Segment number)) l batch) before after result)
+      → Keeps tells before after s now (with_appended (length (batch_bytes b)) s).next k (with_batch b k) result
+  grown l number room is_number noted went =
+      grow_kept tells before after s now k b fits can result l number room is_number (subst (λ (x : List ℕ). OnOk result (now ≡ appended_to (Some l) (length x) s)) is noted)
+      (λ may. subst (λ (x : List ℕ). Went (grow_calls (file_name (Segment number)) l x) before after result) is (went may))
+
+  pub begun : (number : ℕ) → room_in s.size ≡ None → number ≡ s.next → OnOk result (now ≡ appended_to None (length batch) s)
+      → (Known tells before (IsFree (file_name (Segment number))) → Went (begin_calls (file_name (Segment number)) segment_word batch) before after result)
+      → Keeps tells before after s now (with_appended (length (batch_bytes b)) s).next k (with_batch b k) result
+  begun number room is_number noted went =
+      begin_kept tells before after s now k b fits can result room (subst (λ (x : List ℕ). OnOk result (now ≡ appended_to None (length x) s)) is noted)
+      (subst (λ (n : ℕ). Known tells before (IsFree (file_name (Segment n))) → Went (begin_calls (file_name (Segment n)) segment_word (batch_bytes b)) before after result) is_number
+      (λ free. subst (λ (x : List ℕ). Went (begin_calls (file_name (Segment number)) segment_word x) before after result) is (went free)))
+
+-- where nothing was called the old state is there, whichever segment the batch would have gone to
+not_appended : (s : Open) (k new : Kept) (size : ℕ) (d : Disk Text) → IsOpen s k (folder d) → (room : Option ℕ) → OldOrNew (appended_to room size s).next k new (folder d)
+not_appended s k new size d o (Some l) = nothing_called s k new d o
+not_appended s k new size d o None =
+    let up = more_room_holds node_format s.next (folder d) o.settled in
+    record {
+      crash = λ g left fair. inl (settled_images node_format (suc s.next) (folder d) up.0 g left ∙ up.1 ∙ o.reads);
+      seen = all_seen node_format (suc s.next) (folder d) up.0;
+    }
+
+pub none_appended : {E : Type 0} (tells : Bool) (states : Disk Text → Type 0) (s now : Open) (k new : Kept) (size : ℕ) (fault : E) → Keeps tells states states s now (with_appended size s).next k new (Err fault)
+none_appended tells states s now k new size fault known = (tt, known_map tells states (λ d. IsOpen s k (folder d)) (λ d. OldOrNew (with_appended size s).next k new (folder d)) known (λ d o. not_appended s k new size d o (room_in s.size)))
+
+-- a batch that may be added and whose numbers fit
+pub fits_of : (k : Kept) (b : Log) → CanAppend k b → b.first < 2 ^ 64 → length b.entries < 2 ^ 64 → HaveHeads b.entries → Fits b
+fits_of k b can first count heads = record { some = omega (arith, can.past); first = first; count = count; heads = heads }

@@ -1,14 +1,12 @@
 -- From lists of calls to what is kept.
-use Rattle.std.proofs.Common.{◌≡◌, inl, inr, ℕ, suc, ◌+◌, ◌%◌, ◌^◌, ◌<◌, ◌≤◌, Bool, true, false, cond, List, [], ◌∷◌, Option, Result, Ok, Err, refl, sym, ap, ◌∙◌, subst, arith}
+use Rattle.std.proofs.Common.{◌≡◌, inl, ℕ, suc, ◌%◌, ◌^◌, ◌<◌, Bool, true, false, List, [], ◌∷◌, Option, Result, Ok, Err, refl, sym, ◌∙◌, subst, arith}
 use Rattle.std.specs.Prelude.{◌==◌, OnOk, OnErr}
-use Rattle.disk_model.specs.Disk.{Disk, Absent, Sure, Gone}
+use Rattle.disk_model.specs.Disk.{Disk}
 use Rattle.disk_model.specs.Calls.{Call, Done, Until, MayWrite}
 use Rattle.disk_model.specs.Trait.{Text, Known, told, untold, Ran, HasCause}
-use Rattle.disk_model.specs.Rest.{Rest}
 use Rattle.disk_model.proofs.Runs.{known_map}
 use Rattle.disk_model.specs.declared.faults.DiskFault.{DiskFault as DiskFaultOf}
 use Rattle.disk_model.specs.declared.faults.DiskFault.TheVariants as disk
-use Rattle.store_laws.specs.Names.{Name, First, Second}
 use Rattle.store_laws.specs.Store.{Kept}
 use Rattle.store_laws.specs.Meta.{file_of, with_vote}
 use Rattle.store_laws.proofs.Answers.{settled_images}
@@ -16,8 +14,7 @@ use Rattle.store_laws.proofs.Seen.{all_seen}
 use Rattle.store_format.specs.declared.metadata.Metadata.{Metadata}
 use Rattle.store_format.specs.Metadata.{block_bytes}
 use Rattle.store_batches.specs.Files.{node_format}
-use Rattle.segment_store.specs.declared.fault.StoreFault.{StoreFault}
-use Rattle.segment_store.specs.declared.fault.StoreFault.TheVariants.{DiskFault, NoMemory}
+use Rattle.segment_store.specs.declared.fault.StoreFault.TheVariants.{NoMemory}
 use Rattle.segment_store.specs.FileNames.{file_name}
 use Rattle.segment_store.specs.Faults.{of_disk, DiskCause}
 use Rattle.segment_store.specs.Open.{Open, IsOpen, with_version, size_for}

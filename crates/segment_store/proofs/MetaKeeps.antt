@@ -1,16 +1,16 @@
 -- A term and a vote are kept by an open store.
-use Rattle.std.proofs.Common.{◌≡◌, inl, inr, ℕ, zero, suc, ◌+◌, ◌%◌, ◌^◌, ◌<◌, ◌≤◌, Bool, true, false, cond, List, [], length, Option, Some, None, refl, sym, ap, ◌∙◌, subst, arith}
+use Rattle.std.proofs.Common.{◌≡◌, inl, inr, ℕ, zero, suc, ◌%◌, ◌^◌, ◌<◌, ◌≤◌, Bool, true, false, cond, List, [], length, Option, Some, None, refl, sym, ap, ◌∙◌, subst, arith}
 use Rattle.std.specs.Prelude.{◌==◌, nat_lt}
 use Rattle.std.proofs.lemmas.Bool.{cases_Bool, cond-true, cond-false, ltb-true, ltb-false, eqb-true, eqb-false, eq-eqb, ne_eqb}
-use Rattle.disk_model.specs.Disk.{Disk, Found, Leaves}
+use Rattle.disk_model.specs.Disk.{Disk, Found}
 use Rattle.disk_model.specs.Calls.{Call, Done, Until}
 use Rattle.disk_model.specs.Trait.{Text}
 use Rattle.disk_model.specs.Rest.{Rest}
 use Rattle.disk_model.specs.Writing.{replace_calls}
 use Rattle.disk_model.specs.Spelled.{all_spelled}
 use Rattle.disk_model.proofs.Spelling.{done_under, until_under}
-use Rattle.store_laws.specs.Names.{Name, First, Second, Segment, NodeFiles, NodeDisk, NodeCall}
-use Rattle.store_laws.specs.Store.{Meta, Kept, Loaded, kept, meta_of}
+use Rattle.store_laws.specs.Names.{Name, First, Second, Segment, NodeDisk, NodeCall}
+use Rattle.store_laws.specs.Store.{Meta, Kept, meta_of}
 use Rattle.store_laws.specs.Meta.{next_stamp, goes_first, file_of, with_vote, set_long_calls}
 use Rattle.store_laws.specs.Laws.{IsNext, meta_file, meta_calls, AnyMoment, AtOk}
 use Rattle.store_laws.specs.Seen.{ReadsSeen}

@@ -1,12 +1,12 @@
 -- No two files of a node have names that are alike.
-use Rattle.std.proofs.Common.{◌≡◌, ℕ, ◌+◌, ◌/◌, ◌%◌, ◌<◌, ◌≤◌, Bool, true, false, List, [], ◌∷◌, ◌++◌, length, take, drop, get_or, replicate, refl, sym, ap, ◌∙◌, subst, arith, length-append}
+use Rattle.std.proofs.Common.{◌≡◌, ℕ, ◌+◌, ◌/◌, ◌%◌, ◌<◌, ◌≤◌, false, List, [], ◌∷◌, ◌++◌, length, take, drop, get_or, replicate, refl, sym, ap, ◌∙◌, subst, arith, length-append}
 use Rattle.std.specs.Prelude.{◌==◌, ◌||◌, codes, map}
 use Rattle.std.proofs.lemmas.Bool.{ne_eqb}
 use Rattle.std.proofs.lemmas.List.Folds.{list_any-append}
 use Rattle.dq_base.specs.Names.{IsName, has_nul}
 use Rattle.segment_store.specs.declared.names.File.{File}
 use Rattle.segment_store.specs.declared.names.File.TheVariants as files
-use Rattle.std.proofs.lemmas.List.{append-nil, take_at, drop_at, length-replicate}
+use Rattle.std.proofs.lemmas.List.{append-nil, take_at, length-replicate}
 use Rattle.store_laws.specs.Names.{Name, First, Second, Segment, Snapshot}
 use Rattle.segment_store.specs.FileNames.{powers, digit, sixteen, number_text, file_name, name_of, number_of}
 

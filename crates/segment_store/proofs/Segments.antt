@@ -1,8 +1,7 @@
 -- A segment is begun: its word, and then a batch.
-use Rattle.std.proofs.Common.{◌≡◌, inl, inr, ℕ, ◌+◌, ◌≤◌, Bool, true, false, cond, List, [], ◌∷◌, ◌++◌, length, drop, Result, Ok, Err, refl, sym, ap, ◌∙◌, subst, arith, length-append}
-use Rattle.disk_model.specs.Disk.{Disk, Found, found, Absent, Sure, Gone}
+use Rattle.std.proofs.Common.{◌≡◌, inl, inr, ℕ, ◌≤◌, Bool, true, false, cond, List, [], ◌∷◌, ◌++◌, length, Result, Ok, Err, sym, ap, ◌∙◌, subst, arith}
+use Rattle.disk_model.specs.Disk.{Disk, Found, Absent, Sure, Gone}
 use Rattle.disk_model.specs.Calls.{Call, Done, Until, MayWrite}
-use Rattle.disk_model.specs.Rest.{Rest}
 use Rattle.disk_model.specs.Trait.{Text, Known, Ran}
 use Rattle.disk_model.specs.Writing.{replace_calls}
 use Rattle.disk_model.specs.declared.faults.DiskFault.{DiskFault}

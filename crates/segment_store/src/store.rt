@@ -19,8 +19,10 @@ use crate::fault::StoreFault;
 use crate::names::{File, NUMBERS, file_name, metadata_file};
 use crate::segment::{begin_segment, grow_segment};
 use disk_model::Disk;
+use raft_vote::Entry;
 use std::alloc::Global;
 use std::marker::Model;
+use store_batches::batch_bytes;
 use store_format::{Metadata, metadata_bytes};
 
 /// What a node keeps in its folder: a term with a vote, a log in segments, and a snapshot. A store is open over the disk
@@ -185,44 +187,67 @@ impl Store {
         }
     }
 
-    fn note_grown(&mut self, size: u64, count: usize)
+    fn note_grown(&mut self, size: u64, batch: &[u8])
         requires { size < 8388608 }
-        ensures { self.new ≡ appended_to (Some size) count self.old }
+        ensures { self.new ≡ appended_to (Some size) (length batch.now) self.old }
     {
-        self.size = Some(size + count as u64);
+        self.size = Some(size + batch.len() as u64);
     }
 
-    fn note_begun(&mut self, count: usize)
+    fn note_begun(&mut self, batch: &[u8])
         requires { self.old.next < 10000000000000000 }
-        ensures { self.new ≡ appended_to None count self.old }
+        ensures { self.new ≡ appended_to None (length batch.now) self.old }
     {
         self.next += 1;
-        self.size = Some(8 + count as u64);
+        self.size = Some(8 + batch.len() as u64);
     }
 
     // Adds a batch to the segment that has room for it.
     fn grow<D: Disk>(&mut self, disk: &mut D, size: u64, batch: &[u8]) -> Result<(), StoreFault>
         requires { size < 8388608 }
         ensures kept { (k : Kept) (b : Log) → batch.now ≡ batch_bytes b → Fits b → CanAppend k b → room_in self.old.size ≡ Some size →
-            Keeps D.tells (D.states disk.old) (D.states disk.new) self.old self.new (with_appended (length batch.now) self.old).next k (with_batch b k) result }
+            Keeps D.tells (D.states disk.old) (D.states disk.new) self.old self.new (with_appended (length (batch_bytes b)) self.old).next k (with_batch b k) result }
         ensures cause { DiskCause (D.faults disk.old) (D.faults disk.new) result }
     {
         grow_batch(self.alloc, disk, self.last(), size, batch)?;
-        self.note_grown(size, batch.len());
+        self.note_grown(size, batch);
         Ok(())
     }
 
     // Begins a segment with a batch.
     fn begin<D: Disk>(&mut self, disk: &mut D, batch: &[u8]) -> Result<(), StoreFault>
         ensures kept { (k : Kept) (b : Log) → batch.now ≡ batch_bytes b → Fits b → CanAppend k b → room_in self.old.size ≡ None →
-            Keeps D.tells (D.states disk.old) (D.states disk.new) self.old self.new (with_appended (length batch.now) self.old).next k (with_batch b k) result }
+            Keeps D.tells (D.states disk.old) (D.states disk.new) self.old self.new (with_appended (length (batch_bytes b)) self.old).next k (with_batch b k) result }
         ensures cause { DiskCause (D.faults disk.old) (D.faults disk.new) result }
     {
         let Some(number) = self.new_number() else {
             return Err(StoreFault::NoMemory);
         };
         begin_batch(self.alloc, disk, number, batch)?;
-        self.note_begun(batch.len());
+        self.note_begun(batch);
         Ok(())
+    }
+
+    /// Replaces the log from the index `first` on by these entries. `first` lies past the kept snapshot and at most one
+    /// past the log's end, and a term is kept: else nothing is said of what is kept.
+    ///
+    /// One write and one sync of the batch, in the segment that is there where it has fewer than 8,388,608 bytes, else in
+    /// a new one, which takes three calls more. Each entry is copied once. An entry of more than 4,294,967,295 bytes and a
+    /// segment of more than sixteen digits are answered as want of memory, with nothing written.
+    pub fn append<D: Disk>(
+        &mut self,
+        disk: &mut D,
+        first: u64,
+        entries: &[Entry],
+    ) -> Result<(), StoreFault>
+        ensures kept { (k : Kept) → CanAppend k (record { first = first; entries = entries.now }) →
+            Keeps D.tells (D.states disk.old) (D.states disk.new) self.old self.new (with_appended (length (batch_bytes (record { first = first; entries = entries.now }))) self.old).next k (with_batch (record { first = first; entries = entries.now }) k) result }
+        ensures cause { DiskCause (D.faults disk.old) (D.faults disk.new) result }
+    {
+        let batch = batch_bytes(self.alloc, first, entries)?;
+        match self.room() {
+            Some(size) => self.grow(disk, size, batch.as_slice()),
+            None => self.begin(disk, batch.as_slice()),
+        }
     }
 }
