@@ -1,4 +1,4 @@
-ghost use Rattle.std.specs.Prelude.{◌≡◌, ◌≤◌, ◌+◌, ◌*◌, ◌++◌, min, length, take, drop, IfOk};
+ghost use Rattle.std.specs.Prelude.{◌≡◌, ◌<◌, ◌^◌, ◌≤◌, ◌+◌, ◌*◌, ◌++◌, min, length, take, drop, IfOk};
 ghost use Rattle.raft_vote.specs.Entries.{contents_bytes, HaveHeads};
 ghost use Rattle.store_format.specs.Sums.{sum8_of};
 ghost use Rattle.store_batches.specs.Batches.{numbers_bytes, header_bytes, with_sums, batch_bytes};
@@ -91,6 +91,7 @@ fn put_sums(bytes: &mut [u8], count: usize)
 pub fn batch_bytes(alloc: Global, first: u64, entries: &[Entry]) -> Result<Vec<u8>, AllocError>
     ensures bytes { IfOk result (λ bytes. bytes.items ≡ batch_bytes (record { first = first; entries = entries.now })) }
     ensures fit { IfOk result (λ _. HaveHeads entries.now) }
+    ensures count { IfOk result (λ _. length entries.now < 2 ^ 64) }
 {
     let mut bytes = without_sums(alloc, first, entries)?;
     put_sums(bytes.as_mut_slice(), entries.len());
