@@ -1,14 +1,11 @@
 -- What the answers of a splitter tell of its stream.
-use Rattle.std.proofs.Common.{◌≡◌, ℕ, ◌+◌, List, [], ◌∷◌, ◌++◌, length, Option, Some, None, Result, Ok, Err, refl, sym, ap, subst, ◌∙◌, append_assoc, arith}
-use Rattle.std.specs.Prelude.{IfOk, IfErr}
-use Rattle.std.proofs.lemmas.List.{append-nil, length-append, nil_from_length}
+use Rattle.std.proofs.Common.{◌≡◌, ℕ, List, [], ◌∷◌, ◌++◌, None, Ok, Err, refl, sym, ap, ◌∙◌, append_assoc}
 use Rattle.wire_words.specs.declared.message.Message.{Message}
 use Rattle.wire_words.specs.declared.splitter.SplitFault.{SplitFault}
 use Rattle.wire_words.specs.declared.splitter.SplitFault.TheVariants as faults
-use Rattle.wire_words.specs.Stream.{End, Opening, Rest, Broken, Stream, Splitting, stream, fed, going_on, client_limit, after_messages, answer_of, answer, Feeds, FeedFails, Adds, BreaksWith}
+use Rattle.wire_words.specs.Stream.{End, Opening, Rest, Broken, Stream, Splitting, stream, going_on, client_limit, after_messages, answer_of, Adds, BreaksWith}
 use Rattle.wire_words.proofs.Cutting.{stream_joined}
-use Rattle.client_connection.specs.declared.connection.CloseReason.{CloseReason}
-use Rattle.client_connection.specs.Connection.{Conn, IsFed, HasTaken, received, reason_for, reason_of}
+use Rattle.client_connection.specs.Connection.{Conn, IsFed, HasTaken, received, reason_of}
 
 -- ---- what was fed so far
 

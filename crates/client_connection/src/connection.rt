@@ -1,4 +1,4 @@
-ghost use Rattle.std.specs.Prelude.{◌≡◌, ◌++◌, length, IfOk, OnOk};
+ghost use Rattle.std.specs.Prelude.{◌≡◌, [], ◌∷◌, ◌++◌, length, IfOk, OnOk, IsErr, MatchOption};
 ghost use Rattle.wire_words.specs.Stream.{going_on, client_limit, unread_bytes};
 ghost use Rattle.client_connection.specs.Connection.{IsFed, opened, received, reason_of, TakesFirst};
 
@@ -32,31 +32,36 @@ impl CloseReason {
 
 /// A client's connection. Clauses see how its stream ends so far and the messages that wait.
 ///
-/// It holds the messages that were not taken and the part of a message that is unread, each byte once.
+/// It holds the messages that were not taken and the part of a message that is unread, each byte once. The messages of
+/// the last piece stand in a list of their own until the next piece comes: so a piece that finds no memory changes
+/// nothing.
 #[derive(Debug, Drop)]
 pub struct Connection {
     alloc: Global,
     splitter: Splitter,
-    waiting: VecDeque<Message>,
+    earlier: VecDeque<Message>,
+    latest: VecDeque<Message>,
 }
 
 impl Model for Connection {
+    ghost use Rattle.std.specs.Prelude.{◌++◌};
     ghost use Rattle.client_connection.specs.Connection.{Conn, IsFed};
 
     ghost Value = { Conn };
 
-    ghost view = { λ c. record { end = c.splitter.end; waiting = c.waiting.items } };
+    ghost view = { λ c. record { end = c.splitter.end; waiting = c.earlier.items ++ c.latest.items } };
 
     // The splitter was fed a stream of a client.
     ghost invariant = { λ c. IsFed c.splitter };
 }
 
-// The messages that a piece adds. `Err` is want of memory.
+// The messages that a piece adds. `Err` is want of memory, and changes nothing.
 fn feed(alloc: Global, splitter: &mut Splitter, piece: &[u8]) -> Result<Vec<Message>, AllocError>
     requires { IsFed splitter.old }
     ensures fed { IsFed splitter.new }
     ensures added { IfOk result (λ messages. (messages.items ≡ (going_on client_limit splitter.old.end piece.now).messages)
         × (splitter.new.end ≡ (going_on client_limit splitter.old.end piece.now).end)) }
+    ensures same { IsErr result → splitter.new ≡ splitter.old }
 {
     match splitter.feed(piece) {
         Ok(messages) => Ok(messages),
@@ -79,12 +84,16 @@ fn end_reason(splitter: &mut Splitter) -> Result<Option<CloseReason>, AllocError
     }
 }
 
-// Puts the messages behind those that wait.
-fn enqueue(waiting: &mut VecDeque<Message>, messages: Vec<Message>) -> Result<(), AllocError>
-    ensures { OnOk result (waiting.new.items ≡ waiting.old.items ++ messages.items) }
+// The first of the earlier messages, and where there are none the first of the latest.
+fn first_of(earlier: &mut VecDeque<Message>, latest: &mut VecDeque<Message>) -> Option<Message>
+    ensures { MatchOption result
+        ((earlier.old.items ++ latest.old.items ≡ []) × (earlier.new.items ++ latest.new.items ≡ earlier.old.items ++ latest.old.items))
+        (λ first. earlier.old.items ++ latest.old.items ≡ first ∷ (earlier.new.items ++ latest.new.items)) }
 {
-    let mut messages = VecDeque::from(messages);
-    waiting.append(&mut messages)
+    match earlier.pop_front() {
+        Some(first) => Some(first),
+        None => latest.pop_front(),
+    }
 }
 
 impl Connection {
@@ -95,25 +104,30 @@ impl Connection {
         Connection {
             alloc,
             splitter: Splitter::new(alloc),
-            waiting: VecDeque::new(alloc),
+            earlier: VecDeque::new(alloc),
+            latest: VecDeque::new(alloc),
         }
     }
 
     /// Takes the next piece of the stream, of any length: the messages that are whole with it wait behind those that wait
-    /// already. After the end of the stream nothing is read any more. `Err` is want of memory; messages of the piece may
-    /// be lost then, so the connection is to be let go. Each byte is copied once, into its message.
+    /// already. After the end of the stream nothing is read any more. `Err` is want of memory, and leaves the connection as
+    /// it was before the piece, so that the piece may be given again. Each byte is copied once, into its message; a message
+    /// that waits is moved once more, without its bytes.
     pub fn receive(&mut self, piece: &[u8]) -> Result<(), AllocError>
-        ensures { OnOk result (self.new ≡ received self.old piece.now) }
+        ensures ok { OnOk result (self.new ≡ received self.old piece.now) }
+        ensures err { IsErr result → self.new ≡ self.old }
     {
+        self.earlier.append(&mut self.latest)?;
         let messages = feed(self.alloc, &mut self.splitter, piece)?;
-        enqueue(&mut self.waiting, messages)
+        self.latest = VecDeque::from(messages);
+        Ok(())
     }
 
     /// Takes the first message that waits. Takes no memory.
     pub fn next(&mut self) -> Option<Message>
         ensures { TakesFirst self.old self.new result }
     {
-        self.waiting.pop_front()
+        first_of(&mut self.earlier, &mut self.latest)
     }
 
     /// Why the connection closes behind the messages that wait, if its stream is at its end. Nothing changes. `Err` is want

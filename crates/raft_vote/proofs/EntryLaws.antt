@@ -1,13 +1,12 @@
 -- Heads and entries are read exactly where their spelling stands.
-use Rattle.std.proofs.Common.{◌≡◌, ℕ, zero, suc, ◌<◌, ◌≤◌, ◌^◌, ◌%◌, ◌/◌, ◌⊎◌, inl, inr, Bool, true, false, cond, eqb, ltb, List, [], ◌∷◌, ◌++◌, length, Option, Some, None, Result, Ok, Err, refl, sym, ap, subst, ◌∙◌, arith}
-use Rattle.std.proofs.lemmas.Bool.{eqb-true, ltb-true, lt-ltb}
+use Rattle.std.proofs.Common.{◌≡◌, ℕ, zero, suc, ◌<◌, ◌^◌, ◌%◌, inl, inr, true, cond, eqb, ltb, List, [], ◌∷◌, ◌++◌, length, Option, Some, None, Ok, refl, sym, ap, subst, ◌∙◌, arith}
+use Rattle.std.proofs.lemmas.Bool.{eqb-true, ltb-true}
 use Rattle.raft_rules.specs.Log.{Entry, EntryKind as EntryKindValue}
 use Rattle.raft_rules.specs.Log as values
-use Rattle.wire_words.specs.declared.fault.WordFault.{WordFault}
-use Rattle.wire_words.specs.declared.fault.WordFault.TheVariants.{BadCode, Pad}
+use Rattle.wire_words.specs.declared.fault.WordFault.TheVariants.{Pad}
 use Rattle.wire_words.specs.Items.{word, pair, raw, AreBytes}
 use Rattle.wire_words.specs.Reading.{◌>>=◌, Unread, word_at, pair_at, raw_at}
-use Rattle.wire_words.proofs.Choices.{one_of, none_of, some_is}
+use Rattle.wire_words.proofs.Choices.{one_of, none_of}
 use Rattle.wire_words.proofs.ReadBack.{bind_ok, ok_is, passed}
 use Rattle.raft_vote.specs.declared.entry.EntryKind.{EntryKind}
 use Rattle.raft_vote.specs.declared.entry.EntryKind.TheVariants as kinds

@@ -2,7 +2,7 @@
 use Rattle.std.proofs.Common.{◌≡◌, ℕ, suc, ◌+◌, ◌-◌, ◌<◌, ◌≤◌, List, [], ◌∷◌, ◌++◌, length, drop, get_or, Result, Ok, Err, refl, sym, ap, subst, ◌∙◌, append_assoc, arith}
 use Rattle.std.proofs.lemmas.List.{append-nil, at_drop_more, at_drop_all}
 use Rattle.wire_words.specs.declared.fault.WordFault.{WordFault}
-use Rattle.wire_words.specs.Reading.{◌>>=◌, Unread, Fails}
+use Rattle.wire_words.specs.Reading.{Unread, Fails}
 use Rattle.wire_words.proofs.ReadingLoops.{with_front, regroup, fails_so}
 use Rattle.raft_rules.specs.Log.{Entry}
 use Rattle.raft_vote.specs.declared.entries.EntryHead.{EntryHead}

@@ -1,13 +1,13 @@
 -- A message of a peer is read exactly where its spelling stands.
-use Rattle.std.proofs.Common.{◌≡◌, ℕ, zero, suc, ◌+◌, ◌<◌, ◌≤◌, ◌^◌, Bool, true, false, cond, ◌&&◌, eqb, leb, inl, inr, List, [], ◌∷◌, ◌++◌, length, Option, Some, None, Result, Ok, Err, refl, sym, ap, subst, ◌∙◌, arith}
-use Rattle.std.specs.Prelude.{IfOk, OnOk, IsErr, ◌==◌, nat_le}
+use Rattle.std.proofs.Common.{◌≡◌, ℕ, zero, suc, ◌+◌, ◌<◌, ◌≤◌, ◌^◌, Bool, true, false, cond, ◌&&◌, eqb, inl, inr, List, [], ◌∷◌, ◌++◌, length, Option, Some, None, Result, Ok, Err, refl, sym, ap, subst, ◌∙◌, arith}
+use Rattle.std.specs.Prelude.{IfOk, ◌==◌, nat_le}
 use Rattle.std.proofs.lemmas.Bool.{eqb-true, leb-true}
 use Rattle.std.proofs.lemmas.List.{nil_from_length, append-nil}
 use Rattle.raft_rules.specs.Log.{Entry, LogEnd}
 use Rattle.wire_words.specs.declared.fault.WordFault.{WordFault}
 use Rattle.wire_words.specs.declared.message.Message.{Message}
 use Rattle.wire_words.specs.declared.value.Dialect.TheVariants.{Exact}
-use Rattle.wire_words.specs.Items.{word, blob, AreBytes}
+use Rattle.wire_words.specs.Items.{word, AreBytes}
 use Rattle.wire_words.specs.Reading.{◌>>=◌, Unread, unread, word_at, blob_at}
 use Rattle.wire_words.proofs.Choices.{one_of, none_of}
 use Rattle.wire_words.proofs.ReadBack.{bind_ok, ok_is, passed}
@@ -20,7 +20,7 @@ use Rattle.raft_vote.specs.declared.message.What.TheVariants.{AskVote, Vote, App
 use Rattle.raft_vote.specs.declared.message.RaftMessage.{RaftMessage}
 use Rattle.raft_vote.specs.declared.items.Said.{Said}
 use Rattle.raft_vote.specs.Entries.{heads_bytes, contents_bytes, heads_at, contents_at}
-use Rattle.raft_vote.specs.Messages.{Field, Word, Entries, Blob, flag, what_number, what_fields, message_fields, field_bytes, fields_bytes, body_bytes, Holds, AllHold, numbers_fit, Reads}
+use Rattle.raft_vote.specs.Messages.{Field, Entries, flag, what_number, what_fields, message_fields, field_bytes, fields_bytes, body_bytes, Holds, AllHold, numbers_fit, Reads}
 use Rattle.raft_vote.specs.Reading.{in_message, message_kind, log_end_at, entries_at, ask_vote_at, vote_at, append_at, ack_at, install_at, said_at, items_at, ended, message_in, peer_message_of, Gives}
 use Rattle.wire_words.proofs.Passing.{Passed, passed_none, pass_none, passed_both, between, passed_first, passed_second, bytes_after, word_passed, word_stood, blob_passed, blob_stood}
 use Rattle.raft_vote.proofs.EntryLaws.{read_heads, heads_passed, heads_stood, contents_passed, contents_stood, heads_of, heads_are, heads_fit, as_many}

@@ -4,7 +4,7 @@ use Rattle.std.specs.Prelude.{◌==◌}
 use Rattle.std.specs.List.{AllByRecursion}
 use Rattle.std.proofs.lemmas.List.{at_drop_more, at_drop_all}
 use Rattle.raft_rules.specs.Node.{Server, voters}
-use Rattle.wire_words.specs.Reading.{◌>>=◌, Unread}
+use Rattle.wire_words.specs.Reading.{Unread}
 use Rattle.raft_vote.specs.declared.servers_fault.ServersFault.{ServersFault}
 use Rattle.raft_vote.specs.declared.servers_fault.ServersFault.TheVariants.{Word, Order, Role, Limit, NoMemory}
 use Rattle.raft_vote.specs.Servers.{server_bytes, each_bytes, votes_as, server_at, more_servers_at, ServersFail}

@@ -1,1 +1,13 @@
 pub mod Chaining
+pub mod Choices
+pub mod Numbers
+pub mod Halves
+pub mod CellFiles
+pub mod CellPages
+pub mod CellBytes
+pub mod ChangeLists
+pub mod CellSteps
+pub mod CountPages
+pub mod CellChanged
+pub mod SpelledCells
+pub mod CellOutcomes

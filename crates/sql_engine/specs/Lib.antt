@@ -1,3 +1,7 @@
 pub mod Replies
 pub mod Meanings
 pub mod Runs
+pub mod CellTexts
+pub mod Cells
+pub mod CellChanges
+pub mod CellAnswers

@@ -1,4 +1,6 @@
+ghost use Rattle.std.specs.Prelude.{◌≡◌, ◌↔◌};
 ghost use Rattle.sql_engine.specs.Runs.{Chains, Splits};
+ghost use Rattle.sql_engine.specs.CellTexts.{Says, statement_of};
 
 use crate::engine::Engine;
 
@@ -8,4 +10,10 @@ use crate::engine::Engine;
 pub fn runs_are_chained<E: Engine>()
     ensures chains { (kind : _) → Chains (E.meaning kind) }
     ensures splits { (kind : _) → Splits (E.meaning kind) }
+{}
+
+/// A law: a text is a statement of cells exactly where it is spelled so, with numbers in range. So it is one statement at
+/// most.
+pub fn texts_say_statements()
+    ensures { (text c : _) → statement_of text ≡ Some c ↔ Says text c }
 {}

@@ -3,13 +3,21 @@
 #![tactic(auto)]
 
 mod answer;
+mod cell_answers;
+mod cell_changes;
+mod cell_engine;
+mod cell_statement;
+mod cell_text;
 mod engine;
 mod fault;
 mod kind;
 mod laws;
+mod page_bytes;
 
 pub use answer::Ran;
+pub use cell_engine::CellEngine;
+pub use cell_statement::CellStatement;
 pub use engine::Engine;
 pub use fault::EngineFault;
 pub use kind::EngineKind;
-pub use laws::runs_are_chained;
+pub use laws::{runs_are_chained, texts_say_statements};

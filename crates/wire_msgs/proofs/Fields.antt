@@ -1,7 +1,6 @@
 -- Fields that a reader took one after the other.
-use Rattle.std.proofs.Common.{◌≡◌, ℕ, ◌+◌, List, [], ◌∷◌, ◌++◌, length, refl, sym, ap, subst, ◌∙◌}
+use Rattle.std.proofs.Common.{◌≡◌, ◌+◌, List, [], ◌∷◌, ◌++◌, length, refl, sym, ap, subst, ◌∙◌}
 use Rattle.wire_words.specs.declared.value.Dialect.{Dialect}
-use Rattle.wire_words.specs.declared.value.Dialect.TheVariants as dialects
 use Rattle.wire_words.specs.Items.{AreBytes}
 use Rattle.wire_words.specs.Reading.{Unread, Took}
 use Rattle.wire_words.proofs.Parts.{bytes_after}

@@ -1,20 +1,19 @@
 -- Lists behind their number: servers and files.
-use Rattle.std.proofs.Common.{◌≡◌, ℕ, zero, suc, ◌+◌, ◌-◌, ◌<◌, ◌≤◌, Bool, true, false, List, [], ◌∷◌, ◌++◌, length, take, get_or, Option, Some, None, Result, Ok, Err, refl, sym, ap, subst, ◌∙◌, append_assoc, arith}
+use Rattle.std.proofs.Common.{◌≡◌, ℕ, zero, suc, ◌+◌, ◌-◌, ◌<◌, ◌≤◌, Bool, true, false, List, [], ◌∷◌, ◌++◌, length, Option, Some, None, Result, Ok, Err, refl, sym, ap, subst, ◌∙◌, append_assoc, arith}
 use Rattle.std.specs.List.{flat_map, AllByRecursion}
-use Rattle.std.proofs.lemmas.List.{append-nil, take_more, take_all}
+use Rattle.std.proofs.lemmas.List.{append-nil}
 use Rattle.wire_words.specs.declared.fault.WordFault.{WordFault}
 use Rattle.wire_words.specs.declared.fault.WordFault.TheVariants as faults
 use Rattle.wire_words.specs.declared.value.Dialect.{Dialect}
 use Rattle.wire_words.specs.declared.value.Dialect.TheVariants as dialects
 use Rattle.wire_words.specs.Items.{AreBytes}
-use Rattle.wire_words.specs.Reading.{◌>>=◌, Unread, Fails, word_at, text_at, blob_at, Took}
-use Rattle.wire_words.proofs.ReadBack.{bind_ok, ok_is, word_took, word_again}
-use Rattle.wire_words.proofs.Parts.{bytes_after}
+use Rattle.wire_words.specs.Reading.{◌>>=◌, Unread, Fails, word_at, text_at, blob_at}
+use Rattle.wire_words.proofs.ReadBack.{bind_ok, ok_is, word_again}
 use Rattle.wire_msgs.specs.declared.response.NodeInfo.{NodeInfo}
 use Rattle.wire_msgs.specs.declared.response.File.{File}
 use Rattle.wire_msgs.specs.Fields.{Field, Word, Text, Blob}
 use Rattle.wire_msgs.specs.Responses.{optional, server_fields, file_fields, HasRole}
-use Rattle.wire_msgs.specs.Bodies.{Reading, made, both, word_text, optional_at, many_at, counted_at, server_at, file_at}
+use Rattle.wire_msgs.specs.Bodies.{Reading, both, word_text, optional_at, many_at, counted_at, server_at, file_at}
 use Rattle.wire_msgs.proofs.Fields.{AllTook, took_append, took_split, all_bytes_after}
 use Rattle.wire_msgs.proofs.Readers.{ReadsFields, word_field, text_field, blob_field, both_fields, made_ok}
 

@@ -1,12 +1,11 @@
 -- A message is read exactly where its fields stand, whatever its type.
-use Rattle.std.proofs.Common.{◌≡◌, ◌≢◌, ℕ, zero, suc, ◌≤◌, Bool, true, false, cond, eqb, ltb, [], length, Result, Ok, Err, refl, sym, ap, subst, ◌∙◌, arith}
+use Rattle.std.proofs.Common.{◌≡◌, ◌≢◌, ℕ, zero, suc, ◌≤◌, Bool, true, false, eqb, ltb, [], length, Result, Ok, Err, refl, ap, ◌∙◌, arith}
 use Rattle.std.proofs.lemmas.Bool.{eqb-true, ne_eqb, ltb-false, le-ltb}
 use Rattle.std.proofs.lemmas.List.{nil_from_length}
 use Rattle.wire_words.specs.declared.fault.WordFault.{WordFault}
 use Rattle.wire_words.specs.declared.message.Message.{Message}
 use Rattle.wire_words.specs.Reading.{◌>>=◌, Unread, unread}
 use Rattle.wire_words.proofs.ReadBack.{bind_ok, refused_not, passed}
-use Rattle.wire_msgs.specs.declared.fault.MsgFault.{MsgFault}
 use Rattle.wire_msgs.specs.declared.fault.MsgFault.TheVariants.{Schema, Tail}
 use Rattle.wire_msgs.specs.Fields.{schema_of}
 use Rattle.wire_msgs.specs.Bodies.{Reading}

@@ -1,10 +1,10 @@
 -- Requests and responses are read exactly where messages stand for them.
-use Rattle.std.proofs.Common.{◌≡◌, ℕ, Bool, false, eqb, ltb, Option, Some, None, Result, Ok, Err, refl, sym, ap, subst, ◌∙◌}
+use Rattle.std.proofs.Common.{◌≡◌, ℕ, false, eqb, ltb, Option, Some, None, Result, Ok, Err, refl, ap, subst, ◌∙◌}
 use Rattle.std.specs.Prelude.{IfOk}
 use Rattle.wire_words.specs.declared.message.Message.{Message}
 use Rattle.wire_words.specs.declared.value.Dialect.TheVariants as dialects
 use Rattle.wire_words.specs.Items.{AreBytes}
-use Rattle.wire_words.specs.Reading.{Unread, unread}
+use Rattle.wire_words.specs.Reading.{unread}
 use Rattle.wire_msgs.specs.declared.fault.MsgFault.{MsgFault}
 use Rattle.wire_msgs.specs.declared.request.Request.{Request}
 use Rattle.wire_msgs.specs.declared.request.RequestKind.{RequestKind}
@@ -16,9 +16,9 @@ use Rattle.wire_msgs.specs.Kinds.{request_kind, request_top_schema, response_kin
 use Rattle.wire_msgs.specs.Bodies.{request_at, response_at}
 use Rattle.wire_msgs.specs.Reading.{Gives, request_in, request_of, response_in, response_of}
 use Rattle.wire_msgs.proofs.Fields.{fields_took, fields_stand}
-use Rattle.wire_msgs.proofs.Messages.{WasRead, was_read, read_again}
-use Rattle.wire_msgs.proofs.Requests.{TookRequest, IsRequest, request_took, is_request, known_number as request_number}
-use Rattle.wire_msgs.proofs.Responses.{TookResponse, IsResponse, response_took, is_response, known_number as response_number}
+use Rattle.wire_msgs.proofs.Messages.{was_read, read_again}
+use Rattle.wire_msgs.proofs.Requests.{request_took, is_request, known_number as request_number}
+use Rattle.wire_msgs.proofs.Responses.{response_took, is_response, known_number as response_number}
 
 -- ---- requests
 

@@ -1,22 +1,21 @@
 -- Readers of fields: what they read are these fields, and these fields are read.
-use Rattle.std.proofs.Common.{◌≡◌, ℕ, ◌+◌, ◌*◌, ◌/◌, ◌%◌, ◌<◌, Bool, true, false, cond, eqb, ltb, List, [], ◌∷◌, ◌++◌, ◌⊎◌, inl, inr, length, replicate, Option, Some, None, Result, Ok, Err, refl, sym, ap, subst, ◌∙◌, arith}
-use Rattle.std.proofs.lemmas.Bool.{eqb-true, eqb-false}
+use Rattle.std.proofs.Common.{◌≡◌, ℕ, ◌+◌, ◌*◌, ◌/◌, ◌%◌, ◌<◌, Bool, true, false, cond, eqb, List, [], ◌∷◌, ◌++◌, ◌⊎◌, inl, inr, length, replicate, Ok, Err, refl, sym, ap, subst, ◌∙◌, arith}
+use Rattle.std.proofs.lemmas.Bool.{eqb-true}
 use Rattle.std.proofs.lemmas.List.{nil_from_length, length-append, length-replicate}
-use Rattle.wire_words.specs.declared.fault.WordFault.{WordFault}
 use Rattle.wire_words.specs.declared.fault.WordFault.TheVariants.{Short, Pad}
 use Rattle.wire_words.specs.declared.value.Value.{Value}
 use Rattle.wire_words.specs.declared.value.Dialect.{Dialect}
 use Rattle.wire_words.specs.declared.value.Dialect.TheVariants as dialects
-use Rattle.wire_words.specs.Items.{AreBytes, IsWord, IsPair, IsText, IsRaw}
-use Rattle.wire_words.specs.Reading.{◌>>=◌, Unread, word_at, pair_at, text_at, blob_at, raw_at, Took}
+use Rattle.wire_words.specs.Items.{AreBytes, IsWord, IsPair, IsRaw}
+use Rattle.wire_words.specs.Reading.{◌>>=◌, Unread, word_at, pair_at, text_at, blob_at, Took}
 use Rattle.wire_words.specs.ReadingValues.{tuple_at}
-use Rattle.wire_words.specs.Values.{IsBlob, IsTupleRead}
+use Rattle.wire_words.specs.Values.{IsTupleRead}
 use Rattle.wire_words.proofs.ReadBack.{bind_ok, ok_is, same_unread, word_took, word_again, pair_took, pair_again, passed}
 use Rattle.wire_words.proofs.Nul.{text_took, text_again}
 use Rattle.wire_words.proofs.Parts.{blob_took, blob_again}
 use Rattle.wire_words.proofs.TupleLaws.{IsWidth, width_1, width_4, tuple_took, tuple_again}
 use Rattle.wire_words.proofs.Padding.{raw_took, raw_again}
-use Rattle.wire_msgs.specs.Fields.{Field, Word, AnyWord, Pair, Text, Blob, Params, Rest, width, IsField, IsRest, AreNone}
+use Rattle.wire_msgs.specs.Fields.{Field, Word, AnyWord, Pair, Text, Blob, Params, Rest, width, IsField, AreNone}
 use Rattle.wire_msgs.specs.Bodies.{Reading, made, both, params_at, half_at, zero_at, rest_at}
 use Rattle.wire_msgs.proofs.Fields.{AllTook, took_append, took_split, all_bytes_after}
 

@@ -1,6 +1,6 @@
 -- Requests: a line for each type, which says that it is read exactly where its line of the table stands.
-use Rattle.std.proofs.Common.{◌≡◌, ℕ, suc, ◌≤◌, Bool, true, false, cond, eqb, ltb, List, [], ◌∷◌, length, Option, Some, None, Result, Ok, Err, refl, sym, ap, subst, ◌∙◌, inl, inr, arith}
-use Rattle.std.proofs.lemmas.Bool.{eqb-true, ltb-false}
+use Rattle.std.proofs.Common.{◌≡◌, ℕ, Bool, true, false, cond, eqb, ltb, List, [], ◌∷◌, Option, Some, Ok, refl, sym, ap, subst, ◌∙◌, inl, inr}
+use Rattle.std.proofs.lemmas.Bool.{eqb-true}
 use Rattle.wire_words.specs.declared.value.Value.{Value}
 use Rattle.wire_words.specs.declared.value.Dialect.{Dialect}
 use Rattle.wire_words.specs.declared.value.Dialect.TheVariants as dialects
@@ -11,12 +11,12 @@ use Rattle.wire_msgs.specs.declared.request.Request.{Request}
 use Rattle.wire_msgs.specs.declared.request.Request.TheVariants.{Leader, Client, Open, Prepare, Exec, Query, Finalize, ExecSql, QuerySql, Interrupt, Connect, Add, Assign, Remove, Dump, Cluster, Transfer, Describe, Weight}
 use Rattle.wire_msgs.specs.declared.request.RequestKind.{RequestKind}
 use Rattle.wire_msgs.specs.declared.request.RequestKind.TheVariants as requests
-use Rattle.wire_msgs.specs.Fields.{Field, Word, Pair, Text, Params, schema_of}
+use Rattle.wire_msgs.specs.Fields.{Word, Pair, Text, Params}
 use Rattle.wire_msgs.specs.Requests.{request_line}
 use Rattle.wire_msgs.specs.Kinds.{request_kind, request_top_schema}
 use Rattle.wire_msgs.specs.Bodies.{Reading, made, both, two_words, word_text, params_at, pair_params, word_text_params, text_word_text, request_at}
 use Rattle.wire_msgs.proofs.Fields.{AllTook}
-use Rattle.wire_msgs.proofs.Readers.{ReadsFields, EndsFields, may_end, word_field, pair_field, text_field, params_end, both_fields, both_end, made_ok, any_took, any_again}
+use Rattle.wire_msgs.proofs.Readers.{ReadsFields, EndsFields, word_field, pair_field, text_field, params_end, both_fields, both_end, made_ok, any_took, any_again}
 use Rattle.wire_msgs.proofs.Lists.{word_text_fields}
 use Rattle.wire_msgs.proofs.Messages.{narrow, wide_is}
 

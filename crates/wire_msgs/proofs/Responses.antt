@@ -1,7 +1,6 @@
 -- Responses: a line for each type, which says that it is read exactly where its line of the table stands.
-use Rattle.std.proofs.Common.{◌≡◌, ℕ, Bool, true, false, cond, eqb, ltb, List, [], ◌∷◌, ◌++◌, Option, Some, None, Result, Ok, refl, sym, ap, subst, ◌∙◌, inl, inr, arith}
+use Rattle.std.proofs.Common.{◌≡◌, ℕ, Bool, true, false, cond, eqb, ltb, List, [], ◌∷◌, Option, Some, None, Ok, refl, sym, ap, subst, ◌∙◌, inl, inr}
 use Rattle.std.proofs.lemmas.Bool.{eqb-true}
-use Rattle.std.specs.List.{AllByRecursion}
 use Rattle.wire_words.specs.declared.value.Dialect.TheVariants as dialects
 use Rattle.wire_words.specs.Items.{AreBytes}
 use Rattle.wire_words.specs.Reading.{◌>>=◌, Unread, word_at, pair_at}
@@ -13,7 +12,7 @@ use Rattle.wire_msgs.specs.declared.response.Response.{Response}
 use Rattle.wire_msgs.specs.declared.response.Response.TheVariants as made_of
 use Rattle.wire_msgs.specs.declared.response.ResponseKind.{ResponseKind}
 use Rattle.wire_msgs.specs.declared.response.ResponseKind.TheVariants as responses
-use Rattle.wire_msgs.specs.Fields.{Field, Word, Pair, schema_of}
+use Rattle.wire_msgs.specs.Fields.{Field, Word, Pair}
 use Rattle.wire_msgs.specs.Responses.{optional, is_there, server_fields, file_fields, response_line, HasRole, IsInFormat}
 use Rattle.wire_msgs.specs.Kinds.{response_kind, response_top_schema}
 use Rattle.wire_msgs.specs.Bodies.{Reading, made, both, two_words, word_text, half_at, zero_at, optional_at, counted_at, server_at, file_at, rest_at, response_at}

@@ -23,6 +23,3 @@ pub use reading::{read_request, read_response};
 pub use request::{Request, RequestKind};
 pub use response::{File, NodeInfo, Response, ResponseKind};
 pub use writing::{write_request, write_response};
-
-#[cfg(test)]
-mod tests;

@@ -8,4 +8,3 @@ pub mod NulPlaces
 pub mod ReadLoops
 pub mod ReadBack
 pub mod Spelled
-pub mod Tables

@@ -21,6 +21,3 @@ pub use part::{More, Part};
 pub use reading::read_part;
 pub use row::Row;
 pub use writing::{ANSWER_LIMIT, PART_LIMIT, parts};
-
-#[cfg(test)]
-mod tests;

@@ -1,8 +1,8 @@
-use Rattle.std.proofs.Common.{◌≡◌, ◌≤◌, ◌≢◌, length, eqb, Option, Some, Ok, sym, ap, ◌∙◌, arith}
+use Rattle.std.proofs.Common.{◌≡◌, ◌≤◌, ◌≢◌, length, eqb, Option, Ok, sym, ap, ◌∙◌, arith}
 use Rattle.wire_words.specs.declared.message.Message.{Message}
 use Rattle.wire_words.specs.Reading.{unread}
 use Rattle.wire_msgs.specs.declared.request.RequestKind.{RequestKind}
-use Rattle.wire_msgs.specs.Kinds.{request_kind, request_top_schema}
+use Rattle.wire_msgs.specs.Kinds.{request_top_schema}
 use Rattle.wire_msgs.specs.Bodies.{request_at}
 use Rattle.wire_msgs.specs.Reading.{request_in, words_in}
 use Rattle.wire_msgs.proofs.Messages.{tail_left}

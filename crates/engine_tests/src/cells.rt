@@ -1,0 +1,143 @@
+use dq_base::{Image, Name, NumberedPage, PageSet, apply_pages};
+use frame_commands::{Command, write_command};
+use sql_engine::{CellEngine, Engine, EngineFault};
+use std::alloc::{AllocError, Global};
+use std::test::*;
+use wire_rows::Row;
+use wire_words::{Value, WireBytes};
+
+/// The transaction of the tests: 2^32 + 3.
+const TX: u64 = 4_294_967_299;
+
+/// The command that sets cell 3 of an empty database `d` to 9, up to its pages.
+const SET_3_9: [u8; 80] =
+    *b"\x01\x02\0\0\0\0\0\0d\0\0\0\0\0\0\0\x03\0\0\0\x01\0\0\0\x05\0\0\0\x01\0\0\0\x05\0\0\0\0\x10\0\0\x02\0\0\0\0\0\0\0\x03\0\0\0\0\0\0\0\x04\0\0\0\0\0\0\0\x06\0\0\0\0\0\0\0\x01\0\0\0\0\0\0\0";
+
+/// That command whole: its five pages are zeros but for these bytes.
+fn worked_command(alloc: Global) -> Result<Vec<u8>, AllocError> {
+    let mut bytes = Vec::from_slice(alloc, &SET_3_9)?;
+    for (front, len) in [
+        (0, 4096),
+        (1, 4096),
+        (0, 4096),
+        (9, 4096),
+        (0, 1),
+        (0x30, 7),
+        (0, 1),
+        (0x10, 4087),
+    ] {
+        bytes.push(front)?;
+        bytes.resize(bytes.len() + len - 1, 0)?;
+    }
+    Ok(bytes)
+}
+
+/// What is written of these pages as one command of the database `d` that commits.
+fn written(alloc: Global, set: PageSet, truncate: u32) -> Result<Option<WireBytes>, AllocError> {
+    let PageSet { tx, pages } = set;
+    let Some(name) = Name::new(String::from_str(alloc, "d")?) else {
+        return Ok(None);
+    };
+    let command = Command::Frames {
+        name,
+        tx,
+        truncate,
+        commit: true,
+        pages,
+    };
+    if !command.numbers_fit() {
+        return Ok(None);
+    }
+    Ok(Some(write_command(alloc, &command)?))
+}
+
+/// What a run is to answer: how many pages are affected, the value that is read, and the numbers of the pages that change,
+/// with zeros behind them.
+type Wanted = Result<(u64, Option<i64>, [u64; 6]), EngineFault>;
+
+/// The numbers of pages, with zeros behind them.
+fn numbers_of(pages: &[NumberedPage]) -> [u64; 6] {
+    let mut numbers = [0; 6];
+    for (place, page) in numbers.iter_mut().zip(pages) {
+        *place = page.number;
+    }
+    numbers
+}
+
+/// The first value of the first row, where it is an integer.
+fn value_of(rows: &[Row]) -> Option<i64> {
+    let row = rows.first()?;
+    match row.values() {
+        [Value::Integer(value)] => Some(*value),
+        _ => None,
+    }
+}
+
+/// Runs a statement without parameters, and applies its pages to the image.
+fn answered(engine: &mut CellEngine, image: &mut Image, text: &str) -> Wanted {
+    let ran = engine.run(image, text, &[], TX)?;
+    let pages = ran.after.pages.as_slice();
+    if !pages.is_empty() && apply_pages(image, pages).is_err() {
+        return Err(EngineFault::NoMemory);
+    }
+    Ok((
+        ran.affected,
+        value_of(ran.rows.as_slice()),
+        numbers_of(pages),
+    ))
+}
+
+/// The written command of the pages that setting cell 3 of an empty image changes.
+fn set_command(alloc: Global) -> Result<Option<WireBytes>, EngineFault> {
+    let mut engine = CellEngine::new(alloc);
+    let image = Image::new(alloc);
+    let ran = engine.run(&image, "SET 3 9", &[], TX)?;
+    Ok(written(alloc, ran.after, 5)?)
+}
+
+#[test]
+fn a_change_is_written_as_a_command(rt: HostRuntime) -> Result<(), Fail> {
+    let bytes = set_command(rt.alloc())?.ok_or("numbers that fit")?;
+    assert!(rt; bytes.as_slice() == worked_command(rt.alloc())?.as_slice());
+    Ok(())
+}
+
+#[test]
+fn statements_of_cells_run_in_turn(rt: HostRuntime) -> Result<(), Fail> {
+    let mut engine = CellEngine::new(rt.alloc()).fork()?;
+    let mut image = Image::new(rt.alloc());
+    engine.ready(&image);
+    let none = [0; 6];
+    for (text, wanted) in [
+        ("GET 3", Ok((0, None, none))),
+        ("SET 3 9", Ok((1, None, [2, 3, 4, 6, 1, 0]))),
+        ("GET 3", Ok((0, Some(9), none))),
+        ("GET 2", Ok((0, Some(0), none))),
+        ("GET 4", Ok((0, None, none))),
+        // The same again: only the count of changes differs.
+        ("SET 3 9", Ok((1, None, [3, 1, 0, 0, 0, 0]))),
+        (
+            "SET 1 9223372036854775807",
+            Ok((1, None, [2, 3, 1, 0, 0, 0])),
+        ),
+        ("GET 1", Ok((0, Some(i64::MAX), none))),
+        ("SET 1 9223372036854775808", Err(EngineFault::Constraint)),
+        ("SET 1 9999999999999999999", Err(EngineFault::Constraint)),
+        ("SET 1 10000000000000000000", Err(EngineFault::Sql)),
+        ("SET 01 1", Err(EngineFault::Sql)),
+        ("SET 0 1", Err(EngineFault::Sql)),
+        ("SET 8193 1", Err(EngineFault::Sql)),
+        ("SET 1  1", Err(EngineFault::Sql)),
+        ("SET 1 1 ", Err(EngineFault::Sql)),
+        ("set 1 1", Err(EngineFault::Sql)),
+        ("GET +1", Err(EngineFault::Sql)),
+        ("", Err(EngineFault::Sql)),
+        ("WIPE 8193", Err(EngineFault::Sql)),
+        ("WIPE 8192", Ok((0, None, none))),
+        ("WIPE 0", Ok((3, None, [3, 1, 0, 0, 0, 0]))),
+        ("WIPE 0", Ok((0, None, none))),
+    ] {
+        assert_eq!(rt; answered(&mut engine, &mut image, text), wanted, "{text}");
+    }
+    Ok(())
+}
