@@ -7,3 +7,4 @@ pub mod Unfit
 pub mod Meant
 pub mod Led
 pub mod Openings
+pub mod Any

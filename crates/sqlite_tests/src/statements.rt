@@ -1,6 +1,6 @@
 use dq_base::{Bytes, Image, apply};
-use sql_engine::{Engine, EngineFault, Ran};
-use sqlite_engine::SqliteEngine;
+use sql_engine::{CellEngine, Engine, EngineFault, Ran};
+use sqlite_engine::{AnyEngine, SqliteEngine};
 use std::alloc::{AllocError, Global};
 use std::test::Fail;
 use wire_words::{Value, WireText};
@@ -41,6 +41,14 @@ fn row_of(ran: &Ran) -> Option<(i64, &str)> {
     }
 }
 
+/// The name of the first column of an answer.
+fn first_name(ran: &Ran) -> Option<&str> {
+    match ran.columns.as_slice() {
+        [name, ..] => Some(name.as_str()),
+        [] => None,
+    }
+}
+
 /// Five and an x, as parameters.
 fn five_and_x(alloc: Global) -> Result<[Value; 2], AllocError> {
     let text = String::from_str(alloc, "x")?;
@@ -56,22 +64,27 @@ fn filled(alloc: Global) -> Result<Database, Fail> {
     Ok(database)
 }
 
-/// What a query answers twice over an image: its row, the pages of its set, and how many openings the second took.
+/// What a query answers twice over an image that was opened ahead: whether its row is there, the pages of its set, and how
+/// many openings were tried in all.
 fn asked(engine: &mut SqliteEngine, image: &Image) -> Result<(bool, usize, u64), Fail> {
     let text = "SELECT a, b FROM t";
+    engine.ready(image);
     let first = engine.run(image, text, &[], 2)?;
-    let opened = engine.openings();
     let second = engine.run(image, text, &[], 3)?;
     let is_row = row_of(&first) == Some((5, "x")) && row_of(&second) == Some((5, "x"));
-    let more = engine.openings().saturating_sub(opened);
-    Ok((is_row, second.after.pages.len(), more))
+    let is_named = first_name(&first) == Some("a");
+    Ok((
+        is_row && is_named,
+        second.after.pages.len(),
+        engine.openings(),
+    ))
 }
 
 #[test]
 fn a_table_is_made_and_filled(rt: HostRuntime) -> Result<(), Fail> {
     let database = filled(rt.alloc())?;
     let mut engine = database.engine.fork()?;
-    assert_eq!(rt; asked(&mut engine, &database.image)?, (true, 0, 0));
+    assert_eq!(rt; asked(&mut engine, &database.image)?, (true, 0, 1));
     Ok(())
 }
 
@@ -133,4 +146,29 @@ fn counts(alloc: Global) -> Result<[u64; 4], Fail> {
 fn changed_rows_are_counted(rt: HostRuntime) -> Result<(), Fail> {
     assert_eq!(rt; counts(rt.alloc())?, [2, 2, 3, 0]);
     Ok(())
+}
+
+/// The fault of a statement over an empty image, under an engine of cells or of SQLite.
+fn fault_under(alloc: Global, cells: bool, text: &str) -> Option<EngineFault> {
+    let mut engine = if cells {
+        AnyEngine::Cells(CellEngine::new(alloc))
+    } else {
+        AnyEngine::Sqlite(SqliteEngine::new(alloc))
+    };
+    let image = Image::new(alloc);
+    engine.ready(&image);
+    engine.run(&image, text, &[], 6).err()
+}
+
+#[test]
+fn each_kind_has_its_own_statements(rt: HostRuntime) {
+    let rows = [
+        (true, "SET 3 9", None),
+        (true, "SELECT 1", Some(EngineFault::Sql)),
+        (false, "SET 3 9", Some(EngineFault::Sql)),
+        (false, "SELECT 1", None),
+    ];
+    for (cells, text, wanted) in rows {
+        assert_eq!(rt; fault_under(rt.alloc(), cells, text), wanted);
+    }
 }
