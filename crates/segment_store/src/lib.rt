@@ -6,6 +6,8 @@ mod fault;
 mod names;
 mod segment;
 mod store;
+#[cfg(test)]
+mod tests;
 
 pub use fault::StoreFault;
 pub use store::Store;

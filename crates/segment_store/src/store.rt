@@ -109,6 +109,19 @@ fn begin_batch<D: Disk>(
 }
 
 impl Store {
+    /// A store over a folder without files.
+    #[cfg(test)]
+    pub(crate) fn fresh(alloc: Global) -> Store {
+        Store {
+            alloc,
+            version: 0,
+            first: None,
+            second: None,
+            next: 1,
+            size: None,
+        }
+    }
+
     fn size_for(&self, version: u64) -> Option<u64>
         ensures { result ≡ size_for version self.now }
     {
