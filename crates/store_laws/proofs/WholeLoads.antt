@@ -1,17 +1,16 @@
 -- A whole load.
-use Rattle.std.proofs.Common.{◌≡◌, ◌⊎◌, inl, inr, ℕ, zero, suc, ◌+◌, ◌-◌, ◌≤◌, ◌<◌, Bool, true, false, cond, not, List, [], ◌∷◌, ◌++◌, length, refl, sym, ap, ◌∙◌, subst, arith}
+use Rattle.std.proofs.Common.{◌≡◌, inl, inr, ℕ, zero, suc, ◌+◌, ◌-◌, ◌≤◌, ◌<◌, Bool, true, false, cond, not, List, [], ◌∷◌, ◌++◌, length, refl, sym, ap, ◌∙◌, subst, arith}
 use Rattle.std.specs.Prelude.{◌&&◌, ◌==◌, nat_le, nat_lt}
-use Rattle.std.proofs.lemmas.Bool.{cases_Bool, cond-true, cond-false, and_parts, cases_eq, ltb-true, ltb-false, leb-true, lt-ltb, le-ltb, le-leb}
+use Rattle.std.proofs.lemmas.Bool.{cases_Bool, cond-true, cond-false, and_parts, cases_eq, ltb-false, leb-true, le-ltb, le-leb}
 use Rattle.std.proofs.lemmas.List.{append-nil}
-use Rattle.disk_model.specs.Disk.{Found, Files, Leaves}
+use Rattle.disk_model.specs.Disk.{Found, Leaves}
 use Rattle.disk_model.specs.Calls.{WriteAt, CutTo, Sync, Remove, SyncNames, Others, Done, Until}
-use Rattle.disk_model.specs.Rest.{Rest}
 use Rattle.disk_model.specs.SyncAll.{sync_all, Names}
 use Rattle.disk_model.proofs.Rests.{rest_only, rest_left}
 use Rattle.disk_model.proofs.Elsewhere.{Elsewhere, else_same, else_on, else_names}
 use Rattle.disk_model.proofs.Syncs.{sync_all_holds}
 use Rattle.disk_model.proofs.Untils.{until_append, done_append}
-use Rattle.store_laws.specs.Names.{Name, First, Second, Segment, Snapshot, NodeFiles, NodeDisk, NodeCall}
+use Rattle.store_laws.specs.Names.{Name, Segment, NodeFiles, NodeDisk, NodeCall}
 use Rattle.store_laws.specs.Store.{Format, Snap, Log, Kept, Loaded, kept, answer, meta_of, snap_in, segments, sound, all_batches, log_of, empty_log, behind, nth_term, opens, is_whole}
 use Rattle.store_laws.specs.Chance.{NoChance, Lawful}
 use Rattle.store_laws.specs.Settled.{Settled, Steady, fits, ends_before, file_log}
@@ -20,7 +19,7 @@ use Rattle.store_laws.specs.Load.{Still, Repairs, repair_calls, Loadable, LoadEn
 use Rattle.store_laws.specs.Laws.{AnyMoment, AtOk, Comes}
 use Rattle.store_laws.specs.WholeLoad.{is_stale, empty_calls, load_calls, WholeLoad}
 use Rattle.store_laws.proofs.Tells.{tell}
-use Rattle.store_laws.proofs.Folders.{segments_suc, part}
+use Rattle.store_laws.proofs.Folders.{segments_suc}
 use Rattle.store_laws.proofs.Answers.{settled_images}
 use Rattle.store_laws.proofs.AppendLaw.{settled_of, empty_stale_holds}
 use Rattle.store_laws.proofs.Rooms.{more_room_holds}
