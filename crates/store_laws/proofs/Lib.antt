@@ -29,3 +29,4 @@ pub mod KeepSnapshot
 pub mod Seen
 pub mod Damages
 pub mod Written
+pub mod WholeLoads

@@ -10,3 +10,4 @@ pub mod Snapshots
 pub mod Seen
 pub mod Damage
 pub mod Written
+pub mod WholeLoad

@@ -9,6 +9,7 @@ ghost use Rattle.store_laws.specs.Laws.{SetMeta, SetMetaLong, Append, EmptyStale
 ghost use Rattle.store_laws.specs.Load.{CutTail, RemoveBad, RemoveOlder, Load};
 ghost use Rattle.store_laws.specs.Seen.{Seen, LoadSeen};
 ghost use Rattle.store_laws.specs.Snapshots.{KeepSnapshot, SnapshotLog, OlderLog};
+ghost use Rattle.store_laws.specs.WholeLoad.{WholeLoad};
 ghost use Rattle.store_laws.specs.Written.{MetaWritten, BatchWritten};
 
 /// At any moment of keeping a term and a vote, each crash leaves the state before or the new one; after the last call
@@ -114,4 +115,11 @@ pub fn metadata_written()
 /// are as they were.
 pub fn batch_written()
     ensures { BatchWritten }
+{}
+
+/// At any moment of a whole load, its syncs, its repairs, and the batch without entries where the snapshot drops the log,
+/// a crash leaves what a load of some files that a crash might have left before gives; after it the disk is settled with
+/// what was read, which each crash leaves.
+pub fn whole_load()
+    ensures { WholeLoad }
 {}
