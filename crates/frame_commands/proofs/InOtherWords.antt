@@ -12,7 +12,7 @@ use Rattle.frame_commands.proofs.ItemFacts.{both_true}
 use Rattle.frame_commands.proofs.Ranges.{frames_fit-push}
 
 -- what the test looks at, number by number
-abbrev Steps : ℕ → List NumberedPage → Type 0
+abbrev pub Steps : ℕ → List NumberedPage → Type 0
 Steps least [] = Unit {0}
 Steps least (p ∷ ps) = (least ≤ p.number) × ¬ (p.number ≡ 1) × (p.number ≤ highest_number) × Steps (p.number + 1) ps
 
@@ -20,7 +20,7 @@ not_false : (b : Bool) → not b ≡ true → b ≡ false
 not_false true e = absurd cc
 not_false false e = refl
 
-steps_of : (least : ℕ) (ps : List NumberedPage) → numbers_ascend least ps ≡ true → Steps least ps
+pub steps_of : (least : ℕ) (ps : List NumberedPage) → numbers_ascend least ps ≡ true → Steps least ps
 unfolding numbers_ascend
 steps_of least [] e = tt
 steps_of least (p ∷ ps) e =
@@ -29,7 +29,7 @@ steps_of least (p ∷ ps) e =
     let c = both_true (leb least p.number) (not (eqb p.number 1)) b.0 in
     (leb-true least p.number c.0, eqb-false p.number 1 (not_false (eqb p.number 1) c.1), leb-true p.number highest_number b.1, steps_of (p.number + 1) ps a.1)
 
-test_of : (least : ℕ) (ps : List NumberedPage) → Steps least ps → numbers_ascend least ps ≡ true
+pub test_of : (least : ℕ) (ps : List NumberedPage) → Steps least ps → numbers_ascend least ps ≡ true
 unfolding numbers_ascend
 test_of least [] s = refl
 test_of least (p ∷ ps) s =
@@ -98,12 +98,12 @@ ascend_test ps a =
 -- ---- the whole
 
 -- a list that isn't empty has a last page
-record HasLast (ps : List NumberedPage) : Type 0 where
+pub record HasLast (ps : List NumberedPage) : Type 0 where
   pub front : List NumberedPage
   pub last : NumberedPage
   pub parts : ps ≡ front ++ last ∷ []
 
-has_last : (ps : List NumberedPage) → 1 ≤ length ps → HasLast ps
+pub has_last : (ps : List NumberedPage) → 1 ≤ length ps → HasLast ps
 has_last [] some = absurd (omega (arith, some))
 has_last (p ∷ []) some = record { front = []; last = p; parts = refl }
 has_last (p ∷ q ∷ ps) some =

@@ -4,7 +4,7 @@ use Rattle.dq_base.specs.declared.pages.NumberedPage.{NumberedPage}
 use Rattle.dq_base.specs.Images.{pages_of}
 use Rattle.dq_base.specs.Applying.{is_sizes, stated_main, stated_side, last_page}
 use Rattle.frame_commands.specs.declared.command.Command.{Command}
-use Rattle.frame_commands.specs.declared.command.Command.TheVariants.{OpenDb, Frames}
+use Rattle.frame_commands.specs.declared.command.Command.TheVariants.{OpenDb, Frames, Undo, Checkpoint}
 
 -- the most pages of one command
 abbrev pub most_pages : ℕ
@@ -44,3 +44,5 @@ frames_fit truncate commit pages =
 abbrev pub numbers_fit : Command → Bool
 numbers_fit (OpenDb name) = true
 numbers_fit (Frames name tx truncate commit pages) = frames_fit truncate commit pages
+numbers_fit (Undo tx) = true
+numbers_fit (Checkpoint name) = true
