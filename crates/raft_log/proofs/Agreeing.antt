@@ -2,8 +2,8 @@
 use Rattle.std.proofs.Common.{◌≡◌, ◌≢◌, ◌⊎◌, inl, inr, ℕ, zero, suc, ◌+◌, ◌<◌, ◌≤◌, Bool, true, false, cond, List, [], ◌∷◌, length, drop, refl, sym, ap, subst, ◌∙◌, ⊎_elim, arith}
 use Rattle.std.specs.Prelude.{◌==◌}
 use Rattle.std.proofs.lemmas.Bool.{cond_both, cond-true, cond-false, eqb-true, eqb-false, eq-eqb, ne_eqb}
-use Rattle.raft_rules.specs.Log.{Entry, nth_term}
-use Rattle.raft_rules.proofs.Merges.{Alike}
+use Rattle.raft_rules.specs.Log.{Entry, nth_term, conflict_place}
+use Rattle.raft_rules.proofs.Merges.{Alike, conflict_none, conflict_here}
 use Rattle.raft_log.specs.Agreeing.{has_term, agreeing_front}
 
 -- an entry and its term
@@ -82,3 +82,14 @@ front_stops (r ∷ rs) (e ∷ es) lt =
     (λ t l. ⊎_elim (λ (x : agreeing_front rs es ≡ length rs). inl (ap suc x)) (λ (x : nth_term rs (agreeing_front rs es) ≢ nth_term es (agreeing_front rs es)). inr x) (front_stops rs es (omega arith)))
     (λ f l. inr (eqb-false _ _ f))
     lt
+
+-- where all that come agree, or those that stand end before, none conflicts
+pub front_free : (rs es : List Entry) (n : ℕ) → n ≡ agreeing_front rs es → (n ≡ length es) ⊎ (n ≡ length rs) → conflict_place rs es ≡ 0
+front_free rs es n e x = conflict_none n rs es (subst (λ m. Alike m rs es) (sym e) (front_alike rs es)) x
+
+-- else the next conflicts
+pub front_conflict : (rs es : List Entry) (n : ℕ) → n ≡ agreeing_front rs es → n < length es → n < length rs → conflict_place rs es ≡ suc n
+front_conflict rs es n e l m =
+    let a : Alike n rs es = subst (λ m. Alike m rs es) (sym e) (front_alike rs es) in
+    let stop : (n ≡ length rs) ⊎ (nth_term rs n ≢ nth_term es n) = subst (λ m. m < length es → (m ≡ length rs) ⊎ (nth_term rs m ≢ nth_term es m)) (sym e) (front_stops rs es) l in
+    ⊎_elim (λ (z : n ≡ length rs). absurd (omega arith)) (λ (z : nth_term rs n ≢ nth_term es n). conflict_here n rs es a m l z) stop

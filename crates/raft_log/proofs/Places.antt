@@ -1,7 +1,8 @@
 -- Lengths and terms of the whole log that a log stands for.
-use Rattle.std.proofs.Common.{◌≡◌, ℕ, zero, suc, ◌+◌, ◌-◌, ◌<◌, ◌≤◌, List, [], ◌∷◌, ◌++◌, length, slice_index_or, refl, sym, ap, ◌∙◌, arith, length-append}
+use Rattle.std.proofs.Common.{◌≡◌, ℕ, zero, suc, ◌+◌, ◌-◌, ◌<◌, ◌≤◌, List, [], ◌∷◌, ◌++◌, length, take, drop, slice_index_or, refl, sym, ap, ◌∙◌, arith, length-append, length-drop}
 use Rattle.std.specs.Prelude.{◌&&◌, ◌==◌, nat_le, true}
 use Rattle.std.proofs.lemmas.Bool.{and_parts, leb-true}
+use Rattle.std.proofs.lemmas.List.{take_more, get_or-drop}
 use Rattle.raft_rules.specs.Log.{Entry, LogEnd, nth_term, term_at, matches}
 use Rattle.raft_rules.specs.Node.{Follower}
 use Rattle.raft_rules.specs.Compaction.{CutLog, compacted, whole_log, meets}
@@ -40,3 +41,12 @@ meets_parts l prev e =
     let a = and_parts (nat_le l.first.index prev.index) (nat_le prev.index (length (whole_log l)) && (term_at (whole_log l) prev.index == prev.term)) e in
     let b = and_parts (nat_le prev.index (length (whole_log l))) (term_at (whole_log l) prev.index == prev.term) a.1 in
     (leb-true _ _ a.0, leb-true _ _ b.0)
+
+-- one more entry of a range
+pub range_more : (xs made : List Entry) (from place : ℕ) (e d : Entry) → from ≤ place → place < length xs → made ≡ take (place - from) (drop from xs) → e ≡ slice_index_or xs place d → made ++ e ∷ [] ≡ take (place + 1 - from) (drop from xs)
+range_more xs made from place e d le lt m is =
+    let size = length-drop from xs in
+    let at : from + (place - from) ≡ place = omega arith in
+    let next : place + 1 - from ≡ place - from + 1 = omega arith in
+    let found : slice_index_or (drop from xs) (place - from) d ≡ e = get_or-drop from xs (place - from) d ∙ ap (λ n. slice_index_or xs n d) at ∙ sym is in
+    ap (λ l. l ++ e ∷ []) m ∙ ap (λ x. take (place - from) (drop from xs) ++ x ∷ []) (sym found) ∙ sym (take_more (drop from xs) (place - from) d (omega arith)) ∙ ap (λ n. take n (drop from xs)) (sym next)

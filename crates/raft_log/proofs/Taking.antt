@@ -8,7 +8,7 @@ use Rattle.raft_rules.specs.Compaction.{CutLog, compacted, whole_log, meets, Mat
 use Rattle.raft_rules.proofs.Merges.{Alike}
 use Rattle.raft_rules.proofs.AcceptPlaces.{accept_stays, accept_moves, accept_starts, accept_past_cut}
 use Rattle.raft_rules.proofs.NodeValues.{compacted_length}
-use Rattle.raft_log.specs.Agreeing.{agreeing_front, TakesIn}
+use Rattle.raft_log.specs.Agreeing.{agreeing_front, TakesIn, TakesAfter}
 use Rattle.raft_log.proofs.Agreeing.{front_alike, front_stops, front_short}
 use Rattle.raft_log.proofs.Places.{meets_parts}
 
@@ -28,7 +28,7 @@ entries_taken old new es place None t = t.1 ∙ sym (accept_stays old es place (
 entries_taken old new es place (Some n) t = t.2 ∙ sym (accept_moves n old es place (alike old es place n t.0) t.1 (stops old es place n t.0 t.1))
 
 -- the rest past the cut
-rest : (l : CutLog) (after : ℕ) → l.first.index ≤ after → drop after (whole_log l) ≡ drop (after - l.first.index) l.entries
+pub rest : (l : CutLog) (after : ℕ) → l.first.index ≤ after → drop after (whole_log l) ≡ drop (after - l.first.index) l.entries
 rest l after le =
     let n = compacted_length l.first l.first.index in
     let at : after ≡ length (compacted l.first l.first.index) + (after - l.first.index) = omega arith in
@@ -65,11 +65,9 @@ taken_length (Ok (Some n)) old new es place le t k =
 taken_length (Err x) old new es place le t k = let e = ap length k in omega arith
 
 -- so the answer says what the rule says
-pub answered : (l now : CutLog) (new es : List Entry) (after place : ℕ) (prev : LogEnd) (index : ℕ) (from said : Option ℕ) → l ≡ now → after ≡ prev.index → place ≡ prev.index - now.first.index → meets now prev ≡ true → index ≡ prev.index + length es → TakesIn l.entries new place es from → said ≡ option_map (λ n. suc (after + n)) from → Matches now (with_entries l new) prev es index said
-answered l now new es after place prev index from said e a p m i t s =
-    let parts = meets_parts now prev m in
-    let taken : TakesIn now.entries new (prev.index - now.first.index) es from = subst (λ (x : CutLog). TakesIn x.entries new (prev.index - now.first.index) es from) e (subst (λ n. TakesIn l.entries new n es from) p t) in
-    let w : whole_log (with_entries l new) ≡ whole_log (with_entries now new) = ap (λ (x : CutLog). whole_log (with_entries x new)) e in
-    let told : option_map (λ n. suc (prev.index + n)) from ≡ said = sym (s ∙ ap (λ k. option_map (λ n. suc (k + n)) from) a) in
-    let starts = whole_starts now new es prev.index from parts.0 parts.1 taken in
-    (m, i, w ∙ whole_taken now new es prev.index from parts.0 taken, subst (λ x. StartsAt (whole_log now) x said) (sym w) (subst (λ o. StartsAt (whole_log now) (whole_log (with_entries now new)) o) told starts))
+pub answered : (old new : CutLog) (es : List Entry) (prev : LogEnd) (index : ℕ) (said : Option ℕ) → new.first ≡ old.first → meets old prev ≡ true → index ≡ prev.index + length es → TakesAfter old new prev.index es said → Matches old new prev es index said
+answered old new es prev index said f m i t =
+    let parts = meets_parts old prev m in
+    let w : whole_log new ≡ whole_log (with_entries old new.entries) = ap (λ (e : LogEnd). compacted e e.index ++ new.entries) f in
+    let starts = whole_starts old new.entries es prev.index t.0 parts.0 parts.1 t.2 in
+    (m, i, w ∙ whole_taken old new.entries es prev.index t.0 parts.0 t.2, subst (λ x. StartsAt (whole_log old) x said) (sym w) (subst (λ o. StartsAt (whole_log old) (whole_log (with_entries old new.entries)) o) (sym t.1) starts))

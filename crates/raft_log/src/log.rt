@@ -1,10 +1,11 @@
-ghost use Rattle.std.specs.Prelude.{◌≡◌, ◌<◌, ◌≤◌, ◌+◌, ◌-◌, ◌++◌, suc, true, MatchOption, option_map, [], ◌∷◌, OnErr, IfOk, IfSome, IsSome, ◌↔◌, if◌then◌else◌, is_ok, length, take, drop, slice_index_or};
-ghost use Rattle.raft_rules.specs.Log.{nth_term, log_end, term_at};
+ghost use Rattle.std.specs.Prelude.{◌≡◌, ◌<◌, ◌≤◌, ◌+◌, ◌-◌, ◌++◌, suc, true, MatchOption, option_map, [], ◌∷◌, OnErr, IfOk, IfSome, IsSome, ◌↔◌, if◌then◌else◌, is_ok, length, take, drop, slice_index_or, ◌&&◌, nat_lt, nat_le};
+ghost use Rattle.raft_rules.specs.Log.{nth_term, log_end, term_at, first_replaced};
 ghost use Rattle.raft_rules.specs.Compaction.{whole_log, meets};
 ghost use Rattle.raft_log.specs.Places.{known_term, cut_at};
+ghost use Rattle.raft_log.specs.Agreeing.{TakesAfter};
 ghost use Rattle.raft_log.specs.Answers.{Answers};
 
-use crate::queue::{drop_front, index_after, take_in, term_of};
+use crate::queue::{conflict, copied, drop_front, index_after, take_in, term_of};
 use raft_vote::{Entries, Entry, LogEnd};
 use std::alloc::{AllocError, Global};
 use std::collections::VecDeque;
@@ -195,14 +196,48 @@ impl Log {
         ensures first { self.new.first ≡ self.old.first }
         ensures err { OnErr result (self.new ≡ self.old) }
     {
-        let after = prev.index;
+        let index = index_after(prev.index, entries.len())?;
+        let from = self.take_after(prev.index, entries)?;
+        Ok(Accepted::Match { index, from })
+    }
+
+    /// Takes the entries of an Append as `accept` does, where the log is known to agree with the sender's up to the index
+    /// `after`. Answers the first index that was replaced or added, if any. Where memory runs out, the log stays.
+    pub fn take_after(&mut self, after: u64, entries: Vec<Entry>) -> Result<Option<u64>, AllocError>
+        requires low { self.old.first.index ≤ after }
+        requires high { after ≤ length (whole_log self.old) }
+        ensures ok { IfOk result (λ from. TakesAfter self.old self.new after entries.items from) }
+        ensures first { self.new.first ≡ self.old.first }
+        ensures err { OnErr result (self.new ≡ self.old) }
+    {
         let cut = self.cut();
-        let index = index_after(after, entries.len())?;
+        index_after(after, entries.len())?;
         let from = take_in(&mut self.entries, (after - cut) as usize, entries)?;
-        Ok(Accepted::Match {
-            index,
-            from: first_index(after, from),
-        })
+        Ok(first_index(after, from))
+    }
+
+    /// Whether the entries of an Append, which follow the index `prev`, would replace one at or below the index `through`.
+    /// Takes no memory; the cost is in the order of the entries that come.
+    #[tactic(auto, unfolding(raft_rules::specs::Log::first_replaced), using(crate::proofs::Places::whole_count, crate::proofs::Taking::rest))]
+    pub fn replaces(&self, prev: u64, coming: &[Entry], through: u64) -> bool
+        requires low { self.now.first.index ≤ prev }
+        requires high { prev ≤ length (whole_log self.now) }
+        ensures { result ≡ (nat_lt 0 (first_replaced (whole_log self.now) prev coming.now) && nat_le (first_replaced (whole_log self.now) prev coming.now) through) }
+    {
+        match conflict(&self.entries, (prev - self.first.index) as usize, coming) {
+            Some(n) => prev + (n as u64) < through,
+            None => false,
+        }
+    }
+
+    /// A copy of the entries that stand past an index, the cut or a later one, and no more than so many of them. Fails
+    /// where memory runs out. The cost is in the order of what is copied.
+    pub fn copied(&self, alloc: Global, after: u64, most: usize) -> Result<Entries, AllocError>
+        ensures { IfOk result (λ copy. copy ≡ take most (drop (after - self.now.first.index) self.now.entries)) }
+    {
+        let count = self.entries.len();
+        let from = after.saturating_sub(self.first.index).min(count as u64) as usize;
+        copied(alloc, &self.entries, from, from + most.min(count - from))
     }
 
     /// Cuts off the entries up to an index: each is given back, and the rest isn't moved. At or below the cut nothing

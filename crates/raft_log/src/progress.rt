@@ -6,7 +6,7 @@ ghost use Rattle.raft_rules.specs.Compaction.{whole_log};
 ghost use Rattle.raft_rules.specs.Progress.{next_in, match_in, rows_for, progress_of, after_ack, has_in, commit_of};
 
 use crate::log::Log;
-use crate::rows::{PeerRows, rows_of};
+use crate::rows::{PeerRows, rows_of, rows_of_both};
 use std::marker::Model;
 
 /// The most voters of a cluster.
@@ -59,7 +59,7 @@ impl Progress {
             count: 0,
             rows: PeerRows::new(),
         };
-        progress.set_servers(voters, &[], next);
+        progress.set_peers(voters, voters, next);
         progress
     }
 
@@ -68,9 +68,28 @@ impl Progress {
     pub fn set_servers(&mut self, voters: &[u64], standbys: &[u64], next: u64)
         requires few { length voters.now ≤ 7 }
         requires peers { length voters.now + length standbys.now ≤ 9 }
-        ensures { self.new ≡ record { own = self.old.own; voters = voters.now; rows = rows_for (others (voters.now ++ standbys.now) self.old.own) next self.old.rows } }
+        ensures { self.new ≡ record self.old { voters = voters.now; rows = rows_for (others (voters.now ++ standbys.now) self.old.own) next self.old.rows } }
     {
-        self.rows = rows_of(voters, standbys, self.own, next, &self.rows);
+        let rows = rows_of_both(voters, standbys, self.own, next, &self.rows);
+        self.set_rows(voters, rows);
+    }
+
+    /// The same, where the other voters and the standbys stand in one list, in the order of a configuration.
+    pub fn set_peers(&mut self, voters: &[u64], peers: &[u64], next: u64)
+        requires few { length voters.now ≤ 7 }
+        requires peers { length peers.now ≤ 9 }
+        ensures { self.new ≡ record self.old { voters = voters.now; rows = rows_for (others peers.now self.old.own) next self.old.rows } }
+    {
+        let rows = rows_of(peers, self.own, next, &self.rows);
+        self.set_rows(voters, rows);
+    }
+
+    // These voters, and these rows.
+    fn set_rows(&mut self, voters: &[u64], rows: PeerRows)
+        requires { length voters.now ≤ 7 }
+        ensures { self.new ≡ record self.old { voters = voters.now; rows = rows } }
+    {
+        self.rows = rows;
         self.voters = table_of(voters);
         self.count = voters.len();
     }

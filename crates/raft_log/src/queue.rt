@@ -1,10 +1,10 @@
 // The entries of a log as a queue, whose front goes without a move of the rest.
-ghost use Rattle.std.specs.Prelude.{◌≡◌, ◌<◌, ◌≤◌, ◌+◌, ◌++◌, OnOk, OnErr, IfOk, length, take, drop};
-ghost use Rattle.raft_rules.specs.Log.{nth_term};
+ghost use Rattle.std.specs.Prelude.{◌≡◌, ◌<◌, ◌≤◌, ◌+◌, ◌-◌, ◌++◌, suc, MatchOption, OnOk, OnErr, IfOk, length, take, drop};
+ghost use Rattle.raft_rules.specs.Log.{nth_term, conflict_place};
 ghost use Rattle.raft_log.specs.Agreeing.{has_term, agreeing_front, TakesIn};
 
-use raft_vote::Entry;
-use std::alloc::AllocError;
+use raft_vote::{Entries, Entry};
+use std::alloc::{AllocError, Global};
 use std::collections::VecDeque;
 
 /// The index that so many entries after an index have the last of. An index that is too great is want of memory.
@@ -100,4 +100,40 @@ pub fn take_in(
     }
     replace_rest(queue, place + same, coming, same)?;
     Ok(Some(same))
+}
+
+/// How many of the entries that come agree with those that stand from a place on, before the first that one of these
+/// conflicts with; nothing where none does.
+pub fn conflict(queue: &VecDeque<Entry>, place: usize, coming: &[Entry]) -> Option<usize>
+    requires { place ≤ length queue.now.items }
+    ensures place { MatchOption result (conflict_place (drop place queue.now.items) coming.now ≡ 0) (λ n. conflict_place (drop place queue.now.items) coming.now ≡ suc n) }
+    ensures within { MatchOption result (Unit {0}) (λ n. place + n < length queue.now.items) }
+{
+    let same = agreeing(queue, place, coming);
+    if coming.len() == same {
+        return None;
+    }
+    if place + same == queue.len() {
+        return None;
+    }
+    Some(same)
+}
+
+/// A copy of the entries from one place up to another.
+pub fn copied(
+    alloc: Global,
+    queue: &VecDeque<Entry>,
+    from: usize,
+    to: usize,
+) -> Result<Entries, AllocError>
+    requires order { from ≤ to }
+    requires within { to ≤ length queue.now.items }
+    ensures { IfOk result (λ copy. copy ≡ take (to - from) (drop from queue.now.items)) }
+{
+    let mut copies = Vec::with_capacity(alloc, to - from)?;
+    for place in from..to {
+        let entry = &queue[place];
+        copies.push(entry.copied(alloc)?)?;
+    }
+    Ok(Entries::new(copies))
 }

@@ -216,8 +216,24 @@ impl PeerRows {
     }
 }
 
-// The rows of the peers of a leader: those that had a row keep it.
-pub fn rows_of(voters: &[u64], standbys: &[u64], own: u64, next: u64, old: &PeerRows) -> PeerRows
+// The rows of the peers of a leader, but for the own id: those that had a row keep it.
+pub fn rows_of(peers: &[u64], own: u64, next: u64, old: &PeerRows) -> PeerRows
+    requires { length peers.now ≤ 9 }
+    ensures { result ≡ rows_for (others peers.now own) next old.now }
+{
+    let mut rows = PeerRows::new();
+    rows.add(peers, own, next, old);
+    rows
+}
+
+// The same of voters and standbys.
+pub fn rows_of_both(
+    voters: &[u64],
+    standbys: &[u64],
+    own: u64,
+    next: u64,
+    old: &PeerRows,
+) -> PeerRows
     requires { length voters.now + length standbys.now ≤ 9 }
     ensures { result ≡ rows_for (others (voters.now ++ standbys.now) own) next old.now }
 {

@@ -29,7 +29,7 @@ cond_same true x y v w p q = p refl
 cond_same false x y v w p q = q refl
 
 -- where an Append is sent, its place is known
-place_known : (s : Node) (next : ℕ) → Shape s → needs_snapshot s next ≡ false → (s.base ≤ next - 1) × ((next - 1 ≡ s.base) → (s.base ≡ 0) ⊎ (s.base ≡ s.snapshot.index))
+pub place_known : (s : Node) (next : ℕ) → Shape s → needs_snapshot s next ≡ false → (s.base ≤ next - 1) × ((next - 1 ≡ s.base) → (s.base ≡ 0) ⊎ (s.base ≡ s.snapshot.index))
 unfolding needs_snapshot
 place_known s next sh e =
     let p = or_parts _ _ e in
@@ -105,7 +105,7 @@ below_alike voters_of ids me s ys (suc k) told sh e =
     ap (λ c. cond c (suc k) (commit_below voters_of me s k)) st ∙ ap (λ x. cond (majority_stores (always ids) me (with_whole_log s ys) (suc k)) (suc k) x) ih)
     (λ t. refl)
 
-index_alike : (voters_of : List Entry → List ℕ) (ids : List ℕ) (me : ℕ) (s : Node) (ys : List Entry) → voters_of s.log ≡ ids → Shape s → Same s.base s.snapshot.index s.log ys → commit_index voters_of me s ≡ commit_index (always ids) me (with_whole_log s ys)
+pub index_alike : (voters_of : List Entry → List ℕ) (ids : List ℕ) (me : ℕ) (s : Node) (ys : List Entry) → voters_of s.log ≡ ids → Shape s → Same s.base s.snapshot.index s.log ys → commit_index voters_of me s ≡ commit_index (always ids) me (with_whole_log s ys)
 unfolding commit_index
 index_alike voters_of ids me s ys told sh e = below_alike voters_of ids me s ys (length s.log) told sh e ∙ ap (commit_below (always ids) me (with_whole_log s ys)) e.len
 
@@ -151,7 +151,7 @@ below_bounds voters_of me s (suc k) le in_log =
     on true x y P p q = p refl
     on false x y P p q = q refl
 
-bounds : (voters_of : List Entry → List ℕ) (me : ℕ) (s : Node) → Shape s → (s.commit ≤ commit_index voters_of me s) × (commit_index voters_of me s ≤ length s.log)
+pub bounds : (voters_of : List Entry → List ℕ) (me : ℕ) (s : Node) → Shape s → (s.commit ≤ commit_index voters_of me s) × (commit_index voters_of me s ≤ length s.log)
 unfolding commit_index
 bounds voters_of me s sh = below_bounds voters_of me s (length s.log) (omega arith) sh.within
 

@@ -24,7 +24,7 @@ use Rattle.raft_world.proofs.AlikeSteps.{SeesAt, AlikeStep, step_alike, alikes_a
 use Rattle.raft_world.proofs.Steps.{InputOk, InputsOk, rule_fine, raft_fine, step_fine, inputs_later}
 use Rattle.raft_world.proofs.Worlds.{moments, inputs_fine}
 
-same_refl : (b i : ℕ) (xs : List Entry) → Same b i xs xs
+pub same_refl : (b i : ℕ) (xs : List Entry) → Same b i xs xs
 same_refl b i xs = record { len = refl; rest = refl; snapshot = refl }
 
 same_trans : {b i : ℕ} {xs ys zs : List Entry} → Same b i xs ys → Same b i ys zs → Same b i xs zs
@@ -36,7 +36,7 @@ nth_gone last (suc n) zero lt = refl
 nth_gone last (suc n) (suc k) lt = nth_gone last n k (omega arith)
 
 -- what a node forgets is nothing that it knows
-forget_same : (b : ℕ) (last : LogEnd) (ys : List Entry) → b ≤ last.index → b ≤ length ys → term_at ys last.index ≡ last.term → Same b last.index ys (compacted last b ++ drop b ys)
+pub forget_same : (b : ℕ) (last : LogEnd) (ys : List Entry) → b ≤ last.index → b ≤ length ys → term_at ys last.index ≡ last.term → Same b last.index ys (compacted last b ++ drop b ys)
 forget_same b last ys low le t =
     let n : length (compacted last b) ≡ b = length-replicate b (record { term = last.term; kind = Barrier; bytes = [] }) in
     let rest : drop b ys ≡ drop b (compacted last b ++ drop b ys) = sym (drop_at (compacted last b) (drop b ys) b n) in

@@ -26,3 +26,6 @@ pub mod SnapshotFile
 pub mod OlderSnapshots
 pub mod KeepLaw
 pub mod KeepSnapshot
+pub mod Seen
+pub mod Damages
+pub mod Written

@@ -1,0 +1,15 @@
+pub mod WholeLogs
+pub mod TakenLogs
+pub mod OwnVotes
+pub mod PeerLists
+pub mod VoteRules
+pub mod AppendRules
+pub mod LeaderRules
+pub mod CutLogs
+pub mod EndRules
+pub mod FinishRules
+pub mod QueryRules
+pub mod MemberRules
+pub mod MessageRules
+pub mod StepRules
+pub mod StartRules

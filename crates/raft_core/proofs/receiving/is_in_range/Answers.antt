@@ -1,0 +1,16 @@
+use Rattle.std.proofs.Common.{◌∙◌, ◌<◌, arith}
+use Rattle.raft_vote.specs.Messages.{message_value}
+use Rattle.raft_core.proofs.MessageRules.{in_range_is, without_term, without_sender}
+use Rattle.raft_core.proofs.receiving.is_in_range.Goals as goal
+
+pub returns-then-message-eq0 : goal.returns-then-message-eq0
+returns-then-message-eq0 c = without_term (message_value c.args.message.now) c.if-message-eq0.true
+
+pub returns-then-message-eq0-2 : goal.returns-then-message-eq0-2
+returns-then-message-eq0-2 c = without_sender (message_value c.args.message.now) c.if-message-eq0-2.true
+
+pub returns : goal.returns
+returns c =
+    let t = c.if-message-eq0.false in
+    let f = c.if-message-eq0-2.false in
+    c.numbers_fit.ensures ∙ in_range_is (message_value c.args.message.now) (omega arith) (omega arith)

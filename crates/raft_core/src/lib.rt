@@ -1,0 +1,24 @@
+//! One node of Raft: each event is one step of the rules.
+#![tactic(auto)]
+
+mod compaction;
+mod effects;
+mod elections;
+mod entries;
+mod event;
+mod finishing;
+mod membership;
+mod node;
+mod queries;
+mod receiving;
+mod replication;
+mod role;
+mod sending;
+mod starting;
+mod state;
+mod step;
+
+pub use event::{Kept2, RaftEvent, RaftView, Todo};
+pub use node::RaftNode;
+pub use role::RaftRole;
+pub use sending::{Sending, Sendings};

@@ -1,0 +1,75 @@
+// What a node tells of itself. No call takes memory.
+ghost use Rattle.std.specs.Prelude.{◌≡◌, ◌<◌, ◌≤◌, ◌-◌, ◌&&◌, ◌==◌, ◌↔◌, IsSome, IfSome, length, slice_index_or};
+ghost use Rattle.raft_rules.specs.Log.{log_end};
+ghost use Rattle.raft_rules.specs.Node.{is_leader};
+ghost use Rattle.raft_rules.specs.NodeValues.{node_of};
+ghost use Rattle.raft_rules.specs.Progress.{match_in};
+ghost use Rattle.raft_core.specs.Queries.{forgets_at, known_at, leader_at};
+ghost use Rattle.raft_core.specs.Roles.{role_value};
+
+use crate::event::RaftView;
+use crate::node::RaftNode;
+use raft_vote::Entry;
+
+// A node, if it is one.
+fn known(leader: u64) -> Option<u64>
+    ensures { result ≡ leader_at leader }
+{
+    if leader == 0 {
+        return None;
+    }
+    Some(leader)
+}
+
+impl RaftNode {
+    /// How the node stands.
+    pub fn view(&self) -> RaftView
+        ensures term { result.term ≡ self.now.term }
+        ensures role { role_value result.role ≡ self.now.role }
+        ensures leader { result.leader ≡ leader_at self.now.leader }
+        ensures last { result.last ≡ log_end (node_of self.now).log }
+        ensures commit { result.commit ≡ self.now.commit }
+    {
+        RaftView {
+            term: self.term(),
+            role: self.role(),
+            leader: known(self.leader),
+            last: self.end(),
+            commit: self.commit(),
+        }
+    }
+
+    /// The entry at an index of the log, if it isn't cut off.
+    pub fn entry(&self, index: u64) -> Option<&Entry>
+        ensures some { IsSome result ↔ (self.now.base < index) × (index ≤ length (node_of self.now).log) }
+        ensures entry { IfSome result (λ e. e.now ≡ slice_index_or self.now.entries (index - self.now.base - 1) e.now) }
+    {
+        self.log.entry(index)
+    }
+
+    /// The term at an index of the log, where it is known: of an entry that isn't cut off, at the end of the snapshot, and
+    /// at 0, which is before the first entry.
+    pub fn term_at(&self, index: u64) -> Option<u64>
+        ensures { result ≡ known_at self.now index }
+    {
+        if self.forgets(index) {
+            return None;
+        }
+        self.log.term_at(index)
+    }
+
+    // Whether the log is cut off at the index, and the term there isn't kept.
+    fn forgets(&self, index: u64) -> bool
+        ensures { result ≡ forgets_at self.now index }
+    {
+        let snapshot = self.snapshot();
+        index == self.cut_index() && index != 0 && index != snapshot.index
+    }
+
+    /// Whether the node leads, and the peer's log is known to agree with all of its own.
+    pub fn even(&self, peer: u64) -> bool
+        ensures { result ≡ (is_leader self.now.role && (match_in self.now.rows peer == length (node_of self.now).log)) }
+    {
+        self.leads() && self.match_of(peer) == self.last_index()
+    }
+}

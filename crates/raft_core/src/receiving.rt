@@ -1,0 +1,102 @@
+// What a node does with a message, by its term.
+ghost use Rattle.std.specs.Prelude.{◌≡◌, nat_lt, cond, true, IfOk, []};
+ghost use Rattle.raft_rules.specs.Node.{Follower};
+ghost use Rattle.raft_rules.specs.NodeValues.{node_of};
+ghost use Rattle.raft_rules.specs.Receiving.{in_range, what_in_range, on_older_term, on_own_term, on_message};
+ghost use Rattle.raft_vote.specs.Messages.{message_value, what_value};
+ghost use Rattle.raft_core.specs.Effects.{Does, ChangesLog};
+ghost use Rattle.raft_core.specs.Nodes.{told};
+ghost use Rattle.raft_core.specs.Steps.{Ends};
+
+use crate::effects::{Effects, Say};
+use crate::node::RaftNode;
+use raft_vote::{LogEnd, RaftMessage, What};
+use std::alloc::{AllocError, Global};
+
+// Whether a node looks at a message: it has a term and a sender, and its numbers are in range.
+fn is_in_range(message: &RaftMessage) -> bool
+    ensures { result ≡ in_range (message_value message.now) }
+{
+    if message.term == 0 {
+        return false;
+    }
+    if message.from == 0 {
+        return false;
+    }
+    message.numbers_fit()
+}
+
+impl RaftNode {
+    // A greater term than the own one is taken.
+    fn hear_term(&mut self, term: u64)
+        ensures { self.new ≡ cond (nat_lt self.old.term term) (record self.old { term = term; vote = 0; role = Follower; leader = 0; grants = [] }) self.old }
+    {
+        if self.term() < term {
+            self.take_term(term);
+        }
+    }
+
+    // A message of a smaller term.
+    fn on_older_term(&self, from: u64, what: &What) -> Effects
+        ensures { Does self.now (on_older_term self.now.id (node_of self.now) from (what_value what.now)) self.now result }
+    {
+        match what {
+            What::AskVote { .. } => Effects::says(Say::Vote {
+                to: from,
+                granted: false,
+            }),
+            What::Append { .. } | What::Install { .. } => Effects::says(Say::Ack {
+                to: from,
+                good: false,
+                index: self.last_index(),
+            }),
+            What::Vote { .. } | What::Ack { .. } | What::TimeoutNow => Effects::says(Say::Nothing),
+        }
+    }
+
+    // A message of the own term.
+    fn on_own_term(&mut self, alloc: Global, from: u64, what: &What) -> Result<Effects, AllocError>
+        requires { what_in_range (what_value what.now) ≡ true }
+        ensures outcome { IfOk result (λ effects. Ends self.old (on_own_term (told self.old) self.old.id (node_of self.old) from (what_value what.now)) self.new effects) }
+        ensures log { IfOk result (λ effects. ChangesLog (node_of self.old) (node_of self.new) effects.change) }
+    {
+        match what {
+            What::AskVote { last } => Ok(self.on_ask_vote(from, *last)),
+            What::Vote { granted } => self.on_vote(alloc, from, *granted),
+            What::Append {
+                prev,
+                commit,
+                entries,
+            } => self.on_append(alloc, from, *prev, *commit, entries.as_slice()),
+            What::Ack { good, index } => Ok(self.on_ack(from, *good, *index)),
+            What::Install { snapshot } => Ok(self.on_install(
+                alloc,
+                from,
+                LogEnd {
+                    index: snapshot.index,
+                    term: snapshot.term,
+                },
+            )),
+            What::TimeoutNow => self.start_election(alloc),
+        }
+    }
+
+    // A message comes.
+    pub(crate) fn on_message(
+        &mut self,
+        alloc: Global,
+        message: &RaftMessage,
+    ) -> Result<Effects, AllocError>
+        ensures outcome { IfOk result (λ effects. Ends self.old (on_message (told self.old) self.old.id (node_of self.old) (message_value message.now)) self.new effects) }
+        ensures log { IfOk result (λ effects. ChangesLog (node_of self.old) (node_of self.new) effects.change) }
+    {
+        if !is_in_range(message) {
+            return Ok(Effects::says(Say::Nothing));
+        }
+        if message.term < self.term() {
+            return Ok(self.on_older_term(message.from, &message.what));
+        }
+        self.hear_term(message.term);
+        self.on_own_term(alloc, message.from, &message.what)
+    }
+}
