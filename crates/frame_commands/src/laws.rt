@@ -6,7 +6,7 @@ ghost use Rattle.dq_base.specs.declared.pages.NumberedPage.{NumberedPage};
 ghost use Rattle.wire_words.specs.Items.{AreBytes};
 ghost use Rattle.frame_commands.specs.declared.command.Command.{Command};
 ghost use Rattle.frame_commands.specs.declared.command.Command.TheVariants.{OpenDb, Frames, Undo, Checkpoint};
-ghost use Rattle.frame_commands.specs.Numbers.{numbers_fit};
+ghost use Rattle.frame_commands.specs.Numbers.{numbers_fit, HasLowNumbers};
 ghost use Rattle.frame_commands.specs.InRange.{AreInRange};
 ghost use Rattle.frame_commands.specs.Spelling.{Writes};
 ghost use Rattle.frame_commands.specs.Reading.{command_of};
@@ -27,7 +27,8 @@ pub fn commands_stand_apart()
 {}
 
 /// The test of a command's numbers says what their range is: only a Frames command has numbers that could be out of it,
-/// and they are in range exactly where it has 1 to 64 pages that end the transaction or after which it goes on.
+/// and they are in range exactly where it has 1 to 64 pages that end the transaction or after which it goes on. No page of a command that passes has a
+/// number above 4,294,967,295.
 pub fn numbers_are_in_range()
     ensures open_db { (name : List ℕ) → numbers_fit (OpenDb name) ≡ true }
     ensures undo { (tx : ℕ) → numbers_fit (Undo tx) ≡ true }
@@ -36,6 +37,7 @@ pub fn numbers_are_in_range()
         numbers_fit (Frames name tx truncate commit pages) ≡ true → AreInRange truncate commit pages }
     ensures complete { (name : List ℕ) (tx truncate : ℕ) (commit : Bool) (pages : List NumberedPage) →
         AreInRange truncate commit pages → numbers_fit (Frames name tx truncate commit pages) ≡ true }
+    ensures low { (command : Command) → numbers_fit command ≡ true → HasLowNumbers command }
 {}
 
 /// A set that can be applied may be split, where none of its numbers is above 4,294,967,295.

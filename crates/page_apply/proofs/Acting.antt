@@ -13,15 +13,16 @@ use Rattle.dq_base.specs.declared.pages.PageSet.{PageSet}
 use Rattle.dq_base.specs.Applying.{page_fault}
 use Rattle.frame_commands.specs.declared.command.Command.{Command}
 use Rattle.frame_commands.specs.declared.command.Command.TheVariants.{OpenDb, Frames, Undo, Checkpoint}
+use Rattle.frame_commands.specs.Numbers.{AreLow, HasLowNumbers}
 use Rattle.read_marks.specs.Marks.{mark_at}
 use Rattle.checkpoint_core.specs.Store.{Store, fresh_store, newest_image, pinned, released, committed, checkpointed, sets_to_move, IsLive, image_under, StillShows, MarksWithin}
 use Rattle.checkpoint_core.proofs.History.{no_mark_at_first}
 use Rattle.checkpoint_core.proofs.Shown.{commit_shows, checkpoint_shows, pin_shows, pin_shows_newest, release_shows, mark_at-here, is_live, within-committed, within-moved, within-pinned, within-released}
 use Rattle.page_apply.specs.declared.database.Database.{Database}
 use Rattle.page_apply.specs.ByName.{at_name, change_first}
-use Rattle.page_apply.specs.Files.{empty_image, pending_of}
+use Rattle.page_apply.specs.Files.{empty_image, pending_of, pending_without}
 use Rattle.page_apply.specs.Databases.{has_name, named, opened, grown, with_commit, with_store, with_pending, frames, undone, moved, changed, act}
-use Rattle.page_apply.specs.Machines.{AreApart, AreBelow, AllWithin, IsMachine}
+use Rattle.page_apply.specs.Machines.{AreApart, AreBelow, AllWithin, IsPendingLow, IsMachine}
 use Rattle.page_apply.specs.Pins.{Pinning, has_place, at_place, is_live_in, shown_by, IsPinned, pinned_image, with_pin, without_pin, IsPin, ShowsNewest, StillPinned}
 use Rattle.page_apply.proofs.Named.{compare}
 use Rattle.page_apply.proofs.First.{stays}
@@ -36,11 +37,11 @@ still : (store : Store) (id : ℕ) → StillShows store store id
 still store id = record { live = λ h. h; same_image = λ h. refl }
 
 same_shows : Shows (λ d. d)
-same_shows = record { keeps = record { name = λ d. refl; place = λ d. refl; marks = λ d h. h }; shows = λ d id h. still d.store id }
+same_shows = record { keeps = record { name = λ d. refl; place = λ d. refl; marks = λ d h. h; numbers = λ d h. h }; shows = λ d id h. still d.store id }
 
 commit_keeps : (pages : List NumberedPage) → Shows (λ d. with_commit pages d)
 commit_keeps pages = record {
-  keeps = record { name = λ d. name (is_none (page_fault pages)) d; place = λ d. place (is_none (page_fault pages)) d; marks = λ d h. marks (is_none (page_fault pages)) d h };
+  keeps = record { name = λ d. name (is_none (page_fault pages)) d; place = λ d. place (is_none (page_fault pages)) d; marks = λ d h. marks (is_none (page_fault pages)) d h; numbers = λ d h. numbers (is_none (page_fault pages)) d h };
   shows = λ d id h. shows (is_none (page_fault pages)) d id h;
 }
   where
@@ -59,28 +60,53 @@ commit_keeps pages = record {
     marks true d h = within-committed d.store pages h
     marks false d h = h
 
+    numbers : (b : Bool) (d : Database) → IsPendingLow d.pending → IsPendingLow (after b d).pending
+    numbers true d h = h
+    numbers false d h = h
+
     shows : (b : Bool) (d : Database) (id : ℕ) → MarksWithin d.store → StillShows d.store (after b d).store id
     shows true d id h = commit_shows d.store pages id h
     shows false d id h = still d.store id
 
-frames_shows : (tx : ℕ) (commit : Bool) (pages : List NumberedPage) → Shows (frames tx commit pages)
+low_both : (first second : List NumberedPage) → AreLow first → AreLow second → AreLow (first ++ second)
+low_both [] second a b = b
+low_both (p ∷ first) second a b = (a.0, low_both first second a.1 b)
+
+pending_low : (tx : ℕ) (pending : Option PageSet) → IsPendingLow pending → AreLow (pending_of tx pending)
+pending_low tx None h = tt
+pending_low tx (Some set) h = by (eqb set.tx tx)
+  where
+    by : (b : Bool) → AreLow (cond b set.pages [])
+    by true = h
+    by false = tt
+
+without_low : (tx : ℕ) (pending : Option PageSet) → IsPendingLow pending → IsPendingLow (pending_without tx pending)
+without_low tx None h = tt
+without_low tx (Some set) h = by (eqb set.tx tx)
+  where
+    by : (b : Bool) → IsPendingLow (cond b None (Some set))
+    by true = tt
+    by false = h
+
+frames_shows : (tx : ℕ) (commit : Bool) (pages : List NumberedPage) → AreLow pages → Shows (frames tx commit pages)
 unfolding frames
-frames_shows tx true pages = record {
+frames_shows tx true pages low = record {
   keeps = record {
     name = λ d. (commit_keeps (pending_of tx d.pending ++ pages)).keeps.name d;
     place = λ d. (commit_keeps (pending_of tx d.pending ++ pages)).keeps.place d;
     marks = λ d h. (commit_keeps (pending_of tx d.pending ++ pages)).keeps.marks d h;
+    numbers = λ d h. tt;
   };
   shows = λ d id h. (commit_keeps (pending_of tx d.pending ++ pages)).shows d id h;
 }
-frames_shows tx false pages = record { keeps = record { name = λ d. refl; place = λ d. refl; marks = λ d h. h }; shows = λ d id h. still d.store id }
+frames_shows tx false pages low = record { keeps = record { name = λ d. refl; place = λ d. refl; marks = λ d h. h; numbers = λ d h. low_both (pending_of tx d.pending) pages (pending_low tx d.pending h) low }; shows = λ d id h. still d.store id }
 
 undone_shows : (tx : ℕ) → Shows (undone tx)
-undone_shows tx = record { keeps = record { name = λ d. refl; place = λ d. refl; marks = λ d h. h }; shows = λ d id h. still d.store id }
+undone_shows tx = record { keeps = record { name = λ d. refl; place = λ d. refl; marks = λ d h. h; numbers = λ d h. without_low tx d.pending h }; shows = λ d id h. still d.store id }
 
 moved_shows : Shows (λ d. moved d)
 moved_shows = record {
-  keeps = record { name = λ d. refl; place = λ d. refl; marks = λ d h. within-moved d.store (sets_to_move d.store) h };
+  keeps = record { name = λ d. refl; place = λ d. refl; marks = λ d h. within-moved d.store (sets_to_move d.store) h; numbers = λ d h. h };
   shows = λ d id h. checkpoint_shows d.store id;
 }
 
@@ -93,14 +119,14 @@ fresh_within id m e = absurd (none_is_mark m (sym (no_mark_at_first id) ∙ e))
 -- ---- a machine stays one
 
 machine_changed : (name : List ℕ) (f : Database → Database) → Keeps f → (ds : List Database) → IsMachine ds → IsMachine (changed name f ds)
-machine_changed name f keeps ds m = machine_at f keeps (opened (length ds) name) name ds refl refl fresh_within m
+machine_changed name f keeps ds m = machine_at f keeps (opened (length ds) name) name ds refl refl fresh_within tt m
 
-pub act_machine : (ds : List Database) (command : Command) → IsMachine ds → IsMachine (act ds command)
+pub act_machine : (ds : List Database) (command : Command) → HasLowNumbers command → IsMachine ds → IsMachine (act ds command)
 unfolding act
-act_machine ds (OpenDb name) m = machine_changed name (λ d. d) same_shows.keeps ds m
-act_machine ds (Frames name tx truncate commit pages) m = machine_changed name (frames tx commit pages) (frames_shows tx commit pages).keeps ds m
-act_machine ds (Undo tx) m = machine_each (undone tx) (undone_shows tx).keeps ds m
-act_machine ds (Checkpoint name) m = machine_first (λ d. moved d) moved_shows.keeps (has_name name) ds m
+act_machine ds (OpenDb name) low m = machine_changed name (λ d. d) same_shows.keeps ds m
+act_machine ds (Frames name tx truncate commit pages) low m = machine_changed name (frames tx commit pages) (frames_shows tx commit pages low).keeps ds m
+act_machine ds (Undo tx) low m = machine_each (undone tx) (undone_shows tx).keeps ds m
+act_machine ds (Checkpoint name) low m = machine_first (λ d. moved d) moved_shows.keeps (has_name name) ds m
 
 -- ---- the database of a place
 
@@ -248,26 +274,26 @@ first_pinned f s test ds m pin = found_again ds (change_first test f ds) pin (λ
       ]
     ])
 
-pub act_pinned : (ds : List Database) (command : Command) → IsMachine ds → (pin : Pinning) → StillPinned ds (act ds command) pin
+pub act_pinned : (ds : List Database) (command : Command) → HasLowNumbers command → IsMachine ds → (pin : Pinning) → StillPinned ds (act ds command) pin
 unfolding act
-act_pinned ds (OpenDb name) m pin = changed_pinned name (λ d. d) same_shows ds m pin
-act_pinned ds (Frames name tx truncate commit pages) m pin = changed_pinned name (frames tx commit pages) (frames_shows tx commit pages) ds m pin
-act_pinned ds (Undo tx) m pin = each_pinned (undone tx) (undone_shows tx) ds m pin
-act_pinned ds (Checkpoint name) m pin = first_pinned (λ d. moved d) moved_shows (has_name name) ds m pin
+act_pinned ds (OpenDb name) low m pin = changed_pinned name (λ d. d) same_shows ds m pin
+act_pinned ds (Frames name tx truncate commit pages) low m pin = changed_pinned name (frames tx commit pages) (frames_shows tx commit pages low) ds m pin
+act_pinned ds (Undo tx) low m pin = each_pinned (undone tx) (undone_shows tx) ds m pin
+act_pinned ds (Checkpoint name) low m pin = first_pinned (λ d. moved d) moved_shows (has_name name) ds m pin
 
 -- ---- after a call that may want memory
 
-pub machine_after : {F : Type 0} (result : Result (Unit {0}) F) (old new : List Database) (command : Command) → IsMachine old → OnOk result (new ≡ act old command) → OnErr result (new ≡ old) → IsMachine new
-machine_after (Ok done) old new command m ok kept = subst IsMachine (sym ok) (act_machine old command m)
-machine_after (Err fault) old new command m ok kept = subst IsMachine (sym kept) m
+pub machine_after : {F : Type 0} (result : Result (Unit {0}) F) (old new : List Database) (command : Command) → HasLowNumbers command → IsMachine old → OnOk result (new ≡ act old command) → OnErr result (new ≡ old) → IsMachine new
+machine_after (Ok done) old new command low m ok kept = subst IsMachine (sym ok) (act_machine old command low m)
+machine_after (Err fault) old new command low m ok kept = subst IsMachine (sym kept) m
 
-pub pinned_after : {F : Type 0} (result : Result (Unit {0}) F) (old new : List Database) (command : Command) → IsMachine old → OnOk result (new ≡ act old command) → OnErr result (new ≡ old) → (pin : Pinning) → StillPinned old new pin
-pinned_after (Ok done) old new command m ok kept pin = subst (λ (ds : List Database). StillPinned old ds pin) (sym ok) (act_pinned old command m pin)
-pinned_after (Err fault) old new command m ok kept pin = subst (λ (ds : List Database). StillPinned old ds pin) (sym kept) (record { live = λ h. h; same_image = λ h. refl })
+pub pinned_after : {F : Type 0} (result : Result (Unit {0}) F) (old new : List Database) (command : Command) → HasLowNumbers command → IsMachine old → OnOk result (new ≡ act old command) → OnErr result (new ≡ old) → (pin : Pinning) → StillPinned old new pin
+pinned_after (Ok done) old new command low m ok kept pin = subst (λ (ds : List Database). StillPinned old ds pin) (sym ok) (act_pinned old command low m pin)
+pinned_after (Err fault) old new command low m ok kept pin = subst (λ (ds : List Database). StillPinned old ds pin) (sym kept) (record { live = λ h. h; same_image = λ h. refl })
 
 pub no_databases : IsMachine []
 unfolding IsStrictlySortedBy
-no_databases = record { in_order = tt; below = tt; apart = tt; marks = tt }
+no_databases = record { in_order = tt; below = tt; apart = tt; marks = tt; numbers = tt }
 
 -- ---- a pin
 
@@ -276,7 +302,7 @@ abbrev pub marked : ℕ → Database → Database
 marked mark d = with_store (pinned d.store mark) d
 
 marked_keeps : (mark : ℕ) → Keeps (marked mark)
-marked_keeps mark = record { name = λ d. refl; place = λ d. refl; marks = λ d h. within-pinned d.store mark h }
+marked_keeps mark = record { name = λ d. refl; place = λ d. refl; marks = λ d h. within-pinned d.store mark h; numbers = λ d h. h }
 
 pub pin_machine : (name : List ℕ) (old new : List Database) (pin : Pinning) → IsPin name old new pin → IsMachine old → IsMachine new
 pin_machine name old new pin is m = subst IsMachine (sym is.now) (machine_first (marked pin.mark) (marked_keeps pin.mark) (has_name name) old m)
@@ -345,7 +371,7 @@ abbrev pub unmarked : ℕ → Database → Database
 unmarked mark d = with_store (released d.store mark) d
 
 pub release_machine : (pin : Pinning) (ds : List Database) → IsMachine ds → IsMachine (without_pin pin ds)
-release_machine pin ds m = machine_first (unmarked pin.mark) (record { name = λ d. refl; place = λ d. refl; marks = λ d h. within-released d.store pin.mark h }) (has_place pin.place) ds m
+release_machine pin ds m = machine_first (unmarked pin.mark) (record { name = λ d. refl; place = λ d. refl; marks = λ d h. within-released d.store pin.mark h; numbers = λ d h. h }) (has_place pin.place) ds m
 
 place_of_found : (p : ℕ) (ds : List Database) (d : Database) → at_place p ds ≡ Some d → d.place ≡ p
 place_of_found p ds d e = (place_is p ds d (λ x. Unit {0}) (all_unit ds) e).0

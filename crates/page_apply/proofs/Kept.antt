@@ -6,7 +6,7 @@ use Rattle.std.proofs.lemmas.Bool.{eqb-true, ne_eqb}
 use Rattle.checkpoint_core.specs.Store.{Store, StillShows, MarksWithin}
 use Rattle.page_apply.specs.declared.database.Database.{Database}
 use Rattle.page_apply.specs.ByName.{at_name, change_first, Ascend}
-use Rattle.page_apply.specs.Machines.{names_of, AreApart, AreBelow, AllWithin, IsMachine}
+use Rattle.page_apply.specs.Machines.{names_of, AreApart, AreBelow, AllWithin, IsPendingLow, IsMachine}
 use Rattle.page_apply.specs.Pins.{Pinning, has_place, at_place, IsPinned, pinned_image, StillPinned}
 use Rattle.page_apply.proofs.Named.{compare}
 use Rattle.page_apply.proofs.Ordered.{order_kept, same_names}
@@ -16,6 +16,7 @@ pub record Keeps (f : Database → Database) : Type 0 where
   pub name : (d : Database) → (f d).name ≡ d.name
   pub place : (d : Database) → (f d).place ≡ d.place
   pub marks : (d : Database) → MarksWithin d.store → MarksWithin (f d).store
+  pub numbers : (d : Database) → IsPendingLow d.pending → IsPendingLow (f d).pending
 
 -- ---- names in order
 
@@ -105,12 +106,13 @@ module _ (f : Database → Database) (keeps : Keeps f) (new : Database) (name : 
   pub marks_kept : MarksWithin new.store → (ds : List Database) → AllWithin ds → AllWithin (at_name (λ (d : Database). d.name) new name f ds)
   marks_kept fresh ds marks = all_at (λ d. MarksWithin d.store) (keeps.marks new fresh) (λ d h. keeps.marks d h) ds marks
 
-  pub machine_at : (ds : List Database) → new.name ≡ name → new.place ≡ length ds → MarksWithin new.store → IsMachine ds → IsMachine (at_name (λ (d : Database). d.name) new name f ds)
-  machine_at ds is place fresh m = record {
+  pub machine_at : (ds : List Database) → new.name ≡ name → new.place ≡ length ds → MarksWithin new.store → IsPendingLow new.pending → IsMachine ds → IsMachine (at_name (λ (d : Database). d.name) new name f ds)
+  machine_at ds is place fresh low m = record {
     in_order = order_kept (λ (d : Database). d.name) new name is f keeps.name ds m.in_order;
     below = below_kept ds place m.below;
     apart = apart_kept (length ds) ds place m.below m.apart;
     marks = marks_kept fresh ds m.marks;
+    numbers = all_at (λ d. IsPendingLow d.pending) (keeps.numbers new low) (λ d h. keeps.numbers d h) ds m.numbers;
   }
 
 -- ---- the same where the first that passes a test is changed, and where each is
@@ -171,6 +173,7 @@ module _ (f : Database → Database) (keeps : Keeps f) where
     below = subst (λ (k : ℕ). AreBelow k (change_first test f ds)) (sym (as_many_first test ds)) (all_first (λ d. d.place < length ds) (lower (length ds)) test ds m.below);
     apart = apart_first test ds m.apart;
     marks = all_first (λ d. MarksWithin d.store) keeps.marks test ds m.marks;
+    numbers = all_first (λ d. IsPendingLow d.pending) keeps.numbers test ds m.numbers;
   }
 
   pub machine_each : (ds : List Database) → IsMachine ds → IsMachine (map f ds)
@@ -179,4 +182,5 @@ module _ (f : Database → Database) (keeps : Keeps f) where
     below = subst (λ (k : ℕ). AreBelow k (map f ds)) (sym (as_many_each ds)) (all_each (λ d. d.place < length ds) (lower (length ds)) ds m.below);
     apart = apart_each ds m.apart;
     marks = all_each (λ d. MarksWithin d.store) keeps.marks ds m.marks;
+    numbers = all_each (λ d. IsPendingLow d.pending) keeps.numbers ds m.numbers;
   }

@@ -3,6 +3,7 @@
 ghost use Rattle.std.specs.Prelude.{◌≡◌, [], map, OnOk, OnErr, IfOk};
 ghost use Rattle.std.specs.Option.{option_map};
 ghost use Rattle.dq_base.specs.Images.{page_count};
+ghost use Rattle.frame_commands.specs.Numbers.{HasLowNumbers};
 ghost use Rattle.checkpoint_core.specs.Store.{newest, newest_image};
 ghost use Rattle.page_apply.specs.ByName.{change_first, Ascend};
 ghost use Rattle.page_apply.specs.declared.database.Database.{Database};
@@ -153,9 +154,12 @@ impl Machine {
     /// can be applied, and nothing is pending then. Undo drops what is pending for its transaction. Checkpoint moves the
     /// sets of its database up to the least live mark into the base, and changes no image.
     ///
+    /// No page of the command has a number above 4,294,967,295, as is so where `Command::numbers_fit`.
+    ///
     /// Costs in the order of the command's pages, of the pending ones where a transaction ends, and of the names; a
     /// checkpoint in the order of the frames that it moves. `Err` is want of memory; the machine is then unchanged.
     pub fn act(&mut self, command: &Command) -> Result<(), AllocError>
+        requires { HasLowNumbers command.now }
         ensures done { OnOk result (self.new ≡ act self.old command.now) }
         ensures files { OnOk result (contents_of self.new ≡ of_files.act (contents_of self.old) command.now) }
         ensures kept { OnErr result (self.new ≡ self.old) }

@@ -39,7 +39,8 @@ fn set_of_65(alloc: Global) -> Result<PageSet, AllocError> {
 // those since the last checkpoint.
 type State = (Option<u64>, Option<u64>, Option<u64>, Option<u64>);
 
-// That after each of these commands.
+// That after each of these commands, up to the first whose numbers are out of their range.
+#[tactic(auto, using(frame_commands::proofs::InOtherWords::fit_low))]
 fn states(
     alloc: Global,
     machine: &mut Machine,
@@ -47,6 +48,9 @@ fn states(
 ) -> Result<Vec<State>, AllocError> {
     let mut states = Vec::new(alloc);
     for command in commands {
+        if !command.numbers_fit() {
+            return Ok(states);
+        }
         machine.act(command)?;
         states.push((
             machine.pending("d"),

@@ -9,7 +9,7 @@ use Rattle.page_apply.proofs.Contents.{shown_after}
 use Rattle.page_apply.proofs.machine.Machine.act.Goals as goal
 
 pub invariant_of-self : goal.invariant_of-self
-invariant_of-self c = machine_after c.act_on.result c.self.inside.databases.items c.act_on.new.databases.items c.args.command.now c.self.invariant c.act_on.ensures.ok c.act_on.ensures.kept
+invariant_of-self c = machine_after c.act_on.result c.self.inside.databases.items c.act_on.new.databases.items c.args.command.now c.requires c.self.invariant c.act_on.ensures.ok c.act_on.ensures.kept
 
 pub returns-clause-files : goal.returns-clause-files
 returns-clause-files c =
@@ -19,4 +19,4 @@ returns-clause-files c =
 pub returns-clause-shown : goal.returns-clause-shown
 returns-clause-shown c pin =
     subst (λ (ds : List Database). StillPinned ds c.act_on.new.databases.items pin) c.self.view_is
-    (pinned_after c.act_on.result c.self.inside.databases.items c.act_on.new.databases.items c.args.command.now c.self.invariant c.act_on.ensures.ok c.act_on.ensures.kept pin)
+    (pinned_after c.act_on.result c.self.inside.databases.items c.act_on.new.databases.items c.args.command.now c.requires c.self.invariant c.act_on.ensures.ok c.act_on.ensures.kept pin)
