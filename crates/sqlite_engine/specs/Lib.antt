@@ -1,10 +1,12 @@
 pub mod Sql
 pub mod Errors
+pub mod Keeping
 pub mod Shows
 pub mod Values
 pub mod Carried
 pub mod Unfit
 pub mod Meant
+pub mod Naming
 pub mod Led
 pub mod Openings
 pub mod Any

@@ -1,7 +1,8 @@
-ghost use Rattle.std.specs.Prelude.{◌≡◌, length, IfOk, IfErr, IfSome, OnOk};
+ghost use Rattle.std.specs.Prelude.{◌≡◌, ◌/◌, length, IfOk, IfErr, IfSome, OnOk};
 ghost use Rattle.sqlite.specs.Files.{file_state};
 ghost use Rattle.sqlite.specs.State.{Executes, Shown, FailsToQuery, IsUnchanged, IsNotRun};
 ghost use Rattle.sqlite.specs.Values.{bound};
+ghost use Rattle.sqlite_engine.specs.Keeping.{room_for};
 ghost use Rattle.sqlite_engine.specs.Sql.{Finds, Closed, HasColumns};
 
 use dq_base::{Image, PAGE_SIZE};
@@ -24,8 +25,11 @@ pub(crate) enum OpenFault {
 /// of the next.
 const SEED: u64 = 1;
 
-/// How an image is opened: with room for as many pages as it has, from 16 to 1,024, in powers of two.
-fn options(image: &Image) -> Options {
+/// How an image is opened: with room for 16, 128 or 1,024 pages, by the pages of its main file.
+fn options(image: &Image) -> Options
+    ensures room { result.cache_pages ≡ room_for (length image.now.main / 4096) }
+    ensures others { (result.seed ≡ 1) × (result.spill_pages ≡ 2000) × (result.checkpoint_frames ≡ 1000) }
+{
     let pages = image.main.len() / PAGE_SIZE;
     let mut options = Options::new(SEED);
     options.cache_pages = if pages < 16 {

@@ -1,5 +1,6 @@
-ghost use Rattle.std.specs.Prelude.{◌≡◌, ◌≤◌, ◌<◌, None, length, slice_index_or, IfOk, IfErr, IfSome, OnOk};
+ghost use Rattle.std.specs.Prelude.{◌≡◌, ◌≤◌, ◌<◌, ◌⊎◌, [], ◌∷◌, ◌++◌, None, length, slice_index_or, IfOk, IfErr, IfSome, OnOk};
 ghost use Rattle.sql_engine.specs.declared.kind.EngineKind.TheVariants.{Sqlite};
+ghost use Rattle.sqlite_engine.specs.Keeping.{newest};
 ghost use Rattle.sqlite_engine.specs.Openings.{IsUnopened};
 ghost use Rattle.sqlite_engine.specs.Meant.{sql_meaning};
 
@@ -104,11 +105,20 @@ fn count_refused(refused: &mut u64) -> EngineFault
 }
 
 /// Adds a connection. The oldest goes where there are too many, and this one where memory runs out.
-fn add(list: &mut Vec<Kept>, kept: Kept) {
+fn add(list: &mut Vec<Kept>, kept: Kept)
+    ensures { (list.new.items ≡ newest list.old.items ++ kept ∷ []) ⊎ (list.new.items ≡ newest list.old.items) }
+{
+    drop_oldest(list);
+    let _ = list.push(kept);
+}
+
+/// Drops the first connection where there are too many.
+fn drop_oldest(list: &mut Vec<Kept>)
+    ensures { list.new.items ≡ newest list.old.items }
+{
     if list.len() >= MOST_KEPT {
         let _oldest = list.remove(0);
     }
-    let _ = list.push(kept);
 }
 
 /// Takes the connection over this image out of the list.

@@ -1,6 +1,7 @@
-ghost use Rattle.std.specs.Prelude.{◌≡◌, false, length, IfOk};
-ghost use Rattle.std.specs.List.{AllByRecursion};
+ghost use Rattle.std.specs.Prelude.{◌≡◌, ◌≤◌, ◌==◌, false, length, IfOk, IfSome};
+ghost use Rattle.std.specs.List.{AllByRecursion, position};
 ghost use Rattle.dq_base.specs.Names.{has_nul};
+ghost use Rattle.sqlite_engine.specs.Naming.{up_to_nul, text_of};
 
 use dq_base::Items;
 use sqlite::Statement;
@@ -32,15 +33,27 @@ fn name_of(alloc: Global, bytes: &[u8]) -> Result<WireText, AllocError>
     Ok(name)
 }
 
-fn up_to_nul(bytes: &[u8]) -> &[u8] {
-    let end = bytes.iter().position(|byte| *byte == 0);
-    match end {
+/// The bytes before the first NUL, or all of them.
+fn up_to_nul(bytes: &[u8]) -> &[u8]
+    ensures { result.now ≡ up_to_nul bytes.now }
+{
+    match first_nul(bytes) {
         Some(end) => &bytes[..end],
         None => bytes,
     }
 }
 
-fn text_of(bytes: &[u8]) -> &str {
+fn first_nul(bytes: &[u8]) -> Option<usize>
+    ensures exact { result ≡ position (λ byte. byte == 0) bytes.now }
+    ensures within { IfSome result (λ end. end ≤ length bytes.now) }
+{
+    bytes.iter().position(|byte| *byte == 0)
+}
+
+/// The bytes as a text. It is empty where they aren't UTF-8.
+fn text_of(bytes: &[u8]) -> &str
+    ensures { result.now ≡ text_of bytes.now }
+{
     match str::from_utf8(bytes) {
         Ok(text) => text,
         Err(_) => "",

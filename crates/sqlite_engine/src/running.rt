@@ -106,13 +106,19 @@ fn looked(
     match look(kept, columns, text, params) {
         Ok((kept, shows)) => {
             is_short(&kept.base);
-            let set = PageSet {
-                tx,
-                pages: Items::new(Vec::new(alloc)),
-            };
-            Ok((Some(kept), shows, set))
+            Ok((Some(kept), shows, no_pages(alloc, tx)))
         }
         Err(failure) => Err(failure),
+    }
+}
+
+/// A set without pages.
+fn no_pages(alloc: Global, tx: u64) -> PageSet
+    ensures { result ≡ record { tx = tx; pages = [] } }
+{
+    PageSet {
+        tx,
+        pages: Items::new(Vec::new(alloc)),
     }
 }
 

@@ -9,5 +9,5 @@ returns-in-Ok-clause-led c = record {
   after = c.args.kept.base;
   short = subst IsShort c.in-Ok.ensures.base c.is_short.ensures;
   ran = c.in-Ok.ensures.ran;
-  pages = set_is _ _ refl (c.new-in-Ok.ensures ∙ c.new.ensures.items ∙ sym (same_change c.args.kept.base c.args.kept.base refl));
+  pages = c.no_pages.ensures ∙ set_is _ _ refl (sym (same_change c.args.kept.base c.args.kept.base refl));
 }
