@@ -1,7 +1,7 @@
 #!/usr/bin/env bash
 # SQLite reads a write-ahead log that wal_frames wrote. Run it from anywhere, with `rt`, `python3` and its module sqlite3
-# on the path: it ends with status 0 and one line where SQLite shows the rows of the log. No part of the gate, and
-# nothing is proved here.
+# on the path: it ends with status 0 and a line where SQLite shows the rows of the log, and another where the tool sqlite3
+# is on the path and shows them too. No part of the gate, and nothing is proved here.
 #
 # A database in mode WAL gets a second row, of which its file knows nothing: the pages with that row are written as a
 # log by a small program over wal_frames, and the log is put beside a copy of the file from before.
@@ -84,3 +84,14 @@ TEXT
 python3 before_and_after.py
 (cd crates/wal_sample && "$rt" try) <grown.db >log 2>try.log || { cat try.log >&2; exit 1; }
 python3 read.py
+if command -v sqlite3 >/dev/null; then
+    cp base.db tool.db
+    cp log tool.db-wal
+    found=$(sqlite3 tool.db "select count(*), sum(x = 'before'), sum(x = 'after'), sum(length(x) = 900) from t; pragma integrity_check")
+    if [ "$found" != "22|1|1|20
+ok" ]; then
+        echo "the tool sqlite3 reads: $found" >&2
+        exit 1
+    fi
+    echo "the tool sqlite3 $(sqlite3 --version | cut -d' ' -f1) reads them too"
+fi

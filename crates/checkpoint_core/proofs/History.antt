@@ -104,7 +104,7 @@ none_at_first n id = elim (cases_lt id n) [
   | inr past ↦ get_or_past (replicate n None) id None (omega (arith, length-replicate {A = Option ℕ} n None))
 ]
 
-no_mark_at_first : (id : ℕ) → mark_at no_marks id ≡ None
+pub no_mark_at_first : (id : ℕ) → mark_at no_marks id ≡ None
 unfolding no_marks
 no_mark_at_first id = none_at_first 64 id
 

@@ -8,8 +8,6 @@ mod laws;
 mod page_bytes;
 mod reading;
 mod store;
-#[cfg(test)]
-mod tests;
 
 pub use laws::live_mark_shows_image_pinned;
 pub use read_marks::{MarkFault, MarkId};

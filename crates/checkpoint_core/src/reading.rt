@@ -1,5 +1,5 @@
 ghost use Rattle.std.specs.Prelude.{◌≡◌, ℕ, ◌-◌, ◌%◌, ◌<◌, ◌≤◌, ◌==◌, if◌then◌else◌, length, take, drop, min, IfOk, slice_index_or};
-ghost use Rattle.dq_base.specs.Images.{resized, page_start, page_from, page_at};
+ghost use Rattle.dq_base.specs.Images.{resized, page_start, page_from, page_at, page_count};
 ghost use Rattle.checkpoint_core.specs.Laying.{laid, IsLeast};
 ghost use Rattle.checkpoint_core.specs.Log.{laid_image, PageOfFrame, PageOfBase};
 
@@ -31,6 +31,15 @@ pub(crate) fn page_under(
         Some(start) => Some(page_from_start(main, side, log, count, number, start)),
         None => None,
     }
+}
+
+/// How many pages the image has that the first frames of a log make of a base.
+pub(crate) fn page_count_under(main: &[u8], side: &[u8], log: &FrameLog, count: usize) -> u64
+    requires { count ≤ length log.now.pages }
+    ensures { result ≡ page_count (laid_image log.now count main.now side.now) }
+{
+    let lengths = lengths_under(main, side, log, count);
+    1 + lengths.main.div_ceil(PAGE_SIZE) as u64 + lengths.side.div_ceil(PAGE_SIZE) as u64
 }
 
 /// The lengths of both files after the first frames of a log.

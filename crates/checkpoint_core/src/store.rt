@@ -1,5 +1,5 @@
 ghost use Rattle.std.specs.Prelude.{◌≡◌, ◌≢◌, ℕ, ◌<◌, None, unwrap_or, IfOk, IfErr, OnOk, OnErr};
-ghost use Rattle.dq_base.specs.Images.{page_at};
+ghost use Rattle.dq_base.specs.Images.{page_at, page_count};
 ghost use Rattle.dq_base.specs.Applying.{page_fault, IsRefusal};
 ghost use Rattle.read_marks.specs.Marks.{mark_at, live_count, least_mark};
 ghost use Rattle.read_marks.specs.declared.marks.MarkFault.TheVariants.{Full};
@@ -7,8 +7,8 @@ ghost use Rattle.checkpoint_core.specs.Store.{fresh_store, newest, newest_image,
 
 use crate::files::{lay, make_room};
 use crate::frame_log::FrameLog;
-use crate::reading::{image_under, page_under};
-use dq_base::{Image, Page, PageFault, PageSet, set_lengths};
+use crate::reading::{image_under, page_count_under, page_under};
+use dq_base::{Image, NumberedPage, Page, PageFault, PageSet, set_lengths};
 use read_marks::{MarkFault, MarkId, Marks};
 use std::alloc::{AllocError, Global};
 use std::marker::Model;
@@ -71,7 +71,18 @@ impl PageStore {
         ensures kept { OnErr result (self.new ≡ self.old) }
         ensures shown { (id : ℕ) → StillShows self.old self.new id }
     {
-        let pages = set.pages.as_slice();
+        self.commit_pages(set.pages.as_slice())
+    }
+
+    /// Adds pages that belong to no set, as `commit` does.
+    pub fn commit_pages(&mut self, pages: &[NumberedPage]) -> Result<u64, PageFault>
+        ensures done { OnOk result (self.new ≡ committed self.old pages.now) }
+        ensures newest { IfOk result (λ mark. mark ≡ newest self.new) }
+        ensures sound { OnOk result (page_fault pages.now ≡ None) }
+        ensures refused { IfErr result (λ fault. IsRefusal fault (page_fault pages.now)) }
+        ensures kept { OnErr result (self.new ≡ self.old) }
+        ensures shown { (id : ℕ) → StillShows self.old self.new id }
+    {
         let lengths = set_lengths(pages)?;
         let Some(newest) = self.newest.checked_add(1) else {
             return Err(PageFault::NoMemory);
@@ -128,6 +139,27 @@ impl PageStore {
         let side = self.side.as_slice();
         let count = self.marks.at(id) as usize;
         page_under(main, side, &self.log, count, number)
+    }
+
+    /// The page of a number in the image with all commits, as `page_under` gives it. Costs a look-up and the copy of one
+    /// page; takes no memory.
+    pub fn newest_page(&self, number: u64) -> Option<Page>
+        ensures { result ≡ page_at (newest_image self.now) number }
+    {
+        let main = self.main.as_slice();
+        let side = self.side.as_slice();
+        let all = self.log.len();
+        page_under(main, side, &self.log, all, number)
+    }
+
+    /// How many pages the image with all commits has, the sizes page included. Constant cost; takes no memory.
+    pub fn page_count(&self) -> u64
+        ensures { result ≡ page_count (newest_image self.now) }
+    {
+        let main = self.main.as_slice();
+        let side = self.side.as_slice();
+        let all = self.log.len();
+        page_count_under(main, side, &self.log, all)
     }
 
     /// The image that a live mark shows. Copies the base, and lays the frames below the mark into the copy. `Err` is want

@@ -32,7 +32,7 @@ use Rattle.cluster_runner.specs.Limits.{may_join}
 use Rattle.cluster_runner.specs.Machines.{Fleet, idle, after_command, after_next, take_at, with_command, joins, refusal, applies, place_named, standing, standings}
 use Rattle.cluster_runner.specs.Scenes.{Scene, Nodes, Pages, plays, shown}
 use Rattle.cluster_runner.specs.Run.{Place, Opening, Within, Next, Fault, Run, idle_fleet, after_event, after_show, opened_at, line_step, said_step, step, onward, closing, run_from, run}
-use Rattle.cluster_runner.specs.ByName.{ChangesOne}
+use Rattle.cluster_runner.specs.ByName.{Does}
 use Rattle.cluster_runner.specs.Alike.{fleet_in, fleet_at, led, led_from, commands_of, moment, run_until, BeginsWith, Follows, IsDigestOf, Tells, KeepsAlike}
 use Rattle.cluster_runner.proofs.ByName.{files_in_order, files_changed}
 use Rattle.cluster_runner.proofs.Elements.{all_weaker, all_append, all_set, all_get_or, where_some, where_mapped}
@@ -360,10 +360,10 @@ module _ (script : List ℕ) where
       All-from_recursion (Tells (commands_of script)) said
       (all_weaker (Tells fleet.commands) (Tells (commands_of script)) (tells_grown (commands_of script) fleet.commands (grows_to_end count)) said (run_tells Opening 1 (take count (lines_of script)) tt))
 
-  next_changes_one : (count : ℕ) (command : Command) → slice_get (commands_of script) count ≡ Some command → ChangesOne command (files (take count (commands_of script))) (files (take (count + 1) (commands_of script)))
-  next_changes_one count command e =
+  next_does : (count : ℕ) (command : Command) → slice_get (commands_of script) count ≡ Some command → Does command (files (take count (commands_of script))) (files (take (count + 1) (commands_of script)))
+  next_does count command e =
       let front = take count (commands_of script) in
-      subst (λ (l : List Command). ChangesOne command (files front) (files l)) (sym (next_front (commands_of script) count command e)) (files_changed front command)
+      subst (λ (l : List Command). Does command (files front) (files l)) (sym (next_front (commands_of script) count command e)) (files_changed front command)
 
   pub keeps_alike : KeepsAlike script
   keeps_alike = record {
@@ -378,5 +378,5 @@ module _ (script : List ℕ) where
     seen = all_seen script;
     shown = shows Opening 1 (lines_of script);
     in_order = λ count. files_in_order (take count (commands_of script));
-    changes_one = next_changes_one;
+    does_next = next_does;
   }

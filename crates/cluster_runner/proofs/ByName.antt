@@ -1,5 +1,6 @@
--- The databases that commands make stand in the order of their names, and a command changes the one of its name.
-use Rattle.std.proofs.Common.{◌≡◌, ◌≢◌, ℕ, Bool, true, false, cond, List, [], ◌∷◌, ◌++◌, Option, Some, None, refl, sym, ap, subst, ◌∙◌, fold, bytes_eq, unwrap_or, Ordering, Less, Equal, Greater}
+-- The databases that commands make stand in the order of their names, and a command does what it says to them.
+use Rattle.std.proofs.Common.{◌≡◌, ◌≢◌, ℕ, Bool, true, false, cond, List, [], ◌∷◌, ◌++◌, Option, Some, None, refl, sym, ap, subst, ◌∙◌, fold, map, bytes_eq, unwrap_or, Ordering, Less, Equal, Greater}
+use Rattle.std.specs.Option.{option_map}
 use Rattle.std.specs.Ordering.{nat_cmp, is_eq, match_ordering, ordering_reverse}
 use Rattle.std.specs.Cmp.Lexicographic.{slice_cmp}
 use Rattle.std.specs.List.{AllByRecursion}
@@ -10,11 +11,10 @@ use Rattle.std.proofs.lemmas.Slice.Eq.{bytes_eq-Decides}
 use Rattle.std.proofs.lemmas.Grind.{fold-append}
 use Rattle.dq_base.specs.declared.pages.NumberedPage.{NumberedPage}
 use Rattle.frame_commands.specs.declared.command.Command.{Command}
-use Rattle.frame_commands.specs.declared.command.Command.TheVariants.{OpenDb, Frames}
+use Rattle.frame_commands.specs.declared.command.Command.TheVariants.{OpenDb, Frames, Undo, Checkpoint}
 use Rattle.cluster_runner.specs.declared.database.Database.{Database}
-use Rattle.cluster_runner.specs.Machine.{opened, frames, at_name, act, files}
-use Rattle.cluster_runner.specs.Limits.{name_of}
-use Rattle.cluster_runner.specs.ByName.{names_of, AreInOrder, database_named, named_or_opened, done_by, ChangesOne}
+use Rattle.cluster_runner.specs.Machine.{opened, frames, undone, at_name, act, files}
+use Rattle.cluster_runner.specs.ByName.{names_of, AreInOrder, database_named, named_or_opened, ChangesOne, ChangesEach, Does}
 
 abbrev compare : List ℕ → List ℕ → Ordering
 compare x y = slice_cmp nat_cmp x y
@@ -114,23 +114,44 @@ unfolding frames
 frames_keep_name tx true pages d = refl
 frames_keep_name tx false pages d = refl
 
-done_keeps_name : (command : Command) (d : Database) → (done_by command d).name ≡ d.name
-done_keeps_name (OpenDb name) d = refl
-done_keeps_name (Frames name tx truncate commit pages) d = frames_keep_name tx commit pages d
+undone_keeps_name : (tx : ℕ) (d : Database) → (undone tx d).name ≡ d.name
+unfolding undone
+undone_keeps_name tx d = refl
 
-act_is : (databases : List Database) (command : Command) → act databases command ≡ at_name (name_of command) (done_by command) databases
-unfolding act
-act_is databases (OpenDb name) = refl
-act_is databases (Frames name tx truncate commit pages) = refl
+-- what is done to each database, where names stay
+module _ (f : Database → Database) (keeps : (d : Database) → (f d).name ≡ d.name) where
+  same_names : (ds : List Database) → names_of (map f ds) ≡ names_of ds
+  same_names [] = refl
+  same_names (d ∷ ds) = rw (keeps d, same_names ds) refl
+
+  each_changed : (name : List ℕ) (ds : List Database) → database_named name (map f ds) ≡ option_map f (database_named name ds)
+  each_changed name [] = refl
+  each_changed name (d ∷ ds) =
+      let is : bytes_eq name (f d).name ≡ bytes_eq name d.name = ap (bytes_eq name) (keeps d) in
+      ap (λ (b : Bool). cond b (Some (f d)) (database_named name (map f ds))) is
+      ∙ ap (λ (o : Option Database). cond (bytes_eq name d.name) (Some (f d)) o) (each_changed name ds)
+      ∙ within (bytes_eq name d.name) d (database_named name ds)
+    where
+      within : (b : Bool) (d : Database) (o : Option Database) → cond b (Some (f d)) (option_map f o) ≡ option_map f (cond b (Some d) o)
+      within true d o = refl
+      within false d o = refl
+
+one_changed : (name : List ℕ) (f : Database → Database) → ((d : Database) → (f d).name ≡ d.name) → (ds : List Database) → AreInOrder ds → ChangesOne name f ds (at_name name f ds)
+one_changed name f keeps ds order = record { own = own_changed name f keeps ds order; others = λ other apart. others_kept name f keeps other apart ds }
 
 act_keeps_order : (databases : List Database) (command : Command) → AreInOrder databases → AreInOrder (act databases command)
-act_keeps_order databases command order = subst AreInOrder (sym (act_is databases command)) (order_kept (name_of command) (done_by command) (done_keeps_name command) databases order)
+unfolding act
+act_keeps_order databases (OpenDb name) order = order_kept name (λ d. d) (λ d. refl) databases order
+act_keeps_order databases (Frames name tx truncate commit pages) order = order_kept name (frames tx commit pages) (frames_keep_name tx commit pages) databases order
+act_keeps_order databases (Undo tx) order = subst (IsStrictlySortedBy (slice_cmp nat_cmp)) (sym (same_names (undone tx) (undone_keeps_name tx) databases)) order
+act_keeps_order databases (Checkpoint name) order = order
 
-act_changes_one : (databases : List Database) (command : Command) → AreInOrder databases → ChangesOne command databases (act databases command)
-act_changes_one databases command order = subst (ChangesOne command databases) (sym (act_is databases command)) (record {
-  own = own_changed (name_of command) (done_by command) (done_keeps_name command) databases order;
-  others = λ name apart. others_kept (name_of command) (done_by command) (done_keeps_name command) name apart databases;
-})
+act_does : (databases : List Database) (command : Command) → AreInOrder databases → Does command databases (act databases command)
+unfolding act
+act_does databases (OpenDb name) order = one_changed name (λ d. d) (λ d. refl) databases order
+act_does databases (Frames name tx truncate commit pages) order = one_changed name (frames tx commit pages) (frames_keep_name tx commit pages) databases order
+act_does databases (Undo tx) order = λ name. each_changed (undone tx) (undone_keeps_name tx) name databases
+act_does databases (Checkpoint name) order = refl
 
 -- ---- lists of commands
 
@@ -143,6 +164,6 @@ pub files_in_order : (commands : List Command) → AreInOrder (files commands)
 unfolding IsStrictlySortedBy
 files_in_order commands = order_from [] commands tt
 
--- One more command changes the database of its name.
-pub files_changed : (commands : List Command) (command : Command) → ChangesOne command (files commands) (files (commands ++ command ∷ []))
-files_changed commands command = subst (ChangesOne command (files commands)) (sym (fold-append act [] commands (command ∷ []))) (act_changes_one (files commands) command (files_in_order commands))
+-- One more command does what it says.
+pub files_changed : (commands : List Command) (command : Command) → Does command (files commands) (files (commands ++ command ∷ []))
+files_changed commands command = subst (Does command (files commands)) (sym (fold-append act [] commands (command ∷ []))) (act_does (files commands) command (files_in_order commands))

@@ -1,5 +1,5 @@
 -- The place of a database among others, by the bytes of their names.
-use Rattle.std.proofs.Common.{◌≡◌, ℕ, ◌+◌, ◌<◌, ◌≤◌, List, [], ◌∷◌, ◌++◌, length, get_or, take, drop, set, refl, sym, ap, ◌∙◌, append_assoc, add-one, arith}
+use Rattle.std.proofs.Common.{◌≡◌, ℕ, ◌+◌, ◌<◌, ◌≤◌, List, [], ◌∷◌, ◌++◌, length, get_or, take, drop, set, map, refl, sym, ap, ◌∙◌, append_assoc, append-nil, add-one, arith}
 use Rattle.std.specs.Prelude.{insert}
 use Rattle.std.specs.Ordering.{nat_cmp}
 use Rattle.std.specs.declared.cmp.Ordering.TheVariants.{Less, Equal, Greater}
@@ -55,3 +55,7 @@ put_stands name ds i x b is =
           let read : get_or (insert ds i x) i d ≡ x = get_or_at (take i ds) x (drop i ds) d i size in
           b.1 f ∙ rw (read, set_at (take i ds) x (drop i ds) (f x) i size) (ap (λ (y : Database). take i ds ++ f y ∷ drop i ds) (sym is)),
     )
+
+-- behind the last database nothing is left to be done
+pub all_done : (f : Database → Database) (ds total : List Database) (i : ℕ) → length ds ≤ i → take i ds ++ map f (drop i ds) ≡ total → ds ≡ total
+all_done f ds total i past so_far = sym (rw (take_all i ds past, drop_all i ds past) (append-nil ds)) ∙ so_far

@@ -18,3 +18,4 @@ pub mod SpelledLines
 pub mod Standings
 pub mod StatedTables
 pub mod Tables
+pub mod Statements

@@ -1,4 +1,4 @@
--- The table of a list of commands has each name once, with the greatest length that is stated for it.
+-- The table of a list of statements has each name once, with the greatest length that is stated for it.
 use Rattle.std.proofs.Common.{◌≡◌, ◌≢◌, ◌↔◌, ℕ, ◌≤◌, max, Bool, cond, leb, inl, inr, ◌⊎◌, List, [], ◌∷◌, ◌++◌, map, length, fold, sum_by, IsTrue, All, refl, sym, ap, subst, ◌∙◌, arith, append_assoc, append-nil}
 use Rattle.std.specs.Prelude.{bytes_eq}
 use Rattle.std.specs.List.{AllByRecursion}
@@ -7,10 +7,9 @@ use Rattle.std.proofs.lemmas.List.{length-map}
 use Rattle.std.proofs.lemmas.List.Elements.{All-from_recursion}
 use Rattle.std.proofs.lemmas.List.Sums.{sum_by-cons}
 use Rattle.std.proofs.lemmas.Slice.Eq.{bytes_eq-Decides}
-use Rattle.frame_commands.specs.declared.command.Command.{Command}
 use Rattle.cluster_runner.specs.declared.stated.Stated.{Stated}
-use Rattle.cluster_runner.specs.Limits.{name_of, stated_length, note, table_of, is_allowed}
-use Rattle.cluster_runner.specs.StatedLengths.{AreNamesOf, greatest_length, names_in}
+use Rattle.cluster_runner.specs.Limits.{note, noted, is_allowed}
+use Rattle.cluster_runner.specs.StatedLengths.{AreNamesIn, greatest_stated, names_in}
 use Rattle.cluster_runner.proofs.NameLists.{IsIn, AreDistinct, contains, is_in, apart, distinct, same_or_other, same_sum, length_is_sum}
 
 -- ---- the names after one more
@@ -88,11 +87,11 @@ module _ (f g : List ℕ → ℕ) (name : List ℕ) (size : ℕ) (others : (n : 
             )
       ]
 
--- ---- the commands after one more
+-- ---- statements after one more
 
--- what a command states for a name
-abbrev stated_for : Command → List ℕ → ℕ
-stated_for command name = cond (bytes_eq (name_of command) name) (stated_length command) 0
+-- what a statement states for a name
+abbrev stated_for : Stated → List ℕ → ℕ
+stated_for one name = cond (bytes_eq one.name name) one.length 0
 
 max_last : (a b c : ℕ) → max a (max b c) ≡ max (max a b) c
 max_last a b c = omega arith
@@ -100,95 +99,95 @@ max_last a b c = omega arith
 max_first : (a : ℕ) → max a 0 ≡ max 0 a
 max_first a = omega arith
 
-greatest_more : (commands : List Command) (command : Command) (name : List ℕ) → greatest_length (commands ++ command ∷ []) name ≡ max (greatest_length commands name) (stated_for command name)
-greatest_more [] command name = max_first (stated_for command name)
-greatest_more (c ∷ commands) command name =
-    ap (max (stated_for c name)) (greatest_more commands command name) ∙ max_last (stated_for c name) (greatest_length commands name) (stated_for command name)
+greatest_more : (stated : List Stated) (one : Stated) (name : List ℕ) → greatest_stated (stated ++ one ∷ []) name ≡ max (greatest_stated stated name) (stated_for one name)
+greatest_more [] one name = max_first (stated_for one name)
+greatest_more (c ∷ stated) one name =
+    ap (max (stated_for c name)) (greatest_more stated one name) ∙ max_last (stated_for c name) (greatest_stated stated name) (stated_for one name)
 
-greatest_none : (commands : List Command) (name : List ℕ) → (IsIn name (map name_of commands) → ⊥) → greatest_length commands name ≡ 0
+greatest_none : (stated : List Stated) (name : List ℕ) → (IsIn name (names_in stated) → ⊥) → greatest_stated stated name ≡ 0
 greatest_none [] name absent = refl
-greatest_none (c ∷ commands) name absent =
-    elim (same_or_other (name_of c) name) [
+greatest_none (c ∷ stated) name absent =
+    elim (same_or_other c.name name) [
       | inl p ↦ absurd (absent (inl p.1))
-      | inr p ↦ rw (p.0, greatest_none commands name (λ i. absent (inr i))) refl
+      | inr p ↦ rw (p.0, greatest_none stated name (λ i. absent (inr i))) refl
     ]
 
-greatest_other : (commands : List Command) (command : Command) (name : List ℕ) → name_of command ≢ name → greatest_length (commands ++ command ∷ []) name ≡ greatest_length commands name
-greatest_other commands command name other =
-    elim (same_or_other (name_of command) name) [
+greatest_other : (stated : List Stated) (one : Stated) (name : List ℕ) → one.name ≢ name → greatest_stated (stated ++ one ∷ []) name ≡ greatest_stated stated name
+greatest_other stated one name other =
+    elim (same_or_other one.name name) [
       | inl p ↦ absurd (other p.1)
       | inr p ↦
-          let e : greatest_length (commands ++ command ∷ []) name ≡ max (greatest_length commands name) 0 = greatest_more commands command name ∙ ap (λ (b : Bool). max (greatest_length commands name) (cond b (stated_length command) 0)) p.0 in
-          e ∙ max_first (greatest_length commands name) ∙ omega arith
+          let e : greatest_stated (stated ++ one ∷ []) name ≡ max (greatest_stated stated name) 0 = greatest_more stated one name ∙ ap (λ (b : Bool). max (greatest_stated stated name) (cond b one.length 0)) p.0 in
+          e ∙ max_first (greatest_stated stated name) ∙ omega arith
     ]
 
-greatest_here : (commands : List Command) (command : Command) → greatest_length (commands ++ command ∷ []) (name_of command) ≡ max (greatest_length commands (name_of command)) (stated_length command)
-greatest_here commands command =
-    greatest_more commands command (name_of command)
-    ∙ ap (λ (b : Bool). max (greatest_length commands (name_of command)) (cond b (stated_length command) 0)) ((bytes_eq-Decides (name_of command) (name_of command)).1 refl)
+greatest_here : (stated : List Stated) (one : Stated) → greatest_stated (stated ++ one ∷ []) one.name ≡ max (greatest_stated stated one.name) one.length
+greatest_here stated one =
+    greatest_more stated one one.name
+    ∙ ap (λ (b : Bool). max (greatest_stated stated one.name) (cond b one.length 0)) ((bytes_eq-Decides one.name one.name).1 refl)
 
-named_more : (commands : List Command) (command : Command) (n : List ℕ) → IsIn n (map name_of (commands ++ command ∷ [])) → (name_of command ≡ n) ⊎ IsIn n (map name_of commands)
-named_more [] command n i = i
-named_more (c ∷ commands) command n (inl e) = inr (inl e)
-named_more (c ∷ commands) command n (inr i) = elim (named_more commands command n i) [ inl e ↦ inl e | inr j ↦ inr (inr j) ]
+named_more : (stated : List Stated) (one : Stated) (n : List ℕ) → IsIn n (names_in (stated ++ one ∷ [])) → (one.name ≡ n) ⊎ IsIn n (names_in stated)
+named_more [] one n i = i
+named_more (c ∷ stated) one n (inl e) = inr (inl e)
+named_more (c ∷ stated) one n (inr i) = elim (named_more stated one n i) [ inl e ↦ inl e | inr j ↦ inr (inr j) ]
 
-named_old : (commands : List Command) (command : Command) (n : List ℕ) → IsIn n (map name_of commands) → IsIn n (map name_of (commands ++ command ∷ []))
-named_old [] command n i = absurd i
-named_old (c ∷ commands) command n (inl e) = inl e
-named_old (c ∷ commands) command n (inr i) = inr (named_old commands command n i)
+named_old : (stated : List Stated) (one : Stated) (n : List ℕ) → IsIn n (names_in stated) → IsIn n (names_in (stated ++ one ∷ []))
+named_old [] one n i = absurd i
+named_old (c ∷ stated) one n (inl e) = inl e
+named_old (c ∷ stated) one n (inr i) = inr (named_old stated one n i)
 
-named_new : (commands : List Command) (command : Command) → IsIn (name_of command) (map name_of (commands ++ command ∷ []))
-named_new [] command = inl refl
-named_new (c ∷ commands) command = inr (named_new commands command)
+named_new : (stated : List Stated) (one : Stated) → IsIn one.name (names_in (stated ++ one ∷ []))
+named_new [] one = inl refl
+named_new (c ∷ stated) one = inr (named_new stated one)
 
 -- ---- a whole list
 
-record Tells (commands : List Command) (table : List Stated) : Type 0 where
+record Tells (stated : List Stated) (table : List Stated) : Type 0 where
   once : AreDistinct (names_in table)
-  all : (n : List ℕ) → IsIn n (map name_of commands) → IsIn n (names_in table)
-  only : (n : List ℕ) → IsIn n (names_in table) → IsIn n (map name_of commands)
-  lengths : HaveLengths (greatest_length commands) table
+  all : (n : List ℕ) → IsIn n (names_in stated) → IsIn n (names_in table)
+  only : (n : List ℕ) → IsIn n (names_in table) → IsIn n (names_in stated)
+  lengths : HaveLengths (greatest_stated stated) table
 
-tells_more : (commands : List Command) (command : Command) (table : List Stated) → Tells commands table → Tells (commands ++ command ∷ []) (note table (name_of command) (stated_length command))
-tells_more commands command table t =
-    let name = name_of command in
-    let size = stated_length command in
+tells_more : (stated : List Stated) (one : Stated) (table : List Stated) → Tells stated table → Tells (stated ++ one ∷ []) (note table one.name one.length)
+tells_more stated one table t =
+    let name = one.name in
+    let size = one.length in
     record {
       once = noted_once name size table t.once;
-      all = λ n i. elim (named_more commands command n i) [
+      all = λ n i. elim (named_more stated one n i) [
         | inl e ↦ subst (λ (z : List ℕ). IsIn z (names_in (note table name size))) e (noted_new name size table)
         | inr j ↦ noted_old name size table n (t.all n j)
       ];
       only = λ n i. elim (noted_is name size table n i) [
-        | inl e ↦ subst (λ (z : List ℕ). IsIn z (map name_of (commands ++ command ∷ []))) e (named_new commands command)
-        | inr j ↦ named_old commands command n (t.only n j)
+        | inl e ↦ subst (λ (z : List ℕ). IsIn z (names_in (stated ++ one ∷ []))) e (named_new stated one)
+        | inr j ↦ named_old stated one n (t.only n j)
       ];
       lengths =
-          noted_lengths (greatest_length commands) (greatest_length (commands ++ command ∷ [])) name size (greatest_other commands command) (greatest_here commands command) table
-          (λ absent. greatest_none commands name (λ i. absent (t.all name i))) t.once t.lengths;
+          noted_lengths (greatest_stated stated) (greatest_stated (stated ++ one ∷ [])) name size (greatest_other stated one) (greatest_here stated one) table
+          (λ absent. greatest_none stated name (λ i. absent (t.all name i))) t.once t.lengths;
     }
 
-tells_all : (done commands : List Command) (table : List Stated) → Tells done table → Tells (done ++ commands) (fold (λ table command. note table (name_of command) (stated_length command)) table commands)
-tells_all done [] table t = subst (λ (cs : List Command). Tells cs table) (sym (append-nil done)) t
-tells_all done (command ∷ commands) table t =
-    subst (λ (cs : List Command). Tells cs (fold (λ table command. note table (name_of command) (stated_length command)) (note table (name_of command) (stated_length command)) commands))
-    (append_assoc done (command ∷ []) commands)
-    (tells_all (done ++ command ∷ []) commands (note table (name_of command) (stated_length command)) (tells_more done command table t))
+tells_all : (done stated : List Stated) (table : List Stated) → Tells done table → Tells (done ++ stated) (noted table stated)
+tells_all done [] table t = subst (λ (cs : List Stated). Tells cs table) (sym (append-nil done)) t
+tells_all done (one ∷ stated) table t =
+    subst (λ (cs : List Stated). Tells cs (noted (note table one.name one.length) stated))
+    (append_assoc done (one ∷ []) stated)
+    (tells_all (done ++ one ∷ []) stated (note table one.name one.length) (tells_more done one table t))
 
-tells : (commands : List Command) → Tells commands (table_of commands)
-tells commands = tells_all [] commands [] (record { once = tt; all = λ n i. i; only = λ n i. i; lengths = tt })
+tells : (stated : List Stated) → Tells stated (noted [] stated)
+tells stated = tells_all [] stated [] (record { once = tt; all = λ n i. i; only = λ n i. i; lengths = tt })
 
-pub names_told : (commands : List Command) → AreNamesOf commands (names_in (table_of commands))
-names_told commands =
-    let t = tells commands in
-    let names = names_in (table_of commands) in
+pub names_told : (stated : List Stated) → AreNamesIn stated (names_in (noted [] stated))
+names_told stated =
+    let t = tells stated in
+    let names = names_in (noted [] stated) in
     record {
       once = apart names t.once;
-      same = λ name. (λ c. contains name (map name_of commands) (t.only name (is_in name names c)), λ c. contains name names (t.all name (is_in name (map name_of commands) c)));
+      same = λ name. (λ c. contains name (names_in stated) (t.only name (is_in name names c)), λ c. contains name names (t.all name (is_in name (names_in stated) c)));
     }
 
-pub lengths_told : (commands : List Command) → All (λ (s : Stated). s.length ≡ greatest_length commands s.name) (table_of commands)
-lengths_told commands = All-from_recursion (λ (s : Stated). s.length ≡ greatest_length commands s.name) (table_of commands) (tells commands).lengths
+pub lengths_told : (stated : List Stated) → All (λ (s : Stated). s.length ≡ greatest_stated stated s.name) (noted [] stated)
+lengths_told stated = All-from_recursion (λ (s : Stated). s.length ≡ greatest_stated stated s.name) (noted [] stated) (tells stated).lengths
 
 table_sum : (f : List ℕ → ℕ) (table : List Stated) → HaveLengths f table → sum_by (λ (s : Stated). s.length) table ≡ sum_by f (names_in table)
 table_sum f [] h = refl
@@ -198,28 +197,28 @@ table_sum f (s ∷ ss) h =
     omega (arith, sum_by-cons (λ (s : Stated). s.length) s ss, sum_by-cons f s.name (names_in ss), rest, here)
 
 -- over any list of the names a sum is the same
-over_names : (f : List ℕ → ℕ) (commands : List Command) (names : List (List ℕ)) → AreNamesOf commands names → sum_by f (names_in (table_of commands)) ≡ sum_by f names
-over_names f commands names are =
-    let t = tells commands in
-    same_sum f (names_in (table_of commands)) names t.once (distinct names are.once)
-    (λ n i. is_in n names ((are.same n).1 (contains n (map name_of commands) (t.only n i))))
-    (λ n i. t.all n (is_in n (map name_of commands) ((are.same n).0 (contains n names i))))
+over_names : (f : List ℕ → ℕ) (stated : List Stated) (names : List (List ℕ)) → AreNamesIn stated names → sum_by f (names_in (noted [] stated)) ≡ sum_by f names
+over_names f stated names are =
+    let t = tells stated in
+    same_sum f (names_in (noted [] stated)) names t.once (distinct names are.once)
+    (λ n i. is_in n names ((are.same n).1 (contains n (names_in stated) (t.only n i))))
+    (λ n i. t.all n (is_in n (names_in stated) ((are.same n).0 (contains n names i))))
 
-pub sum_told : (commands : List Command) (names : List (List ℕ)) → AreNamesOf commands names → sum_by (λ (s : Stated). s.length) (table_of commands) ≡ sum_by (greatest_length commands) names
-sum_told commands names are = table_sum (greatest_length commands) (table_of commands) (tells commands).lengths ∙ over_names (greatest_length commands) commands names are
+pub sum_told : (stated : List Stated) (names : List (List ℕ)) → AreNamesIn stated names → sum_by (λ (s : Stated). s.length) (noted [] stated) ≡ sum_by (greatest_stated stated) names
+sum_told stated names are = table_sum (greatest_stated stated) (noted [] stated) (tells stated).lengths ∙ over_names (greatest_stated stated) stated names are
 
-count_told : (commands : List Command) (names : List (List ℕ)) → AreNamesOf commands names → length (table_of commands) ≡ length names
-count_told commands names are =
-    let table = table_of commands in
-    sym (length-map table (λ (s : Stated). s.name)) ∙ length_is_sum (names_in table) ∙ over_names (λ n. 1) commands names are ∙ sym (length_is_sum names)
+count_told : (stated : List Stated) (names : List (List ℕ)) → AreNamesIn stated names → length (noted [] stated) ≡ length names
+count_told stated names are =
+    let table = noted [] stated in
+    sym (length-map table (λ (s : Stated). s.name)) ∙ length_is_sum (names_in table) ∙ over_names (λ n. 1) stated names are ∙ sym (length_is_sum names)
 
-pub allowed_told : (commands : List Command) (names : List (List ℕ)) → AreNamesOf commands names
-    → IsTrue (is_allowed (table_of commands)) ↔ ((length names ≤ 16) × (sum_by (greatest_length commands) names ≤ 67108864))
+pub allowed_told : (stated : List Stated) (names : List (List ℕ)) → AreNamesIn stated names
+    → IsTrue (is_allowed (noted [] stated)) ↔ ((length names ≤ 16) × (sum_by (greatest_stated stated) names ≤ 67108864))
 unfolding is_allowed
-allowed_told commands names are =
-    let table = table_of commands in
-    let count : length table ≡ length names = count_told commands names are in
-    let total : sum_by (λ (s : Stated). s.length) table ≡ sum_by (greatest_length commands) names = sum_told commands names are in (
+allowed_told stated names are =
+    let table = noted [] stated in
+    let count : length table ≡ length names = count_told stated names are in
+    let total : sum_by (λ (s : Stated). s.length) table ≡ sum_by (greatest_stated stated) names = sum_told stated names are in (
       λ e.
           let both = and_parts (leb (length table) 16) (leb (sum_by (λ (s : Stated). s.length) table) 67108864) e in
           (rw (← count) (leb-true (length table) 16 both.0), rw (← total) (leb-true (sum_by (λ (s : Stated). s.length) table) 67108864 both.1)),

@@ -8,7 +8,7 @@ use Rattle.cluster_runner.specs.Lines.{lines_of}
 use Rattle.cluster_runner.specs.Machine.{files}
 use Rattle.cluster_runner.specs.Holding.{Holding}
 use Rattle.cluster_runner.specs.Digest.{digest}
-use Rattle.cluster_runner.specs.ByName.{AreInOrder, ChangesOne}
+use Rattle.cluster_runner.specs.ByName.{AreInOrder, Does}
 use Rattle.cluster_runner.specs.Machines.{Fleet, standing_of}
 use Rattle.cluster_runner.specs.Scenes.{Scene, Nodes, Pages}
 use Rattle.cluster_runner.specs.Run.{Place, Opening, Within, Next, Run, idle_fleet, step, closing, run_from, run}
@@ -111,6 +111,6 @@ pub record KeepsAlike (script : List ℕ) : Type 0 where
   pub shown : (run script).fault ≡ None → (said : List Say) × ((run script).said ≡ said ++ closing (place_after script))
   -- The databases that a front of the list makes stand in the order of their names.
   pub in_order : (count : ℕ) → AreInOrder (files (take count (commands_of script)))
-  -- The next command of the list changes the database of its name, and leaves all others.
-  pub changes_one : (count : ℕ) (command : Command) → slice_get (commands_of script) count ≡ Some command
-      → ChangesOne command (files (take count (commands_of script))) (files (take (count + 1) (commands_of script)))
+  -- The next command of the list does what it says, and nothing else.
+  pub does_next : (count : ℕ) (command : Command) → slice_get (commands_of script) count ≡ Some command
+      → Does command (files (take count (commands_of script))) (files (take (count + 1) (commands_of script)))

@@ -1,9 +1,9 @@
 //! The list of commands that machines apply, within its limits.
 
-ghost use Rattle.std.specs.Prelude.{◌≡◌, ◌<◌, ◌+◌, ◌^◌, ◌++◌, ◌∷◌, [], length, vec_len, set, get_or, slice_get, IfOk, OnSome, OnErr, Some, MatchOption, true, false, option_copied};
+ghost use Rattle.std.specs.Prelude.{◌≡◌, ◌<◌, ◌+◌, ◌^◌, ◌++◌, ◌∷◌, [], length, vec_len, set, get_or, slice_get, IfOk, OnSome, OnErr, Some, MatchOption, true, false, option_copied, if◌then◌else◌};
 ghost use Rattle.dq_base.specs.Applying.{last_page};
 ghost use Rattle.cluster_runner.specs.declared.stated.Stated.{Stated};
-ghost use Rattle.cluster_runner.specs.Limits.{name_of, length_stated_by, stated_length, note, is_allowed, IsNotedAt, IsNew};
+ghost use Rattle.cluster_runner.specs.Limits.{length_stated_by, stated_by, note, noted, is_allowed, IsNotedAt, IsNew};
 
 use crate::stated::Stated;
 use dq_base::{Name, NumberedPage, stated_lengths};
@@ -92,28 +92,43 @@ fn length_in(page: &NumberedPage) -> u64
     }
 }
 
-/// The length that a command states for its database: that of the sizes page with which it commits, else 0.
-fn length_stated(command: &Command) -> u64
-    ensures { result ≡ stated_length command.now }
+/// The length that Frames with these pages state: that of the sizes page with which they commit, else 0.
+fn length_stated(commit: bool, pages: &[NumberedPage]) -> u64
+    ensures { result ≡ (if commit then length_stated_by (last_page pages.now) else 0) }
 {
-    match command {
-        Command::Frames {
-            commit: true,
-            pages,
-            ..
-        } => match pages.as_slice().last() {
-            Some(page) => length_in(page),
-            None => 0,
-        },
-        _ => 0,
+    if !commit {
+        return 0;
+    }
+    match pages.last() {
+        Some(page) => length_in(page),
+        None => 0,
     }
 }
 
-fn name(command: &Command) -> &Name
-    ensures { result.now ≡ name_of command.now }
+/// Notes what a command states where the table stays within the limits, and else leaves the table as it was. Answers
+/// whether it is within them.
+fn try_note_command(
+    alloc: Global,
+    table: &mut Vec<Stated>,
+    command: &Command,
+) -> Result<bool, AllocError>
+    ensures allowed { IfOk result (λ within. within ≡ is_allowed (noted table.old.items (stated_by command.now))) }
+    ensures noted { IfOk result (λ within. within ≡ true → table.new.items ≡ noted table.old.items (stated_by command.now)) }
+    ensures kept { IfOk result (λ within. within ≡ false → table.new.items ≡ table.old.items) }
+    ensures err { OnErr result (table.new.items ≡ table.old.items) }
 {
     match command {
-        Command::OpenDb { name } | Command::Frames { name, .. } => name,
+        Command::OpenDb { name } => try_note(alloc, table, name, 0),
+        Command::Frames {
+            name,
+            commit,
+            pages,
+            ..
+        } => {
+            let length = length_stated(*commit, pages.as_slice());
+            try_note(alloc, table, name, length)
+        }
+        Command::Undo { .. } | Command::Checkpoint { .. } => Ok(is_within(table.as_slice())),
     }
 }
 
@@ -159,6 +174,7 @@ impl CommandList {
 
     /// Adds a command where the limits allow it, and answers whether it did. Where they don't, and after `Err`, which is
     /// want of memory, the list is as before.
+    #[tactic(auto, using(crate::proofs::Statements::table_more))]
     pub fn try_push(&mut self, alloc: Global, command: Command) -> Result<bool, AllocError>
         ensures allowed { IfOk result (λ joined. joined ≡ may_join self.old command) }
         ensures joined { IfOk result (λ joined. joined ≡ true → self.new ≡ self.old ++ command ∷ []) }
@@ -166,8 +182,7 @@ impl CommandList {
         ensures err { OnErr result (self.new ≡ self.old) }
     {
         self.commands.reserve(1)?;
-        let length = length_stated(&command);
-        let joins = try_note(alloc, &mut self.table, name(&command), length)?;
+        let joins = try_note_command(alloc, &mut self.table, &command)?;
         if joins {
             self.commands.push(command)?;
         }

@@ -28,7 +28,7 @@ fn apply_or_stay(image: &mut Image, pages: &[NumberedPage]) -> Result<(), AllocE
 }
 
 impl Database {
-    ghost use Rattle.cluster_runner.specs.Machine.{opened, frames};
+    ghost use Rattle.cluster_runner.specs.Machine.{opened, frames, undone};
 
     /// Two empty files, and nothing is pending.
     pub fn new(alloc: Global, name: Name) -> Database
@@ -46,6 +46,16 @@ impl Database {
         ensures { result ≡ false → pending_of tx self.now.pending ≡ [] }
     {
         matches!(&self.pending, Some(set) if set.tx == tx)
+    }
+
+    /// Drops the pages that are pending for a transaction.
+    #[tactic(auto, unfolding(crate::specs::Machine::undone))]
+    pub fn undo(&mut self, tx: u64)
+        ensures { self.new ≡ undone tx self.old }
+    {
+        if matches!(&self.pending, Some(set) if set.tx == tx) {
+            self.pending = None;
+        }
     }
 
     /// The pages that are pending for a transaction, and these behind them. Nothing is pending then.

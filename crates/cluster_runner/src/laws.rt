@@ -14,7 +14,7 @@ pub fn lines_read_back()
     ensures read { (line : ScriptLine) (bytes : List ℕ) → Spells line bytes → line_of bytes ≡ Some line }
 {}
 
-/// The limits of a list bound what its commands state: its table has each name that a command has once, and with it the
+/// The limits of a list bound what its commands state: its table has the name of each database that a command opens once, and with it the
 /// greatest length that a command states for it. So a list is allowed exactly where it has at most 16 names, and the
 /// greatest lengths of these names are together at most 67,108,864.
 pub fn limits_bound_what_is_stated()

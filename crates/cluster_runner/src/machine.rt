@@ -1,7 +1,7 @@
 //! One machine: its databases, and how many commands it has taken.
 
-ghost use Rattle.std.specs.Prelude.{◌≡◌, ◌<◌, length, set, get_or, OnOk, IfOk, MatchResult};
-ghost use Rattle.cluster_runner.specs.Machine.{StandsAt, BelongsAt, at_name, frames, act};
+ghost use Rattle.std.specs.Prelude.{◌≡◌, ◌<◌, length, map, set, get_or, OnOk, IfOk, MatchResult};
+ghost use Rattle.cluster_runner.specs.Machine.{StandsAt, BelongsAt, at_name, frames, undone, act};
 ghost use Rattle.cluster_runner.specs.declared.database.Database.{Database};
 
 use crate::database::Database;
@@ -44,6 +44,15 @@ fn opened_place(
     }
 }
 
+/// Drops what is pending for a transaction, in each database.
+fn undo(databases: &mut [Database], tx: u64)
+    ensures { databases.new ≡ map (undone tx) databases.old }
+{
+    for database in databases.iter_mut() {
+        database.undo(tx);
+    }
+}
+
 /// Does what a command says. Costs in the order of its pages, and of the databases where one is made. `Err` is want of
 /// memory; the databases are then not to be used.
 #[tactic(auto, unfolding(crate::specs::Machine::act))]
@@ -69,6 +78,8 @@ pub(crate) fn act(
             let database = &mut databases[place];
             database.take_frames(alloc, *tx, *commit, pages.as_slice())?;
         }
+        Command::Undo { tx } => undo(databases.as_mut_slice(), *tx),
+        Command::Checkpoint { .. } => {}
     }
     Ok(())
 }

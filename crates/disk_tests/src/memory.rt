@@ -146,7 +146,31 @@ const GONE: &[Step] = &[
     Step::Write(B, 0, b"xyz"),
 ];
 
+/// A name that is made between two syncs of the names; no bytes are synced.
+const BETWEEN: &[Step] = &[
+    Step::Write(A, 0, b"abcd"),
+    Step::SyncNames,
+    Step::Write(B, 0, b"xyz"),
+    Step::SyncNames,
+];
+
 const ROWS: &[Row] = &[
+    Row {
+        steps: BETWEEN,
+        pick: 0,
+        left: Left {
+            a: Some(b""),
+            b: Some(b""),
+        },
+    },
+    Row {
+        steps: BETWEEN,
+        pick: 4,
+        left: Left {
+            a: Some(b"abcd"),
+            b: Some(b"x"),
+        },
+    },
     Row {
         steps: TWO,
         pick: 0,

@@ -1,25 +1,26 @@
 -- A command is read exactly where the bytes stand for it, and commands stand apart.
-use Rattle.std.proofs.Common.{◌≡◌, ℕ, ◌+◌, true, cond, eqb, leb, inl, inr, List, [], ◌∷◌, ◌++◌, length, Option, Some, None, Result, Ok, Err, refl, sym, ap, subst, ◌∙◌, append_assoc, arith}
+use Rattle.std.proofs.Common.{◌≡◌, ℕ, ◌+◌, ◌<◌, ◌^◌, Bool, true, cond, eqb, leb, inl, inr, List, [], ◌∷◌, ◌++◌, length, Option, Some, None, Result, Ok, Err, refl, sym, ap, subst, ◌∙◌, append_assoc, arith}
 use Rattle.std.specs.Prelude.{IfOk}
 use Rattle.std.proofs.lemmas.Bool.{eqb-true, leb-true, le-leb}
 use Rattle.std.proofs.lemmas.List.{append-nil, nil_from_length}
 use Rattle.wire_words.specs.declared.fault.WordFault.TheVariants as word_faults
 use Rattle.std.specs.List.{position}
-use Rattle.wire_words.specs.Items.{text, raw, zeros_after, is_zero, AreBytes}
-use Rattle.wire_words.specs.Reading.{◌>>=◌, Unread, unread, raw_at, text_at}
+use Rattle.wire_words.specs.Items.{word, text, raw, zeros_after, is_zero, AreBytes}
+use Rattle.wire_words.specs.Reading.{◌>>=◌, Unread, unread, word_at, raw_at, text_at}
 use Rattle.wire_words.proofs.Choices.{one_of, none_of}
 use Rattle.wire_words.proofs.ReadBack.{bind_ok, ok_is, passed}
 use Rattle.frame_commands.specs.declared.command.Command.{Command}
-use Rattle.frame_commands.specs.declared.command.Command.TheVariants.{OpenDb, Frames}
+use Rattle.frame_commands.specs.declared.command.Command.TheVariants.{OpenDb, Frames, Undo, Checkpoint}
 use Rattle.frame_commands.specs.declared.kind.CommandKind.{CommandKind}
 use Rattle.frame_commands.specs.declared.kind.CommandKind.TheVariants as kinds
 use Rattle.frame_commands.specs.declared.fault.CommandFault.{CommandFault}
 use Rattle.frame_commands.specs.declared.fault.CommandFault.TheVariants.{Format, Tail}
-use Rattle.frame_commands.specs.Numbers.{numbers_fit}
+use Rattle.frame_commands.specs.Numbers.{frames_fit, numbers_fit}
 use Rattle.frame_commands.specs.Spelling.{head, frames_bytes, command_bytes, IsTextName, IsInRange, Writes}
-use Rattle.frame_commands.specs.Reading.{in_command, command_kind, known, kind_of, kind_at, may_be_name, name_at, command_after, command_at, ended, command_of, Gives}
+use Rattle.dq_base.specs.declared.pages.NumberedPage.{NumberedPage}
+use Rattle.frame_commands.specs.Reading.{in_command, command_kind, known, kind_of, kind_at, may_be_name, name_at, frames_at, named_frames_at, named_at, undo_at, command_after, command_at, ended, command_of, Gives}
 use Rattle.frame_commands.proofs.ItemFacts.{in_command_ok, command_is, both_true, is_short, text_ends}
-use Rattle.frame_commands.proofs.Passing.{Passed, passed_none, pass_none, passed_both, between, passed_first, passed_second, bytes_after, raw_passed, raw_stood, text_passed, text_stood}
+use Rattle.wire_words.proofs.Passing.{Passed, passed_none, pass_none, passed_both, between, passed_first, passed_second, bytes_after, word_passed, word_stood, raw_passed, raw_stood, text_passed, text_stood}
 use Rattle.frame_commands.proofs.FrameLaws.{frames_passed, frames_stood}
 use Rattle.frame_commands.proofs.Ranges.{few_pages}
 
@@ -29,17 +30,25 @@ use Rattle.frame_commands.proofs.Ranges.{few_pages}
 abbrev pub kind_number : CommandKind → ℕ
 kind_number kinds.OpenDb = 1
 kind_number kinds.Frames = 2
+kind_number kinds.Undo = 3
+kind_number kinds.Checkpoint = 4
 
 number_is : (n number : ℕ) (one kind : CommandKind) → (eqb n number ≡ true) × (one ≡ kind) → kind_number one ≡ number → n ≡ kind_number kind
 number_is n number one kind e is = eqb-true n number e.0 ∙ sym is ∙ ap kind_number e.1
 
 known_number : (n : ℕ) (kind : CommandKind) → command_kind n ≡ Some kind → n ≡ kind_number kind
 known_number n kind e =
-    elim (one_of (eqb n 1) kinds.OpenDb (cond (eqb n 2) (Some kinds.Frames) None) kind e) [
+    elim (one_of (eqb n 1) kinds.OpenDb (cond (eqb n 2) (Some kinds.Frames) (cond (eqb n 3) (Some kinds.Undo) (cond (eqb n 4) (Some kinds.Checkpoint) None))) kind e) [
       | inl is ↦ number_is n 1 kinds.OpenDb kind is refl
-      | inr e ↦ elim (one_of (eqb n 2) kinds.Frames None kind e) [
+      | inr e ↦ elim (one_of (eqb n 2) kinds.Frames (cond (eqb n 3) (Some kinds.Undo) (cond (eqb n 4) (Some kinds.Checkpoint) None)) kind e) [
         | inl is ↦ number_is n 2 kinds.Frames kind is refl
-        | inr e ↦ none_of kind (n ≡ kind_number kind) e
+        | inr e ↦ elim (one_of (eqb n 3) kinds.Undo (cond (eqb n 4) (Some kinds.Checkpoint) None) kind e) [
+          | inl is ↦ number_is n 3 kinds.Undo kind is refl
+          | inr e ↦ elim (one_of (eqb n 4) kinds.Checkpoint None kind e) [
+            | inl is ↦ number_is n 4 kinds.Checkpoint kind is refl
+            | inr e ↦ none_of kind (n ≡ kind_number kind) e
+          ]
+        ]
       ]
     ]
 
@@ -72,6 +81,8 @@ head_stood : (kind : CommandKind) (old new : Unread) → Passed (head (kind_numb
 unfolding kind_at
 head_stood kinds.OpenDb old new p = rw (ap kind_of p.parts, raw_stood 2 old new (1 ∷ 1 ∷ []) refl p) refl
 head_stood kinds.Frames old new p = rw (ap kind_of p.parts, raw_stood 2 old new (1 ∷ 2 ∷ []) refl p) refl
+head_stood kinds.Undo old new p = rw (ap kind_of p.parts, raw_stood 2 old new (1 ∷ 3 ∷ []) refl p) refl
+head_stood kinds.Checkpoint old new p = rw (ap kind_of p.parts, raw_stood 2 old new (1 ∷ 4 ∷ []) refl p) refl
 
 -- ---- the name
 
@@ -95,46 +106,96 @@ name_stood old new t name p =
 abbrev kind_from : Command → CommandKind
 kind_from (OpenDb name) = kinds.OpenDb
 kind_from (Frames name tx truncate commit pages) = kinds.Frames
+kind_from (Undo tx) = kinds.Undo
+kind_from (Checkpoint name) = kinds.Checkpoint
 
-abbrev name_from : Command → List ℕ
-name_from (OpenDb name) = name
-name_from (Frames name tx truncate commit pages) = name
-
--- what follows the name
+-- what follows the head
 abbrev rest_bytes : Command → List ℕ
-rest_bytes (OpenDb name) = []
-rest_bytes (Frames name tx truncate commit pages) = frames_bytes tx truncate commit pages
+rest_bytes (OpenDb name) = text name
+rest_bytes (Frames name tx truncate commit pages) = text name ++ frames_bytes tx truncate commit pages
+rest_bytes (Undo tx) = word tx
+rest_bytes (Checkpoint name) = text name
 
-three_parts : (command : Command) → head (kind_number (kind_from command)) ++ (text (name_from command) ++ rest_bytes command) ≡ command_bytes command
-three_parts (OpenDb name) = ap (λ (x : List ℕ). head 1 ++ x) (append-nil (text name))
-three_parts (Frames name tx truncate commit pages) = refl
+two_parts : (command : Command) → head (kind_number (kind_from command)) ++ rest_bytes command ≡ command_bytes command
+two_parts (OpenDb name) = refl
+two_parts (Frames name tx truncate commit pages) = refl
+two_parts (Undo tx) = refl
+two_parts (Checkpoint name) = refl
 
-name_in_range : (command : Command) → IsInRange command → IsTextName (name_from command)
-name_in_range (OpenDb name) range = range
-name_in_range (Frames name tx truncate commit pages) range = range.0
-
-record PassedRest (kind : CommandKind) (name : List ℕ) (command : Command) (old new : Unread) : Type 0 where
+record PassedRest (kind : CommandKind) (command : Command) (old new : Unread) : Type 0 where
   pub is_kind : kind ≡ kind_from command
-  pub is_name : name ≡ name_from command
-  pub range : IsTextName name → IsInRange command
+  pub range : IsInRange command
   pub fits : numbers_fit command ≡ true
   pub stood : Passed (rest_bytes command) old new
 
-rest_passed : (kind : CommandKind) (name : List ℕ) (old new : Unread) (command : Command) → AreBytes old.bytes → command_after kind name old ≡ Ok (command, new) → PassedRest kind name command old new
-rest_passed kinds.OpenDb name old new command fits e =
-    let made : Command × Unread = (OpenDb name, old) in
-    subst (λ (x : Command × Unread). PassedRest kinds.OpenDb name x.0 old x.1) (command_is made (command, new) e)
-    (record { is_kind = refl; is_name = refl; range = λ r. r; fits = refl; stood = pass_none old })
-rest_passed kinds.Frames name old new command fits e =
-    let p = frames_passed name old new command fits e in
-    subst (λ (c : Command). PassedRest kinds.Frames name c old new) p.is
-    (record { is_kind = refl; is_name = refl; range = λ r. (r, p.tx_fits, p.truncate_fits, p.numbers, p.sizes); fits = p.fits; stood = p.stood })
+-- a command that has a name alone
+record PassedNamed (make : List ℕ → Command) (command : Command) (old new : Unread) : Type 0 where
+  pub name : List ℕ
+  pub is : make name ≡ command
+  pub fits : IsTextName name
+  pub stood : Passed (text name) old new
+
+named_passed : (make : List ℕ → Command) (old new : Unread) (command : Command) → named_at make old ≡ Ok (command, new) → PassedNamed make command old new
+unfolding named_at
+named_passed make old new command e =
+    let a = bind_ok (in_command (name_at old)) (λ name. Ok (make name.0, name.1)) (command, new) e in
+    let p = name_passed old a.0.1 a.0.0 (in_command_ok (name_at old) a.0 a.1) in
+    let made : Command × Unread = (make a.0.0, a.0.1) in
+    subst (λ (x : Command × Unread). PassedNamed make x.0 old x.1) (command_is made (command, new) a.2)
+    (record { name = a.0.0; is = refl; fits = p.0; stood = p.1 })
+
+named_stood : (make : List ℕ → Command) (name : List ℕ) (old new : Unread) → IsTextName name → Passed (text name) old new → named_at make old ≡ Ok (make name, new)
+unfolding named_at
+named_stood make name old new fits p = rw (name_stood old new name fits p) refl
+
+named_frames_passed : (old new : Unread) (command : Command) → AreBytes old.bytes → named_frames_at old ≡ Ok (command, new) → PassedRest kinds.Frames command old new
+unfolding named_frames_at
+named_frames_passed old new command fits e =
+    let a = bind_ok (in_command (name_at old)) (λ name. frames_at name.0 name.1) (command, new) e in
+    let name = name_passed old a.0.1 a.0.0 (in_command_ok (name_at old) a.0 a.1) in
+    let p = frames_passed a.0.0 a.0.1 new command (bytes_after (text a.0.0) old a.0.1 name.1 fits) a.2 in
+    let stood = passed_both old a.0.1 new (text a.0.0) (frames_bytes p.tx p.truncate p.commit p.pages) name.1 p.stood in
+    subst (λ (c : Command). PassedRest kinds.Frames c old new) p.is
+    (record { is_kind = refl; range = (name.0, p.tx_fits, p.truncate_fits, p.numbers, p.sizes); fits = p.fits; stood = stood })
+
+named_frames_stood : (name : List ℕ) (tx truncate : ℕ) (commit : Bool) (pages : List NumberedPage) (old new : Unread) → IsInRange (Frames name tx truncate commit pages) → frames_fit truncate commit pages ≡ true
+    → Passed (text name ++ frames_bytes tx truncate commit pages) old new → named_frames_at old ≡ Ok (Frames name tx truncate commit pages, new)
+unfolding named_frames_at
+named_frames_stood name tx truncate commit pages old new range fits p =
+    let rest = frames_bytes tx truncate commit pages in
+    let mid = between old (text name) rest new in
+    let name_read = name_stood old mid name range.0 (passed_first old new (text name) rest p) in
+    rw name_read (frames_stood name tx truncate commit pages mid new range.1 range.2 (few_pages truncate commit pages fits) range.3 range.4 fits (passed_second old new (text name) rest p))
+
+undo_passed : (old new : Unread) (command : Command) → AreBytes old.bytes → undo_at old ≡ Ok (command, new) → PassedRest kinds.Undo command old new
+unfolding undo_at
+undo_passed old new command fits e =
+    let a = bind_ok (in_command (word_at old)) (λ tx. Ok (Undo tx.0, tx.1)) (command, new) e in
+    let p = word_passed old a.0.1 a.0.0 fits (in_command_ok (word_at old) a.0 a.1) in
+    let made : Command × Unread = (Undo a.0.0, a.0.1) in
+    subst (λ (x : Command × Unread). PassedRest kinds.Undo x.0 old x.1) (command_is made (command, new) a.2)
+    (record { is_kind = refl; range = p.0; fits = refl; stood = p.1 })
+
+undo_stood : (tx : ℕ) (old new : Unread) → tx < 2 ^ 64 → Passed (word tx) old new → undo_at old ≡ Ok (Undo tx, new)
+unfolding undo_at
+undo_stood tx old new fits p = rw (word_stood old new tx fits p) refl
+
+rest_passed : (kind : CommandKind) (old new : Unread) (command : Command) → AreBytes old.bytes → command_after kind old ≡ Ok (command, new) → PassedRest kind command old new
+rest_passed kinds.OpenDb old new command fits e =
+    let p = named_passed (λ name. OpenDb name) old new command e in
+    subst (λ (c : Command). PassedRest kinds.OpenDb c old new) p.is (record { is_kind = refl; range = p.fits; fits = refl; stood = p.stood })
+rest_passed kinds.Frames old new command fits e = named_frames_passed old new command fits e
+rest_passed kinds.Undo old new command fits e = undo_passed old new command fits e
+rest_passed kinds.Checkpoint old new command fits e =
+    let p = named_passed (λ name. Checkpoint name) old new command e in
+    subst (λ (c : Command). PassedRest kinds.Checkpoint c old new) p.is (record { is_kind = refl; range = p.fits; fits = refl; stood = p.stood })
 
 rest_stood : (command : Command) (old new : Unread) → IsInRange command → numbers_fit command ≡ true → Passed (rest_bytes command) old new
-    → command_after (kind_from command) (name_from command) old ≡ Ok (command, new)
-rest_stood (OpenDb name) old new range fits p = ap (λ (left : Unread). Ok (OpenDb name, left)) (passed_none old new p)
-rest_stood (Frames name tx truncate commit pages) old new range fits p =
-    frames_stood name tx truncate commit pages old new range.1 range.2 (few_pages truncate commit pages fits) range.3 range.4 fits p
+    → command_after (kind_from command) old ≡ Ok (command, new)
+rest_stood (OpenDb name) old new range fits p = named_stood (λ name. OpenDb name) name old new range p
+rest_stood (Frames name tx truncate commit pages) old new range fits p = named_frames_stood name tx truncate commit pages old new range fits p
+rest_stood (Undo tx) old new range fits p = undo_stood tx old new range p
+rest_stood (Checkpoint name) old new range fits p = named_stood (λ name. Checkpoint name) name old new range p
 
 -- ---- a command
 
@@ -147,34 +208,23 @@ pub record PassedCommand (command : Command) (old new : Unread) : Type 0 where
 pub command_passed : (command : Command) (old new : Unread) → AreBytes old.bytes → command_at old ≡ Ok (command, new) → PassedCommand command old new
 unfolding command_at
 command_passed command old new fits e =
-    let a = bind_ok (kind_at old) (λ kind. in_command (name_at kind.1) >>= λ name. command_after kind.0 name.0 name.1) (command, new) e in
-    let b = bind_ok (in_command (name_at a.0.1)) (λ name. command_after a.0.0 name.0 name.1) (command, new) a.2 in
+    let a = bind_ok (kind_at old) (λ kind. command_after kind.0 kind.1) (command, new) e in
     let head_part = head_passed a.0.0 old a.0.1 a.1 in
-    let fits1 = bytes_after (head (kind_number a.0.0)) old a.0.1 head_part fits in
-    let name = name_passed a.0.1 b.0.1 b.0.0 (in_command_ok (name_at a.0.1) b.0 b.1) in
-    let fits2 = bytes_after (text b.0.0) a.0.1 b.0.1 name.1 fits1 in
-    let rest = rest_passed a.0.0 b.0.0 b.0.1 new command fits2 b.2 in
-    let last = passed_both a.0.1 b.0.1 new (text b.0.0) (rest_bytes command) name.1 rest.stood in
-    let whole = passed_both old a.0.1 new (head (kind_number a.0.0)) (text b.0.0 ++ rest_bytes command) head_part last in
-    let spelled : head (kind_number a.0.0) ++ (text b.0.0 ++ rest_bytes command) ≡ command_bytes command =
-    ap (λ (k : CommandKind). head (kind_number k) ++ (text b.0.0 ++ rest_bytes command)) rest.is_kind
-    ∙ ap (λ (t : List ℕ). head (kind_number (kind_from command)) ++ (text t ++ rest_bytes command)) rest.is_name
-    ∙ three_parts command in
-    record { range = rest.range name.0; fits = rest.fits; stood = subst (λ (x : List ℕ). Passed x old new) spelled whole }
+    let rest = rest_passed a.0.0 a.0.1 new command (bytes_after (head (kind_number a.0.0)) old a.0.1 head_part fits) a.2 in
+    let whole = passed_both old a.0.1 new (head (kind_number a.0.0)) (rest_bytes command) head_part rest.stood in
+    let spelled : head (kind_number a.0.0) ++ rest_bytes command ≡ command_bytes command =
+    ap (λ (k : CommandKind). head (kind_number k) ++ rest_bytes command) rest.is_kind ∙ two_parts command in
+    record { range = rest.range; fits = rest.fits; stood = subst (λ (x : List ℕ). Passed x old new) spelled whole }
 
 pub command_stood : (command : Command) (old new : Unread) → PassedCommand command old new → command_at old ≡ Ok (command, new)
 unfolding command_at
 command_stood command old new c =
     let front = head (kind_number (kind_from command)) in
-    let name = text (name_from command) in
     let rest = rest_bytes command in
-    let p : Passed (front ++ (name ++ rest)) old new = subst (λ (x : List ℕ). Passed x old new) (sym (three_parts command)) c.stood in
-    let mid = between old front (name ++ rest) new in
-    let p1 = passed_second old new front (name ++ rest) p in
-    let end = between mid name rest new in
-    let kind_read = head_stood (kind_from command) old mid (passed_first old new front (name ++ rest) p) in
-    let name_read = name_stood mid end (name_from command) (name_in_range command c.range) (passed_first mid new name rest p1) in
-    rw (kind_read, name_read) (rest_stood command end new c.range c.fits (passed_second mid new name rest p1))
+    let p : Passed (front ++ rest) old new = subst (λ (x : List ℕ). Passed x old new) (sym (two_parts command)) c.stood in
+    let mid = between old front rest new in
+    let kind_read = head_stood (kind_from command) old mid (passed_first old new front rest p) in
+    rw kind_read (rest_stood command mid new c.range c.fits (passed_second old new front rest p))
 
 -- ---- all of the bytes
 

@@ -13,7 +13,7 @@ use Rattle.frame_commands.specs.Numbers.{frames_fit}
 use Rattle.frame_commands.specs.Spelling.{flag, number_words, page_bytes, frames_bytes, HaveNumbers, HaveSizes}
 use Rattle.frame_commands.specs.Reading.{in_command, flagged_at, sized_at, numbers_at, pages_at, frame_items_at, frames_of, frames_at}
 use Rattle.frame_commands.proofs.ItemFacts.{in_command_ok, command_is, both_true}
-use Rattle.frame_commands.proofs.Passing.{Passed, passed_both, between, passed_first, passed_second, bytes_after, word_passed, word_stood}
+use Rattle.wire_words.proofs.Passing.{Passed, passed_both, between, passed_first, passed_second, bytes_after, word_passed, word_stood}
 use Rattle.frame_commands.proofs.Halves.{PassedPair, flagged_passed, flagged_stood, sized_passed, sized_stood}
 use Rattle.frame_commands.proofs.PageLaws.{words_of, AreWords, PassedNumbers, PassedPages, numbers_passed, numbers_stood, pages_passed, pages_stood, words_are, numbers_have, as_many}
 

@@ -10,7 +10,7 @@ use Rattle.wire_words.specs.Reading.{Unread, raw_at}
 use Rattle.wire_words.proofs.ReadBack.{bind_ok, ok_is}
 use Rattle.wire_words.proofs.Numbers.{bytes_of_number_4, AreBytes-drop}
 use Rattle.frame_commands.specs.Reading.{flagged_at, sized_at}
-use Rattle.frame_commands.proofs.Passing.{Passed, bytes_of, raw_passed, raw_stood}
+use Rattle.wire_words.proofs.Passing.{Passed, bytes_of, raw_passed, raw_stood}
 
 -- the bytes of a number and a byte
 abbrev pub flagged : ℕ → ℕ → List ℕ

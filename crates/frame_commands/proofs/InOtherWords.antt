@@ -1,18 +1,20 @@
 -- The test of a command's numbers says what their range is.
-use Rattle.std.proofs.Common.{◌≡◌, ℕ, suc, ◌+◌, ◌<◌, ◌≤◌, Bool, true, false, not, ◌&&◌, eqb, leb, List, [], ◌∷◌, ◌++◌, length, Some, refl, sym, ap, ◌∙◌, arith}
+use Rattle.std.proofs.Common.{◌≡◌, ℕ, suc, ◌+◌, ◌<◌, ◌≤◌, Bool, true, false, not, ◌&&◌, eqb, leb, List, [], ◌∷◌, ◌++◌, length, Some, refl, sym, ap, subst, ◌∙◌, arith}
 use Rattle.std.specs.List.{All, AllByRecursion, AllPairs}
 use Rattle.std.proofs.lemmas.Bool.{leb-true, le-leb, eqb-true, eqb-false, ne_eqb, eq-eqb}
 use Rattle.std.proofs.lemmas.List.Elements.{All-from_recursion, recursion_from_All}
 use Rattle.std.proofs.lemmas.List.Kept.{AllPairs-cons}
 use Rattle.dq_base.specs.declared.pages.NumberedPage.{NumberedPage}
-use Rattle.dq_base.specs.Applying.{is_sizes}
-use Rattle.frame_commands.specs.Numbers.{numbers_ascend, highest_number, most_pages, stated_count, ends_with, frames_fit}
+use Rattle.dq_base.specs.Applying.{is_sizes, stated_main, stated_side, longest_file}
+use Rattle.frame_commands.specs.declared.command.Command.{Command}
+use Rattle.frame_commands.specs.declared.command.Command.TheVariants.{OpenDb, Frames, Undo, Checkpoint}
+use Rattle.frame_commands.specs.Numbers.{numbers_ascend, highest_number, most_pages, stated_count, ends_with, frames_fit, numbers_fit, AreLow, HasLowNumbers}
 use Rattle.frame_commands.specs.InRange.{Ascend, Ends, GoesOn, EndsOrGoesOn, AreInRange}
 use Rattle.frame_commands.proofs.ItemFacts.{both_true}
 use Rattle.frame_commands.proofs.Ranges.{frames_fit-push}
 
 -- what the test looks at, number by number
-abbrev Steps : ℕ → List NumberedPage → Type 0
+abbrev pub Steps : ℕ → List NumberedPage → Type 0
 Steps least [] = Unit {0}
 Steps least (p ∷ ps) = (least ≤ p.number) × ¬ (p.number ≡ 1) × (p.number ≤ highest_number) × Steps (p.number + 1) ps
 
@@ -20,7 +22,7 @@ not_false : (b : Bool) → not b ≡ true → b ≡ false
 not_false true e = absurd cc
 not_false false e = refl
 
-steps_of : (least : ℕ) (ps : List NumberedPage) → numbers_ascend least ps ≡ true → Steps least ps
+pub steps_of : (least : ℕ) (ps : List NumberedPage) → numbers_ascend least ps ≡ true → Steps least ps
 unfolding numbers_ascend
 steps_of least [] e = tt
 steps_of least (p ∷ ps) e =
@@ -29,7 +31,7 @@ steps_of least (p ∷ ps) e =
     let c = both_true (leb least p.number) (not (eqb p.number 1)) b.0 in
     (leb-true least p.number c.0, eqb-false p.number 1 (not_false (eqb p.number 1) c.1), leb-true p.number highest_number b.1, steps_of (p.number + 1) ps a.1)
 
-test_of : (least : ℕ) (ps : List NumberedPage) → Steps least ps → numbers_ascend least ps ≡ true
+pub test_of : (least : ℕ) (ps : List NumberedPage) → Steps least ps → numbers_ascend least ps ≡ true
 unfolding numbers_ascend
 test_of least [] s = refl
 test_of least (p ∷ ps) s =
@@ -98,12 +100,12 @@ ascend_test ps a =
 -- ---- the whole
 
 -- a list that isn't empty has a last page
-record HasLast (ps : List NumberedPage) : Type 0 where
+pub record HasLast (ps : List NumberedPage) : Type 0 where
   pub front : List NumberedPage
   pub last : NumberedPage
   pub parts : ps ≡ front ++ last ∷ []
 
-has_last : (ps : List NumberedPage) → 1 ≤ length ps → HasLast ps
+pub has_last : (ps : List NumberedPage) → 1 ≤ length ps → HasLast ps
 has_last [] some = absurd (omega (arith, some))
 has_last (p ∷ []) some = record { front = []; last = p; parts = refl }
 has_last (p ∷ q ∷ ps) some =
@@ -150,3 +152,29 @@ part_test truncate false pages h few part =
 
 pub in_range_test : (truncate : ℕ) (commit : Bool) (pages : List NumberedPage) → AreInRange truncate commit pages → frames_fit truncate commit pages ≡ true
 in_range_test truncate commit pages r = part_test truncate commit pages (has_last pages r.some) r.few r.part
+
+-- ---- numbers that fit are low
+
+sizes_number : (p : NumberedPage) → is_sizes p ≡ true → p.number ≡ 1
+unfolding is_sizes
+sizes_number p e =
+    let a = both_true _ (leb (stated_side p.page) longest_file) e in
+    let b = both_true _ (leb (stated_main p.page) longest_file) a.0 in
+    let c = both_true (eqb p.number 1) _ b.0 in
+    eqb-true p.number 1 c.0
+
+low_behind : (front : List NumberedPage) (last : NumberedPage) → AreLow front → last.number ≤ highest_number → AreLow (front ++ last ∷ [])
+low_behind [] last low le = (le, tt)
+low_behind (p ∷ front) last low le = (low.0, low_behind front last low.1 le)
+
+part_low : (truncate : ℕ) (commit : Bool) (pages : List NumberedPage) → EndsOrGoesOn truncate commit pages → AreLow pages
+part_low truncate true pages part =
+    let one : part.sizes.number ≤ highest_number = omega (arith, sizes_number part.sizes part.valid) in
+    subst AreLow (sym part.parts) (low_behind part.front part.sizes (recursion_from_All (λ p. p.number ≤ highest_number) part.front part.ascend.low) one)
+part_low truncate false pages part = recursion_from_All (λ p. p.number ≤ highest_number) pages part.ascend.low
+
+pub fit_low : (command : Command) → numbers_fit command ≡ true → HasLowNumbers command
+fit_low (OpenDb name) e = tt
+fit_low (Frames name tx truncate commit pages) e = part_low truncate commit pages (in_range_of truncate commit pages e).part
+fit_low (Undo tx) e = tt
+fit_low (Checkpoint name) e = tt

@@ -3,9 +3,9 @@ pub mod Loops
 pub mod Ascending
 pub mod Ranges
 pub mod InTurn
-pub mod Passing
 pub mod Halves
 pub mod PageLaws
 pub mod FrameLaws
 pub mod CommandLaws
 pub mod InOtherWords
+pub mod SplitFits

@@ -1,29 +1,11 @@
 -- The steps of the loops that read numbers and pages.
-use Rattle.std.proofs.Common.{◌≡◌, ℕ, suc, ◌+◌, ◌-◌, ◌<◌, ◌≤◌, List, [], ◌∷◌, ◌++◌, length, get_or, drop, Result, Ok, Err, refl, sym, ap, ◌∙◌, append_assoc, arith}
+use Rattle.std.proofs.Common.{◌≡◌, ℕ, suc, ◌+◌, ◌-◌, ◌<◌, ◌≤◌, List, [], ◌∷◌, ◌++◌, length, get_or, drop, Result, Ok, Err, refl, sym, ap, ◌∙◌, arith}
 use Rattle.std.proofs.lemmas.List.{append-nil, at_drop_more, at_drop_all}
 use Rattle.dq_base.specs.declared.pages.NumberedPage.{NumberedPage}
 use Rattle.wire_words.specs.declared.fault.WordFault.{WordFault}
-use Rattle.wire_words.specs.declared.fault.WordFault.TheVariants as faults
 use Rattle.wire_words.specs.Reading.{◌>>=◌, Unread, word_at, Fails}
+use Rattle.wire_words.proofs.ReadingLoops.{with_front, regroup, fails_so}
 use Rattle.frame_commands.specs.Reading.{numbers_at, page_at, pages_at}
-
--- what was read before, and what is still read
-abbrev pub with_front : {A : Type 0} → List A → Result (List A × Unread) WordFault → Result (List A × Unread) WordFault
-with_front front read = read >>= λ x. Ok (front ++ x.0, x.1)
-
-regroup : {A : Type 0} (front : List A) (n : A) (read : Result (List A × Unread) WordFault) → with_front front (read >>= λ x. Ok (n ∷ x.0, x.1)) ≡ with_front (front ++ n ∷ []) read
-regroup front n (Ok x) = ap (λ ns. Ok (ns, x.1)) (sym (append_assoc front (n ∷ []) x.0))
-regroup front n (Err f) = refl
-
--- a fault of a step is the fault of the whole
-pub fails_so : {A B : Type 0} (e : WordFault) (step : Result A WordFault) (whole : Result B WordFault) → ((f : WordFault) → step ≡ Err f → whole ≡ Err f) → Fails e step → Fails e whole
-fails_so faults.NoMemory step whole so fails = tt
-fails_so (faults.Short n) step whole so fails = so (faults.Short n) fails
-fails_so (faults.NoNul n) step whole so fails = so (faults.NoNul n) fails
-fails_so (faults.NotUtf8 n) step whole so fails = so (faults.NotUtf8 n) fails
-fails_so (faults.Pad n) step whole so fails = so (faults.Pad n) fails
-fails_so (faults.BadCode n m) step whole so fails = so (faults.BadCode n m) fails
-fails_so (faults.Float n) step whole so fails = so (faults.Float n) fails
 
 -- ---- reading numbers
 

@@ -7,7 +7,7 @@ use Rattle.wire_words.specs.Reading.{◌>>=◌, Unread, word_at, raw_at}
 use Rattle.wire_words.proofs.ReadBack.{bind_ok, ok_is}
 use Rattle.frame_commands.specs.Spelling.{number_words, page_bytes, HaveNumbers, HaveSizes}
 use Rattle.frame_commands.specs.Reading.{numbers_at, page_at, pages_at}
-use Rattle.frame_commands.proofs.Passing.{Passed, passed_none, pass_none, passed_both, between, passed_first, passed_second, bytes_after, word_passed, word_stood, raw_passed, raw_stood}
+use Rattle.wire_words.proofs.Passing.{Passed, passed_none, pass_none, passed_both, between, passed_first, passed_second, bytes_after, word_passed, word_stood, raw_passed, raw_stood}
 
 abbrev pub words_of : List ℕ → List ℕ
 words_of [] = []

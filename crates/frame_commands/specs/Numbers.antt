@@ -1,10 +1,11 @@
 -- Which numbers a command may have.
-use Rattle.std.specs.Prelude.{ℕ, ◌+◌, ◌-◌, Bool, true, false, not, ◌&&◌, ◌==◌, nat_le, if◌then◌else◌, List, [], ◌∷◌, length, take, Option, Some, None}
+use Rattle.std.specs.Prelude.{ℕ, ◌≤◌, ◌+◌, ◌-◌, Bool, true, false, not, ◌&&◌, ◌==◌, nat_le, if◌then◌else◌, List, [], ◌∷◌, length, take, Option, Some, None}
+use Rattle.std.specs.List.{AllByRecursion}
 use Rattle.dq_base.specs.declared.pages.NumberedPage.{NumberedPage}
 use Rattle.dq_base.specs.Images.{pages_of}
 use Rattle.dq_base.specs.Applying.{is_sizes, stated_main, stated_side, last_page}
 use Rattle.frame_commands.specs.declared.command.Command.{Command}
-use Rattle.frame_commands.specs.declared.command.Command.TheVariants.{OpenDb, Frames}
+use Rattle.frame_commands.specs.declared.command.Command.TheVariants.{OpenDb, Frames, Undo, Checkpoint}
 
 -- the most pages of one command
 abbrev pub most_pages : ℕ
@@ -44,3 +45,16 @@ frames_fit truncate commit pages =
 abbrev pub numbers_fit : Command → Bool
 numbers_fit (OpenDb name) = true
 numbers_fit (Frames name tx truncate commit pages) = frames_fit truncate commit pages
+numbers_fit (Undo tx) = true
+numbers_fit (Checkpoint name) = true
+
+-- no number of these pages is above the highest
+abbrev pub AreLow : List NumberedPage → Type 0
+AreLow pages = AllByRecursion (λ p. p.number ≤ highest_number) pages
+
+-- no page of a command has a number above the highest
+abbrev pub HasLowNumbers : Command → Type 0
+HasLowNumbers (OpenDb name) = Unit {0}
+HasLowNumbers (Frames name tx truncate commit pages) = AreLow pages
+HasLowNumbers (Undo tx) = Unit {0}
+HasLowNumbers (Checkpoint name) = Unit {0}

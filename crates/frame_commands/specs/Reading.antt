@@ -9,7 +9,7 @@ use Rattle.wire_words.specs.declared.fault.WordFault.TheVariants as word_faults
 use Rattle.wire_words.specs.Items.{is_zero}
 use Rattle.wire_words.specs.Reading.{◌>>=◌, Unread, unread, word_at, raw_at, text_at}
 use Rattle.frame_commands.specs.declared.command.Command.{Command}
-use Rattle.frame_commands.specs.declared.command.Command.TheVariants.{OpenDb, Frames}
+use Rattle.frame_commands.specs.declared.command.Command.TheVariants.{OpenDb, Frames, Undo, Checkpoint}
 use Rattle.frame_commands.specs.declared.items.FrameItems.{FrameItems}
 use Rattle.frame_commands.specs.declared.kind.CommandKind.{CommandKind}
 use Rattle.frame_commands.specs.declared.kind.CommandKind.TheVariants as kinds
@@ -28,7 +28,7 @@ in_command (Err fault) = Err (of_word fault)
 
 -- the type of command that a number stands for
 abbrev pub command_kind : ℕ → Option CommandKind
-command_kind n = if n == 1 then Some kinds.OpenDb else if n == 2 then Some kinds.Frames else None
+command_kind n = if n == 1 then Some kinds.OpenDb else if n == 2 then Some kinds.Frames else if n == 3 then Some kinds.Undo else if n == 4 then Some kinds.Checkpoint else None
 
 abbrev pub known : Option CommandKind → Result CommandKind CommandFault
 known None = Err Kind
@@ -113,24 +113,43 @@ frames_of name items =
     else Err Number)
     else Err PageSize
 
--- the rest of a Frames command
+-- the rest of a Frames command of this name
 unfoldable pub frames_at : List ℕ → Unread → Result (Command × Unread) CommandFault
 frames_at name left = do
   items ← in_command (frame_items_at left)
   command ← frames_of name items.0
   Ok (command, items.1)
 
--- the rest of a command of this type
-abbrev pub command_after : CommandKind → List ℕ → Unread → Result (Command × Unread) CommandFault
-command_after kinds.OpenDb name left = Ok (OpenDb name, left)
-command_after kinds.Frames name left = frames_at name left
+-- what follows the head of a Frames command
+unfoldable pub named_frames_at : Unread → Result (Command × Unread) CommandFault
+named_frames_at left = do
+  name ← in_command (name_at left)
+  frames_at name.0 name.1
+
+-- a command that has a name alone
+unfoldable pub named_at : (List ℕ → Command) → Unread → Result (Command × Unread) CommandFault
+named_at make left = do
+  name ← in_command (name_at left)
+  Ok (make name.0, name.1)
+
+-- what follows the head of an Undo command
+unfoldable pub undo_at : Unread → Result (Command × Unread) CommandFault
+undo_at left = do
+  tx ← in_command (word_at left)
+  Ok (Undo tx.0, tx.1)
+
+-- what follows the head of a command of this type
+abbrev pub command_after : CommandKind → Unread → Result (Command × Unread) CommandFault
+command_after kinds.OpenDb left = named_at (λ name. OpenDb name) left
+command_after kinds.Frames left = named_frames_at left
+command_after kinds.Undo left = undo_at left
+command_after kinds.Checkpoint left = named_at (λ name. Checkpoint name) left
 
 -- a command, whatever follows it
 unfoldable pub command_at : Unread → Result (Command × Unread) CommandFault
 command_at left = do
   kind ← kind_at left
-  name ← in_command (name_at kind.1)
-  command_after kind.0 name.0 name.1
+  command_after kind.0 kind.1
 
 -- what was read, where nothing is left
 abbrev pub ended : Command × Unread → Result Command CommandFault

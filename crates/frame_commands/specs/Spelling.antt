@@ -5,7 +5,7 @@ use Rattle.dq_base.specs.declared.pages.NumberedPage.{NumberedPage}
 use Rattle.dq_base.specs.Names.{IsName}
 use Rattle.wire_words.specs.Items.{word, pair, text, raw}
 use Rattle.frame_commands.specs.declared.command.Command.{Command}
-use Rattle.frame_commands.specs.declared.command.Command.TheVariants.{OpenDb, Frames}
+use Rattle.frame_commands.specs.declared.command.Command.TheVariants.{OpenDb, Frames, Undo, Checkpoint}
 use Rattle.frame_commands.specs.Numbers.{numbers_fit}
 
 -- the format 1, the type, and six zeros
@@ -37,6 +37,8 @@ frames_bytes tx truncate commit pages =
 abbrev pub command_bytes : Command → List ℕ
 command_bytes (OpenDb name) = head 1 ++ text name
 command_bytes (Frames name tx truncate commit pages) = head 2 ++ (text name ++ frames_bytes tx truncate commit pages)
+command_bytes (Undo tx) = head 3 ++ word tx
+command_bytes (Checkpoint name) = head 4 ++ text name
 
 -- each number has 64 bits
 abbrev pub HaveNumbers : List NumberedPage → Type 0
@@ -54,6 +56,8 @@ IsTextName name = IsName name × IsUtf8 name
 abbrev pub IsInRange : Command → Type 0
 IsInRange (OpenDb name) = IsTextName name
 IsInRange (Frames name tx truncate commit pages) = IsTextName name × (tx < 2 ^ 64) × (truncate < 2 ^ 32) × HaveNumbers pages × HaveSizes pages
+IsInRange (Undo tx) = tx < 2 ^ 64
+IsInRange (Checkpoint name) = IsTextName name
 
 -- The bytes stand for the command: its numbers are in range, and it is spelled so.
 pub record Writes (command : Command) (bytes : List ℕ) : Type 0 where

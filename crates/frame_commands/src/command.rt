@@ -20,4 +20,12 @@ pub enum Command {
         /// To be 1 to 64 pages in ascending order; with `commit` the sizes page comes last, else there is none.
         pages: Items<NumberedPage>,
     },
+    /// Drops the pages of this transaction that wait for its last ones, in whichever database.
+    Undo {
+        tx: u64,
+    },
+    /// Moves what no reader of the database still looks past into its base. No image changes.
+    Checkpoint {
+        name: Name,
+    },
 }

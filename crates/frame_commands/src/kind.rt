@@ -6,6 +6,8 @@ ghost use Rattle.frame_commands.specs.Reading.{command_kind};
 pub(crate) enum CommandKind {
     OpenDb,
     Frames,
+    Undo,
+    Checkpoint,
 }
 
 impl CommandKind {
@@ -16,6 +18,8 @@ impl CommandKind {
         match byte {
             1 => Some(CommandKind::OpenDb),
             2 => Some(CommandKind::Frames),
+            3 => Some(CommandKind::Undo),
+            4 => Some(CommandKind::Checkpoint),
             _ => None,
         }
     }

@@ -1,9 +1,12 @@
-ghost use Rattle.std.specs.Prelude.{◌≡◌, ℕ, Bool, true, List, [], ◌++◌, Ok};
+ghost use Rattle.std.specs.Prelude.{◌≡◌, ℕ, ◌≤◌, Bool, true, List, [], ◌++◌, None, Ok};
+ghost use Rattle.std.specs.List.{All};
+ghost use Rattle.dq_base.specs.Applying.{page_fault};
+ghost use Rattle.frame_commands.specs.Splitting.{can_split};
 ghost use Rattle.dq_base.specs.declared.pages.NumberedPage.{NumberedPage};
 ghost use Rattle.wire_words.specs.Items.{AreBytes};
 ghost use Rattle.frame_commands.specs.declared.command.Command.{Command};
-ghost use Rattle.frame_commands.specs.declared.command.Command.TheVariants.{OpenDb, Frames};
-ghost use Rattle.frame_commands.specs.Numbers.{numbers_fit};
+ghost use Rattle.frame_commands.specs.declared.command.Command.TheVariants.{OpenDb, Frames, Undo, Checkpoint};
+ghost use Rattle.frame_commands.specs.Numbers.{numbers_fit, HasLowNumbers};
 ghost use Rattle.frame_commands.specs.InRange.{AreInRange};
 ghost use Rattle.frame_commands.specs.Spelling.{Writes};
 ghost use Rattle.frame_commands.specs.Reading.{command_of};
@@ -23,12 +26,21 @@ pub fn commands_stand_apart()
         bytes ++ rest ≡ other_bytes → rest ≡ [] }
 {}
 
-/// The test of a command's numbers says what their range is: an OpenDb has none that could be out of it, and those of a
-/// Frames command are in range exactly where it has 1 to 64 pages that end the transaction or after which it goes on.
+/// The test of a command's numbers says what their range is: only a Frames command has numbers that could be out of it,
+/// and they are in range exactly where it has 1 to 64 pages that end the transaction or after which it goes on. No page of a command that passes has a
+/// number above 4,294,967,295.
 pub fn numbers_are_in_range()
     ensures open_db { (name : List ℕ) → numbers_fit (OpenDb name) ≡ true }
+    ensures undo { (tx : ℕ) → numbers_fit (Undo tx) ≡ true }
+    ensures checkpoint { (name : List ℕ) → numbers_fit (Checkpoint name) ≡ true }
     ensures sound { (name : List ℕ) (tx truncate : ℕ) (commit : Bool) (pages : List NumberedPage) →
         numbers_fit (Frames name tx truncate commit pages) ≡ true → AreInRange truncate commit pages }
     ensures complete { (name : List ℕ) (tx truncate : ℕ) (commit : Bool) (pages : List NumberedPage) →
         AreInRange truncate commit pages → numbers_fit (Frames name tx truncate commit pages) ≡ true }
+    ensures low { (command : Command) → numbers_fit command ≡ true → HasLowNumbers command }
+{}
+
+/// A set that can be applied may be split, where none of its numbers is above 4,294,967,295.
+pub fn sets_that_apply_can_be_split()
+    ensures { (pages : List NumberedPage) → page_fault pages ≡ None → All (λ p. p.number ≤ 4294967295) pages → can_split pages ≡ true }
 {}

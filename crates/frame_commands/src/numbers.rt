@@ -6,7 +6,7 @@ use crate::command::Command;
 use dq_base::{NumberedPage, PAGE_SIZE, stated_lengths};
 
 /// The most pages of one command.
-const MOST_PAGES: usize = 64;
+pub(crate) const MOST_PAGES: usize = 64;
 
 impl Command {
     /// Whether no number of the command is out of its range. Frames have 1 to 64 pages. With `commit` the last is a sizes
@@ -16,7 +16,7 @@ impl Command {
         ensures { result ≡ numbers_fit self.now }
     {
         match self {
-            Command::OpenDb { .. } => true,
+            Command::OpenDb { .. } | Command::Undo { .. } | Command::Checkpoint { .. } => true,
             Command::Frames {
                 truncate,
                 commit,
@@ -38,9 +38,9 @@ fn frames_fit(truncate: u32, commit: bool, pages: &[NumberedPage]) -> bool
         return false;
     }
     if commit {
-        ends_with(truncate, last) && ascend(front)
+        ends_with(truncate, last) && ascend(0, front)
     } else {
-        truncate == 0 && ascend(pages)
+        truncate == 0 && ascend(0, pages)
     }
 }
 
@@ -56,7 +56,7 @@ fn ends_with(truncate: u32, last: &NumberedPage) -> bool
 }
 
 /// The page count that a sizes page states; `None` where the page is none.
-fn stated_count(last: &NumberedPage) -> Option<u64>
+pub(crate) fn stated_count(last: &NumberedPage) -> Option<u64>
     ensures { MatchOption result (is_sizes last.now ≡ false)
         (λ count. (is_sizes last.now ≡ true) × (count ≡ stated_count last.now.page)) }
 {
@@ -66,11 +66,11 @@ fn stated_count(last: &NumberedPage) -> Option<u64>
     Some(1 + main as u64 + side as u64)
 }
 
-/// Whether the numbers ascend, none of them is 1, and none is above 4,294,967,295.
-fn ascend(pages: &[NumberedPage]) -> bool
-    ensures { result ≡ numbers_ascend 0 pages.now }
+/// Whether the numbers ascend from one on, none of them is 1, and none is above 4,294,967,295.
+pub(crate) fn ascend(first: u64, pages: &[NumberedPage]) -> bool
+    ensures { result ≡ numbers_ascend first pages.now }
 {
-    let mut least = 0;
+    let mut least = first;
     for page in pages {
         let number = page.number;
         if number < least || number == 1 || number > u64::from(u32::MAX) {

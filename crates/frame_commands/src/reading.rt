@@ -1,8 +1,9 @@
 ghost use Rattle.std.specs.Prelude.{◌≡◌, ◌≤◌, length, drop, IfOk, OnOk, IsErrOf, MatchResult, Ok, Err};
 ghost use Rattle.frame_commands.specs.declared.command.Command.{Command};
+ghost use Rattle.frame_commands.specs.declared.command.Command.TheVariants.{OpenDb, Checkpoint};
 ghost use Rattle.frame_commands.specs.declared.fault.CommandFault.{CommandFault};
 ghost use Rattle.frame_commands.specs.Spelling.{Writes};
-ghost use Rattle.frame_commands.specs.Reading.{Gives, Finds, kind_of, kind_at, frames_at, command_at, command_of};
+ghost use Rattle.frame_commands.specs.Reading.{Gives, Finds, kind_of, kind_at, frames_at, named_frames_at, named_at, undo_at, command_after, command_at, command_of};
 ghost use Rattle.wire_words.specs.Reading.{unread};
 
 use crate::command::Command;
@@ -63,6 +64,63 @@ fn frames(alloc: Global, name: Name, words: &mut Words<'_>) -> Result<Command, C
     Ok(command)
 }
 
+/// What follows the head of a Frames command: the reader has these bytes left.
+#[tactic(auto, unfolding(crate::specs::Reading::named_frames_at))]
+fn named_frames(alloc: Global, left: &[u8], words: &mut Words<'_>) -> Result<Command, CommandFault>
+    requires { words.old.bytes ≡ left.now }
+    ensures { Finds named_frames_at words.old words.new result }
+{
+    let name = name(alloc, left, words)?;
+    frames(alloc, name, words)
+}
+
+/// What follows the head of an Undo command.
+#[tactic(auto, unfolding(crate::specs::Reading::undo_at))]
+fn undo(words: &mut Words<'_>) -> Result<Command, CommandFault>
+    ensures { Finds undo_at words.old words.new result }
+{
+    let tx = words.u64()?;
+    Ok(Command::Undo { tx })
+}
+
+/// What follows the head of an OpenDb command: the reader has these bytes left.
+#[tactic(auto, unfolding(crate::specs::Reading::named_at))]
+fn open_db(alloc: Global, left: &[u8], words: &mut Words<'_>) -> Result<Command, CommandFault>
+    requires { words.old.bytes ≡ left.now }
+    ensures { Finds (named_at (λ name. OpenDb name)) words.old words.new result }
+{
+    let name = name(alloc, left, words)?;
+    Ok(Command::OpenDb { name })
+}
+
+/// The same of a Checkpoint command.
+#[tactic(auto, unfolding(crate::specs::Reading::named_at))]
+fn checkpoint(alloc: Global, left: &[u8], words: &mut Words<'_>) -> Result<Command, CommandFault>
+    requires { words.old.bytes ≡ left.now }
+    ensures { Finds (named_at (λ name. Checkpoint name)) words.old words.new result }
+{
+    let name = name(alloc, left, words)?;
+    Ok(Command::Checkpoint { name })
+}
+
+/// What follows the head of a command of this type: the reader has these bytes left.
+fn rest(
+    alloc: Global,
+    kind: CommandKind,
+    left: &[u8],
+    words: &mut Words<'_>,
+) -> Result<Command, CommandFault>
+    requires { words.old.bytes ≡ left.now }
+    ensures { Finds (command_after kind) words.old words.new result }
+{
+    match kind {
+        CommandKind::OpenDb => open_db(alloc, left, words),
+        CommandKind::Frames => named_frames(alloc, left, words),
+        CommandKind::Undo => undo(words),
+        CommandKind::Checkpoint => checkpoint(alloc, left, words),
+    }
+}
+
 /// A command, whatever follows it. The reader is one over the bytes.
 #[tactic(auto, unfolding(crate::specs::Reading::command_at))]
 fn command(alloc: Global, bytes: &[u8], words: &mut Words<'_>) -> Result<Command, CommandFault>
@@ -71,11 +129,7 @@ fn command(alloc: Global, bytes: &[u8], words: &mut Words<'_>) -> Result<Command
     ensures head { (fault : CommandFault) → kind_at words.old ≡ Err fault → IsErrOf result fault }
 {
     let kind = head(bytes, words)?;
-    let name = name(alloc, &bytes[HEAD..], words)?;
-    match kind {
-        CommandKind::OpenDb => Ok(Command::OpenDb { name }),
-        CommandKind::Frames => frames(alloc, name, words),
-    }
+    rest(alloc, kind, &bytes[HEAD..], words)
 }
 
 #[tactic(auto, unfolding(crate::specs::Reading::command_of))]

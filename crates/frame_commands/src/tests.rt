@@ -1,10 +1,15 @@
 use super::*;
-use dq_base::{Items, Name, NumberedPage, Page};
+use dq_base::{Items, Name, NumberedPage, Page, PageSet};
 use std::alloc::{AllocError, Global};
 use std::test::*;
 use wire_words::{WireBytes, WordFault};
 
 const OPEN_D: [u8; 16] = *b"\x01\x01\0\0\0\0\0\0d\0\0\0\0\0\0\0";
+
+const CHECKPOINT_D: [u8; 16] = *b"\x01\x04\0\0\0\0\0\0d\0\0\0\0\0\0\0";
+
+// The Undo of the transaction 2^32 + 2.
+const UNDO: [u8; 16] = *b"\x01\x03\0\0\0\0\0\0\x02\0\0\0\x01\0\0\0";
 
 // A Frames command of the database `d` up to its page: transaction 1 commits with one page, which is page 1.
 const ONE_PAGE: [u8; 48] =
@@ -43,7 +48,9 @@ fn reads_back(alloc: Global, bytes: &[u8]) -> Result<bool, Fail> {
 
 #[test]
 fn commands_both_ways(rt: HostRuntime) -> Result<(), Fail> {
-    assert!(rt; reads_back(rt.alloc(), &OPEN_D)?);
+    for bytes in [OPEN_D, CHECKPOINT_D, UNDO] {
+        assert!(rt; reads_back(rt.alloc(), &bytes)?);
+    }
     assert!(rt; reads_back(rt.alloc(), &empty_commit(rt.alloc())?)?);
     assert!(rt; reads_back(rt.alloc(), &largest(rt.alloc())?)?);
     Ok(())
@@ -76,6 +83,49 @@ fn a_commit_is_written(rt: HostRuntime) -> Result<(), Fail> {
     Ok(())
 }
 
+// The pages of each command that a set of so many pages is cut into, and whether it commits. The set's transaction is 7.
+fn cut(alloc: Global, count: u64) -> Result<Vec<(u64, usize, u32, bool)>, AllocError> {
+    let mut pages = Vec::new(alloc);
+    for number in 2..=count {
+        pages.push(NumberedPage {
+            number,
+            page: Page::zeroed(),
+        })?;
+    }
+    pages.push(NumberedPage {
+        number: 1,
+        page: Page::zeroed(),
+    })?;
+    let set = PageSet {
+        tx: 7,
+        pages: Items::new(pages),
+    };
+    let mut cuts = Vec::new(alloc);
+    if !can_split(&set) {
+        return Ok(cuts);
+    }
+    for command in &split(alloc, "d", &set)? {
+        if let Command::Frames {
+            tx,
+            truncate,
+            commit,
+            pages,
+            ..
+        } = command
+        {
+            cuts.push((*tx, pages.len(), *truncate, *commit))?;
+        }
+    }
+    Ok(cuts)
+}
+
+#[test]
+fn sixty_five_pages_make_two_commands(rt: HostRuntime) -> Result<(), Fail> {
+    let cuts = cut(rt.alloc(), 65)?;
+    assert!(rt; cuts.as_slice() == [(7, 64, 0, false), (7, 1, 1, true)].as_slice());
+    Ok(())
+}
+
 #[test]
 fn faults_of_heads_and_names(rt: HostRuntime) -> Result<(), Fail> {
     let rows = [
@@ -90,8 +140,14 @@ fn faults_of_heads_and_names(rt: HostRuntime) -> Result<(), Fail> {
         (b"\x01\x09".as_slice(), CommandFault::Kind),
         (b"\x02\x09\0\0\0\0\0\x01".as_slice(), CommandFault::Format),
         (b"\x01\0\0\0\0\0\0\x01".as_slice(), CommandFault::Kind),
-        (b"\x01\x03\0\0\0\0\0\0".as_slice(), CommandFault::Kind),
-        (b"\x01\x04\0\0\0\0\0\0".as_slice(), CommandFault::Kind),
+        (
+            b"\x01\x03\0\0\0\0\0\0".as_slice(),
+            CommandFault::Word(WordFault::Short(8)),
+        ),
+        (
+            b"\x01\x04\0\0\0\0\0\0".as_slice(),
+            CommandFault::Word(WordFault::NoNul(8)),
+        ),
         (b"\x01\x05\0\0\0\0\0\0".as_slice(), CommandFault::Kind),
         (
             b"\x01\x01\x01\0\0\0\0\0".as_slice(),

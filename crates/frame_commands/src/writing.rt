@@ -1,7 +1,7 @@
-ghost use Rattle.std.specs.Prelude.{◌≡◌, ◌≤◌, ◌++◌, true, length, IfOk, OnOk};
+ghost use Rattle.std.specs.Prelude.{◌≡◌, ◌<◌, ◌≤◌, ◌^◌, ◌++◌, true, length, IfOk, OnOk};
 ghost use Rattle.frame_commands.specs.Numbers.{numbers_fit, frames_fit};
-ghost use Rattle.frame_commands.specs.Spelling.{Writes, IsInRange, IsTextName, HaveNumbers, HaveSizes, flag, command_bytes, frames_bytes, number_words, page_bytes};
-ghost use Rattle.wire_words.specs.Items.{text};
+ghost use Rattle.frame_commands.specs.Spelling.{Writes, IsInRange, IsTextName, HaveNumbers, HaveSizes, flag, head, command_bytes, frames_bytes, number_words, page_bytes};
+ghost use Rattle.wire_words.specs.Items.{text, word};
 
 use crate::command::Command;
 use dq_base::{Name, NumberedPage, PAGE_SIZE};
@@ -13,6 +13,12 @@ const OPEN_DB: [u8; 2] = [1, 1];
 
 /// The same of a Frames command.
 const FRAMES: [u8; 2] = [1, 2];
+
+/// The same of an Undo command.
+const UNDO: [u8; 2] = [1, 3];
+
+/// The same of a Checkpoint command.
+const CHECKPOINT: [u8; 2] = [1, 4];
 
 fn put_name(out: &mut Writer, name: &Name) -> Result<(), AllocError>
     ensures bytes { OnOk result (out.new ≡ out.old ++ text name.now) }
@@ -72,6 +78,16 @@ fn put_frames(
     put_pages(out, pages)
 }
 
+/// An Undo command.
+fn put_undo(out: &mut Writer, tx: u64) -> Result<(), AllocError>
+    ensures bytes { OnOk result (out.new ≡ out.old ++ (head 3 ++ word tx)) }
+    ensures fits { tx < 2 ^ 64 }
+{
+    out.raw(&UNDO)?;
+    out.word(tx)?;
+    Ok(())
+}
+
 fn put_command(out: &mut Writer, command: &Command) -> Result<(), AllocError>
     requires { numbers_fit command.now ≡ true }
     ensures bytes { OnOk result (out.new ≡ out.old ++ command_bytes command.now) }
@@ -92,6 +108,11 @@ fn put_command(out: &mut Writer, command: &Command) -> Result<(), AllocError>
             out.raw(&FRAMES)?;
             put_name(out, name)?;
             put_frames(out, *tx, *truncate, *commit, pages.as_slice())
+        }
+        Command::Undo { tx } => put_undo(out, *tx),
+        Command::Checkpoint { name } => {
+            out.raw(&CHECKPOINT)?;
+            put_name(out, name)
         }
     }
 }

@@ -4,8 +4,6 @@
 
 mod frame_index;
 mod marks;
-#[cfg(test)]
-mod tests;
 
 pub use frame_index::FrameIndex;
 pub use marks::{MarkFault, MarkId, Marks};

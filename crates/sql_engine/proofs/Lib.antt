@@ -11,3 +11,4 @@ pub mod CountPages
 pub mod CellChanged
 pub mod SpelledCells
 pub mod CellOutcomes
+pub mod Leading

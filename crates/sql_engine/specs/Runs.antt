@@ -1,8 +1,10 @@
 -- Statements that run one after another.
-use Rattle.std.specs.Prelude.{◌≡◌, List, [], ◌∷◌, ◌++◌}
+use Rattle.std.specs.Prelude.{ℕ, ◌≡◌, List, [], ◌∷◌, ◌++◌}
 use Rattle.dq_base.specs.declared.images.Image.{Image}
+use Rattle.dq_base.specs.Applying.{applied}
+use Rattle.sql_engine.specs.declared.answer.Ran.{Ran}
 use Rattle.sql_engine.specs.Replies.{Statement, Reply}
-use Rattle.sql_engine.specs.Meanings.{Meaning}
+use Rattle.sql_engine.specs.Meanings.{Meaning, Answers}
 
 -- the statements lead from the image before to the image after, each on the image that the one before it left, with these
 -- replies
@@ -27,3 +29,7 @@ Chains m = (before middle after : Image) (ss ts : List Statement) (rs us : List 
 -- wherever statements that ran are cut, both parts ran
 abbrev pub Splits : Meaning → Type 0
 Splits m = (before after : Image) (ss ts : List Statement) (replies : List Reply) → RanAll m before (ss ++ ts) after replies → Halves m before after ss ts replies
+
+-- the pages of an answer, applied to the image, make the image that the statement leaves
+abbrev pub LeadsOn : Meaning → Type 0
+LeadsOn m = (image : Image) (s : Statement) (tx : ℕ) (ran : Ran) (a : Answers m image s tx ran) → applied image ran.after.pages ≡ a.after

@@ -1,5 +1,5 @@
 ghost use Rattle.std.specs.Prelude.{◌≡◌, ◌↔◌};
-ghost use Rattle.sql_engine.specs.Runs.{Chains, Splits};
+ghost use Rattle.sql_engine.specs.Runs.{Chains, Splits, LeadsOn};
 ghost use Rattle.sql_engine.specs.CellTexts.{Says, statement_of};
 
 use crate::engine::Engine;
@@ -10,6 +10,11 @@ use crate::engine::Engine;
 pub fn runs_are_chained<E: Engine>()
     ensures chains { (kind : _) → Chains (E.meaning kind) }
     ensures splits { (kind : _) → Splits (E.meaning kind) }
+{}
+
+/// A law: the pages of an answer, applied to the image, make the image that the statement leaves.
+pub fn answers_lead_on<E: Engine>()
+    ensures { (kind : _) → LeadsOn (E.meaning kind) }
 {}
 
 /// A law: a text is a statement of cells exactly where it is spelled so, with numbers in range. So it is one statement at

@@ -20,4 +20,4 @@ pub use cell_statement::CellStatement;
 pub use engine::Engine;
 pub use fault::EngineFault;
 pub use kind::EngineKind;
-pub use laws::{runs_are_chained, texts_say_statements};
+pub use laws::{answers_lead_on, runs_are_chained, texts_say_statements};

@@ -1,18 +1,18 @@
 -- Batches are read lawfully.
-use Rattle.std.proofs.Common.{◌≡◌, ◌≢◌, ℕ, ◌+◌, ◌-◌, ◌≤◌, Bool, true, false, cond, List, ◌++◌, length, take, drop, Result, Ok, Err, refl, sym, ap, ◌∙◌, inl, inr, arith, append_assoc, length-append, length-drop}
+use Rattle.std.proofs.Common.{◌≡◌, ◌≢◌, ℕ, ◌+◌, ◌-◌, ◌≤◌, true, false, List, ◌++◌, length, take, drop, Result, Ok, Err, refl, sym, ap, ◌∙◌, inl, inr, arith, length-append, length-drop}
 use Rattle.std.specs.Prelude.{◌&&◌, nat_lt}
 use Rattle.std.specs.Str.{bytes_eq}
 use Rattle.std.proofs.lemmas.Bool.{cases_Bool, cases_eq, cond-true, cond-false, ltb-false, le-ltb}
-use Rattle.std.proofs.lemmas.List.{take-append-drop, take-append-le, drop-append-le, take_all, drop_all, length-take-le, take_at, drop-take, take-take}
+use Rattle.std.proofs.lemmas.List.{take-append-le, drop-append-le, length-take-le, take_at, drop-take, take-take}
 use Rattle.wire_words.specs.declared.fault.WordFault.{WordFault}
-use Rattle.wire_words.specs.Reading.{Unread, unread, past}
-use Rattle.store_laws.specs.Store.{Read, Reader}
+use Rattle.wire_words.specs.Reading.{Unread, unread}
+use Rattle.store_laws.specs.Store.{Read}
 use Rattle.store_laws.specs.Chance.{LawfulReader}
 use Rattle.store_batches.specs.declared.reading.Body.{Body}
 use Rattle.store_batches.specs.Batches.{body_at, sum_size, sums_size, batch_sum, is_sound, no_read, read_of, batch_in}
 use Rattle.store_batches.specs.Files.{IsLawful}
 use Rattle.store_format.proofs.Lawfully.{reads_lawfully}
-use Rattle.store_batches.proofs.Local.{Local, followed, behind, body_local, header_first}
+use Rattle.store_batches.proofs.Local.{Local, behind, body_local, header_first}
 
 -- a batch that was read, and where it ended
 record WasRead (format : ℕ) (bytes : List ℕ) : Type 0 where

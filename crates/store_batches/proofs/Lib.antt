@@ -1,2 +1,4 @@
 pub mod Local
 pub mod Lawfully
+pub mod Written
+pub mod SumPlaces

@@ -1,16 +1,15 @@
 -- What was read depends only on the bytes that were read.
-use Rattle.std.proofs.Common.{◌≡◌, ℕ, zero, suc, ◌+◌, ◌%◌, ◌≤◌, Bool, true, false, cond, ltb, List, [], ◌∷◌, ◌++◌, length, take, drop, Result, Ok, Err, refl, sym, ap, ◌∙◌, subst, arith, append_assoc, length-append, length-drop}
+use Rattle.std.proofs.Common.{◌≡◌, ℕ, zero, suc, ◌+◌, ◌%◌, ◌≤◌, true, false, cond, ltb, List, [], ◌∷◌, ◌++◌, length, take, drop, Result, Ok, Err, refl, sym, ap, ◌∙◌, subst, arith, append_assoc, length-append, length-drop}
 use Rattle.std.specs.List.{list_all}
 use Rattle.std.proofs.lemmas.Bool.{ltb-false, le-ltb}
-use Rattle.std.proofs.lemmas.List.{take-append-drop, take-append-le, drop-append-le, drop_all, length-take-le, drop-drop, drop_at, take_at, drop-take}
+use Rattle.std.proofs.lemmas.List.{take-append-drop, take-append-le, drop-append-le, length-take-le, drop-drop, drop_at, take_at, drop-take}
 use Rattle.byteorder.specs.Endian.{little_number}
 use Rattle.raft_rules.specs.Log.{Entry}
 use Rattle.wire_words.specs.declared.fault.WordFault.{WordFault}
 use Rattle.wire_words.specs.declared.fault.WordFault.TheVariants.{Short, Pad}
 use Rattle.wire_words.specs.Items.{gap, is_zero}
-use Rattle.wire_words.specs.Reading.{◌>>=◌, Unread, unread, past, word_at, pair_at, raw_at, are_zeros}
+use Rattle.wire_words.specs.Reading.{◌>>=◌, Unread, past, word_at, pair_at, raw_at, are_zeros}
 use Rattle.wire_words.proofs.ReadBack.{refused_not, passed, ok_is, bind_ok, same_unread, take_parts}
-use Rattle.raft_vote.specs.declared.entry.EntryKind.{EntryKind}
 use Rattle.raft_vote.specs.declared.entries.EntryHead.{EntryHead}
 use Rattle.raft_vote.specs.Kinds.{kind_value, kind_with}
 use Rattle.raft_vote.specs.Entries.{known_kind, head_at, heads_at, entry_at, contents_at}

@@ -3,7 +3,6 @@
 use Rattle.std.specs.Prelude.{ℕ, ◌+◌, ◌-◌, ◌==◌, ◌&&◌, Bool, cond, nat_lt, List, [], ◌++◌, length, take, drop, Option, Some, None, Result, Ok, Err}
 use Rattle.std.specs.Str.{bytes_eq}
 use Rattle.byteorder.specs.Endian.{little_bytes}
-use Rattle.raft_rules.specs.Log.{Entry}
 use Rattle.wire_words.specs.declared.fault.WordFault.{WordFault}
 use Rattle.wire_words.specs.Items.{word}
 use Rattle.wire_words.specs.Reading.{◌>>=◌, Unread, unread, word_at}
@@ -51,11 +50,18 @@ read_of format bytes (Ok x) = cond (is_sound format bytes x.0 x.1.at) (record { 
 unfoldable pub batch_in : ℕ → Reader
 batch_in format bytes = cond (nat_lt (length bytes) (sums_size format)) no_read (read_of format bytes (body_at (unread (drop (sums_size format) bytes))))
 
--- a batch as it is written, in format 2
-abbrev pub header_bytes : Log → List ℕ
-header_bytes b = word b.first ++ (word (length b.entries) ++ heads_bytes b.entries)
+-- a batch as it is written, in format 2: behind the sums the numbers, the heads, and what the entries say
+unfoldable pub numbers_bytes : ℕ → ℕ → List ℕ
+numbers_bytes first count = word first ++ word count
 
-abbrev pub batch_bytes : Log → List ℕ
+unfoldable pub header_bytes : Log → List ℕ
+header_bytes b = numbers_bytes b.first (length b.entries) ++ heads_bytes b.entries
+
+-- both sums in front of a header of so many bytes and of what follows it
+unfoldable pub with_sums : ℕ → List ℕ → List ℕ
+with_sums header body = sum8_of (take header body) ++ (sum8_of (drop header body) ++ body)
+
+unfoldable pub batch_bytes : Log → List ℕ
 batch_bytes b = sum8_of (header_bytes b) ++ (sum8_of (contents_bytes b.entries) ++ (header_bytes b ++ contents_bytes b.entries))
 
 -- the same by the code's value

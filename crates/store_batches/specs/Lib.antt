@@ -1,2 +1,3 @@
 pub mod Batches
 pub mod Files
+pub mod Written

@@ -1,4 +1,6 @@
-use crate::read_batch;
+use crate::{batch_bytes, read_batch};
+use dq_base::Items;
+use raft_vote::{Entry, EntryKind};
 use std::alloc::{AllocError, Global};
 use std::test::Fail;
 
@@ -17,6 +19,23 @@ fn found(
 ) -> Result<Option<(u64, usize, usize)>, AllocError> {
     let batch = read_batch(alloc, format, bytes)?;
     Ok(batch.map(|batch| (batch.first, batch.entries.len(), batch.size)))
+}
+
+/// Whether that entry is written as these bytes.
+fn is_written_as(alloc: Global, wanted: &[u8]) -> Result<bool, AllocError> {
+    let entry = Entry {
+        term: 2,
+        kind: EntryKind::Command,
+        bytes: Items::new(Vec::from_slice(alloc, b"abc")?),
+    };
+    let written = batch_bytes(alloc, 3, &[entry])?;
+    Ok(written.as_slice() == wanted)
+}
+
+#[test]
+fn batches_are_written_in_format_2(rt: HostRuntime) -> Result<(), Fail> {
+    assert!(rt; is_written_as(rt.alloc(), NEW)?);
+    Ok(())
 }
 
 #[test]

@@ -1,17 +1,16 @@
 -- The files of a node are read lawfully.
-use Rattle.std.proofs.Common.{◌≡◌, ◌≢◌, inl, inr, ℕ, zero, suc, ◌+◌, ◌-◌, ◌%◌, ◌≤◌, ◌<◌, Bool, true, false, cond, List, [], ◌∷◌, ◌++◌, length, take, drop, refl, sym, ap, ◌∙◌, arith, length-append, length-drop}
+use Rattle.std.proofs.Common.{◌≡◌, ◌≢◌, inl, inr, ℕ, suc, ◌+◌, ◌-◌, ◌%◌, ◌≤◌, Bool, true, false, cond, List, [], ◌∷◌, ◌++◌, length, take, drop, refl, sym, ap, ◌∙◌, arith, length-append, length-drop}
 use Rattle.std.specs.Prelude.{◌&&◌, ◌==◌, nat_le, nat_lt}
 use Rattle.std.specs.Str.{bytes_eq}
 use Rattle.std.proofs.lemmas.Bool.{cases_Bool, cond-true, cond-false, and_parts, eqb-true, leb-true, le-leb}
 use Rattle.wire_words.specs.Items.{gap}
 use Rattle.wire_words.specs.Reading.{are_zeros}
-use Rattle.store_laws.specs.Store.{Meta, Snap, Reader, no_meta, no_snap}
-use Rattle.store_laws.specs.Chance.{Lawful, LawfulReader}
+use Rattle.store_laws.specs.Store.{Meta, Snap, no_meta, no_snap}
 use Rattle.store_format.specs.Sums.{sum_bytes}
 use Rattle.store_format.specs.Words.{word_from, is_known, format_in}
 use Rattle.store_format.specs.Metadata.{fits_side, is_block, meta_in}
 use Rattle.store_format.specs.Snapshots.{size_in, summed, fills, head_fits, is_snapshot, snap_of}
-use Rattle.store_format.specs.Files.{files_format, ReadsLawfully}
+use Rattle.store_format.specs.Files.{ReadsLawfully}
 use Rattle.store_format.proofs.Places.{word_front}
 
 -- ---- the first word

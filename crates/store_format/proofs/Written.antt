@@ -1,20 +1,17 @@
 -- What is written is read.
-use Rattle.std.proofs.Common.{◌≡◌, ℕ, suc, ◌+◌, ◌^◌, ◌<◌, Bool, true, cond, List, ◌++◌, length, take, drop, refl, sym, ap, ◌∙◌, arith, length-append}
+use Rattle.std.proofs.Common.{◌≡◌, ℕ, suc, ◌+◌, ◌^◌, ◌<◌, true, List, ◌++◌, length, refl, ap, ◌∙◌, arith, length-append}
 use Rattle.std.specs.Prelude.{◌&&◌, ◌==◌}
 use Rattle.std.specs.Str.{bytes_eq}
 use Rattle.std.proofs.lemmas.Bool.{cond-true}
 use Rattle.std.proofs.lemmas.List.{length-take-le}
 use Rattle.std.proofs.lemmas.Slice.Eq.{bytes_eq-Decides}
-use Rattle.byteorder.specs.Endian.{little_number}
 use Rattle.byteorder.specs.Numbers.{little_number-reads_back}
 use Rattle.wire_words.specs.Items.{word}
 use Rattle.sha2.specs.Sha256.{sha256}
 use Rattle.sha2.proofs.Facts256.{length-sha256}
-use Rattle.store_laws.specs.Store.{Meta}
 use Rattle.store_format.specs.Sums.{sum8_of, sum_bytes}
 use Rattle.store_format.specs.Words.{word_from, is_known, front_bytes}
-use Rattle.store_format.specs.declared.metadata.Metadata.{Metadata}
-use Rattle.store_format.specs.Metadata.{fits_side, is_block, meta_in, block_front, block_bytes}
+use Rattle.store_format.specs.Metadata.{fits_side, is_block, meta_in}
 use Rattle.store_format.specs.Written.{MetadataReadsBack}
 
 pub sum8_long : (bytes : List ℕ) → length (sum8_of bytes) ≡ 8
@@ -28,16 +25,16 @@ module _ (a b c : ℕ) (fa : a < 2 ^ 64) (fb : b < 2 ^ 64) (fc : c < 2 ^ 64) (s 
   abbrev file : List ℕ
   file = (word 2 ++ (word a ++ (word b ++ word c))) ++ s
 
-  first_word : word_from 0 file ≡ 2
+  pub first_word : word_from 0 file ≡ 2
   first_word = little_number-reads_back 8 2 ((word a ++ (word b ++ word c)) ++ s) (omega arith)
 
-  second_word : word_from 8 file ≡ a
+  pub second_word : word_from 8 file ≡ a
   second_word = little_number-reads_back 8 a ((word b ++ word c) ++ s) fa
 
-  third_word : word_from 16 file ≡ b
+  pub third_word : word_from 16 file ≡ b
   third_word = little_number-reads_back 8 b (word c ++ s) fb
 
-  fourth_word : word_from 24 file ≡ c
+  pub fourth_word : word_from 24 file ≡ c
   fourth_word = little_number-reads_back 8 c s fc
 
 pub metadata_reads_back : MetadataReadsBack

@@ -1,4 +1,4 @@
-//! How the files of a node are spelled, in both formats: their sums, metadata, batches of entries and snapshots.
+//! How the files of a node are spelled, in both formats: their sums, metadata and snapshots.
 #![tactic(auto)]
 
 mod metadata;
@@ -9,7 +9,7 @@ mod tests;
 mod words;
 
 ghost use Rattle.store_format.specs.Files.{ReadsLawfully};
-ghost use Rattle.store_format.specs.Written.{MetadataReadsBack};
+ghost use Rattle.store_format.specs.Written.{MetadataReadsBack, SnapshotReadsBack};
 
 pub use metadata::{Metadata, metadata_bytes, read_metadata};
 pub use snapshot::{SnapshotFile, read_snapshot, snapshot_bytes};
@@ -27,4 +27,9 @@ pub fn reads_lawfully()
 /// Metadata that is written has 40 bytes, and the file of its version's parity reads as it.
 pub fn metadata_reads_back()
     ensures { MetadataReadsBack }
+{}
+
+/// A snapshot that is written reads as it, in the file of its index.
+pub fn snapshot_reads_back()
+    ensures { SnapshotReadsBack }
 {}

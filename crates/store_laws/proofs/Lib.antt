@@ -26,3 +26,7 @@ pub mod SnapshotFile
 pub mod OlderSnapshots
 pub mod KeepLaw
 pub mod KeepSnapshot
+pub mod Seen
+pub mod Damages
+pub mod Written
+pub mod WholeLoads

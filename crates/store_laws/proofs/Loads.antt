@@ -5,11 +5,12 @@ use Rattle.std.proofs.lemmas.List.{drop_at, take-append-drop, length-take-le, ap
 use Rattle.std.proofs.lemmas.Bool.{cases_Bool, cond-true, cond-false, cases_eq}
 use Rattle.store_laws.specs.Names.{Name, First, Second, Segment, Snapshot, NodeFiles, NodeDisk}
 use Rattle.disk_model.specs.Disk.{Found, Leaves}
-use Rattle.store_laws.specs.Store.{newest_snap, Format, Reader, reader, opens, Log, kept, torn, is_empty, is_whole, all_batches}
+use Rattle.store_laws.specs.Store.{newest_snap, snap_in, Format, Reader, reader, opens, Log, kept, torn, is_empty, is_whole, all_batches}
 use Rattle.disk_model.specs.Calls.{CutTo, Sync, Done, Until}
 use Rattle.disk_model.specs.Rest.{Rest}
 use Rattle.store_laws.specs.Chance.{Lawful, LawfulReader, NoChance}
 use Rattle.disk_model.specs.SyncAll.{sync_all}
+use Rattle.store_laws.specs.Settled.{file_log}
 use Rattle.store_laws.specs.Load.{Still, Repairs, repair_calls, Loadable, LoadEnds, Load}
 use Rattle.disk_model.proofs.Rests.{rest_only, rest_left, same_found}
 use Rattle.disk_model.proofs.Elsewhere.{else_same}
@@ -104,6 +105,8 @@ module _ (f : Format) (law : Lawful f) (k : ℕ) (d : NodeDisk) (s : Still f k d
     still = λ e u. subst (Still f k) (sym u) s;
     whole = λ e u. subst (λ (z : NodeDisk). (z.read (Segment k)).there ≡ true → is_whole f (z.read (Segment k)).bytes ≡ true) (sym u) w;
     same = λ e u. ap (λ (z : NodeDisk). kept f (suc k) z.read) u;
+    log = λ e u. ap (λ (z : NodeDisk). file_log f (suc k) z.read) u;
+    snap = λ e u. ap (λ (z : NodeDisk). snap_in f z.read) u;
   }
 
   pub repairs : Repairs f k d (repair_calls f k (d.read (Segment k)))
@@ -122,7 +125,7 @@ module _ (f : Format) (law : Lawful f) (k : ℕ) (d : NodeDisk) (s : Still f k d
     ])
   ]
 
-still_at_rest : (f : Format) (k : ℕ) (d p : NodeDisk) → Loadable f k d → ((n : Name) → p.read n ≡ d.read n) → ((n : Name) → Rest (p.held n) (p.read n)) → Still f k p
+pub still_at_rest : (f : Format) (k : ℕ) (d p : NodeDisk) → Loadable f k d → ((n : Name) → p.read n ≡ d.read n) → ((n : Name) → Rest (p.held n) (p.read n)) → Still f k p
 still_at_rest f k d p l same rest = record {
   first = rest First;
   second = rest Second;
@@ -141,6 +144,9 @@ load_holds f law k d l ns named = (inside, ends)
     synced p v =
         let z = (sync_all_holds tell d l.seen ns named).1 p v in
         subst (λ (y : Found). Repairs f k p (repair_calls f k y)) (z.0 (Segment k)) (repairs f law k p (still_at_rest f k d p l z.0 z.1))
+
+    files : (p : NodeDisk) → Done (sync_all ns) d p → p.read ≡ d.read
+    files p v = let z = (sync_all_holds tell d l.seen ns named).1 p v in (λ i. λ n. z.0 n i)
 
     reads : (p : NodeDisk) → Done (sync_all ns) d p → kept f (suc k) p.read ≡ kept f (suc k) d.read
     reads p v = let z = (sync_all_holds tell d l.seen ns named).1 p v in (λ i. kept f (suc k) (λ n. z.0 n i))
@@ -162,4 +168,6 @@ load_holds f law k d l ns named = (inside, ends)
           whole = r.whole e z.1.1;
           read = read;
           crash = λ g left. image_same f k e st e g (else_same (Segment k) e) left (ap (λ (y : Found). all_batches f (part y)) (rest_only _ _ _ (st.segment k) (left.each (Segment k)))) ∙ read;
+          log = r.log e z.1.1 ∙ ap (file_log f (suc k)) (files z.0 z.1.0);
+          snap = r.snap e z.1.1 ∙ ap (snap_in f) (files z.0 z.1.0);
         }

@@ -128,19 +128,25 @@ module _ (f : Format) (law : Lawful f) (top : ℕ) (d : NodeDisk) (s : Settled f
       let read : kept f top e.read ≡ Loaded (with_vote term vote k) = kept_new f top e.read d.read k _ m (next_positive (meta_of f d.read)) snaps segs is_k in
       record { settled = settled; read = read; crash = λ g left. settled_images f top e settled g left ∙ read }
 
+  -- the newest metadata is then what was written
+  pub newest_is : (side : Bool) → goes_first (next_stamp (meta_of f d.read)) ≡ side → Reads side → (e : NodeDisk) → Ended (file_of side) enc d e
+      → meta_of f e.read ≡ record { stamp = next_stamp (meta_of f d.read); term = term; vote = vote }
+  newest_is true p r e z =
+      let o = z.elsewhere.read Second (λ q. absurd cc) in
+      let ord = reads_ord true _ _ r (first_ok p) in
+      meta_is f e.read ∙ (λ i. newest (f.meta true (z.read i).bytes) (f.meta false (o i).bytes)) ∙ newest_left _ _ (omega (arith, ord.newer)) ∙ r
+  newest_is false p r e z =
+      let o = z.elsewhere.read First (λ q. absurd cc) in
+      let ord = reads_ord false _ _ r (second_ok p) in
+      meta_is f e.read ∙ (λ i. newest (f.meta true (o i).bytes) (f.meta false (z.read i).bytes)) ∙ newest_right _ _ ord.newer ∙ r
+
   pub at_end : (side : Bool) → goes_first (next_stamp (meta_of f d.read)) ≡ side → Reads side → (e : NodeDisk) → Ended (file_of side) enc d e → Comes f top e (with_vote term vote k)
   at_end true p r e z =
       let so = z.elsewhere in
-      let o = so.read Second (λ q. absurd cc) in
-      let ord = reads_ord true _ _ r (first_ok p) in
-      let m = meta_is f e.read ∙ (λ i. newest (f.meta true (z.read i).bytes) (f.meta false (o i).bytes)) ∙ newest_left _ _ (omega (arith, ord.newer)) ∙ r in
-      comes First e (λ j q. absurd cc) (λ j q. absurd cc) so z.rest (so.rest Second (λ q. absurd cc) s.second) m
+      comes First e (λ j q. absurd cc) (λ j q. absurd cc) so z.rest (so.rest Second (λ q. absurd cc) s.second) (newest_is true p r e z)
   at_end false p r e z =
       let so = z.elsewhere in
-      let o = so.read First (λ q. absurd cc) in
-      let ord = reads_ord false _ _ r (second_ok p) in
-      let m = meta_is f e.read ∙ (λ i. newest (f.meta true (o i).bytes) (f.meta false (z.read i).bytes)) ∙ newest_right _ _ ord.newer ∙ r in
-      comes Second e (λ j q. absurd cc) (λ j q. absurd cc) so (so.rest First (λ q. absurd cc) s.first) z.rest m
+      comes Second e (λ j q. absurd cc) (λ j q. absurd cc) so (so.rest First (λ q. absurd cc) s.first) z.rest (newest_is false p r e z)
 
   pub at_ok : (side : Bool) → goes_first (next_stamp (meta_of f d.read)) ≡ side → Reads side → length (d.read (file_of side)).bytes ≤ 40
       → AtOk f top (replace_calls (file_of side) enc (d.read (file_of side)).there) d (with_vote term vote k)

@@ -11,7 +11,7 @@ use Rattle.disk_model.proofs.Rests.{synced_or_not}
 use Rattle.disk_model.proofs.Elsewhere.{Elsewhere, else_same, else_on, else_names}
 use Rattle.store_laws.proofs.AppendLaw.{part_there, part_not}
 use Rattle.store_laws.proofs.Folders.{part}
-use Rattle.store_laws.proofs.Stills.{image_same, read_same, still_on}
+use Rattle.store_laws.proofs.Stills.{image_same, read_same, still_on, log_same, snaps_same}
 
 data GoneStage (H : List ℕ) (k : Held) : Type 0 where
   held : k.since ≡ [] → k.bytes ≡ H → GoneStage H k
@@ -78,6 +78,8 @@ module _ (f : Format) (k : ℕ) (d : NodeDisk) (s : Still f k d) (there : (d.rea
     still = λ e u. let z = ended e u in still_on f k d s e z.elsewhere (subst (λ (x : Found). Rest (e.held (Segment k)) x) (sym z.read) (subst (λ (h : Held). Rest h missing) (sym z.held) (record { since = refl; bytes = refl; standing = refl; empty = λ y. refl })));
     whole = λ e u t. let y : false ≡ true = sym (ap (λ (x : Found). x.there) (ended e u).read) ∙ t in absurd cc;
     same = λ e u. let z = ended e u in read_same f k d s e z.elsewhere (part_not f _ (ap (λ (x : Found). x.there) z.read) ∙ sym before_it);
+    log = λ e u. let z = ended e u in log_same f k d s e z.elsewhere (part_not f _ (ap (λ (x : Found). x.there) z.read) ∙ sym before_it);
+    snap = λ e u. snaps_same f k d s e (ended e u).elsewhere;
   }
 
 pub remove_bad_holds : RemoveBad

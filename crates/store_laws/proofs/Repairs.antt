@@ -18,7 +18,7 @@ use Rattle.store_laws.proofs.Fronts.{stop_batches}
 use Rattle.store_laws.proofs.Grown.{grown, same_version}
 use Rattle.store_laws.proofs.Folders.{part, all_one}
 use Rattle.store_laws.proofs.AppendLaw.{part_there}
-use Rattle.store_laws.proofs.Stills.{image_same, read_same, still_on}
+use Rattle.store_laws.proofs.Stills.{image_same, read_same, log_same, snaps_same, still_on}
 
 abbrev rested : List ℕ → List Change → Held
 rested bytes since = record { standing = Sure; bytes = bytes; since = since }
@@ -133,6 +133,8 @@ module _ (f : Format) (law : Lawful f) (k : ℕ) (d : NodeDisk) (s : Still f k d
     still = λ e u. let z = ended e u in still_on f k d s e z.elsewhere (subst (λ (x : Found). Rest (e.held (Segment k)) x) (sym z.read) (subst (λ (h : Held). Rest h (found H)) (sym z.held) (record { since = refl; bytes = refl; standing = refl; empty = λ y. absurd cc })));
     whole = λ e u t. ap (λ (x : Found). is_whole f x.bytes) (ended e u).read ∙ is_w;
     same = λ e u. let z = ended e u in read_same f k d s e z.elsewhere (ap (λ (x : Found). all_batches f (part x)) z.read ∙ all_one f H ∙ sym before_cut);
+    log = λ e u. let z = ended e u in log_same f k d s e z.elsewhere (ap (λ (x : Found). all_batches f (part x)) z.read ∙ all_one f H ∙ sym before_cut);
+    snap = λ e u. snaps_same f k d s e (ended e u).elsewhere;
   }
 
 pub cut_tail_holds : CutTail

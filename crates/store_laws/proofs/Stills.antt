@@ -3,9 +3,10 @@ use Rattle.std.proofs.Common.{◌≡◌, ◌≤◌, inl, inr, ℕ, suc, ◌<◌,
 use Rattle.std.proofs.lemmas.Bool.{cases_eq}
 use Rattle.store_laws.specs.Names.{First, Second, Segment, Snapshot, NodeFiles, NodeDisk}
 use Rattle.disk_model.specs.Disk.{Found, Leaves}
-use Rattle.store_laws.specs.Store.{Snap, snap_in, newest_snap, Format, Log, kept, meta_of, segments, sound, all_batches, is_whole}
+use Rattle.store_laws.specs.Store.{log_of, empty_log, Snap, snap_in, newest_snap, Format, Log, kept, meta_of, segments, sound, all_batches, is_whole}
 use Rattle.disk_model.specs.Rest.{Rest}
 use Rattle.store_laws.specs.Load.{Still}
+use Rattle.store_laws.specs.Settled.{file_log}
 use Rattle.disk_model.proofs.Rests.{rest_only, rest_left}
 use Rattle.disk_model.proofs.Elsewhere.{Elsewhere}
 use Rattle.store_laws.proofs.Answers.{segments_same, meta_same}
@@ -39,6 +40,16 @@ module _ (f : Format) (k : ℕ) (d : NodeDisk) (s : Still f k d) where
   read_same e so q =
       files_same e.read (meta_same f e.read d.read (so.read First (λ q. absurd cc)) (so.read Second (λ q. absurd cc)))
       (λ i. newest_snap f.snap f.numbers (λ j. so.read (Snapshot j) (λ q. absurd cc) i)) (segments_same k e.read d.read (λ j h. so.read (Segment j) (others j h))) q
+
+  pub snaps_same : (e : NodeDisk) → Elsewhere (Segment k) d e → snap_in f e.read ≡ snap_in f d.read
+  snaps_same e so = (λ i. newest_snap f.snap f.numbers (λ j. so.read (Snapshot j) (λ q. absurd cc) i))
+
+  pub log_same : (e : NodeDisk) → Elsewhere (Segment k) d e → all_batches f (part (e.read (Segment k))) ≡ all_batches f (part (d.read (Segment k))) → file_log f (suc k) e.read ≡ file_log f (suc k) d.read
+  log_same e so q =
+      ap (log_of empty_log) (all e.read (segments_same k e.read d.read (λ j h. so.read (Segment j) (others j h))) ∙ ap (λ (l : List Log). all_batches f (segments k d.read) ++ l) q ∙ sym (all d.read refl))
+    where
+      all : (g : NodeFiles) → segments k g ≡ segments k d.read → all_batches f (segments (suc k) g) ≡ all_batches f (segments k d.read) ++ all_batches f (part (g (Segment k)))
+      all g e = ap (all_batches f) (segments_suc k g ∙ ap (λ (l : List (List ℕ)). l ++ part (g (Segment k))) e) ∙ all_append f (segments k d.read) (part (g (Segment k)))
 
   pub still_on : (e : NodeDisk) → Elsewhere (Segment k) d e → Rest (e.held (Segment k)) (e.read (Segment k)) → Still f k e
   still_on e so here =

@@ -7,3 +7,7 @@ pub mod Laws
 pub mod Append
 pub mod Load
 pub mod Snapshots
+pub mod Seen
+pub mod Damage
+pub mod Written
+pub mod WholeLoad

@@ -7,6 +7,7 @@ use Rattle.disk_model.specs.Calls.{CutTo, Sync, Remove, SyncNames, Done, Until}
 use Rattle.disk_model.specs.Rest.{Rest}
 use Rattle.disk_model.specs.SyncAll.{sync_all, Names}
 use Rattle.store_laws.specs.Chance.{NoChance, Lawful}
+use Rattle.store_laws.specs.Settled.{file_log}
 
 -- a disk at rest, its last segment k maybe torn
 pub record Still (f : Format) (k : ℕ) (d : NodeDisk) : Type 0 where
@@ -25,6 +26,8 @@ pub record Repairs (f : Format) (k : ℕ) (d : NodeDisk) (calls : List NodeCall)
   pub still : (e : NodeDisk) → Done calls d e → Still f k e
   pub whole : (e : NodeDisk) → Done calls d e → (e.read (Segment k)).there ≡ true → is_whole f (e.read (Segment k)).bytes ≡ true
   pub same : (e : NodeDisk) → Done calls d e → kept f (suc k) e.read ≡ kept f (suc k) d.read
+  pub log : (e : NodeDisk) → Done calls d e → file_log f (suc k) e.read ≡ file_log f (suc k) d.read
+  pub snap : (e : NodeDisk) → Done calls d e → snap_in f e.read ≡ snap_in f d.read
 
 -- whole batches H, and behind them a tail that doesn't read
 abbrev pub CutTail : Type 0
@@ -55,6 +58,8 @@ pub record LoadEnds (f : Format) (k : ℕ) (d e : NodeDisk) : Type 0 where
   pub whole : (e.read (Segment k)).there ≡ true → is_whole f (e.read (Segment k)).bytes ≡ true
   pub read : kept f (suc k) e.read ≡ kept f (suc k) d.read
   pub crash : (g : NodeFiles) → Leaves e g → kept f (suc k) g ≡ kept f (suc k) d.read
+  pub log : file_log f (suc k) e.read ≡ file_log f (suc k) d.read
+  pub snap : snap_in f e.read ≡ snap_in f d.read
 
 -- inside a load a crash leaves what a load of some files that a crash might have left before gives
 abbrev pub Load : Type 0

@@ -4,9 +4,13 @@
 
 ghost use Rattle.disk_model.specs.SyncAll.{SyncAll};
 ghost use Rattle.store_laws.specs.Names.{Name};
+ghost use Rattle.store_laws.specs.Damage.{DamagePlaces};
 ghost use Rattle.store_laws.specs.Laws.{SetMeta, SetMetaLong, Append, EmptyStale, MoreRoom};
 ghost use Rattle.store_laws.specs.Load.{CutTail, RemoveBad, RemoveOlder, Load};
+ghost use Rattle.store_laws.specs.Seen.{Seen, LoadSeen};
 ghost use Rattle.store_laws.specs.Snapshots.{KeepSnapshot, SnapshotLog, OlderLog};
+ghost use Rattle.store_laws.specs.WholeLoad.{WholeLoad};
+ghost use Rattle.store_laws.specs.Written.{MetaWritten, BatchWritten};
 
 /// At any moment of keeping a term and a vote, each crash leaves the state before or the new one; after the last call
 /// the disk is at rest, and each crash leaves the new one.
@@ -83,4 +87,39 @@ pub fn keep_snapshot()
 /// Where no segment has a number or a greater one, a greater bound on the numbers says the same.
 pub fn more_room()
     ensures { MoreRoom }
+{}
+
+/// While metadata is written, a batch added or a snapshot kept, what is read is at each moment what a crash may leave: so
+/// where a call failed and no crash came, the disk may be loaded again.
+pub fn calls_seen()
+    ensures { Seen }
+{}
+
+/// So it is while a load goes on, where it was so before.
+pub fn load_seen()
+    ensures { LoadSeen }
+{}
+
+/// Where files are damaged, the damage has a place: a segment but the last, and in it the place from which nothing reads.
+pub fn damage_places()
+    ensures { DamagePlaces }
+{}
+
+/// After a term and a vote were kept, over a file of any length, their file holds what was written, which is the newest
+/// metadata; the other files are as they were.
+pub fn metadata_written()
+    ensures { MetaWritten }
+{}
+
+/// After a batch was added it stands at the end of its segment, behind the format word where that is new; the other files
+/// are as they were.
+pub fn batch_written()
+    ensures { BatchWritten }
+{}
+
+/// At any moment of a whole load, its syncs, its repairs, and the batch without entries where the snapshot drops the log,
+/// a crash leaves what a load of some files that a crash might have left before gives; after it the disk is settled with
+/// what was read, which each crash leaves.
+pub fn whole_load()
+    ensures { WholeLoad }
 {}

@@ -26,6 +26,3 @@ pub use writer::{WalWriter, wal_length, write_wal};
 
 /// The bytes of a log.
 pub type WalBytes = dq_base::Items<u8>;
-
-#[cfg(test)]
-mod tests;

@@ -1,6 +1,6 @@
 use Rattle.std.proofs.Common.{◌≡◌, ◌-◌}
 use Rattle.frame_commands.specs.Reading.{numbers_at}
-use Rattle.frame_commands.proofs.Loops.{with_front}
+use Rattle.wire_words.proofs.ReadingLoops.{with_front}
 use Rattle.frame_commands.proofs.items.numbers.Given as goal
 
 abbrev pub invariant-loop : goal.invariant-loop

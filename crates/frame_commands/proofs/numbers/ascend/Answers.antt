@@ -6,7 +6,7 @@ use Rattle.frame_commands.proofs.numbers.ascend.Goals.{then-number-least-via-the
 
 pub returns-then-number-least : goal.returns-then-number-least
 returns-then-number-least c =
-    let refused = ascend_refused c.loop-page.least c.loop-page.page-index c.args.pages.now c.page-item.result (numbers_ascend 0 c.args.pages.now) c.loop-page-test.true c.page-item.is in
+    let refused = ascend_refused c.loop-page.least c.loop-page.page-index c.args.pages.now c.page-item.result (numbers_ascend c.args.first c.args.pages.now) c.loop-page-test.true c.page-item.is in
     elim c.then-number-least.branch [
       | then-number-least-via-then-number-least w ↦ sym (refused (is_next-low c.loop-page.least c.page-item.result.number w.if-number-least.true) c.loop-page.invariant)
       | then-number-least-via-else-number-least+then-number-eq1 w ↦ sym (refused (is_next-one c.loop-page.least c.page-item.result.number w.if-number-eq1.true) c.loop-page.invariant)
@@ -16,7 +16,7 @@ returns-then-number-least c =
 pub loop-page-preserved : goal.loop-page-preserved
 loop-page-preserved c =
     let next = is_next-true c.loop-page.least c.page-item.result.number c.if-number-least.false c.if-number-eq1.false (omega (arith, c.if-number-from.false, c.from.ensures)) in
-    ascend_more c.loop-page.least c.loop-page.page-index c.args.pages.now c.page-item.result (numbers_ascend 0 c.args.pages.now) c.loop-page-test.true c.page-item.is next c.loop-page.invariant
+    ascend_more c.loop-page.least c.loop-page.page-index c.args.pages.now c.page-item.result (numbers_ascend c.args.first c.args.pages.now) c.loop-page-test.true c.page-item.is next c.loop-page.invariant
 
 pub returns : goal.returns
-returns c = sym (ascend_all c.loop-page.least c.loop-page.page-index c.args.pages.now (numbers_ascend 0 c.args.pages.now) c.loop-page-test.false c.loop-page.invariant)
+returns c = sym (ascend_all c.loop-page.least c.loop-page.page-index c.args.pages.now (numbers_ascend c.args.first c.args.pages.now) c.loop-page-test.false c.loop-page.invariant)

@@ -1,4 +1,0 @@
-use Rattle.checkpoint_core.proofs.tests.moves_around_a_pin.Goals as goal
-
-pub moves-requires : goal.moves-requires
-moves-requires c = (c.commit.ensures.shown c.in-Ok.pin).live c.in-Ok.ensures.shows.0

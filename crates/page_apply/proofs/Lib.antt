@@ -1,0 +1,12 @@
+pub mod Pending
+pub mod Places
+pub mod First
+pub mod Named
+pub mod Contents
+pub mod SplitLaw
+pub mod Ordered
+pub mod Kept
+pub mod Acting
+pub mod StatedLaw
+pub mod AsMap
+pub mod LimitLaw

@@ -1,0 +1,49 @@
+ghost use Rattle.std.specs.Prelude.{◌≡◌, ℕ, ◌≤◌, List, [], ◌∷◌, ◌++◌, fold, sum_by};
+ghost use Rattle.std.specs.List.{AllByRecursion, Contains};
+ghost use Rattle.page_apply.specs.Stated.{greatest_stated, length_of_files, IsSpelled, names_opened};
+ghost use Rattle.dq_base.specs.declared.pages.PageSet.{PageSet};
+ghost use Rattle.frame_commands.specs.declared.command.Command.{Command};
+ghost use Rattle.frame_commands.specs.Splitting.{split};
+ghost use Rattle.page_apply.specs.declared.database.Database.{Database};
+ghost use Rattle.page_apply.specs.Files.{Content, changed, applied_set, NonePending, files};
+ghost use Rattle.page_apply.specs.Files as of_files;
+ghost use Rattle.page_apply.specs.AsMap.{AreInOrder, Does};
+ghost use Rattle.page_apply.specs.Databases.{contents_of, act};
+
+/// What a command does to databases under readers is what it does to the files and pending pages that these show. So a
+/// machine that was made by a list of commands shows the files of that list. A law: the function does nothing.
+pub fn machines_show_files()
+    ensures act { (databases : List Database) (command : Command) → contents_of (act databases command) ≡ of_files.act (contents_of databases) command }
+    ensures fold { (commands : List Command) → contents_of (fold act [] commands) ≡ files commands }
+{}
+
+/// The commands of a split set, done in order, apply the whole set and leave nothing pending, wherever nothing of its
+/// transaction was pending under its name; where the set can't be applied, the image stays.
+pub fn split_sets_apply_whole()
+    ensures { (name : List ℕ) (set : PageSet) (contents : List Content) → NonePending name set.tx contents →
+        fold of_files.act contents (split name set) ≡ changed name (applied_set set) contents }
+{}
+
+/// The two files of each database that commands make are together at most as long as a sizes page states with which one of
+/// the commands commits for its name. The commands are any that bytes stand for, so this holds after each front of a list.
+pub fn files_are_no_longer_than_stated()
+    ensures { (commands : List Command) → AllByRecursion IsSpelled commands →
+        AllByRecursion (λ content. length_of_files content.image ≤ greatest_stated commands content.name) (files commands) }
+{}
+
+/// The databases that commands make stand strictly ascending by the bytes of their names. Seen as a map from names, OpenDb
+/// and Frames change the database of their name and no other, Undo drops what is pending for its transaction and nothing
+/// else, and Checkpoint changes nothing.
+pub fn commands_do_what_they_say()
+    ensures in_order { (commands : List Command) → AreInOrder (files commands) }
+    ensures does { (commands : List Command) (command : Command) → Does command (files commands) (files (commands ++ command ∷ [])) }
+{}
+
+/// Where the greatest lengths that a list of commands states for its names are together within a limit, the files of all
+/// databases are together within it after every front of the list. The names are any that hold each name that the list opens.
+pub fn limit_bounds_files()
+    ensures { (front later : List Command) (names : List (List ℕ)) (limit : ℕ) → AllByRecursion IsSpelled (front ++ later) →
+        AllByRecursion (λ name. Contains names name) (names_opened (front ++ later)) →
+        sum_by (greatest_stated (front ++ later)) names ≤ limit →
+        sum_by (λ (content : Content). length_of_files content.image) (files front) ≤ limit }
+{}

@@ -1,0 +1,7 @@
+pub mod NoTwoAlike
+pub mod BlockCalls
+pub mod MetaKeeps
+pub mod Segments
+pub mod Keeping
+pub mod AppendKeeps
+pub mod Appending

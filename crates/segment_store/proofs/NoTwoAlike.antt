@@ -1,0 +1,125 @@
+-- No two files of a node have names that are alike.
+use Rattle.std.proofs.Common.{◌≡◌, ℕ, ◌+◌, ◌/◌, ◌%◌, ◌<◌, ◌≤◌, false, List, [], ◌∷◌, ◌++◌, length, take, drop, get_or, replicate, refl, sym, ap, ◌∙◌, subst, arith, length-append}
+use Rattle.std.specs.Prelude.{◌==◌, ◌||◌, codes, map}
+use Rattle.std.proofs.lemmas.Bool.{ne_eqb}
+use Rattle.std.proofs.lemmas.List.Folds.{list_any-append}
+use Rattle.dq_base.specs.Names.{IsName, has_nul}
+use Rattle.segment_store.specs.declared.names.File.{File}
+use Rattle.segment_store.specs.declared.names.File.TheVariants as files
+use Rattle.std.proofs.lemmas.List.{append-nil, take_at, length-replicate}
+use Rattle.store_laws.specs.Names.{Name, First, Second, Segment, Snapshot}
+use Rattle.segment_store.specs.FileNames.{powers, digit, sixteen, number_text, file_name, name_of, number_of}
+
+sixteen_long : (n : ℕ) → length (sixteen n) ≡ 16
+unfolding sixteen
+sixteen_long n = refl
+
+-- what is beyond sixteen digits and each of these digits make the number
+same_digits : (n m : ℕ) → n / 10000000000000000 ≡ m / 10000000000000000 → sixteen n ≡ sixteen m → n ≡ m
+unfolding sixteen
+same_digits n m above e =
+    let d0 : 48 + n / 1000000000000000 % 10 ≡ 48 + m / 1000000000000000 % 10 = ap (λ (l : List ℕ). get_or l 0 0) e in
+    let d1 : 48 + n / 100000000000000 % 10 ≡ 48 + m / 100000000000000 % 10 = ap (λ (l : List ℕ). get_or l 1 0) e in
+    let d2 : 48 + n / 10000000000000 % 10 ≡ 48 + m / 10000000000000 % 10 = ap (λ (l : List ℕ). get_or l 2 0) e in
+    let d3 : 48 + n / 1000000000000 % 10 ≡ 48 + m / 1000000000000 % 10 = ap (λ (l : List ℕ). get_or l 3 0) e in
+    let d4 : 48 + n / 100000000000 % 10 ≡ 48 + m / 100000000000 % 10 = ap (λ (l : List ℕ). get_or l 4 0) e in
+    let d5 : 48 + n / 10000000000 % 10 ≡ 48 + m / 10000000000 % 10 = ap (λ (l : List ℕ). get_or l 5 0) e in
+    let d6 : 48 + n / 1000000000 % 10 ≡ 48 + m / 1000000000 % 10 = ap (λ (l : List ℕ). get_or l 6 0) e in
+    let d7 : 48 + n / 100000000 % 10 ≡ 48 + m / 100000000 % 10 = ap (λ (l : List ℕ). get_or l 7 0) e in
+    let d8 : 48 + n / 10000000 % 10 ≡ 48 + m / 10000000 % 10 = ap (λ (l : List ℕ). get_or l 8 0) e in
+    let d9 : 48 + n / 1000000 % 10 ≡ 48 + m / 1000000 % 10 = ap (λ (l : List ℕ). get_or l 9 0) e in
+    let d10 : 48 + n / 100000 % 10 ≡ 48 + m / 100000 % 10 = ap (λ (l : List ℕ). get_or l 10 0) e in
+    let d11 : 48 + n / 10000 % 10 ≡ 48 + m / 10000 % 10 = ap (λ (l : List ℕ). get_or l 11 0) e in
+    let d12 : 48 + n / 1000 % 10 ≡ 48 + m / 1000 % 10 = ap (λ (l : List ℕ). get_or l 12 0) e in
+    let d13 : 48 + n / 100 % 10 ≡ 48 + m / 100 % 10 = ap (λ (l : List ℕ). get_or l 13 0) e in
+    let d14 : 48 + n / 10 % 10 ≡ 48 + m / 10 % 10 = ap (λ (l : List ℕ). get_or l 14 0) e in
+    let d15 : 48 + n / 1 % 10 ≡ 48 + m / 1 % 10 = ap (λ (l : List ℕ). get_or l 15 0) e in
+    let q0 : n / 1000000000000000 ≡ m / 1000000000000000 = omega (arith, above, d0) in
+    let q1 : n / 100000000000000 ≡ m / 100000000000000 = omega (arith, q0, d1) in
+    let q2 : n / 10000000000000 ≡ m / 10000000000000 = omega (arith, q1, d2) in
+    let q3 : n / 1000000000000 ≡ m / 1000000000000 = omega (arith, q2, d3) in
+    let q4 : n / 100000000000 ≡ m / 100000000000 = omega (arith, q3, d4) in
+    let q5 : n / 10000000000 ≡ m / 10000000000 = omega (arith, q4, d5) in
+    let q6 : n / 1000000000 ≡ m / 1000000000 = omega (arith, q5, d6) in
+    let q7 : n / 100000000 ≡ m / 100000000 = omega (arith, q6, d7) in
+    let q8 : n / 10000000 ≡ m / 10000000 = omega (arith, q7, d8) in
+    let q9 : n / 1000000 ≡ m / 1000000 = omega (arith, q8, d9) in
+    let q10 : n / 100000 ≡ m / 100000 = omega (arith, q9, d10) in
+    let q11 : n / 10000 ≡ m / 10000 = omega (arith, q10, d11) in
+    let q12 : n / 1000 ≡ m / 1000 = omega (arith, q11, d12) in
+    let q13 : n / 100 ≡ m / 100 = omega (arith, q12, d13) in
+    let q14 : n / 10 ≡ m / 10 = omega (arith, q13, d14) in
+    let q15 : n / 1 ≡ m / 1 = omega (arith, q14, d15) in
+    omega (arith, q15)
+
+numbers_alike : (n m : ℕ) → number_text n ≡ number_text m → n ≡ m
+unfolding number_text
+numbers_alike n m e =
+    let long : length (number_text n) ≡ 16 + n / 10000000000000000 = all n in
+    let other : length (number_text m) ≡ 16 + m / 10000000000000000 = all m in
+    let above : n / 10000000000000000 ≡ m / 10000000000000000 = omega (arith, long, other, ap length e) in
+    let front : sixteen n ≡ sixteen m = sym (take_at (sixteen n) (rest n) 16 (sixteen_long n)) ∙ ap (take 16) e ∙ take_at (sixteen m) (rest m) 16 (sixteen_long m) in
+    same_digits n m above front
+  where
+    rest : ℕ → List ℕ
+    rest n = replicate (n / 10000000000000000) 48
+
+    all : (n : ℕ) → length (sixteen n ++ replicate (n / 10000000000000000) 48) ≡ 16 + n / 10000000000000000
+    all n =
+        let more : length (replicate {A = ℕ} (n / 10000000000000000) 48) ≡ n / 10000000000000000 = length-replicate (n / 10000000000000000) 48 in
+        length-append (sixteen n) (replicate (n / 10000000000000000) 48) ∙ (λ i. sixteen_long n i + more i)
+
+-- the first two letters tell the kinds apart, and the last one the two files of metadata
+pub no_two_alike : (m n : Name) → file_name m ≡ file_name n → m ≡ n
+no_two_alike First First e = refl
+no_two_alike First Second e = let z : 49 ≡ 50 = ap (λ (l : List ℕ). get_or l 8 0) e in absurd (omega (arith, z))
+no_two_alike First (Segment j) e = let z : 109 ≡ 115 = ap (λ (l : List ℕ). get_or l 0 0) e in absurd (omega (arith, z))
+no_two_alike First (Snapshot j) e = let z : 109 ≡ 115 = ap (λ (l : List ℕ). get_or l 0 0) e in absurd (omega (arith, z))
+no_two_alike Second First e = let z : 50 ≡ 49 = ap (λ (l : List ℕ). get_or l 8 0) e in absurd (omega (arith, z))
+no_two_alike Second Second e = refl
+no_two_alike Second (Segment j) e = let z : 109 ≡ 115 = ap (λ (l : List ℕ). get_or l 0 0) e in absurd (omega (arith, z))
+no_two_alike Second (Snapshot j) e = let z : 109 ≡ 115 = ap (λ (l : List ℕ). get_or l 0 0) e in absurd (omega (arith, z))
+no_two_alike (Segment k) First e = let z : 115 ≡ 109 = ap (λ (l : List ℕ). get_or l 0 0) e in absurd (omega (arith, z))
+no_two_alike (Segment k) Second e = let z : 115 ≡ 109 = ap (λ (l : List ℕ). get_or l 0 0) e in absurd (omega (arith, z))
+no_two_alike (Segment k) (Segment j) e = ap Segment (numbers_alike k j (ap (drop 8) e))
+no_two_alike (Segment k) (Snapshot j) e = let z : 101 ≡ 110 = ap (λ (l : List ℕ). get_or l 1 0) e in absurd (omega (arith, z))
+no_two_alike (Snapshot k) First e = let z : 115 ≡ 109 = ap (λ (l : List ℕ). get_or l 0 0) e in absurd (omega (arith, z))
+no_two_alike (Snapshot k) Second e = let z : 115 ≡ 109 = ap (λ (l : List ℕ). get_or l 0 0) e in absurd (omega (arith, z))
+no_two_alike (Snapshot k) (Segment j) e = let z : 110 ≡ 101 = ap (λ (l : List ℕ). get_or l 1 0) e in absurd (omega (arith, z))
+no_two_alike (Snapshot k) (Snapshot j) e = ap Snapshot (numbers_alike k j (ap (drop 9) e))
+
+-- ---- a number that sixteen digits hold
+
+pub small_number : (n : ℕ) → n < 10000000000000000 → number_text n ≡ sixteen n
+unfolding number_text
+small_number n h =
+    let none : n / 10000000000000000 ≡ 0 = omega arith in
+    ap (λ (k : ℕ). sixteen n ++ replicate k 48) none ∙ append-nil (sixteen n)
+
+pub behind_kind : (kind text : List ℕ) (n : ℕ) → n < 10000000000000000 → text ≡ kind ++ sixteen n → text ≡ kind ++ number_text n
+behind_kind kind text n h e = e ∙ ap (λ (x : List ℕ). kind ++ x) (sym (small_number n h))
+
+-- no digit is a NUL
+digits_no_nul : (n : ℕ) (ps : List ℕ) → has_nul (map (digit n) ps) ≡ false
+digits_no_nul n [] = refl
+digits_no_nul n (p ∷ ps) =
+    let some : (48 + n / p % 10 == 0) ≡ false = ne_eqb (48 + n / p % 10) 0 (λ q. absurd (omega (arith, q))) in
+    (λ i. some i || digits_no_nul n ps i)
+
+sixteen_no_nul : (n : ℕ) → has_nul (sixteen n) ≡ false
+unfolding sixteen
+sixteen_no_nul n = digits_no_nul n powers
+
+numbered_name : (kind : List ℕ) (n : ℕ) → n < 10000000000000000 → 0 < length kind → length kind ≤ 9 → has_nul kind ≡ false → IsName (kind ++ number_text n)
+numbered_name kind n h some short none =
+    subst (λ (x : List ℕ). IsName (kind ++ x)) (sym (small_number n h)) (record {
+      not_empty = omega (arith, length-append kind (sixteen n), some);
+      short = omega (arith, length-append kind (sixteen n), sixteen_long n, short);
+      no_nul = list_any-append (λ (b : ℕ). b == 0) kind (sixteen n) ∙ (λ i. none i || sixteen_no_nul n i);
+    })
+
+pub named : (file : File) (text : List ℕ) → number_of file < 10000000000000000 → text ≡ file_name (name_of file) → IsName text
+named files.First text h e = subst IsName (sym e) (record { not_empty = omega arith; short = omega arith; no_nul = refl })
+named files.Second text h e = subst IsName (sym e) (record { not_empty = omega arith; short = omega arith; no_nul = refl })
+named (files.Segment k) text h e = subst IsName (sym e) (numbered_name (codes "segment-") k h (omega arith) (omega arith) refl)
+named (files.Snapshot k) text h e = subst IsName (sym e) (numbered_name (codes "snapshot-") k h (omega arith) (omega arith) refl)

@@ -1,0 +1,24 @@
+use Rattle.std.proofs.lemmas.Result.{err_from_is_err_and}
+use Rattle.disk_model.proofs.Runs.{ran_stops, ran_then, ran_last}
+use Rattle.segment_store.proofs.block.write_over.Goals as goal
+
+pub returns-in_err-write_at-clause-ran : goal.returns-in_err-write_at-clause-ran
+returns-in_err-write_at-clause-ran g c = λ known.
+    let p = err_from_is_err_and c.from_residual.result c.from_residual.ensures.1 in
+    rw p.1 (ran_stops _ _ _ _ _ _ (c.in_err-write_at.ensures.told known))
+
+pub returns-in_err-sync-clause-ran : goal.returns-in_err-sync-clause-ran
+returns-in_err-sync-clause-ran g c = λ known.
+    let p = err_from_is_err_and c.from_residual-in_err-sync.result c.from_residual-in_err-sync.ensures.1 in
+    rw p.1 (ran_then _ _ _ _ _ _ _ (c.in_ok-write_at.ensures.told known) (ran_stops _ _ _ _ _ _ c.in_err-sync.ensures.told))
+
+pub returns-in_err-cut-clause-ran : goal.returns-in_err-cut-clause-ran
+returns-in_err-cut-clause-ran g c = λ known.
+    let p = err_from_is_err_and c.from_residual-in_err-cut.result c.from_residual-in_err-cut.ensures.1 in
+    rw p.1 (ran_then _ _ _ _ _ _ _ (c.in_ok-write_at.ensures.told known) (ran_then _ _ _ _ _ _ _ c.in_ok-sync.ensures.told (ran_stops _ _ _ _ _ _ c.in_err-cut.ensures.told)))
+
+pub returns-clause-ran : goal.returns-clause-ran
+returns-clause-ran g c = λ known.
+    ran_then _ _ _ _ _ _ c.sync-2.result (c.in_ok-write_at.ensures.told known)
+    (ran_then _ _ _ _ _ _ c.sync-2.result c.in_ok-sync.ensures.told
+    (ran_then _ _ _ _ _ _ c.sync-2.result c.in_ok-cut.ensures.told (ran_last _ _ _ c.sync-2.result c.sync-2.ensures.told)))

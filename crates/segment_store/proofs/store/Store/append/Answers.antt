@@ -1,0 +1,25 @@
+use Rattle.std.proofs.Common.{length, sym, ◌∙◌}
+use Rattle.std.proofs.lemmas.Result.{err_from_is_err_and}
+use Rattle.store_laws.specs.Store.{Log}
+use Rattle.store_laws.specs.Append.{with_batch}
+use Rattle.store_batches.specs.Batches.{batch_bytes}
+use Rattle.segment_store.proofs.Appending.{none_appended, fits_of}
+use Rattle.segment_store.proofs.store.Store.append.Goals as goal
+
+pub returns-in_err-batch-clause-kept : goal.returns-in_err-batch-clause-kept
+returns-in_err-batch-clause-kept g c =
+    let b : Log = record { first = c.args.first; entries = c.args.entries.now } in
+    let p = err_from_is_err_and c.from_residual.result c.from_residual.ensures.1 in
+    rw p.1 (λ k can. none_appended g.D.Disk.tells (g.D.Disk.states c.args.disk.now) c.args.self.now c.args.self.now k (with_batch b k) (length (batch_bytes b)) p.0)
+
+pub returns-in-Some-clause-kept : goal.returns-in-Some-clause-kept
+returns-in-Some-clause-kept g c = λ k can.
+    let b : Log = record { first = c.args.first; entries = c.args.entries.now } in
+    let e = c.in_ok-batch.ensures in
+    c.grow.ensures.kept k b (c.as_slice.ensures.value ∙ e.bytes) (fits_of k b can c.ranges.first.fits e.count e.fit) can (sym c.room.ensures ∙ c.in-Some.is)
+
+pub returns-clause-kept : goal.returns-clause-kept
+returns-clause-kept g c = λ k can.
+    let b : Log = record { first = c.args.first; entries = c.args.entries.now } in
+    let e = c.in_ok-batch.ensures in
+    c.begin.ensures.kept k b (c.as_slice-in-None.ensures.value ∙ e.bytes) (fits_of k b can c.ranges.first.fits e.count e.fit) can (sym c.room.ensures ∙ c.in-None.is)

@@ -1,0 +1,21 @@
+use Rattle.std.proofs.Common.{◌≡◌, ◌%◌, ap, ◌∙◌}
+use Rattle.std.specs.Prelude.{◌==◌}
+use Rattle.std.proofs.lemmas.Result.{err_from_is_err_and}
+use Rattle.store_laws.specs.Meta.{file_of}
+use Rattle.store_format.specs.Metadata.{block_bytes}
+use Rattle.segment_store.specs.FileNames.{file_name}
+use Rattle.segment_store.proofs.Keeping.{block_err, block_ok}
+use Rattle.segment_store.proofs.store.write_metadata.Goals as goal
+
+pub returns-in_err-write_block-clause-went : goal.returns-in_err-write_block-clause-went
+returns-in_err-write_block-clause-went g c = λ may.
+    let p = err_from_is_err_and c.from_residual-in_err-write_block.result c.from_residual-in_err-write_block.ensures.1 in
+    let name : c.as_str.result.now ≡ file_name (file_of (c.args.metadata.now.version % 2 == 1)) = c.as_str.ensures.value ∙ c.in_ok-name.ensures ∙ ap file_name c.metadata_file.ensures.file in
+    let block : c.as_slice.result.now ≡ block_bytes c.args.metadata.now = c.as_slice.ensures.value ∙ c.in_ok-block.ensures in
+    rw p.1 (block_err _ _ _ _ c.args.size g.D.Disk.tells _ _ name block _ _ c.in_err-write_block.ensures.ran may)
+
+pub returns-clause-went : goal.returns-clause-went
+returns-clause-went g c = λ may.
+    let name : c.as_str.result.now ≡ file_name (file_of (c.args.metadata.now.version % 2 == 1)) = c.as_str.ensures.value ∙ c.in_ok-name.ensures ∙ ap file_name c.metadata_file.ensures.file in
+    let block : c.as_slice.result.now ≡ block_bytes c.args.metadata.now = c.as_slice.ensures.value ∙ c.in_ok-block.ensures in
+    block_ok _ _ _ _ c.args.size g.D.Disk.tells _ _ name block c.in_ok-write_block.field-0 tt c.in_ok-write_block.ensures.ran may

@@ -1,0 +1,60 @@
+-- What an open store knows of its disk.
+use Rattle.std.specs.Prelude.{◌≡◌, ℕ, zero, suc, ◌%◌, ◌==◌, cond, true, false, length, Option, Some, None}
+use Rattle.disk_model.specs.Disk.{Found}
+use Rattle.store_laws.specs.Names.{First, Second, Segment, NodeDisk}
+use Rattle.store_laws.specs.Store.{Kept, Loaded, kept, meta_of}
+use Rattle.store_laws.specs.Settled.{Settled}
+use Rattle.store_format.specs.Words.{format_in}
+use Rattle.store_batches.specs.Files.{node_format}
+
+-- The newest version of the metadata, 0 for none; how long each of its two files is, where it is there; the number of the
+-- next new segment; and how long the one before it is, where batches may still be added to it.
+pub record Open : Type 0 where
+  pub version : ℕ
+  pub first : Option ℕ
+  pub second : Option ℕ
+  pub next : ℕ
+  pub size : Option ℕ
+
+abbrev pub stamp_of : ℕ → ℕ
+stamp_of zero = 0
+stamp_of (suc v) = suc (suc v)
+
+-- a file is this long, or isn't there
+abbrev pub HasSize : Option ℕ → Found → Type 0
+HasSize None x = x.there ≡ false
+HasSize (Some n) x = (x.there ≡ true) × (length x.bytes ≡ n)
+
+-- the segment before the next one is this long, in the format in which batches are written
+pub record Grows (next n : ℕ) (d : NodeDisk) : Type 0 where
+  pub last : ℕ
+  pub before : next ≡ suc last
+  pub size : HasSize (Some n) (d.read (Segment last))
+  pub format : format_in (d.read (Segment last)).bytes ≡ 2
+
+abbrev pub MayGrow : ℕ → Option ℕ → NodeDisk → Type 0
+MayGrow next None d = Unit {0}
+MayGrow next (Some n) d = Grows next n d
+
+-- the store is open over a disk whose files stand for this
+pub record IsOpen (s : Open) (k : Kept) (d : NodeDisk) : Type 0 where
+  pub settled : Settled node_format s.next d
+  pub reads : kept node_format s.next d.read ≡ Loaded k
+  pub stamp : (meta_of node_format d.read).stamp ≡ stamp_of s.version
+  pub first : HasSize s.first (d.read First)
+  pub second : HasSize s.second (d.read Second)
+  pub grows : MayGrow s.next s.size d
+
+-- the store after one more write of metadata: the first file has the odd versions
+abbrev pub with_version : ℕ → Open → Open
+with_version version s = record {
+  version = version;
+  first = cond (version % 2 == 1) (Some 40) s.first;
+  second = cond (version % 2 == 1) s.second (Some 40);
+  next = s.next;
+  size = s.size;
+}
+
+-- how long the file is that a version goes to
+abbrev pub size_for : ℕ → Open → Option ℕ
+size_for version s = cond (version % 2 == 1) s.first s.second

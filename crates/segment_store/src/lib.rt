@@ -1,0 +1,13 @@
+//! The store of a node: metadata, segments and snapshots, over every crash.
+#![tactic(auto)]
+
+mod block;
+mod fault;
+mod names;
+mod segment;
+mod store;
+#[cfg(test)]
+mod tests;
+
+pub use fault::StoreFault;
+pub use store::Store;

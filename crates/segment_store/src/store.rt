@@ -1,0 +1,266 @@
+ghost use Rattle.std.specs.Prelude.{◌≡◌, ◌==◌, ◌%◌, ◌<◌, ◌^◌, ◌-◌, suc, length, MatchOption, Some, None};
+ghost use Rattle.disk_model.specs.Calls.{MayWrite};
+ghost use Rattle.disk_model.specs.Trait.{Known};
+ghost use Rattle.store_laws.specs.Names.{Segment};
+ghost use Rattle.store_laws.specs.Store.{Kept, Log};
+ghost use Rattle.store_laws.specs.Append.{with_batch, CanAppend};
+ghost use Rattle.store_laws.specs.Meta.{file_of, with_vote};
+ghost use Rattle.store_format.specs.Metadata.{block_bytes};
+ghost use Rattle.store_batches.specs.Batches.{batch_bytes};
+ghost use Rattle.store_batches.specs.Written.{segment_word, Fits};
+ghost use Rattle.segment_store.specs.FileNames.{file_name};
+ghost use Rattle.segment_store.specs.Grow.{grow_calls, begin_calls, IsFree, room_in, appended_to, with_appended};
+ghost use Rattle.segment_store.specs.Faults.{DiskCause};
+ghost use Rattle.segment_store.specs.Open.{size_for, with_version};
+ghost use Rattle.segment_store.specs.Keeps.{Keeps, Went, block_calls};
+
+use crate::block::write_block;
+use crate::fault::StoreFault;
+use crate::names::{File, NUMBERS, file_name, metadata_file};
+use crate::segment::{begin_segment, grow_segment};
+use disk_model::Disk;
+use raft_vote::Entry;
+use std::alloc::Global;
+use std::marker::Model;
+use store_batches::batch_bytes;
+use store_format::{Metadata, metadata_bytes};
+
+/// What a node keeps in its folder: a term with a vote, a log in segments, and a snapshot. A store is open over the disk
+/// that it was loaded from, which nobody else changes.
+///
+/// After an `Err` of a call the store has to be loaded again. What was kept is then the state before the call or the one
+/// after it, also where a crash came inside the call.
+#[derive(Debug, Drop)]
+pub struct Store {
+    alloc: Global,
+    // the newest version of the metadata; 0 for none
+    version: u64,
+    // how long the files of metadata are, where they are there
+    first: Option<u64>,
+    second: Option<u64>,
+    // the number of the next new segment
+    next: u64,
+    // how long the segment before it is, where batches may still be added to it
+    size: Option<u64>,
+}
+
+/// A segment of so many bytes or more takes no batch any more.
+const FULL: u64 = 8_388_608;
+
+impl Model for Store {
+    ghost use Rattle.std.specs.Prelude.{◌≤◌};
+    ghost use Rattle.segment_store.specs.Open.{Open};
+
+    ghost Value = { Open };
+
+    ghost view = { λ s. record { version = s.version; first = s.first; second = s.second; next = s.next; size = s.size } };
+
+    // The segments that are there have sixteen digits.
+    ghost invariant = { λ s. s.next ≤ 10000000000000000 };
+}
+
+// Writes metadata into the file of its version, which has this size, where it is there.
+fn write_metadata<D: Disk>(
+    alloc: Global,
+    disk: &mut D,
+    metadata: &Metadata,
+    size: Option<u64>,
+) -> Result<(), StoreFault>
+    ensures went { Known D.tells (D.states disk.old) (MayWrite (file_name (file_of (metadata.now.version % 2 == 1))) 0) → Went (block_calls (file_name (file_of (metadata.now.version % 2 == 1))) (block_bytes metadata.now) size) (D.states disk.old) (D.states disk.new) result }
+    ensures cause { DiskCause (D.faults disk.old) (D.faults disk.new) result }
+{
+    let block = metadata_bytes(alloc, metadata)?;
+    let name = file_name(alloc, metadata_file(metadata.version))?;
+    write_block(disk, name.as_str(), block.as_slice(), size)?;
+    Ok(())
+}
+
+// Writes a batch at the end of the segment of this number, which has this size.
+fn grow_batch<D: Disk>(
+    alloc: Global,
+    disk: &mut D,
+    number: u64,
+    size: u64,
+    batch: &[u8],
+) -> Result<(), StoreFault>
+    requires { number < 10000000000000000 }
+    ensures went { Known D.tells (D.states disk.old) (MayWrite (file_name (Segment number)) size) → Went (grow_calls (file_name (Segment number)) size batch.now) (D.states disk.old) (D.states disk.new) result }
+    ensures cause { DiskCause (D.faults disk.old) (D.faults disk.new) result }
+{
+    let name = file_name(alloc, File::Segment(number))?;
+    grow_segment(disk, name.as_str(), size, batch)?;
+    Ok(())
+}
+
+// Begins the segment of this number with a batch.
+fn begin_batch<D: Disk>(
+    alloc: Global,
+    disk: &mut D,
+    number: u64,
+    batch: &[u8],
+) -> Result<(), StoreFault>
+    requires { number < 10000000000000000 }
+    ensures went { Known D.tells (D.states disk.old) (IsFree (file_name (Segment number))) → Went (begin_calls (file_name (Segment number)) segment_word batch.now) (D.states disk.old) (D.states disk.new) result }
+    ensures cause { DiskCause (D.faults disk.old) (D.faults disk.new) result }
+{
+    let name = file_name(alloc, File::Segment(number))?;
+    begin_segment(disk, name.as_str(), batch)?;
+    Ok(())
+}
+
+impl Store {
+    /// A store over a folder without files.
+    #[cfg(test)]
+    pub(crate) fn fresh(alloc: Global) -> Store {
+        Store {
+            alloc,
+            version: 0,
+            first: None,
+            second: None,
+            next: 1,
+            size: None,
+        }
+    }
+
+    fn size_for(&self, version: u64) -> Option<u64>
+        ensures { result ≡ size_for version self.now }
+    {
+        if version % 2 == 1 {
+            self.first
+        } else {
+            self.second
+        }
+    }
+
+    fn next_version(&self) -> Option<u64>
+        ensures { MatchOption result (Unit {0}) (λ version. (version ≡ suc self.now.version) × (version < 2 ^ 64)) }
+    {
+        self.version.checked_add(1)
+    }
+
+    fn note_metadata(&mut self, version: u64)
+        ensures { self.new ≡ with_version version self.old }
+    {
+        self.version = version;
+        if version % 2 == 1 {
+            self.first = Some(40);
+        } else {
+            self.second = Some(40);
+        }
+    }
+
+    /// Keeps a term and a vote; 0 is no vote. Writes one file of 40 bytes, in format 2. A version past the last number of
+    /// 64 bits is answered as want of memory, with nothing written.
+    pub fn set_meta<D: Disk>(
+        &mut self,
+        disk: &mut D,
+        term: u64,
+        vote: u64,
+    ) -> Result<(), StoreFault>
+        ensures kept { (k : Kept) → Keeps D.tells (D.states disk.old) (D.states disk.new) self.old self.new self.old.next k (with_vote term vote k) result }
+        ensures cause { DiskCause (D.faults disk.old) (D.faults disk.new) result }
+    {
+        let Some(version) = self.next_version() else {
+            return Err(StoreFault::NoMemory);
+        };
+        let metadata = Metadata {
+            version,
+            term,
+            vote,
+        };
+        write_metadata(self.alloc, disk, &metadata, self.size_for(version))?;
+        self.note_metadata(version);
+        Ok(())
+    }
+
+    fn room(&self) -> Option<u64>
+        ensures { result ≡ room_in self.now.size }
+    {
+        match self.size {
+            Some(size) if size < FULL => Some(size),
+            _ => None,
+        }
+    }
+
+    fn last(&self) -> u64
+        ensures number { result ≡ self.now.next - 1 }
+        ensures digits { result < 10000000000000000 }
+    {
+        self.next.saturating_sub(1)
+    }
+
+    // The number of a new segment, where one is left.
+    fn new_number(&self) -> Option<u64>
+        ensures { MatchOption result (Unit {0}) (λ number. (number ≡ self.now.next) × (number < 10000000000000000)) }
+    {
+        if self.next < NUMBERS {
+            Some(self.next)
+        } else {
+            None
+        }
+    }
+
+    fn note_grown(&mut self, size: u64, batch: &[u8])
+        requires { size < 8388608 }
+        ensures { self.new ≡ appended_to (Some size) (length batch.now) self.old }
+    {
+        self.size = Some(size + batch.len() as u64);
+    }
+
+    fn note_begun(&mut self, batch: &[u8])
+        requires { self.old.next < 10000000000000000 }
+        ensures { self.new ≡ appended_to None (length batch.now) self.old }
+    {
+        self.next += 1;
+        self.size = Some(8 + batch.len() as u64);
+    }
+
+    // Adds a batch to the segment that has room for it.
+    fn grow<D: Disk>(&mut self, disk: &mut D, size: u64, batch: &[u8]) -> Result<(), StoreFault>
+        requires { size < 8388608 }
+        ensures kept { (k : Kept) (b : Log) → batch.now ≡ batch_bytes b → Fits b → CanAppend k b → room_in self.old.size ≡ Some size →
+            Keeps D.tells (D.states disk.old) (D.states disk.new) self.old self.new (with_appended (length (batch_bytes b)) self.old).next k (with_batch b k) result }
+        ensures cause { DiskCause (D.faults disk.old) (D.faults disk.new) result }
+    {
+        grow_batch(self.alloc, disk, self.last(), size, batch)?;
+        self.note_grown(size, batch);
+        Ok(())
+    }
+
+    // Begins a segment with a batch.
+    fn begin<D: Disk>(&mut self, disk: &mut D, batch: &[u8]) -> Result<(), StoreFault>
+        ensures kept { (k : Kept) (b : Log) → batch.now ≡ batch_bytes b → Fits b → CanAppend k b → room_in self.old.size ≡ None →
+            Keeps D.tells (D.states disk.old) (D.states disk.new) self.old self.new (with_appended (length (batch_bytes b)) self.old).next k (with_batch b k) result }
+        ensures cause { DiskCause (D.faults disk.old) (D.faults disk.new) result }
+    {
+        let Some(number) = self.new_number() else {
+            return Err(StoreFault::NoMemory);
+        };
+        begin_batch(self.alloc, disk, number, batch)?;
+        self.note_begun(batch);
+        Ok(())
+    }
+
+    /// Replaces the log from the index `first` on by these entries. `first` lies past the kept snapshot and at most one
+    /// past the log's end, and a term is kept: else nothing is said of what is kept.
+    ///
+    /// One write and one sync of the batch, in the segment that is there where it has fewer than 8,388,608 bytes, else in
+    /// a new one, which takes three calls more. Each entry is copied once. An entry of more than 4,294,967,295 bytes and a
+    /// segment of more than sixteen digits are answered as want of memory, with nothing written.
+    pub fn append<D: Disk>(
+        &mut self,
+        disk: &mut D,
+        first: u64,
+        entries: &[Entry],
+    ) -> Result<(), StoreFault>
+        ensures kept { (k : Kept) → CanAppend k (record { first = first; entries = entries.now }) →
+            Keeps D.tells (D.states disk.old) (D.states disk.new) self.old self.new (with_appended (length (batch_bytes (record { first = first; entries = entries.now }))) self.old).next k (with_batch (record { first = first; entries = entries.now }) k) result }
+        ensures cause { DiskCause (D.faults disk.old) (D.faults disk.new) result }
+    {
+        let batch = batch_bytes(self.alloc, first, entries)?;
+        match self.room() {
+            Some(size) => self.grow(disk, size, batch.as_slice()),
+            None => self.begin(disk, batch.as_slice()),
+        }
+    }
+}

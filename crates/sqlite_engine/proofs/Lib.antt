@@ -1,0 +1,4 @@
+pub mod Clean
+pub mod Same
+pub mod Telling
+pub mod Answering

@@ -1,0 +1,10 @@
+pub mod Sql
+pub mod Errors
+pub mod Shows
+pub mod Values
+pub mod Carried
+pub mod Unfit
+pub mod Meant
+pub mod Led
+pub mod Openings
+pub mod Any

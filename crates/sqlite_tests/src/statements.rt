@@ -1,0 +1,174 @@
+use dq_base::{Bytes, Image, apply};
+use sql_engine::{CellEngine, Engine, EngineFault, Ran};
+use sqlite_engine::{AnyEngine, SqliteEngine};
+use std::alloc::{AllocError, Global};
+use std::test::Fail;
+use wire_words::{Value, WireText};
+
+/// A database as an engine and an image of it.
+#[derive(Drop)]
+struct Database {
+    engine: SqliteEngine,
+    image: Image,
+}
+
+impl Database {
+    fn new(alloc: Global) -> Database {
+        Database {
+            engine: SqliteEngine::new(alloc),
+            image: Image::new(alloc),
+        }
+    }
+
+    /// Runs a statement, and applies its pages to the image. Answers how many rows and how many pages it changed.
+    fn write(&mut self, text: &str, params: &[Value]) -> Result<(u64, usize), Fail> {
+        let ran = self.engine.run(&self.image, text, params, 1)?;
+        if !ran.after.pages.is_empty() {
+            apply(&mut self.image, &ran.after)?;
+        }
+        Ok((ran.affected, ran.after.pages.len()))
+    }
+}
+
+/// The values of the one row of an answer with an integer and a text.
+fn row_of(ran: &Ran) -> Option<(i64, &str)> {
+    match ran.rows.as_slice() {
+        [row] => match row.values() {
+            [Value::Integer(number), Value::Text(text)] => Some((*number, text.as_str())),
+            _ => None,
+        },
+        _ => None,
+    }
+}
+
+/// The name of the first column of an answer.
+fn first_name(ran: &Ran) -> Option<&str> {
+    match ran.columns.as_slice() {
+        [name, ..] => Some(name.as_str()),
+        [] => None,
+    }
+}
+
+/// Five and an x, as parameters.
+fn five_and_x(alloc: Global) -> Result<[Value; 2], AllocError> {
+    let text = String::from_str(alloc, "x")?;
+    Ok([Value::Integer(5), Value::Text(WireText::new(text))])
+}
+
+/// A database with a table that has one row.
+fn filled(alloc: Global) -> Result<Database, Fail> {
+    let mut database = Database::new(alloc);
+    let params = five_and_x(alloc)?;
+    database.write("CREATE TABLE t (a INT UNIQUE, b TEXT)", &[])?;
+    database.write("INSERT INTO t VALUES (?, ?)", &params)?;
+    Ok(database)
+}
+
+/// What a query answers twice over an image that was opened ahead: whether its row is there, the pages of its set, and how
+/// many openings were tried in all.
+fn asked(engine: &mut SqliteEngine, image: &Image) -> Result<(bool, usize, u64), Fail> {
+    let text = "SELECT a, b FROM t";
+    engine.ready(image);
+    let first = engine.run(image, text, &[], 2)?;
+    let second = engine.run(image, text, &[], 3)?;
+    let is_row = row_of(&first) == Some((5, "x")) && row_of(&second) == Some((5, "x"));
+    let is_named = first_name(&first) == Some("a");
+    Ok((
+        is_row && is_named,
+        second.after.pages.len(),
+        engine.openings(),
+    ))
+}
+
+#[test]
+fn a_table_is_made_and_filled(rt: HostRuntime) -> Result<(), Fail> {
+    let database = filled(rt.alloc())?;
+    let mut engine = database.engine.fork()?;
+    assert_eq!(rt; asked(&mut engine, &database.image)?, (true, 0, 1));
+    Ok(())
+}
+
+/// The fault of a statement over a filled database.
+fn fault_of(alloc: Global, text: &str) -> Result<Option<EngineFault>, Fail> {
+    let mut database = filled(alloc)?;
+    Ok(database.engine.run(&database.image, text, &[], 4).err())
+}
+
+#[test]
+fn statements_are_refused(rt: HostRuntime) -> Result<(), Fail> {
+    let rows = [
+        ("SELECT 0.5", Some(EngineFault::Float(0, 0))),
+        (
+            "SELECT CAST(x'ff41' AS TEXT)",
+            Some(EngineFault::NotText(0, 0)),
+        ),
+        (
+            "INSERT INTO t VALUES (5, 'y')",
+            Some(EngineFault::Constraint),
+        ),
+        ("SELEC 1", Some(EngineFault::Sql)),
+        ("SELECT datetime('now')", Some(EngineFault::Sql)),
+        ("SELECT 1", None),
+    ];
+    for (text, wanted) in rows {
+        assert_eq!(rt; fault_of(rt.alloc(), text)?, wanted);
+    }
+    Ok(())
+}
+
+/// What a statement answers over a main file that is no database.
+fn over_no_database(alloc: Global) -> Result<Option<EngineFault>, Fail> {
+    let mut image = Image::new(alloc);
+    let mut main = Vec::new(alloc);
+    main.resize(5000, 7)?;
+    image.main = Bytes::new(main);
+    let mut engine = SqliteEngine::new(alloc);
+    Ok(engine.run(&image, "SELECT 1", &[], 5).err())
+}
+
+#[test]
+fn no_database_is_not_opened(rt: HostRuntime) -> Result<(), Fail> {
+    assert_eq!(rt; over_no_database(rt.alloc())?, Some(EngineFault::Unopened));
+    Ok(())
+}
+
+/// What a row inserted, one changed, one deleted and a table made answer: how many rows they changed.
+fn counts(alloc: Global) -> Result<[u64; 4], Fail> {
+    let mut database = filled(alloc)?;
+    let inserted = database.write("INSERT INTO t VALUES (6, 'y'), (7, 'z')", &[])?;
+    let changed = database.write("UPDATE t SET b = 'w' WHERE a > 5", &[])?;
+    let deleted = database.write("DELETE FROM t RETURNING a", &[])?;
+    let made = database.write("CREATE TABLE u (c)", &[])?;
+    Ok([inserted.0, changed.0, deleted.0, made.0])
+}
+
+#[test]
+fn changed_rows_are_counted(rt: HostRuntime) -> Result<(), Fail> {
+    assert_eq!(rt; counts(rt.alloc())?, [2, 2, 3, 0]);
+    Ok(())
+}
+
+/// The fault of a statement over an empty image, under an engine of cells or of SQLite.
+fn fault_under(alloc: Global, cells: bool, text: &str) -> Option<EngineFault> {
+    let mut engine = if cells {
+        AnyEngine::Cells(CellEngine::new(alloc))
+    } else {
+        AnyEngine::Sqlite(SqliteEngine::new(alloc))
+    };
+    let image = Image::new(alloc);
+    engine.ready(&image);
+    engine.run(&image, text, &[], 6).err()
+}
+
+#[test]
+fn each_kind_has_its_own_statements(rt: HostRuntime) {
+    let rows = [
+        (true, "SET 3 9", None),
+        (true, "SELECT 1", Some(EngineFault::Sql)),
+        (false, "SET 3 9", Some(EngineFault::Sql)),
+        (false, "SELECT 1", None),
+    ];
+    for (cells, text, wanted) in rows {
+        assert_eq!(rt; fault_under(rt.alloc(), cells, text), wanted);
+    }
+}
