@@ -15,15 +15,15 @@ use Rattle.frame_commands.specs.declared.command.Command.{Command}
 use Rattle.frame_commands.specs.declared.command.Command.TheVariants.{OpenDb, Frames, Undo, Checkpoint}
 use Rattle.frame_commands.specs.Numbers.{AreLow, HasLowNumbers}
 use Rattle.read_marks.specs.Marks.{mark_at}
-use Rattle.checkpoint_core.specs.Store.{Store, fresh_store, newest_image, pinned, released, committed, checkpointed, sets_to_move, IsLive, image_under, StillShows, MarksWithin}
+use Rattle.checkpoint_core.specs.Store.{Store, fresh_store, newest_image, pinned, released, committed, sets_to_move, IsLive, StillShows, MarksWithin}
 use Rattle.checkpoint_core.proofs.History.{no_mark_at_first}
-use Rattle.checkpoint_core.proofs.Shown.{commit_shows, checkpoint_shows, pin_shows, pin_shows_newest, release_shows, mark_at-here, is_live, within-committed, within-moved, within-pinned, within-released}
+use Rattle.checkpoint_core.proofs.Shown.{commit_shows, checkpoint_shows, pin_shows, release_shows, within-committed, within-moved, within-pinned, within-released}
 use Rattle.page_apply.specs.declared.database.Database.{Database}
 use Rattle.page_apply.specs.ByName.{at_name, change_first}
 use Rattle.page_apply.specs.Files.{empty_image, pending_of, pending_without}
-use Rattle.page_apply.specs.Databases.{has_name, named, opened, grown, with_commit, with_store, with_pending, frames, undone, moved, changed, act}
-use Rattle.page_apply.specs.Machines.{AreApart, AreBelow, AllWithin, IsPendingLow, IsMachine}
-use Rattle.page_apply.specs.Pins.{Pinning, has_place, at_place, is_live_in, shown_by, IsPinned, pinned_image, with_pin, without_pin, IsPin, ShowsNewest, StillPinned}
+use Rattle.page_apply.specs.Databases.{has_name, opened, grown, with_commit, with_store, frames, undone, moved, changed, act}
+use Rattle.page_apply.specs.Machines.{AreApart, IsPendingLow, IsMachine}
+use Rattle.page_apply.specs.Pins.{Pinning, has_place, at_place, is_live_in, shown_by, IsPinned, with_pin, without_pin, IsPin, ShowsNewest, StillPinned}
 use Rattle.page_apply.proofs.Named.{compare}
 use Rattle.page_apply.proofs.First.{stays}
 use Rattle.page_apply.proofs.Kept.{Keeps, machine_at, machine_first, machine_each}

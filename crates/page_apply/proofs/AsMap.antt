@@ -7,12 +7,11 @@ use Rattle.std.specs.List.Sorted.{IsStrictlySortedBy}
 use Rattle.std.proofs.lemmas.Map.Text.{is_eq-slice_cmp}
 use Rattle.std.proofs.lemmas.Slice.Eq.{bytes_eq-Decides}
 use Rattle.std.proofs.lemmas.Grind.{fold-append}
-use Rattle.dq_base.specs.declared.pages.NumberedPage.{NumberedPage}
 use Rattle.frame_commands.specs.declared.command.Command.{Command}
 use Rattle.frame_commands.specs.declared.command.Command.TheVariants.{OpenDb, Frames, Undo, Checkpoint}
 use Rattle.page_apply.specs.ByName.{at_name, Ascend}
 use Rattle.page_apply.specs.Files.{Content, new_content, frames, undone, changed, act, files}
-use Rattle.page_apply.specs.AsMap.{names_of, AreInOrder, content_named, named_or_new, ChangesOne, ChangesEach, Does}
+use Rattle.page_apply.specs.AsMap.{names_of, AreInOrder, content_named, named_or_new, ChangesOne, Does}
 use Rattle.page_apply.proofs.Named.{compare}
 use Rattle.page_apply.proofs.Ordered.{all_above, order_kept, same_names}
 use Rattle.page_apply.proofs.SplitLaw.{frames_keep}

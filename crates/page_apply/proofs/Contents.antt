@@ -1,14 +1,13 @@
 -- What commands do to databases under readers is what they do to the files that these show.
-use Rattle.std.proofs.Common.{◌≡◌, ℕ, Bool, true, false, cond, List, [], ◌∷◌, ◌++◌, drop, take, map, fold, Option, Some, None, Result, Ok, Err, refl, sym, ap, ◌∙◌}
+use Rattle.std.proofs.Common.{◌≡◌, ℕ, Bool, true, false, cond, List, [], ◌∷◌, ◌++◌, drop, take, map, fold, None, Result, Ok, Err, refl, sym, ap, ◌∙◌}
 use Rattle.std.specs.Prelude.{is_none, length, OnOk}
 use Rattle.std.proofs.lemmas.List.{take-append-drop}
 use Rattle.dq_base.specs.declared.images.Image.{Image}
 use Rattle.dq_base.specs.declared.pages.NumberedPage.{NumberedPage}
-use Rattle.dq_base.specs.declared.pages.PageSet.{PageSet}
 use Rattle.dq_base.specs.Applying.{applied, page_fault}
 use Rattle.frame_commands.specs.declared.command.Command.{Command}
 use Rattle.frame_commands.specs.declared.command.Command.TheVariants.{OpenDb, Frames, Undo, Checkpoint}
-use Rattle.checkpoint_core.specs.Store.{Store, after_sets, newest_image, committed, checkpointed, sets_to_move, view}
+use Rattle.checkpoint_core.specs.Store.{Store, after_sets, newest_image, committed, checkpointed, sets_to_move}
 use Rattle.checkpoint_core.proofs.Shown.{after_sets-append}
 use Rattle.page_apply.specs.declared.database.Database.{Database}
 use Rattle.page_apply.specs.Files.{Content, new_content, pending_of, image_after}

@@ -1,13 +1,11 @@
 -- What stays true of a machine's databases, and what live pins show, after each change of one of them or of each.
-use Rattle.std.proofs.Common.{◌≡◌, ◌≢◌, ℕ, suc, ◌+◌, ◌<◌, ◌≤◌, Bool, true, false, cond, eqb, inl, inr, ◌⊎◌, List, [], ◌∷◌, length, map, Option, Some, None, refl, sym, ap, subst, ◌∙◌, arith, Ordering, Less, Equal, Greater}
-use Rattle.std.specs.List.{AllByRecursion, find}
+use Rattle.std.proofs.Common.{◌≡◌, ◌≢◌, ℕ, suc, ◌<◌, Bool, true, false, cond, inl, inr, ◌⊎◌, List, [], ◌∷◌, length, map, refl, sym, ap, subst, ◌∙◌, arith, Ordering, Less, Equal, Greater}
+use Rattle.std.specs.List.{AllByRecursion}
 use Rattle.std.specs.Ordering.{match_ordering}
-use Rattle.std.proofs.lemmas.Bool.{eqb-true, ne_eqb}
-use Rattle.checkpoint_core.specs.Store.{Store, StillShows, MarksWithin}
+use Rattle.checkpoint_core.specs.Store.{MarksWithin}
 use Rattle.page_apply.specs.declared.database.Database.{Database}
 use Rattle.page_apply.specs.ByName.{at_name, change_first, Ascend}
 use Rattle.page_apply.specs.Machines.{names_of, AreApart, AreBelow, AllWithin, IsPendingLow, IsMachine}
-use Rattle.page_apply.specs.Pins.{Pinning, has_place, at_place, IsPinned, pinned_image, StillPinned}
 use Rattle.page_apply.proofs.Named.{compare}
 use Rattle.page_apply.proofs.Ordered.{order_kept, same_names}
 

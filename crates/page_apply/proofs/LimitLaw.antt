@@ -1,5 +1,5 @@
 -- The limit on stated lengths bounds the files that commands make, at every moment.
-use Rattle.std.proofs.Common.{◌≡◌, ◌≢◌, ℕ, zero, suc, ◌+◌, ◌<◌, ◌≤◌, max, Bool, true, false, cond, ◌⊎◌, inl, inr, List, [], ◌∷◌, ◌++◌, length, map, fold, get_or, sum_by, refl, sym, ap, subst, ◌∙◌, arith, true≢false, Less, Equal}
+use Rattle.std.proofs.Common.{◌≡◌, ◌≢◌, ℕ, zero, suc, ◌+◌, ◌<◌, ◌≤◌, Bool, true, false, cond, ◌⊎◌, inl, inr, List, [], ◌∷◌, ◌++◌, length, fold, get_or, sum_by, refl, sym, ap, subst, ◌∙◌, arith, true≢false, Less, Equal}
 use Rattle.std.specs.Prelude.{bytes_eq}
 use Rattle.std.specs.List.{AllByRecursion, Contains}
 use Rattle.std.specs.List.Sorted.{IsStrictlySortedBy}
@@ -7,10 +7,10 @@ use Rattle.std.proofs.lemmas.List.Sums.{sum_by-cons}
 use Rattle.std.proofs.lemmas.Slice.Eq.{bytes_eq-Decides}
 use Rattle.frame_commands.specs.declared.command.Command.{Command}
 use Rattle.frame_commands.specs.declared.command.Command.TheVariants.{OpenDb, Frames, Undo, Checkpoint}
-use Rattle.page_apply.specs.ByName.{at_name, Ascend}
-use Rattle.page_apply.specs.Files.{Content, new_content, frames, undone, changed, act, files}
+use Rattle.page_apply.specs.ByName.{Ascend}
+use Rattle.page_apply.specs.Files.{Content, new_content, frames, undone, act, files}
 use Rattle.page_apply.specs.AsMap.{names_of}
-use Rattle.page_apply.specs.Stated.{stated_for, greatest_stated, length_of_files, IsSpelled, opened_by, names_opened}
+use Rattle.page_apply.specs.Stated.{greatest_stated, length_of_files, IsSpelled, opened_by, names_opened}
 use Rattle.page_apply.proofs.Named.{compare, compare_same}
 use Rattle.page_apply.proofs.Ordered.{all_names, same_names}
 use Rattle.page_apply.proofs.SplitLaw.{frames_keep}

@@ -1,11 +1,10 @@
 -- The commands of a split set do what the whole set does.
-use Rattle.std.proofs.Common.{◌≡◌, ℕ, zero, suc, Bool, true, false, cond, eqb, List, [], ◌∷◌, ◌++◌, take, drop, fold, Option, Some, None, refl, sym, ap, ◌∙◌, append_assoc}
+use Rattle.std.proofs.Common.{◌≡◌, ℕ, zero, suc, Bool, true, false, cond, List, [], ◌∷◌, ◌++◌, take, drop, fold, Some, None, refl, ap, ◌∙◌, append_assoc}
 use Rattle.std.specs.List.{AllByRecursion}
 use Rattle.std.proofs.lemmas.Bool.{eq-eqb}
 use Rattle.std.proofs.lemmas.List.{take-append-drop}
 use Rattle.dq_base.specs.declared.pages.NumberedPage.{NumberedPage}
 use Rattle.dq_base.specs.declared.pages.PageSet.{PageSet}
-use Rattle.frame_commands.specs.declared.command.Command.{Command}
 use Rattle.frame_commands.specs.Splitting.{split_from, before_last, split}
 use Rattle.page_apply.specs.Files.{Content, new_content, pending_of, image_after, frames, changed, act, applied_set, NonePending}
 use Rattle.page_apply.proofs.Named.{at_name_twice, at_name_alike}

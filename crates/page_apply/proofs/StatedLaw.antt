@@ -1,5 +1,5 @@
 -- The files that commands make are no longer than a command states.
-use Rattle.std.proofs.Common.{◌≡◌, ◌≢◌, ℕ, zero, suc, ◌+◌, ◌-◌, ◌≤◌, max, Bool, true, false, cond, eqb, leb, ◌&&◌, inl, inr, ◌⊎◌, List, [], ◌∷◌, ◌++◌, length, take, map, fold, Option, Some, None, refl, sym, ap, subst, ◌∙◌, arith, append_assoc, append-nil, bytes_eq, Ordering, Less, Equal, Greater}
+use Rattle.std.proofs.Common.{◌≡◌, ℕ, ◌+◌, ◌-◌, ◌≤◌, max, Bool, true, false, cond, eqb, List, [], ◌∷◌, ◌++◌, length, take, map, fold, Option, Some, None, refl, sym, ap, ◌∙◌, arith, append_assoc, bytes_eq, Ordering, Less, Equal, Greater}
 use Rattle.std.specs.Prelude.{is_none}
 use Rattle.std.specs.List.{AllByRecursion}
 use Rattle.std.specs.Ordering.{match_ordering}
@@ -17,10 +17,10 @@ use Rattle.dq_base.proofs.PageFaults.{last_page-push}
 use Rattle.frame_commands.specs.declared.command.Command.{Command}
 use Rattle.frame_commands.specs.declared.command.Command.TheVariants.{OpenDb, Frames, Undo, Checkpoint}
 use Rattle.frame_commands.specs.Numbers.{numbers_fit}
-use Rattle.frame_commands.specs.Spelling.{HaveSizes, IsInRange, Writes}
-use Rattle.frame_commands.proofs.InOtherWords.{HasLast, has_last, in_range_of}
+use Rattle.frame_commands.specs.Spelling.{HaveSizes}
+use Rattle.frame_commands.proofs.InOtherWords.{has_last, in_range_of}
 use Rattle.page_apply.specs.ByName.{at_name}
-use Rattle.page_apply.specs.Files.{Content, new_content, empty_image, pending_of, pending_without, image_after, frames, undone, changed, act, files}
+use Rattle.page_apply.specs.Files.{Content, new_content, pending_of, pending_without, image_after, frames, undone, changed, act, files}
 use Rattle.page_apply.specs.Stated.{length_stated, stated_for, greatest_stated, length_of_files, IsSpelled}
 use Rattle.page_apply.proofs.Named.{compare, compare_tie}
 

@@ -1,5 +1,5 @@
 -- What is true of the databases of every machine.
-use Rattle.std.specs.Prelude.{◌≡◌, ◌≢◌, ℕ, ◌<◌, List, [], ◌∷◌, length, map, Option, Some, None}
+use Rattle.std.specs.Prelude.{◌≢◌, ℕ, ◌<◌, List, [], ◌∷◌, length, map, Option, Some, None}
 use Rattle.std.specs.List.{AllByRecursion}
 use Rattle.dq_base.specs.declared.pages.PageSet.{PageSet}
 use Rattle.frame_commands.specs.Numbers.{AreLow}

@@ -1,17 +1,16 @@
 -- The rules of Append, as the code's node makes them.
-use Rattle.std.proofs.Common.{◌≡◌, ℕ, ◌+◌, ◌-◌, ◌≤◌, List, [], ◌∷◌, length, drop, refl, sym, ap, subst, ◌∙◌, ⊎_elim, arith}
-use Rattle.std.specs.Prelude.{true, false, cond, ◌&&◌, nat_lt, nat_le, max, min}
-use Rattle.std.proofs.lemmas.Bool.{cond-true, cond-false, cases_lt}
-use Rattle.std.proofs.lemmas.List.{drop_all, length-drop}
+use Rattle.std.proofs.Common.{◌≡◌, ℕ, ◌+◌, ◌-◌, ◌≤◌, List, length, drop, refl, sym, ap, subst, ◌∙◌, arith}
+use Rattle.std.specs.Prelude.{true, false, ◌&&◌, nat_lt, nat_le, max, min}
+use Rattle.std.proofs.lemmas.Bool.{cond-true, cond-false}
+use Rattle.std.proofs.lemmas.List.{length-drop}
 use Rattle.raft_rules.specs.Log.{Entry, LogEnd, accept, accept_above, first_replaced, first_replaced_above}
-use Rattle.raft_rules.specs.Node.{Role, Leader, Follower, Ack, Message, Node, Outcome, Nobody, is_leader}
-use Rattle.raft_rules.specs.Outcomes.{quiet, says, answer, as_follower, with_log}
+use Rattle.raft_rules.specs.Node.{Follower, Ack, Node, is_leader}
+use Rattle.raft_rules.specs.Outcomes.{says, answer, as_follower, with_log}
 use Rattle.raft_rules.specs.Replication.{agrees, take_entries, replaces_committed, on_append}
 use Rattle.raft_rules.specs.NodeValues.{NodeValue, node_of}
 use Rattle.raft_core.specs.declared.effects.Say.TheVariants as say
 use Rattle.raft_core.specs.declared.effects.Recipients.TheVariants as sent
 use Rattle.raft_core.specs.declared.effects.LogChange.{LogChange}
-use Rattle.raft_core.specs.declared.effects.Effects.{Effects}
 use Rattle.raft_core.specs.Effects.{Does, Takes}
 use Rattle.raft_core.proofs.VoteRules.{only_says, does_nothing}
 

@@ -1,16 +1,16 @@
 -- How a step ends whose rule cuts off the log: the code's node has cut it off before.
-use Rattle.std.proofs.Common.{◌≡◌, ℕ, ◌+◌, ◌-◌, ◌<◌, ◌≤◌, List, [], ◌∷◌, ◌++◌, length, take, drop, refl, sym, ap, subst, ◌∙◌, arith}
-use Rattle.std.specs.Prelude.{Bool, true, false, cond, ◌&&◌, nat_lt, nat_le, max, map}
+use Rattle.std.proofs.Common.{◌≡◌, ℕ, ◌-◌, ◌<◌, ◌≤◌, List, [], ◌∷◌, ◌++◌, drop, refl, sym, ap, subst, ◌∙◌, arith}
+use Rattle.std.specs.Prelude.{true, false, ◌&&◌, nat_lt, nat_le, max, map}
 use Rattle.std.proofs.lemmas.Bool.{cond-true, cond-false}
-use Rattle.std.proofs.lemmas.List.{drop_all, drop-drop}
+use Rattle.std.proofs.lemmas.List.{drop_all}
 use Rattle.raft_rules.specs.Log.{Entry, LogEnd, term_at, matches}
-use Rattle.raft_rules.specs.Node.{Role, Follower, What, AskVote, Vote, Append, Ack, Install, TimeoutNow, Message, Node, Outcome, Nobody, voters, is_leader}
+use Rattle.raft_rules.specs.Node.{Follower, What, AskVote, Vote, Append, Ack, Install, TimeoutNow, Message, Node, Outcome, voters, is_leader}
 use Rattle.raft_rules.specs.Outcomes.{quiet, says, answer, as_follower}
 use Rattle.raft_rules.specs.Snapshots.{installed, on_install, on_snapped}
 use Rattle.raft_rules.specs.Steps.{finish}
 use Rattle.raft_rules.specs.Compaction.{compacted, compact, compact_what, compact_message, with_whole_log}
 use Rattle.raft_rules.specs.NodeValues.{NodeValue, node_of}
-use Rattle.raft_rules.proofs.NodeValues.{compacted_length, whole_length, compact_node}
+use Rattle.raft_rules.proofs.NodeValues.{compacted_length, compact_node}
 use Rattle.raft_world.specs.Cuts.{Same, AlikeWhat, AlikeMessage, AlikeAll}
 use Rattle.raft_world.proofs.AlikeRules.{Shape, Alike, always}
 use Rattle.raft_world.proofs.AlikeSteps.{finish_alike}

@@ -1,16 +1,15 @@
 -- The end of a step, as the code's node makes it.
-use Rattle.std.proofs.Common.{◌≡◌, ℕ, suc, ◌+◌, ◌-◌, ◌<◌, ◌≤◌, ◌⊎◌, List, [], ◌∷◌, ◌++◌, length, take, drop, refl, sym, ap, subst, ◌∙◌, ⊎_elim, arith, append_assoc, append-nil}
-use Rattle.std.specs.Prelude.{slice_index_or, Bool, true, false, cond, ◌&&◌, ◌==◌, nat_lt, nat_le, if◌then◌else◌, Option, Some, None, map}
-use Rattle.std.proofs.lemmas.Bool.{cond-true, cond-false, cases_Bool, and_cases, le-leb, leb-false, cases_lt}
+use Rattle.std.proofs.Common.{◌≡◌, ℕ, ◌+◌, ◌-◌, ◌<◌, ◌≤◌, ◌⊎◌, List, [], ◌∷◌, ◌++◌, length, take, drop, refl, sym, ap, ◌∙◌, ⊎_elim, arith, append_assoc, append-nil}
+use Rattle.std.specs.Prelude.{slice_index_or, Bool, true, false, cond, ◌&&◌, ◌==◌, nat_lt, nat_le, if◌then◌else◌, Some, None, map}
+use Rattle.std.proofs.lemmas.Bool.{cond-true, cond-false, and_cases, leb-false, cases_lt}
 use Rattle.std.proofs.lemmas.List.{map-append, take_more}
 use Rattle.raft_rules.specs.Log.{Entry, LogEnd, term_at}
-use Rattle.raft_rules.specs.Node.{What, AskVote, Append, Install, Message, Node, Outcome, Recipients, Nobody, Everyone, Only, others, voters, is_leader}
-use Rattle.raft_rules.specs.Outcomes.{with_log}
+use Rattle.raft_rules.specs.Node.{AskVote, Append, Install, Message, Outcome, Recipients, Everyone, others, voters, is_leader}
 use Rattle.raft_rules.specs.Commitment.{commit_index, commit_below, commit_up_to}
 use Rattle.raft_rules.specs.Snapshots.{needs_snapshot}
-use Rattle.raft_rules.specs.Steps.{message_to, receivers, advance_commit, sends, finish}
-use Rattle.raft_rules.specs.Progress.{LeaderProgress, PeerProgress, next_in, match_in, has_in, commit_of}
-use Rattle.raft_rules.specs.Compaction.{CutLog, compacted, whole_log, compact, compact_what, compact_message, with_whole_log}
+use Rattle.raft_rules.specs.Steps.{message_to, receivers, sends, finish}
+use Rattle.raft_rules.specs.Progress.{LeaderProgress, next_in, match_in, commit_of}
+use Rattle.raft_rules.specs.Compaction.{CutLog, compacted, whole_log, compact, compact_what, compact_message}
 use Rattle.raft_rules.specs.NodeValues.{NodeValue, node_of}
 use Rattle.raft_rules.proofs.NodeValues.{compact_node, whole_length}
 use Rattle.raft_log.specs.Places.{known_term}
@@ -18,7 +17,6 @@ use Rattle.raft_log.proofs.PeerTables.{others_append}
 use Rattle.raft_world.specs.Cuts.{Same}
 use Rattle.raft_world.proofs.Logs.{term_at-zero, term_at-past}
 use Rattle.raft_world.proofs.Alikes.{same_at}
-use Rattle.raft_world.proofs.AlikeRules.{always}
 use Rattle.raft_world.proofs.AlikeSteps.{index_alike, bounds}
 use Rattle.raft_core.specs.declared.effects.Say.{Say}
 use Rattle.raft_core.specs.declared.effects.Say.TheVariants as say

@@ -1,12 +1,12 @@
 -- What a leader does with Acks, proposals, heartbeats and transfers, as the code's node does it.
-use Rattle.std.proofs.Common.{◌≡◌, ℕ, suc, ◌+◌, ◌-◌, ◌<◌, ◌≤◌, List, [], ◌∷◌, ◌++◌, length, refl, sym, ap, subst, ◌∙◌, arith, append_assoc, append-nil}
+use Rattle.std.proofs.Common.{◌≡◌, ℕ, suc, ◌-◌, ◌<◌, List, [], ◌∷◌, ◌++◌, length, refl, sym, ap, subst, ◌∙◌, arith, append_assoc, append-nil}
 use Rattle.std.specs.Prelude.{Bool, true, false, cond, not, ◌&&◌, ◌==◌, nat_lt, nat_le, max, min}
 use Rattle.std.proofs.lemmas.Bool.{cond-true, cond-false, eq-eqb, eqb-true, eqb-false}
 use Rattle.std.proofs.lemmas.List.{length-map}
 use Rattle.raft_rules.specs.Log.{Entry}
-use Rattle.raft_rules.specs.Node.{Message, Node, Outcome, Recipients, Nobody, Everyone, Only, TimeoutNow, among, peers, is_leader}
-use Rattle.raft_rules.specs.Outcomes.{quiet, says, sends_to, answer, with_log, with_progress, updated, with_term}
-use Rattle.raft_rules.specs.Replication.{good_ack, bad_ack, on_ack, on_propose, on_beat, on_transfer}
+use Rattle.raft_rules.specs.Node.{Node, Nobody, Everyone, Only, among, peers, is_leader}
+use Rattle.raft_rules.specs.Outcomes.{sends_to, with_log, with_progress, updated, with_term}
+use Rattle.raft_rules.specs.Replication.{on_ack, on_propose, on_beat, on_transfer}
 use Rattle.raft_rules.specs.Progress.{PeerProgress, next_in, match_in, ids_in, ProgressTable, progress_of, after_ack}
 use Rattle.raft_rules.specs.NodeValues.{NodeValue, node_of}
 use Rattle.raft_rules.specs.Compaction.{compacted}

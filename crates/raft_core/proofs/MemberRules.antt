@@ -1,15 +1,15 @@
 -- Other servers, as the code's node is told them.
-use Rattle.std.proofs.Common.{◌≡◌, ℕ, suc, ◌+◌, ◌<◌, ◌≤◌, List, [], ◌∷◌, ◌++◌, length, take, refl, sym, ap, subst, ◌∙◌, ⊎_elim, arith}
+use Rattle.std.proofs.Common.{◌≡◌, ℕ, suc, ◌+◌, ◌<◌, List, [], ◌∷◌, ◌++◌, length, take, refl, sym, ap, ◌∙◌}
 use Rattle.std.specs.Prelude.{Bool, true, false, cond, not, ◌&&◌, ◌==◌, nat_lt, map, slice_index_or}
 use Rattle.std.specs.List.{filter}
-use Rattle.std.proofs.lemmas.Bool.{cond-true, cond-false, cases_Bool}
+use Rattle.std.proofs.lemmas.Bool.{cond-true, cond-false}
 use Rattle.std.proofs.lemmas.List.{map-append, take_more}
 use Rattle.std.proofs.lemmas.List.Elements.{filter-append}
-use Rattle.raft_rules.specs.Node.{Server, Message, Node, Outcome, Only, among, others, voters, peers, is_leader}
+use Rattle.raft_rules.specs.Node.{Server, Node, Outcome, Only, among, others, voters, peers, is_leader}
 use Rattle.raft_rules.specs.Outcomes.{quiet, sends_to}
 use Rattle.raft_rules.specs.Membership.{gained, next_among, match_among, with_servers, on_servers}
 use Rattle.raft_rules.specs.Steps.{message_to, sends, serve}
-use Rattle.raft_rules.specs.Progress.{LeaderProgress, PeerProgress, next_in, match_in, ids_in, rows_for}
+use Rattle.raft_rules.specs.Progress.{LeaderProgress, next_in, match_in, ids_in, rows_for}
 use Rattle.raft_rules.specs.Compaction.{compact, compact_message}
 use Rattle.raft_rules.specs.NodeValues.{NodeValue, node_of}
 use Rattle.raft_rules.proofs.NodeValues.{compact_node}

@@ -1,17 +1,15 @@
 -- What a node does with a message, as the code's node does it.
-use Rattle.std.proofs.Common.{◌≡◌, ℕ, ◌<◌, List, [], refl, sym, ap, subst, ◌∙◌, arith}
-use Rattle.std.specs.Prelude.{Bool, true, false, cond, ◌&&◌, nat_lt, nat_le, map}
-use Rattle.std.proofs.lemmas.Bool.{cond-true, cond-false, cases_Bool, and_parts, lt-ltb}
-use Rattle.raft_rules.specs.Node.{What, Message, Node, Outcome, Follower}
-use Rattle.raft_rules.specs.Outcomes.{quiet}
+use Rattle.std.proofs.Common.{◌≡◌, ℕ, ◌<◌, [], refl, sym, ap, subst, ◌∙◌}
+use Rattle.std.specs.Prelude.{Bool, true, false, cond, ◌&&◌, nat_lt}
+use Rattle.std.proofs.lemmas.Bool.{cond-true, cond-false, and_parts, lt-ltb}
+use Rattle.raft_rules.specs.Node.{Message, Outcome, Follower}
 use Rattle.raft_rules.specs.Receiving.{fits_the_wire, what_in_range, in_range, on_older_term, on_own_term, on_message}
-use Rattle.raft_rules.specs.Steps.{finish}
 use Rattle.raft_rules.specs.NodeValues.{NodeValue, node_of}
 use Rattle.raft_core.specs.declared.effects.Say.TheVariants as say
 use Rattle.raft_core.specs.declared.effects.Effects.{Effects}
 use Rattle.raft_core.specs.Effects.{Does}
 use Rattle.raft_core.specs.Nodes.{told}
-use Rattle.raft_core.specs.Steps.{compact_outcome, Ends}
+use Rattle.raft_core.specs.Steps.{Ends}
 use Rattle.raft_core.proofs.VoteRules.{only_says, does_nothing}
 
 -- ---- messages in range

@@ -1,7 +1,7 @@
 -- A request for a vote in the node's own term.
-use Rattle.std.proofs.Common.{◌≡◌, ℕ, ◌<◌, refl, sym, ap, ◌∙◌, arith}
+use Rattle.std.proofs.Common.{◌≡◌, ℕ, ◌<◌, refl, ap, ◌∙◌, arith}
 use Rattle.std.specs.Prelude.{Bool, true, false, cond, not, ◌&&◌, nat_lt, []}
-use Rattle.std.proofs.lemmas.Bool.{cond-false, cases_Bool, ltb-true}
+use Rattle.std.proofs.lemmas.Bool.{cond-false, ltb-true}
 use Rattle.raft_rules.specs.Log.{LogEnd}
 use Rattle.raft_rules.specs.Elections.{may_grant}
 use Rattle.raft_rules.specs.Votes.{Votes, after_term, grants_request, after_request}

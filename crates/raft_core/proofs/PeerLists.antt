@@ -1,12 +1,11 @@
 -- The peers of a node, and a new leader's progress of them.
-use Rattle.std.proofs.Common.{◌≡◌, ℕ, suc, ◌≤◌, List, [], ◌∷◌, length, refl, sym, ap, ◌∙◌, arith}
+use Rattle.std.proofs.Common.{◌≡◌, ℕ, ◌≤◌, List, [], ◌∷◌, length, refl, ap, ◌∙◌, arith}
 use Rattle.std.specs.Prelude.{Bool, true, false, cond, not, ◌==◌, map, nat_lt}
 use Rattle.std.specs.List.{filter}
 use Rattle.std.proofs.lemmas.List.{length-map}
 use Rattle.std.proofs.lemmas.List.Sums.{length-filter, count_by-le-length}
 use Rattle.raft_rules.specs.Node.{Server, others, voters, peers}
-use Rattle.raft_rules.specs.Progress.{LeaderProgress, ids_in, rows_for}
-use Rattle.raft_rules.proofs.ProgressPeers.{ids_rows_for}
+use Rattle.raft_rules.specs.Progress.{LeaderProgress, rows_for}
 use Rattle.raft_log.proofs.PeerTables.{rows_none}
 
 filtered : (f : ℕ → Bool) (xs : List ℕ) → filter f (filter f xs) ≡ filter f xs

@@ -1,7 +1,7 @@
 -- What a node tells of its log.
-use Rattle.std.proofs.Common.{◌≡◌, ◌≢◌, ◌⊎◌, inl, inr, ℕ, ◌<◌, ◌≤◌, length, refl, sym, ap, ◌∙◌, ⊎_elim, arith}
-use Rattle.std.specs.Prelude.{Bool, true, false, not, ◌&&◌, ◌==◌, nat_le, if◌then◌else◌, Option, Some, None}
-use Rattle.std.proofs.lemmas.Bool.{and_cases, not-false, leb-true, eqb-true, eqb-false, eq-eqb}
+use Rattle.std.proofs.Common.{◌≡◌, ◌⊎◌, inl, inr, ℕ, length, refl, sym, ap, ◌∙◌, ⊎_elim}
+use Rattle.std.specs.Prelude.{Bool, true, false, not, ◌&&◌, ◌==◌, nat_le, if◌then◌else◌, Some, None}
+use Rattle.std.proofs.lemmas.Bool.{and_cases, not-false, leb-true, eqb-true, eqb-false}
 use Rattle.raft_rules.specs.Log.{LogEnd, term_at}
 use Rattle.raft_rules.specs.Compaction.{whole_log}
 use Rattle.raft_rules.specs.NodeValues.{NodeValue, node_of}

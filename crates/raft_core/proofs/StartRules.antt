@@ -1,10 +1,10 @@
 -- A node that starts.
-use Rattle.std.proofs.Common.{◌≡◌, ℕ, suc, ◌+◌, ◌-◌, ◌<◌, ◌≤◌, List, [], ◌++◌, length, refl, sym, ap, subst, ◌∙◌, arith}
+use Rattle.std.proofs.Common.{◌≡◌, ℕ, suc, ◌+◌, ◌-◌, ◌<◌, ◌≤◌, List, [], length, refl, sym, ap, subst, ◌∙◌, arith}
 use Rattle.std.specs.Prelude.{Bool, true, false, cond}
 use Rattle.raft_rules.specs.Log.{Entry, LogEnd}
 use Rattle.raft_rules.specs.Node.{Server, Follower, among, others, voters, peers}
 use Rattle.raft_rules.specs.Account.{loaded}
-use Rattle.raft_rules.specs.Compaction.{CutLog, compacted}
+use Rattle.raft_rules.specs.Compaction.{CutLog}
 use Rattle.raft_rules.specs.Progress.{LeaderProgress, next_in, match_in, ids_in, rows_for}
 use Rattle.raft_rules.specs.NodeValues.{NodeValue, node_of}
 use Rattle.raft_rules.proofs.ProgressPeers.{ids_rows_for, next_rows_for, match_rows_for}

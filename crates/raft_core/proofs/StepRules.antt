@@ -1,6 +1,6 @@
 -- A whole step, as the code's node makes it.
-use Rattle.std.proofs.Common.{◌≡◌, ◌≢◌, ◌⊎◌, ℕ, suc, ◌+◌, ◌-◌, ◌<◌, ◌≤◌, List, [], ◌∷◌, ◌++◌, length, take, drop, refl, sym, ap, subst, ◌∙◌, arith, length-drop}
-use Rattle.std.specs.Prelude.{Option, Some, None, map}
+use Rattle.std.proofs.Common.{◌≡◌, ◌≢◌, ℕ, ◌-◌, ◌<◌, ◌≤◌, List, [], length, take, drop, refl, sym, ap, subst, ◌∙◌, arith, length-drop}
+use Rattle.std.specs.Prelude.{Option}
 use Rattle.std.proofs.lemmas.List.{take_all}
 use Rattle.raft_rules.specs.Log.{Entry, LogEnd}
 use Rattle.raft_rules.specs.Node as rules
@@ -16,7 +16,7 @@ use Rattle.raft_core.specs.declared.effects.Effects.{Effects}
 use Rattle.raft_core.specs.declared.effects.LogChange.{LogChange}
 use Rattle.raft_core.specs.declared.effects.LogChange.TheVariants as changes
 use Rattle.raft_core.specs.declared.sending.Sending.{Sending}
-use Rattle.raft_core.specs.Effects.{outcome_of, Replaced, ChangesLog}
+use Rattle.raft_core.specs.Effects.{outcome_of, ChangesLog}
 use Rattle.raft_core.specs.Events.{input_of, IsRuled, rule_at, ChangesAt, StandsAt, BatchAt, install_at, batch_value, WritesLog}
 use Rattle.raft_core.specs.Messages.{sendings_value}
 use Rattle.raft_core.specs.Nodes.{told}

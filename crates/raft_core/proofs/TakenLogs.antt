@@ -1,10 +1,10 @@
 -- A node's log that has taken entries.
-use Rattle.std.proofs.Common.{◌≡◌, ◌≢◌, ◌⊎◌, ℕ, zero, suc, ◌+◌, ◌-◌, ◌<◌, ◌≤◌, List, [], ◌∷◌, ◌++◌, length, take, drop, refl, sym, ap, subst, ◌∙◌, ⊎_elim, arith, append_assoc, length-append, length-drop}
-use Rattle.std.specs.Prelude.{Bool, true, false, cond, ◌&&◌, ◌||◌, ◌==◌, nat_lt, nat_le, max, min, Option, Some, None, option_map}
-use Rattle.std.proofs.lemmas.Bool.{cond-true, cond-false, cases_lt, cases_eq, and_cases, ltb-true, ltb-false, leb-true, leb-false, le-leb, ne_eqb}
+use Rattle.std.proofs.Common.{◌≡◌, ℕ, suc, ◌+◌, ◌-◌, ◌<◌, ◌≤◌, List, ◌++◌, length, take, drop, refl, sym, ap, subst, ◌∙◌, ⊎_elim, arith, append_assoc, length-append, length-drop}
+use Rattle.std.specs.Prelude.{Bool, true, false, cond, ◌&&◌, ◌||◌, ◌==◌, nat_lt, nat_le, max, Option, Some, None, option_map}
+use Rattle.std.proofs.lemmas.Bool.{cond-false, cases_lt, and_cases, ltb-false, leb-true, leb-false, le-leb, ne_eqb}
 use Rattle.std.proofs.lemmas.List.{take_all, drop_at, length-take-le}
 use Rattle.std.proofs.Math.Seq.{take-append-add, drop-append-add}
-use Rattle.raft_rules.specs.Log.{Entry, LogEnd, term_at, matches, conflict_place, accept, first_replaced}
+use Rattle.raft_rules.specs.Log.{Entry, LogEnd, term_at, matches, conflict_place, first_replaced}
 use Rattle.raft_rules.specs.Node.{Node}
 use Rattle.raft_rules.specs.Outcomes.{with_log}
 use Rattle.raft_rules.specs.Replication.{agrees}
@@ -12,17 +12,15 @@ use Rattle.raft_rules.specs.Compaction.{CutLog, compacted, whole_log, meets}
 use Rattle.raft_rules.specs.NodeValues.{NodeValue, node_of}
 use Rattle.raft_rules.proofs.AcceptPlaces.{accept_past_cut}
 use Rattle.raft_rules.proofs.NodeValues.{compacted_length, whole_length}
-use Rattle.raft_log.specs.Agreeing.{agreeing_front, TakesIn, TakesAfter}
+use Rattle.raft_log.specs.Agreeing.{TakesIn, TakesAfter}
 use Rattle.raft_log.proofs.Agreeing.{front_short, front_conflict}
 use Rattle.raft_log.proofs.Taking.{entries_taken}
-use Rattle.raft_world.specs.Cuts.{Same}
 use Rattle.raft_world.proofs.Alikes.{same_term, same_drop}
 use Rattle.raft_vote.proofs.Grants.{or_cases}
 use Rattle.raft_world.proofs.AlikeRules.{Shape}
-use Rattle.raft_core.specs.declared.effects.LogChange.{LogChange}
 use Rattle.raft_core.specs.Effects.{Replaced, ChangesLog, Takes, change_from}
 use Rattle.raft_core.specs.Nodes.{IsLog}
-use Rattle.raft_core.proofs.WholeLogs.{log_with, log_same, shape_of}
+use Rattle.raft_core.proofs.WholeLogs.{log_with, log_same}
 
 -- the first m entries stay, and others stand behind them
 pub replaced_from : (old rest new : List Entry) (m k : ℕ) → new ≡ take m old ++ rest → m ≤ length old → 0 < length rest → k ≡ suc m → Replaced old new k

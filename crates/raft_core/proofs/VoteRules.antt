@@ -1,13 +1,11 @@
 -- The rules of elections, as the code's node makes them.
-use Rattle.std.proofs.Common.{◌≡◌, ℕ, suc, ◌+◌, ◌-◌, ◌<◌, ◌≤◌, List, [], ◌∷◌, ◌++◌, length, take, drop, refl, sym, ap, subst, ◌∙◌, arith, append_assoc, length-append}
-use Rattle.std.specs.Prelude.{Bool, true, false, cond, not, ◌&&◌, ◌||◌, ◌==◌, map, Result, Ok, Err, IfOk}
+use Rattle.std.proofs.Common.{◌≡◌, ℕ, suc, ◌<◌, List, [], ◌∷◌, ◌++◌, length, refl, sym, ap, subst, ◌∙◌, arith, append_assoc}
+use Rattle.std.specs.Prelude.{Bool, true, false, cond, not, ◌&&◌, ◌||◌, map, Result, Ok, Err, IfOk}
 use Rattle.std.proofs.lemmas.Bool.{cond-true, cond-false, eq-eqb, and_parts, ltb-true}
-use Rattle.std.proofs.lemmas.List.{take_all, drop_at}
-use Rattle.std.proofs.Math.Seq.{take-append_seam}
 use Rattle.raft_rules.specs.Log.{Entry, LogEnd, log_end}
-use Rattle.raft_rules.specs.Node.{Role, Leader, Candidate, Follower, What, AskVote, Vote, Message, Node, Outcome, Everyone, Nobody, among, majority, others, voters, peers, is_candidate}
-use Rattle.raft_rules.specs.Outcomes.{quiet, says, answer, with_log, with_vote, with_grants, barrier}
-use Rattle.raft_rules.specs.Elections.{as_candidate, as_leader, ask_vote, may_start_election, start_election, grants_vote, on_grants, on_ask_vote, grants_with, on_vote}
+use Rattle.raft_rules.specs.Node.{Role, Leader, Candidate, Follower, AskVote, Vote, Message, Outcome, Everyone, among, majority, others, voters, peers, is_candidate}
+use Rattle.raft_rules.specs.Outcomes.{quiet, says, answer, with_log, with_vote, barrier}
+use Rattle.raft_rules.specs.Elections.{as_leader, may_start_election, start_election, grants_vote, on_grants, on_ask_vote, grants_with, on_vote}
 use Rattle.raft_rules.specs.Progress.{rows_for, next_in, match_in}
 use Rattle.raft_rules.specs.NodeValues.{NodeValue, node_of}
 use Rattle.raft_rules.specs.Compaction.{compacted}
@@ -18,7 +16,7 @@ use Rattle.raft_core.specs.declared.effects.Say.TheVariants as say
 use Rattle.raft_core.specs.declared.effects.Recipients.TheVariants as sent
 use Rattle.raft_core.specs.declared.effects.LogChange.TheVariants as changes
 use Rattle.raft_core.specs.declared.effects.Effects.{Effects}
-use Rattle.raft_core.specs.Effects.{said, outcome_of, Replaced, Does}
+use Rattle.raft_core.specs.Effects.{said, outcome_of, Does}
 use Rattle.raft_core.specs.Nodes.{told}
 use Rattle.raft_core.proofs.TakenLogs.{appended}
 

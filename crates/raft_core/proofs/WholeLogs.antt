@@ -1,16 +1,15 @@
 -- The code's log and the log of the node that it stands for are the same past the cut, and end alike.
-use Rattle.std.proofs.Common.{◌≡◌, ℕ, zero, suc, ◌+◌, ◌-◌, ◌<◌, ◌≤◌, List, ◌++◌, length, take, drop, refl, sym, ap, subst, ◌∙◌, ⊎_elim, arith, length-append}
-use Rattle.std.specs.Prelude.{true, false, ◌&&◌, ◌==◌, nat_le, ◌||◌}
+use Rattle.std.proofs.Common.{◌≡◌, ℕ, suc, ◌+◌, ◌-◌, ◌<◌, ◌≤◌, List, length, drop, sym, ap, ◌∙◌, ⊎_elim, arith}
 use Rattle.std.proofs.lemmas.List.{drop_at}
 use Rattle.std.proofs.lemmas.Bool.{cases_lt}
-use Rattle.raft_rules.specs.Log.{Entry, LogEnd, nth_term, term_at, log_end, matches}
-use Rattle.raft_rules.specs.Compaction.{CutLog, compacted, whole_log, meets}
+use Rattle.raft_rules.specs.Log.{Entry, LogEnd, nth_term, term_at, log_end}
+use Rattle.raft_rules.specs.Compaction.{CutLog, compacted, whole_log}
 use Rattle.raft_rules.specs.NodeValues.{NodeValue, node_of}
 use Rattle.raft_rules.proofs.NodeValues.{compacted_length, whole_length, whole_term_cut}
-use Rattle.raft_log.proofs.Places.{whole_count, term_cut, term_none}
+use Rattle.raft_log.proofs.Places.{whole_count, term_cut}
 use Rattle.raft_world.specs.Cuts.{Same}
 use Rattle.raft_world.proofs.Logs.{nth_at, term_at-zero}
-use Rattle.raft_world.proofs.Alikes.{same_end, same_at}
+use Rattle.raft_world.proofs.Alikes.{same_end}
 use Rattle.raft_world.proofs.AlikeRules.{Shape}
 use Rattle.raft_core.specs.Nodes.{IsLog}
 

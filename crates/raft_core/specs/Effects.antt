@@ -1,6 +1,6 @@
 -- What a rule has made beside the node after it: what is said, to whom the log is sent, where the log has changed.
-use Rattle.std.specs.Prelude.{◌≡◌, ◌≢◌, ℕ, suc, ◌-◌, ◌<◌, ◌≤◌, max, Option, Some, None, List, [], ◌∷◌, ◌++◌, length, take, drop, map}
-use Rattle.raft_rules.specs.Log.{Entry, LogEnd, accept}
+use Rattle.std.specs.Prelude.{◌≡◌, ℕ, suc, ◌-◌, ◌<◌, ◌≤◌, max, Option, Some, None, List, [], ◌∷◌, ◌++◌, length, take, drop, map}
+use Rattle.raft_rules.specs.Log.{Entry, accept}
 use Rattle.raft_rules.specs.Node as rules
 use Rattle.raft_rules.specs.NodeValues.{NodeValue, node_of}
 use Rattle.raft_rules.specs.Outcomes.{with_log}

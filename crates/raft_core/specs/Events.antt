@@ -8,7 +8,7 @@ use Rattle.raft_rules.specs.Replication.{on_propose, on_beat, on_transfer}
 use Rattle.raft_rules.specs.Snapshots.{on_snapped}
 use Rattle.raft_rules.specs.Receiving.{on_message}
 use Rattle.raft_rules.specs.NodeValues.{NodeValue, node_of}
-use Rattle.raft_rules.specs.Todo.{Metadata, Batch, IsLogWrite}
+use Rattle.raft_rules.specs.Todo.{Batch, IsLogWrite}
 use Rattle.raft_vote.specs.Messages.{message_value}
 use Rattle.raft_vote.specs.Servers.{IsConfiguration}
 use Rattle.raft_core.specs.declared.event.RaftEvent.{RaftEvent}

@@ -3,7 +3,6 @@ use Rattle.std.specs.Prelude.{◌≡◌, ℕ, ◌+◌, ◌≤◌, List, length}
 use Rattle.raft_rules.specs.Log.{Entry, LogEnd}
 use Rattle.raft_rules.specs.Node as rules
 use Rattle.raft_rules.specs.Compaction.{CutLog}
-use Rattle.raft_rules.specs.Votes.{Votes}
 use Rattle.raft_rules.specs.Progress.{LeaderProgress, ids_in}
 use Rattle.raft_rules.specs.NodeValues.{NodeValue}
 use Rattle.raft_vote.specs.Grants.{AreAmong}

@@ -1,5 +1,5 @@
 -- What a node tells of itself.
-use Rattle.std.specs.Prelude.{ℕ, Bool, cond, not, ◌&&◌, ◌==◌, nat_le, if◌then◌else◌, Option, Some, None, length}
+use Rattle.std.specs.Prelude.{ℕ, Bool, not, ◌&&◌, ◌==◌, nat_le, if◌then◌else◌, Option, Some, None, length}
 use Rattle.raft_rules.specs.Log.{term_at}
 use Rattle.raft_rules.specs.NodeValues.{NodeValue, node_of}
 

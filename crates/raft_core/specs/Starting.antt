@@ -1,5 +1,5 @@
 -- What a node starts with.
-use Rattle.std.specs.Prelude.{ℕ, ◌-◌, Option, Some, None, ◌++◌}
+use Rattle.std.specs.Prelude.{◌-◌, Option, Some, None, ◌++◌}
 use Rattle.raft_rules.specs.Log.{LogEnd}
 use Rattle.raft_rules.specs.Account.{Stored}
 use Rattle.raft_rules.specs.Compaction.{compacted}

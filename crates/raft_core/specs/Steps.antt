@@ -1,5 +1,5 @@
 -- Steps of the code's node.
-use Rattle.std.specs.Prelude.{◌≡◌, ℕ, ◌-◌, nat_le, true, false, max, List, map, drop}
+use Rattle.std.specs.Prelude.{◌≡◌, ℕ, ◌-◌, nat_le, true, false, max, map, drop}
 use Rattle.raft_rules.specs.Log.{LogEnd, term_at, matches}
 use Rattle.raft_rules.specs.Node.{Node, Outcome}
 use Rattle.raft_rules.specs.Steps.{finish}

@@ -19,10 +19,10 @@ use Rattle.store_laws.specs.Append.{append_calls, batch_calls}
 use Rattle.store_laws.specs.Laws.{meta_file, meta_calls}
 use Rattle.store_laws.specs.Load.{repair_calls, remove_from}
 use Rattle.store_laws.specs.Snapshots.{snapshot_calls, remove_snapshots, keep_calls}
-use Rattle.store_laws.specs.Seen.{ReadsSeen, Seen, LoadSeen}
+use Rattle.store_laws.specs.Seen.{ReadsSeen, Seen}
 use Rattle.store_laws.proofs.Tells.{tell}
 
-abbrev AllSeen : NodeDisk → Type 0
+abbrev pub AllSeen : NodeDisk → Type 0
 AllSeen d = Leaves d d.read
 
 -- one file was turned, and the others stayed
@@ -43,9 +43,9 @@ names d e was o = record {
 }
 
 -- a write begins inside a file that is there, or makes one that is at rest
-record MayAdd (n : Name) (at : ℕ) (d : NodeDisk) : Type 0 where
-  within : (d.read n).there ≡ true → at ≤ length (d.read n).bytes
-  new : (d.read n).there ≡ false → (at ≡ 0) × Rest (d.held n) (d.read n)
+pub record MayAdd (n : Name) (at : ℕ) (d : NodeDisk) : Type 0 where
+  pub within : (d.read n).there ≡ true → at ≤ length (d.read n).bytes
+  pub new : (d.read n).there ≡ false → (at ≡ 0) × Rest (d.held n) (d.read n)
 
 write_seen : (n : Name) (at : ℕ) (bytes : List ℕ) (d : NodeDisk) → AllSeen d → MayAdd n at d → LeavesFile (after_write at bytes (d.held n)) (found (put at bytes (d.read n).bytes))
 write_seen n at bytes d was may = elim (cases_Bool (d.read n).there) [
@@ -78,7 +78,7 @@ remove_seen n d was = elim (cases_Bool (d.read n).there) [
 ]
 
 -- what a list of calls may do: each write is one that may be made
-abbrev Allowed : List NodeCall → NodeDisk → Type 0
+abbrev pub Allowed : List NodeCall → NodeDisk → Type 0
 Allowed [] d = Unit {0}
 Allowed (WriteAt n at bytes ∷ cs) d = MayAdd n at d × ((m : NodeDisk) → Does (WriteAt n at bytes) d m → Allowed cs m)
 Allowed (CutTo n k ∷ cs) d = (m : NodeDisk) → Does (CutTo n k) d m → Allowed cs m
@@ -89,7 +89,7 @@ Allowed (SyncNames ∷ cs) d = (m : NodeDisk) → Does SyncNames d m → Allowed
 to : (d e : NodeDisk) → e ≡ d → AllSeen d → AllSeen e
 to d e q was = subst AllSeen (sym q) was
 
-seen : (cs : List NodeCall) (d : NodeDisk) → AllSeen d → Allowed cs d → ReadsSeen cs d
+pub seen : (cs : List NodeCall) (d : NodeDisk) → AllSeen d → Allowed cs d → ReadsSeen cs d
 seen [] d was may e q = to d e q was
 seen (WriteAt n at bytes ∷ cs) d was may e u = elim u [
   | inl q ↦ to d e q was
@@ -120,7 +120,7 @@ seen (SyncNames ∷ cs) d was may e u = elim u [
 -- ---- lists of calls
 
 -- one list and then another
-allowed_then : (cs ds : List NodeCall) (d : NodeDisk) → Allowed cs d → ((m : NodeDisk) → Done cs d m → Allowed ds m) → Allowed (cs ++ ds) d
+pub allowed_then : (cs ds : List NodeCall) (d : NodeDisk) → Allowed cs d → ((m : NodeDisk) → Done cs d m → Allowed ds m) → Allowed (cs ++ ds) d
 allowed_then [] ds d may then = then d refl
 allowed_then (WriteAt n at bytes ∷ cs) ds d may then = (may.0, λ m did. allowed_then cs ds m (may.1 m did) (λ e done. then e (m, (did, done))))
 allowed_then (CutTo n k ∷ cs) ds d may then = λ m did. allowed_then cs ds m (may m did) (λ e done. then e (m, (did, done)))
@@ -149,7 +149,7 @@ batch_allowed k at enc d t fits =
 put_long : (word old : List ℕ) → length word ≤ length (put 0 word old)
 put_long word old = omega (arith, length-append word (drop (0 + length word) old))
 
-append_allowed : (k : ℕ) (b : Bool) (at : ℕ) (word enc : List ℕ) (d : NodeDisk) → (d.read (Segment k)).there ≡ b → (b ≡ true → at ≤ length (d.read (Segment k)).bytes) → Rest (d.held (Segment k)) (d.read (Segment k)) → Allowed (append_calls k b at word enc) d
+pub append_allowed : (k : ℕ) (b : Bool) (at : ℕ) (word enc : List ℕ) (d : NodeDisk) → (d.read (Segment k)).there ≡ b → (b ≡ true → at ≤ length (d.read (Segment k)).bytes) → Rest (d.held (Segment k)) (d.read (Segment k)) → Allowed (append_calls k b at word enc) d
 append_allowed k true at word enc d is fits rest = batch_allowed k at enc d is (fits refl)
 append_allowed k false at word enc d is fits rest =
     allowed_then (replace_calls (Segment k) word false) (batch_calls k (length word) enc) d (replace_allowed (Segment k) word false d (λ z. rest))
@@ -174,7 +174,7 @@ older_allowed : (js : List ℕ) (d : NodeDisk) → Allowed (remove_snapshots js)
 older_allowed [] d = tt
 older_allowed (j ∷ js) d = λ m did. older_allowed js m
 
-repair_allowed : (f : Format) (k : ℕ) (x : Found) (d : NodeDisk) → Allowed (repair_calls f k x) d
+pub repair_allowed : (f : Format) (k : ℕ) (x : Found) (d : NodeDisk) → Allowed (repair_calls f k x) d
 unfolding repair_calls
 repair_allowed f k x d = first x.there (opens f x.bytes) (is_whole f x.bytes) _
   where
@@ -184,12 +184,9 @@ repair_allowed f k x d = first x.there (opens f x.bytes) (is_whole f x.bytes) _
     first true true true n = tt
     first true true false n = λ m did p syn. tt
 
-sync_allowed : (ns : List Name) (ds : List NodeCall) (d : NodeDisk) → ((m : NodeDisk) → Allowed ds m) → Allowed (sync_all ns ++ ds) d
-sync_allowed [] ds d may = λ m did. may m
-sync_allowed (n ∷ ns) ds d may = λ m did. sync_allowed ns ds m may
-
-pub load_seen : LoadSeen
-load_seen f k d was ns = seen (sync_all ns ++ repair_calls f k (d.read (Segment k))) d was (sync_allowed ns _ d (λ m. repair_allowed f k (d.read (Segment k)) m))
+pub sync_allowed : (ns : List Name) (d : NodeDisk) → Allowed (sync_all ns) d
+sync_allowed [] d = λ m did. tt
+sync_allowed (n ∷ ns) d = λ m did. sync_allowed ns m
 
 -- ---- behind a settled disk
 

@@ -6,6 +6,7 @@ use Rattle.std.proofs.lemmas.List.{append-nil}
 use Rattle.disk_model.specs.Disk.{Found, Leaves}
 use Rattle.disk_model.specs.Calls.{WriteAt, CutTo, Sync, Remove, SyncNames, Others, Done, Until}
 use Rattle.disk_model.specs.SyncAll.{sync_all, Names}
+use Rattle.disk_model.specs.Rest.{Rest}
 use Rattle.disk_model.proofs.Rests.{rest_only, rest_left}
 use Rattle.disk_model.proofs.Elsewhere.{Elsewhere, else_same, else_on, else_names}
 use Rattle.disk_model.proofs.Syncs.{sync_all_holds}
@@ -17,12 +18,13 @@ use Rattle.store_laws.specs.Settled.{Settled, Steady, fits, ends_before, file_lo
 use Rattle.store_laws.specs.Append.{append_calls, Writes}
 use Rattle.store_laws.specs.Load.{Still, Repairs, repair_calls, Loadable, LoadEnds}
 use Rattle.store_laws.specs.Laws.{AnyMoment, AtOk, Comes}
-use Rattle.store_laws.specs.WholeLoad.{is_stale, empty_calls, load_calls, WholeLoad}
+use Rattle.store_laws.specs.WholeLoad.{is_stale, empty_calls, load_calls, WholeLoad, WholeLoadSeen}
 use Rattle.store_laws.proofs.Tells.{tell}
 use Rattle.store_laws.proofs.Folders.{segments_suc}
 use Rattle.store_laws.proofs.Answers.{settled_images}
 use Rattle.store_laws.proofs.AppendLaw.{settled_of, empty_stale_holds}
 use Rattle.store_laws.proofs.Rooms.{more_room_holds}
+use Rattle.store_laws.proofs.Seen.{Allowed, seen, allowed_then, append_allowed, repair_allowed, sync_allowed}
 use Rattle.store_laws.proofs.Loads.{repairs, still_at_rest, load_holds}
 
 -- ---- calls on one file
@@ -254,3 +256,27 @@ module _ (f : Format) (law : Lawful f) (k : ℕ) (d : NodeDisk) (l : Loadable f 
 pub whole_load_holds : WholeLoad
 whole_load_holds f law k d l ns named new is_new pos word enc w =
     (λ top h e u g left fair. inside f law k d l ns named new is_new pos word enc w top h e u g left fair, λ e u. at_end f law k d l ns named new is_new pos word enc w e u)
+
+-- ---- what is read meanwhile
+
+until_of : (cs : List NodeCall) (d e : NodeDisk) → Done cs d e → Until cs d e
+until_of [] d e q = q
+until_of (c ∷ cs) d e (m, (did, rest)) = inr (inr (m, (did, until_of cs m e rest)))
+
+emptying_allowed : (k : ℕ) (b : Bool) (word enc : List ℕ) (q : NodeDisk) → (q.read (Segment (suc k))).there ≡ false → Rest (q.held (Segment (suc k))) (q.read (Segment (suc k))) → Allowed (cond b (append_calls (suc k) false 0 word enc) []) q
+emptying_allowed k true word enc q absent rest = append_allowed (suc k) false 0 word enc q absent (λ y. absurd cc) rest
+emptying_allowed k false word enc q absent rest = tt
+
+pub whole_load_seen : WholeLoadSeen
+whole_load_seen f k d l ns named word enc =
+    seen (load_calls f k d.read ns word enc) d l.seen
+    (allowed_then (sync_all ns) _ d (sync_allowed ns d) (λ p v.
+    let z = (sync_all_holds tell d l.seen ns named).1 p v in
+    allowed_then (repair_calls f k (d.read (Segment k))) (empty_calls f k d.read word enc) p (repair_allowed f k (d.read (Segment k)) p) (λ q r.
+    let so = until_else (Segment k) (repair_calls f k (d.read (Segment k))) p p q (repair_on f k (d.read (Segment k))) (else_same (Segment k) p) (until_of _ p q r) in
+    emptying_allowed k _ word enc q
+    (ap (λ (x : Found). x.there) (so.read (Segment (suc k)) (another k) ∙ z.0 (Segment (suc k))) ∙ l.above (suc k) (omega arith))
+    (so.rest (Segment (suc k)) (another k) (z.1 (Segment (suc k)))))))
+  where
+    another : (k : ℕ) → Segment (suc k) ≡ Segment k → ⊥
+    another k q = let z : suc k ≡ k = cc in absurd (omega (arith, z))

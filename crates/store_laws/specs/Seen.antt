@@ -1,16 +1,14 @@
 -- What is read while a call goes on is what a crash may leave: so a failed call leaves the disk to be loaded again, also
 -- where no crash came.
-use Rattle.std.specs.Prelude.{◌≡◌, ◌≤◌, ℕ, false, List, ◌++◌, length}
+use Rattle.std.specs.Prelude.{◌≡◌, ◌≤◌, ℕ, false, List, length}
 use Rattle.disk_model.specs.Disk.{Leaves}
 use Rattle.disk_model.specs.Calls.{Until}
-use Rattle.disk_model.specs.SyncAll.{sync_all}
-use Rattle.store_laws.specs.Names.{Name, Segment, NodeDisk, NodeCall}
+use Rattle.store_laws.specs.Names.{Segment, NodeDisk, NodeCall}
 use Rattle.store_laws.specs.Store.{Format, snap_in}
 use Rattle.store_laws.specs.Settled.{Settled}
 use Rattle.store_laws.specs.Append.{append_calls}
 use Rattle.store_laws.specs.Meta.{set_long_calls}
 use Rattle.store_laws.specs.Laws.{meta_file, meta_calls}
-use Rattle.store_laws.specs.Load.{repair_calls}
 use Rattle.store_laws.specs.Snapshots.{keep_calls}
 
 -- at each moment of the calls
@@ -26,7 +24,3 @@ pub record CallsSeen (f : Format) (top : ℕ) (d : NodeDisk) : Type 0 where
 
 abbrev pub Seen : Type 0
 Seen = (f : Format) (top : ℕ) (d : NodeDisk) → Settled f top d → CallsSeen f top d
-
--- and while a load goes on, from what is read to begin with
-abbrev pub LoadSeen : Type 0
-LoadSeen = (f : Format) (k : ℕ) (d : NodeDisk) → Leaves d d.read → (ns : List Name) → ReadsSeen (sync_all ns ++ repair_calls f k (d.read (Segment k))) d

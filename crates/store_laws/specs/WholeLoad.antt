@@ -10,6 +10,7 @@ use Rattle.store_laws.specs.Settled.{file_log}
 use Rattle.store_laws.specs.Append.{append_calls, Writes}
 use Rattle.store_laws.specs.Load.{repair_calls, Loadable}
 use Rattle.store_laws.specs.Laws.{Comes}
+use Rattle.store_laws.specs.Seen.{ReadsSeen}
 
 -- the log has an entry at the snapshot's index, of another term
 abbrev pub is_stale : Snap → Log → Bool
@@ -30,3 +31,7 @@ WholeLoad = (f : Format) → Lawful f → (k : ℕ) (d : NodeDisk) → Loadable 
     → (word enc : List ℕ) → Writes f (record { first = (file_log f (suc k) d.read).first; entries = [] }) word enc
     → ((top : ℕ) → suc (suc k) ≤ top → (e : NodeDisk) → Until (load_calls f k d.read ns word enc) d e → (g : NodeFiles) → Leaves e g → NoChance f e g → (was : NodeFiles) × (Leaves d was × (kept f top g ≡ kept f top was)))
     × ((e : NodeDisk) → Done (load_calls f k d.read ns word enc) d e → Comes f (suc (suc k)) e new)
+
+-- and at each moment what is read is what a crash may leave
+abbrev pub WholeLoadSeen : Type 0
+WholeLoadSeen = (f : Format) (k : ℕ) (d : NodeDisk) → Loadable f k d → (ns : List Name) → Names d ns → (word enc : List ℕ) → ReadsSeen (load_calls f k d.read ns word enc) d

@@ -7,9 +7,9 @@ ghost use Rattle.store_laws.specs.Names.{Name};
 ghost use Rattle.store_laws.specs.Damage.{DamagePlaces};
 ghost use Rattle.store_laws.specs.Laws.{SetMeta, SetMetaLong, Append, EmptyStale, MoreRoom};
 ghost use Rattle.store_laws.specs.Load.{CutTail, RemoveBad, RemoveOlder, Load};
-ghost use Rattle.store_laws.specs.Seen.{Seen, LoadSeen};
+ghost use Rattle.store_laws.specs.Seen.{Seen};
 ghost use Rattle.store_laws.specs.Snapshots.{KeepSnapshot, SnapshotLog, OlderLog};
-ghost use Rattle.store_laws.specs.WholeLoad.{WholeLoad};
+ghost use Rattle.store_laws.specs.WholeLoad.{WholeLoad, WholeLoadSeen};
 ghost use Rattle.store_laws.specs.Written.{MetaWritten, BatchWritten};
 
 /// At any moment of keeping a term and a vote, each crash leaves the state before or the new one; after the last call
@@ -95,9 +95,9 @@ pub fn calls_seen()
     ensures { Seen }
 {}
 
-/// So it is while a load goes on, where it was so before.
+/// So it is while a whole load goes on, where it was so before.
 pub fn load_seen()
-    ensures { LoadSeen }
+    ensures { WholeLoadSeen }
 {}
 
 /// Where files are damaged, the damage has a place: a segment but the last, and in it the place from which nothing reads.

@@ -1,5 +1,5 @@
-use Rattle.std.proofs.Common.{sym, subst, ◌≡◌}
-use Rattle.page_apply.specs.Databases.{has_name, named, moved}
+use Rattle.std.proofs.Common.{sym}
+use Rattle.page_apply.specs.Databases.{has_name, moved}
 use Rattle.page_apply.specs.ByName.{FirstAt}
 use Rattle.page_apply.proofs.First.{first_set, stays}
 use Rattle.page_apply.proofs.machine.checkpoint.Goals as goal

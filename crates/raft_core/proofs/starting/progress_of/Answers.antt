@@ -1,4 +1,3 @@
-use Rattle.std.proofs.Common.{◌≡◌, ◌∙◌, [], ap}
 use Rattle.raft_core.proofs.StartRules.{first_progress}
 use Rattle.raft_core.proofs.starting.progress_of.Goals as goal
 

@@ -1,4 +1,4 @@
-use Rattle.std.proofs.Common.{◌≡◌, ◌∙◌, refl, ap, sym}
+use Rattle.std.proofs.Common.{◌∙◌, refl, ap}
 use Rattle.raft_rules.specs.Commitment.{commit_index}
 use Rattle.raft_rules.specs.Compaction.{whole_log}
 use Rattle.raft_rules.specs.Progress.{commit_of}

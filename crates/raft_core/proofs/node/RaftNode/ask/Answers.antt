@@ -1,6 +1,5 @@
 use Rattle.std.proofs.Common.{◌≡◌, ◌∙◌, refl, ap, subst}
 use Rattle.std.specs.Prelude.{cond}
-use Rattle.raft_rules.specs.Log.{log_end}
 use Rattle.raft_rules.specs.Elections.{may_grant, grants_vote}
 use Rattle.raft_rules.specs.Votes.{after_request, grants_request}
 use Rattle.raft_rules.specs.NodeValues.{NodeValue, node_of}

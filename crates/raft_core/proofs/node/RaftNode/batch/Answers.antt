@@ -1,6 +1,5 @@
-use Rattle.std.proofs.Common.{◌≡◌, ◌-◌, ◌≤◌, ◌<◌, ◌∙◌, length, take, drop, ap, arith}
-use Rattle.std.specs.Prelude.{IfOk}
-use Rattle.raft_rules.specs.NodeValues.{NodeValue, node_of}
+use Rattle.std.proofs.Common.{◌-◌, ◌∙◌, take, drop, ap}
+use Rattle.raft_rules.specs.NodeValues.{NodeValue}
 use Rattle.raft_core.proofs.StepRules.{all_from}
 use Rattle.raft_core.proofs.VoteRules.{if_ok}
 use Rattle.raft_core.proofs.node.RaftNode.batch.Goals as goal

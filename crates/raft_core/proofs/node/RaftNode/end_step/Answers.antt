@@ -1,4 +1,4 @@
-use Rattle.std.proofs.Common.{◌≡◌, ◌∙◌, sym, ap, subst}
+use Rattle.std.proofs.Common.{◌∙◌, sym, ap, subst}
 use Rattle.raft_rules.specs.NodeValues.{NodeValue}
 use Rattle.raft_core.specs.Events.{StandsAt}
 use Rattle.raft_core.specs.Messages.{sendings_value}

@@ -1,4 +1,4 @@
-use Rattle.std.proofs.Common.{◌≡◌, ◌∙◌, sym}
+use Rattle.std.proofs.Common.{◌∙◌, sym}
 use Rattle.raft_core.specs.Effects.{recipients_value}
 use Rattle.raft_core.proofs.FinishRules.{quiet_node, quiet_out, leader_node, leader_sends, effects_of}
 use Rattle.raft_core.proofs.node.RaftNode.finish.Goals as goal

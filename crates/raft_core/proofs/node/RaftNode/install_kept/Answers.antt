@@ -1,4 +1,4 @@
-use Rattle.std.proofs.Common.{◌∙◌, ◌<◌, ◌≤◌, ap, arith}
+use Rattle.std.proofs.Common.{◌∙◌, ◌<◌, ap, arith}
 use Rattle.std.proofs.lemmas.Bool.{leb-false}
 use Rattle.raft_rules.specs.Compaction.{compacted}
 use Rattle.raft_rules.specs.NodeValues.{node_of}

@@ -1,5 +1,5 @@
-use Rattle.std.proofs.Common.{◌≡◌, ◌≤◌, ◌∙◌, ℕ, [], length, ap, sym, arith}
-use Rattle.raft_rules.specs.Node.{Leader, voters, peers}
+use Rattle.std.proofs.Common.{◌∙◌, [], length, ap, arith}
+use Rattle.raft_rules.specs.Node.{Leader, peers}
 use Rattle.raft_rules.specs.Progress.{LeaderProgress, ids_in, rows_for}
 use Rattle.raft_rules.specs.NodeValues.{NodeValue}
 use Rattle.raft_rules.proofs.ProgressPeers.{ids_rows_for}

@@ -1,4 +1,4 @@
-use Rattle.std.proofs.Common.{◌≡◌, ◌∙◌, sym, ap, subst}
+use Rattle.std.proofs.Common.{◌∙◌, sym, ap}
 use Rattle.raft_rules.specs.Log.{LogEnd}
 use Rattle.raft_rules.specs.Node.{Install}
 use Rattle.raft_rules.specs.Compaction.{compacted}

@@ -1,12 +1,11 @@
-use Rattle.std.proofs.Common.{◌≡◌, ◌≤◌, ◌<◌, ◌+◌, ◌-◌, ◌∙◌, suc, [], length, refl, sym, ap, subst, arith}
-use Rattle.raft_rules.specs.Log.{Entry, LogEnd}
-use Rattle.raft_rules.specs.Node.{Follower, others, voters, peers}
+use Rattle.std.proofs.Common.{◌∙◌, [], length, sym, ap, subst, arith}
+use Rattle.raft_rules.specs.Log.{LogEnd}
+use Rattle.raft_rules.specs.Node.{others}
 use Rattle.raft_rules.specs.Compaction.{CutLog}
 use Rattle.raft_rules.specs.Progress.{LeaderProgress, rows_for}
 use Rattle.raft_rules.specs.Votes.{Votes}
-use Rattle.raft_rules.specs.NodeValues.{NodeValue, node_of}
+use Rattle.raft_rules.specs.NodeValues.{node_of}
 use Rattle.raft_core.specs.Nodes.{IsLog, IsMembership}
-use Rattle.raft_core.specs.Starting.{snapshot_in}
 use Rattle.raft_core.proofs.PeerLists.{few_peers}
 use Rattle.raft_core.proofs.StartRules.{starts_log, starts_members, starts_node, started}
 use Rattle.raft_core.proofs.node.RaftNode.new.Goals as goal

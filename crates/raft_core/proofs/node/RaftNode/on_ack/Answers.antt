@@ -1,11 +1,11 @@
-use Rattle.std.proofs.Common.{◌∙◌, ◌≡◌, sym, ap, subst}
-use Rattle.std.specs.Prelude.{true, false, ◌&&◌, not}
+use Rattle.std.proofs.Common.{◌∙◌, sym, ap, subst}
+use Rattle.std.specs.Prelude.{false, ◌&&◌}
 use Rattle.raft_rules.specs.Node.{among, peers}
 use Rattle.raft_rules.specs.NodeValues.{node_of}
 use Rattle.raft_rules.specs.Replication.{on_ack}
 use Rattle.raft_core.specs.Effects.{Does}
 use Rattle.raft_core.proofs.VoteRules.{effects_are}
-use Rattle.raft_core.proofs.LeaderRules.{only_sends, ack_ignored, ack_bad}
+use Rattle.raft_core.proofs.LeaderRules.{ack_ignored, ack_bad}
 use Rattle.raft_core.proofs.node.RaftNode.on_ack.Goals as goal
 
 pub returns-then-not-leads : goal.returns-then-not-leads

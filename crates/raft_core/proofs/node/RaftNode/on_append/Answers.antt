@@ -1,11 +1,11 @@
-use Rattle.std.proofs.Common.{◌≡◌, ◌≤◌, ◌<◌, ◌∙◌, ◌+◌, ◌-◌, length, drop, sym, ap, subst, arith}
-use Rattle.std.specs.Prelude.{max, min, ◌&&◌, nat_lt, nat_le}
-use Rattle.raft_rules.specs.Log.{LogEnd, first_replaced}
-use Rattle.raft_rules.specs.NodeValues.{NodeValue, node_of}
+use Rattle.std.proofs.Common.{◌∙◌, sym, ap, subst}
+use Rattle.std.specs.Prelude.{max}
+use Rattle.raft_rules.specs.Log.{LogEnd}
+use Rattle.raft_rules.specs.NodeValues.{node_of}
 use Rattle.raft_rules.specs.Replication.{on_append}
 use Rattle.raft_core.specs.Effects.{Takes}
 use Rattle.raft_core.proofs.VoteRules.{effects_are}
-use Rattle.raft_core.proofs.AppendRules.{append_leads, append_differs, append_lost, replaces_past, known_within, append_takes}
+use Rattle.raft_core.proofs.AppendRules.{append_leads, append_differs, append_lost, replaces_past, append_takes}
 use Rattle.raft_core.proofs.node.RaftNode.on_append.Goals as goal
 
 pub returns-then-leads : goal.returns-then-leads

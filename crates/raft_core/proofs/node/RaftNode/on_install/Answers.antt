@@ -1,4 +1,4 @@
-use Rattle.std.proofs.Common.{◌≡◌, ◌∙◌, sym}
+use Rattle.std.proofs.Common.{◌∙◌, sym}
 use Rattle.raft_rules.specs.Compaction.{compacted}
 use Rattle.raft_rules.specs.NodeValues.{node_of}
 use Rattle.raft_rules.specs.Snapshots.{on_install}

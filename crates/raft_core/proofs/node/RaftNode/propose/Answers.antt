@@ -1,4 +1,4 @@
-use Rattle.std.proofs.Common.{◌≡◌, ◌<◌, ◌≤◌, ◌∙◌, length, sym, ap, arith}
+use Rattle.std.proofs.Common.{◌∙◌, sym}
 use Rattle.raft_rules.specs.NodeValues.{node_of}
 use Rattle.raft_rules.specs.Replication.{on_propose}
 use Rattle.raft_core.proofs.VoteRules.{effects_are}

@@ -1,4 +1,4 @@
-use Rattle.std.proofs.Common.{◌≡◌, ◌∙◌, ◌≤◌, ℕ, List, length, refl, sym, ap, subst, arith}
+use Rattle.std.proofs.Common.{◌∙◌, List, length, sym, ap, subst, arith}
 use Rattle.raft_rules.specs.Node.{Server, voters, peers}
 use Rattle.raft_rules.specs.Progress.{LeaderProgress, ids_in, rows_for}
 use Rattle.raft_rules.specs.NodeValues.{NodeValue}

@@ -1,5 +1,5 @@
-use Rattle.std.proofs.Common.{◌≡◌, ◌∙◌, ◌<◌, ◌≤◌, refl, sym, ap, subst, arith}
-use Rattle.std.specs.Prelude.{true, false, ◌&&◌, nat_lt, nat_le}
+use Rattle.std.proofs.Common.{◌∙◌, ◌<◌, ◌≤◌, refl, ap, subst, arith}
+use Rattle.std.specs.Prelude.{◌&&◌, nat_le}
 use Rattle.std.proofs.lemmas.Bool.{le-ltb, lt-ltb, le-leb}
 use Rattle.raft_rules.specs.Log.{LogEnd}
 use Rattle.raft_rules.specs.NodeValues.{NodeValue, node_of}

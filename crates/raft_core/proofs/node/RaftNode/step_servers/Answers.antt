@@ -1,4 +1,4 @@
-use Rattle.std.proofs.Common.{◌≡◌, ◌∙◌, List, sym, ap, subst}
+use Rattle.std.proofs.Common.{◌∙◌, List, sym, ap}
 use Rattle.raft_rules.specs.Membership.{on_servers}
 use Rattle.raft_rules.specs.Node.{Server, Outcome}
 use Rattle.raft_rules.specs.NodeValues.{node_of}

@@ -1,4 +1,4 @@
-use Rattle.std.proofs.Common.{◌≡◌, ◌≤◌, ◌+◌, ◌∙◌, length, refl, sym, ap, subst, arith}
+use Rattle.std.proofs.Common.{◌≡◌, ◌≤◌, length, refl, sym, ap, subst}
 use Rattle.std.specs.Prelude.{false, ◌&&◌, nat_lt, nat_le, max}
 use Rattle.raft_rules.specs.Log.{LogEnd, first_replaced}
 use Rattle.raft_rules.specs.NodeValues.{NodeValue, node_of}

@@ -1,5 +1,5 @@
-use Rattle.std.proofs.Common.{◌∙◌, ◌≡◌, sym, ap}
-use Rattle.std.specs.Prelude.{true, false, ◌&&◌, ◌==◌, not}
+use Rattle.std.proofs.Common.{◌∙◌, sym, ap}
+use Rattle.std.specs.Prelude.{◌&&◌, ◌==◌, not}
 use Rattle.std.proofs.lemmas.Bool.{eq-eqb, ne_eqb}
 use Rattle.raft_rules.specs.NodeValues.{node_of}
 use Rattle.raft_rules.specs.Replication.{on_transfer}

@@ -1,4 +1,4 @@
-use Rattle.std.proofs.Common.{◌≡◌, ◌∙◌, sym, ap}
+use Rattle.std.proofs.Common.{◌∙◌, sym, ap}
 use Rattle.raft_rules.specs.Node.{is_leader}
 use Rattle.raft_rules.specs.NodeValues.{NodeValue}
 use Rattle.raft_core.specs.Messages.{sendings_value}

@@ -1,0 +1,10 @@
+//! The tests of `raft_core`, which call it from outside. A crate with tests of its own is proved once more with them, so
+//! these stand here.
+#![tactic(auto)]
+
+#[cfg(test)]
+mod nodes;
+#[cfg(test)]
+mod runs;
+#[cfg(test)]
+mod steps;
