@@ -1,5 +1,5 @@
 -- What is shown is an answer, and what isn't is a fault.
-use Rattle.std.proofs.Common.{◌≡◌, ◌⊎◌, ℕ, true, false, List, [], ◌∷◌, length, map, Option, Some, None, refl, sym, ◌∙◌, ap, subst, arith, inl, inr}
+use Rattle.std.proofs.Common.{◌≡◌, ℕ, true, false, List, [], ◌∷◌, length, map, Option, Some, None, refl, sym, ◌∙◌, ap, subst, inl, inr}
 use Rattle.std.proofs.Math.Logic.{∥∥₁_map}
 use Rattle.std.specs.List.{AllByRecursion}
 use Rattle.std.specs.Option.{option_map, option_or}
@@ -13,20 +13,19 @@ use Rattle.dq_base.specs.Changes.{same_image}
 use Rattle.dq_base.proofs.ChangeLaw.{same_images}
 use Rattle.wire_words.specs.declared.value.Value as wire
 use Rattle.sqlite_value.specs.Order.{Row}
-use Rattle.sqlite.specs.declared.error.Error.{Error}
 use Rattle.sql_engine.specs.declared.answer.Ran.{Ran}
 use Rattle.sql_engine.specs.declared.kind.EngineKind.TheVariants.{Sqlite}
 use Rattle.sql_engine.specs.declared.fault.EngineFault.{EngineFault}
 use Rattle.sql_engine.specs.declared.fault.EngineFault.TheVariants as faults
 use Rattle.sql_engine.specs.Meanings.{Refusal, constraint, sql, Answers, CantBeTold, Faults}
-use Rattle.sql_engine.specs.Replies.{Place, Shown, Statement, first_place, fault_in, is_real, is_unreadable, plain_rows}
+use Rattle.sql_engine.specs.Replies.{Place, Shown, Statement, first_place, fault_in, is_real, is_unreadable}
 use Rattle.sqlite_engine.specs.declared.shows.Shows.{Shows}
 use Rattle.sqlite_engine.specs.Sql.{Showing, RanOn, FailsOn, refusal_of}
-use Rattle.sqlite_engine.specs.Errors.{fault_by, fault_of}
+use Rattle.sqlite_engine.specs.Errors.{fault_by}
 use Rattle.sqlite_engine.specs.Shows.{showing}
 use Rattle.sqlite_engine.specs.Values.{params_of, shown_rows}
 use Rattle.sqlite_engine.specs.Carried.{RowsCarried}
-use Rattle.sqlite_engine.specs.Led.{Led, IsRefused, IsTold, IsUntold, AnswersAs, IsUntoldOf, FaultsAs}
+use Rattle.sqlite_engine.specs.Led.{Led, IsTold, IsUntold, AnswersAs, FaultsAs}
 use Rattle.sqlite_engine.specs.Meant.{RefusesSql, sql_meaning}
 use Rattle.sqlite_engine.proofs.Telling.{carried_is_fit}
 

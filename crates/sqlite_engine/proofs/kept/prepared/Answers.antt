@@ -1,4 +1,4 @@
-use Rattle.std.proofs.Common.{List, [], refl, sym, inl, subst}
+use Rattle.std.proofs.Common.{List, [], refl, inl}
 use Rattle.std.proofs.Math.Logic.{∥∥₁_map}
 use Rattle.sqlite_value.specs.declared.value.Value.{Value}
 use Rattle.sqlite.specs.Files.{file_state}

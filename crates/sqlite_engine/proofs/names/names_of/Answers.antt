@@ -1,4 +1,4 @@
-use Rattle.std.proofs.Common.{◌≡◌, ◌+◌, ℕ, List, [], ◌∷◌, false, length, arith}
+use Rattle.std.proofs.Common.{◌≡◌, ℕ, List, [], ◌∷◌, false, arith}
 use Rattle.std.proofs.lemmas.List.{length-append}
 use Rattle.dq_base.specs.Names.{has_nul}
 use Rattle.dq_base.proofs.PutPages.{All-append}
