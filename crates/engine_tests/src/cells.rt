@@ -1,5 +1,5 @@
 use dq_base::{Image, Name, NumberedPage, PageSet, apply_pages};
-use frame_commands::{Command, write_command};
+use frame_commands::{can_split, split, write_command};
 use sql_engine::{CellEngine, Engine, EngineFault};
 use std::alloc::{AllocError, Global};
 use std::test::*;
@@ -32,23 +32,19 @@ fn worked_command(alloc: Global) -> Result<Vec<u8>, AllocError> {
     Ok(bytes)
 }
 
-/// What is written of these pages as one command of the database `d` that commits.
-fn written(alloc: Global, set: PageSet, truncate: u32) -> Result<Option<WireBytes>, AllocError> {
-    let PageSet { tx, pages } = set;
+/// What is written of the one command of the database `d` into which these pages are split.
+fn written(alloc: Global, set: &PageSet) -> Result<Option<WireBytes>, AllocError> {
     let Some(name) = Name::new(String::from_str(alloc, "d")?) else {
         return Ok(None);
     };
-    let command = Command::Frames {
-        name,
-        tx,
-        truncate,
-        commit: true,
-        pages,
-    };
-    if !command.numbers_fit() {
+    if !can_split(set) {
         return Ok(None);
     }
-    Ok(Some(write_command(alloc, &command)?))
+    let commands = split(alloc, name.as_str(), set)?;
+    match commands.as_slice() {
+        [command] if command.numbers_fit() => Ok(Some(write_command(alloc, command)?)),
+        _ => Ok(None),
+    }
 }
 
 /// What a run is to answer: how many pages are affected, the value that is read, and the numbers of the pages that change,
@@ -92,7 +88,7 @@ fn set_command(alloc: Global) -> Result<Option<WireBytes>, EngineFault> {
     let mut engine = CellEngine::new(alloc);
     let image = Image::new(alloc);
     let ran = engine.run(&image, "SET 3 9", &[], TX)?;
-    Ok(written(alloc, ran.after, 5)?)
+    Ok(written(alloc, &ran.after)?)
 }
 
 #[test]
