@@ -7,4 +7,8 @@ mod messages;
 #[cfg(test)]
 mod rows;
 #[cfg(test)]
+mod streams;
+#[cfg(test)]
+mod values;
+#[cfg(test)]
 mod words;

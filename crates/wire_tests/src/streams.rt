@@ -1,0 +1,87 @@
+use std::alloc::{AllocError, Global};
+use std::test::*;
+use wire_words::*;
+
+/// How many messages a stream has that comes in pieces of this size, and how many bytes are unread at its end.
+fn fed(mut splitter: Splitter, stream: &[u8], size: usize) -> Result<(usize, u64), SplitFault> {
+    let mut count = 0;
+    for piece in stream.chunks(size.max(1)) {
+        count = splitter.feed(piece)?.len().saturating_add(count);
+    }
+    Ok((count, splitter.held()))
+}
+
+#[test]
+fn streams_are_cut(rt: HostRuntime) {
+    let stream = b"\x01\0\0\0\0\0\0\0\0\0\0\0\x05\x01\xff\xff\x01\0\0\0\x07\0\0\0bodybody";
+    let rows = [
+        (stream.as_slice(), 32, Ok((2, 0))),
+        (stream, 1, Ok((2, 0))),
+        (b"\x01\0\0\0\0\0\0\0\0\0\x20\0\0\0\0\0", 16, Ok((0, 8))),
+        (b"\x02\0\0\0\0\0\0\0", 8, Err(SplitFault::Version(2))),
+    ];
+    for (bytes, size, wanted) in rows {
+        assert_eq!(rt; fed(Splitter::new(rt.alloc()), bytes, size), wanted);
+    }
+    let broken = b"\0\0\0\0\0\0\0\0\x01\0\x20\0\0\0\0\0";
+    for (size, wanted) in [(16, Ok((1, 0))), (8, Err(SplitFault::TooLong(2_097_153)))] {
+        assert_eq!(rt;
+            fed(Splitter::after_version(rt.alloc()), broken, size),
+            wanted
+        );
+    }
+}
+
+/// The fault of a piece, and then that of a byte, behind the messages that one piece gave; and what is held then.
+fn faults_behind(alloc: Global, stream: &[u8], piece: &[u8]) -> Option<([SplitFault; 2], u64)> {
+    let mut splitter = Splitter::after_version(alloc);
+    splitter.feed(stream).ok()?;
+    let first = splitter.feed(piece).err()?;
+    let second = splitter.feed(b"\0").err()?;
+    Some(([first, second], splitter.held()))
+}
+
+#[test]
+fn faults_stay(rt: HostRuntime) {
+    assert_eq!(rt;
+        faults_behind(rt.alloc(), b"\0\0\0\0\0\0\0\0\x01\0\x20\0\0\0\0\0", b""),
+        Some(([SplitFault::TooLong(2_097_153); 2], 0))
+    );
+}
+
+/// A message with a blob of a mebibyte.
+fn large_message(alloc: Global) -> Result<WireBytes, AllocError> {
+    let bytes = vec![in alloc; 7u8; 1_048_576]?;
+    let mut writer = Writer::new(alloc);
+    writer.header(3, 0)?;
+    writer.blob(&bytes)?;
+    writer.finish_message()
+}
+
+/// How many bytes the blob of the last message has, where there is a message.
+fn blob_size(alloc: Global, messages: &[Message]) -> Option<u64> {
+    let blob = Words::new(messages.last()?.body.as_slice())
+        .blob(alloc)
+        .ok()?;
+    Some(blob.len() as u64)
+}
+
+/// That of the last piece of a stream.
+fn last_blob_size(alloc: Global, stream: &[u8]) -> Option<u64> {
+    let mut splitter = Splitter::after_version(alloc);
+    let mut size = None;
+    for piece in stream.chunks(4_096) {
+        size = blob_size(alloc, &splitter.feed(piece).ok()?);
+    }
+    size
+}
+
+#[test]
+fn calls_at_size(rt: HostRuntime) -> Result<(), Fail> {
+    let message = large_message(rt.alloc())?;
+    assert_eq!(rt;
+        last_blob_size(rt.alloc(), message.as_slice()),
+        Some(1_048_576)
+    );
+    Ok(())
+}
