@@ -18,8 +18,6 @@ mod set_checks;
 mod sink;
 mod sizes;
 mod source;
-#[cfg(test)]
-mod tests;
 mod tries;
 mod writer;
 

@@ -4,3 +4,7 @@
 
 #[cfg(test)]
 mod cells;
+#[cfg(test)]
+mod commands;
+#[cfg(test)]
+mod scans;

@@ -20,5 +20,3 @@ pub use reading::read_command;
 pub use splitting::{can_split, split};
 pub use writing::write_command;
 
-#[cfg(test)]
-mod tests;

@@ -5,8 +5,6 @@ mod log;
 mod progress;
 mod queue;
 mod rows;
-#[cfg(test)]
-mod tests;
 
 pub use log::{Accepted, Log};
 pub use progress::{MOST_VOTERS, Progress};

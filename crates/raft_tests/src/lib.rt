@@ -3,8 +3,12 @@
 #![tactic(auto)]
 
 #[cfg(test)]
+mod logs;
+#[cfg(test)]
 mod nodes;
 #[cfg(test)]
 mod runs;
 #[cfg(test)]
 mod steps;
+#[cfg(test)]
+mod votes;

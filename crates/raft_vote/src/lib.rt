@@ -32,5 +32,3 @@ pub use servers_fault::ServersFault;
 pub use votes::VoteCore;
 pub use writing::write_message;
 
-#[cfg(test)]
-mod tests;

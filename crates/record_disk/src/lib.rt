@@ -7,8 +7,6 @@ mod page_file;
 mod pair;
 mod steps;
 mod taking;
-#[cfg(test)]
-mod tests;
 mod touched;
 mod writes;
 

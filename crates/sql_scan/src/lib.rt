@@ -12,8 +12,6 @@ mod parameters;
 mod pieces;
 mod reading;
 mod scanner;
-#[cfg(test)]
-mod tests;
 mod token;
 
 pub use fault::ScanFault;

@@ -3,4 +3,6 @@
 #![tactic(auto)]
 
 #[cfg(test)]
+mod recorded;
+#[cfg(test)]
 mod statements;

@@ -2,8 +2,6 @@
 #![tactic(auto)]
 
 mod reading;
-#[cfg(test)]
-mod tests;
 mod writing;
 
 ghost use Rattle.store_batches.specs.Files.{IsLawful};

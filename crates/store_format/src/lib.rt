@@ -4,8 +4,6 @@
 mod metadata;
 mod snapshot;
 mod sums;
-#[cfg(test)]
-mod tests;
 mod words;
 
 ghost use Rattle.store_format.specs.Files.{ReadsLawfully};

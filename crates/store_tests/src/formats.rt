@@ -1,6 +1,8 @@
-use crate::{Metadata, crc32, metadata_bytes, read_metadata, read_snapshot, snapshot_bytes, sum8};
 use std::alloc::{AllocError, Global};
 use std::test::Fail;
+use store_format::{
+    Metadata, crc32, metadata_bytes, read_metadata, read_snapshot, snapshot_bytes, sum8,
+};
 use wire_words::Writer;
 
 // The sums and the blocks were computed with Python's zlib and hashlib.

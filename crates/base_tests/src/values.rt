@@ -1,10 +1,14 @@
-use crate::pages::zeroed_bytes;
-use crate::{
+use dq_base::{
     Bytes, Image, Items, Lengths, Name, NumberedPage, PAGE_SIZE, Page, PageFault, PageSet, apply,
     apply_pages, page_at, page_count, stated_lengths,
 };
 use std::alloc::{AllocError, Global};
 use std::test::Fail;
+
+/// The bytes of an empty page.
+fn zeroed_bytes() -> [u8; PAGE_SIZE] {
+    [0; PAGE_SIZE]
+}
 
 fn filled_file(alloc: Global, len: usize, byte: u8) -> Result<Bytes, AllocError> {
     Ok(Items::new(vec![in alloc; byte; len]?))

@@ -1,4 +1,4 @@
-use super::*;
+use raft_vote::*;
 use std::alloc::{AllocError, Global};
 use std::test::*;
 use wire_words::{Message, WireBytes, WordFault};

@@ -1,4 +1,4 @@
-use crate::{Piece, ScanFault, WordKind, scan};
+use sql_scan::{Piece, ScanFault, WordKind, scan};
 use std::test::Fail;
 
 // The first statement of a text, and how many there are.

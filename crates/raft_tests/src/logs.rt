@@ -1,4 +1,4 @@
-use crate::{Accepted, Log, Progress};
+use raft_log::{Accepted, Log, Progress};
 use raft_vote::{Entry, EntryKind, LogEnd};
 use std::alloc::{AllocError, Global};
 use std::test::Fail;

@@ -1,5 +1,5 @@
-use crate::{PairDisk, PairFiles};
 use dq_base::{Bytes, Image};
+use record_disk::{PairDisk, PairFiles};
 use sqlite_disk::Disk;
 use std::alloc::{AllocError, Global};
 use std::io;

@@ -1,0 +1,8 @@
+//! The tests of the files of a node, which call their crates from outside. A crate with tests of its own is proved once more
+//! with them, so these stand here.
+#![tactic(auto)]
+
+#[cfg(test)]
+mod batches;
+#[cfg(test)]
+mod formats;
