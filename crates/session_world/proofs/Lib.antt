@@ -1,0 +1,17 @@
+pub mod Files
+pub mod Runs
+pub mod Invariant
+pub mod Tables
+pub mod Moves
+pub mod Weaves
+pub mod Applies
+pub mod Wrotes
+pub mod Calls
+pub mod Asks
+pub mod Lives
+pub mod Lasts
+pub mod Answers
+pub mod Undos
+pub mod Commits
+pub mod Alones
+pub mod Turns
