@@ -60,7 +60,7 @@ module _ {E : Type 0} (tells : Bool) (before after : Disk Text → Type 0) (s no
       done d e o u =
           let g = may_grow s k d l room o in
           let n = last_is s k d l number g is in
-          subst (λ (t : ℕ). HasNew (record { version = s.version; first = s.first; second = s.second; next = t; size = Some (l + count) }) (with_batch b k) (folder e)) (sym g.before)
+          subst (λ (t : ℕ). HasNew (record { version = s.version; first = s.first; second = s.second; next = t; size = Some (l + count); segments = s.segments; snapshots = s.snapshots }) (with_batch b k) (folder e)) (sym g.before)
           (grow_done k b fits can s d o l g.last g.before g.size g.format e (subst (λ (t : ℕ). Done (grow_calls (file_name (Segment t)) l (batch_bytes b)) d e) (sym n) u))
 
       until : (d e : Disk Text) → IsOpen s k (folder d) → Until (grow_calls (file_name (Segment number)) l (batch_bytes b)) d e → OldOrNew (with_appended count s).next k (with_batch b k) (folder e)

@@ -1,4 +1,5 @@
 pub mod NoTwoAlike
+pub mod Listing
 pub mod BlockCalls
 pub mod MetaKeeps
 pub mod Segments

@@ -1,4 +1,4 @@
-ghost use Rattle.std.specs.Prelude.{◌≡◌, ◌==◌, ◌%◌, ◌<◌, ◌^◌, ◌-◌, suc, length, MatchOption, Some, None};
+ghost use Rattle.std.specs.Prelude.{◌≡◌, ◌==◌, ◌%◌, ◌<◌, ◌^◌, ◌-◌, ◌++◌, ◌∷◌, [], suc, length, MatchOption, Some, None, IfOk};
 ghost use Rattle.disk_model.specs.Calls.{MayWrite};
 ghost use Rattle.disk_model.specs.Trait.{Known};
 ghost use Rattle.store_laws.specs.Names.{Segment};
@@ -20,7 +20,7 @@ use crate::names::{File, NUMBERS, file_name, metadata_file};
 use crate::segment::{begin_segment, grow_segment};
 use disk_model::Disk;
 use raft_vote::Entry;
-use std::alloc::Global;
+use std::alloc::{AllocError, Global};
 use std::marker::Model;
 use store_batches::batch_bytes;
 use store_format::{Metadata, metadata_bytes};
@@ -42,21 +42,23 @@ pub struct Store {
     next: u64,
     // how long the segment before it is, where batches may still be added to it
     size: Option<u64>,
+    // the numbers of the segments that are there, ascending
+    segments: Vec<u64>,
+    // the indices of the snapshots' files that are there
+    snapshots: Vec<u64>,
 }
 
 /// A segment of so many bytes or more takes no batch any more.
 const FULL: u64 = 8_388_608;
 
 impl Model for Store {
-    ghost use Rattle.std.specs.Prelude.{◌≤◌};
-    ghost use Rattle.segment_store.specs.Open.{Open};
+    ghost use Rattle.segment_store.specs.Open.{Open, HaveDigits};
 
     ghost Value = { Open };
 
-    ghost view = { λ s. record { version = s.version; first = s.first; second = s.second; next = s.next; size = s.size } };
+    ghost view = { λ s. record { version = s.version; first = s.first; second = s.second; next = s.next; size = s.size; segments = s.segments.items; snapshots = s.snapshots.items } };
 
-    // The segments that are there have sixteen digits.
-    ghost invariant = { λ s. s.next ≤ 10000000000000000 };
+    ghost invariant = { λ s. HaveDigits s.next s.segments.items s.snapshots.items };
 }
 
 // Writes metadata into the file of its version, which has this size, where it is there.
@@ -108,6 +110,15 @@ fn begin_batch<D: Disk>(
     Ok(())
 }
 
+// The numbers with one more behind them.
+fn with_number(alloc: Global, numbers: &[u64], number: u64) -> Result<Vec<u64>, AllocError>
+    ensures { IfOk result (λ all. all.items ≡ numbers.now ++ number ∷ []) }
+{
+    let mut all = Vec::from_slice(alloc, numbers)?;
+    all.push(number)?;
+    Ok(all)
+}
+
 impl Store {
     /// A store over a folder without files.
     #[cfg(test)]
@@ -119,6 +130,8 @@ impl Store {
             second: None,
             next: 1,
             size: None,
+            segments: Vec::new(alloc),
+            snapshots: Vec::new(alloc),
         }
     }
 
@@ -207,10 +220,12 @@ impl Store {
         self.size = Some(size + batch.len() as u64);
     }
 
-    fn note_begun(&mut self, batch: &[u8])
-        requires { self.old.next < 10000000000000000 }
+    fn note_begun(&mut self, segments: Vec<u64>, batch: &[u8])
+        requires digits { self.old.next < 10000000000000000 }
+        requires listed { segments.items ≡ self.old.segments ++ self.old.next ∷ [] }
         ensures { self.new ≡ appended_to None (length batch.now) self.old }
     {
+        self.segments = segments;
         self.next += 1;
         self.size = Some(8 + batch.len() as u64);
     }
@@ -236,8 +251,9 @@ impl Store {
         let Some(number) = self.new_number() else {
             return Err(StoreFault::NoMemory);
         };
+        let segments = with_number(self.alloc, self.segments.as_slice(), number)?;
         begin_batch(self.alloc, disk, number, batch)?;
-        self.note_begun(batch);
+        self.note_begun(segments, batch);
         Ok(())
     }
 

@@ -10,9 +10,14 @@ pub returns-in_default-clause-kept : goal.returns-in_default-clause-kept
 returns-in_default-clause-kept g c = λ k b is fits can room.
     none_appended g.D.Disk.tells (g.D.Disk.states c.args.disk.now) c.args.self.now c.args.self.now k (with_batch b k) (length (batch_bytes b)) NoMemory
 
+pub returns-in_err-segments-clause-kept : goal.returns-in_err-segments-clause-kept
+returns-in_err-segments-clause-kept g c =
+    let p = err_from_is_err_and c.from_residual.result c.from_residual.ensures.1 in
+    rw p.1 (λ k b is fits can room. none_appended g.D.Disk.tells (g.D.Disk.states c.args.disk.now) c.args.self.now c.args.self.now k (with_batch b k) (length (batch_bytes b)) p.0)
+
 pub returns-in_err-begin_batch-clause-kept : goal.returns-in_err-begin_batch-clause-kept
 returns-in_err-begin_batch-clause-kept g c =
-    let p = err_from_is_err_and c.from_residual.result c.from_residual.ensures.1 in
+    let p = err_from_is_err_and c.from_residual-in_err-begin_batch.result c.from_residual-in_err-begin_batch.ensures.1 in
     rw p.1 (λ k b is fits can room. begun g.D.Disk.tells (g.D.Disk.states c.args.disk.now) (g.D.Disk.states c.begin_batch.new.disk) c.args.self.now c.args.self.now k b c.args.batch.now is fits can (Err c.in_err-begin_batch.field-0.0) c.in-Some.number room c.in-Some.ensures.0 tt c.in_err-begin_batch.ensures.went)
 
 pub returns-clause-kept : goal.returns-clause-kept
