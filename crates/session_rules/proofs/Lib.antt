@@ -1,2 +1,4 @@
 pub mod Names
 pub mod Images
+pub mod Keeping
+pub mod Following
