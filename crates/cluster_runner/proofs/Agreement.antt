@@ -167,7 +167,7 @@ heard_tells world connection bytes (Some Gone) next e = subst (λ (n : World × 
 heard_tells world connection bytes (Some (Open c)) next e =
     let after = received c bytes in
     subst (λ (n : World × List Say). AllTell [] n.1) (some_is (served world connection after) next e)
-    (replies_tell world.leads connection after.waiting (closing_line connection (reason_of after.end)) (closing_line_tells connection (reason_of after.end)))
+    (replies_tell world.leads connection after.waiting (closing_line connection (reason_of after)) (closing_line_tells connection (reason_of after)))
 
 happens_tells : (world : World) (event : Event) (next : World × List Say) → happens world event ≡ Some next → AllTell [] next.1
 unfolding happens

@@ -93,7 +93,7 @@ heard_seen fleet world connection bytes (Some Gone) next e = subst (λ (n : Worl
 heard_seen fleet world connection bytes (Some (Open c)) next e =
     let after = received c bytes in
     subst (λ (n : World × List Say). AllSeenIn fleet n.1) (some_is (served world connection after) next e)
-    (replies_seen fleet world.leads connection after.waiting (closing_line connection (reason_of after.end)) (closing_line_seen fleet connection (reason_of after.end)))
+    (replies_seen fleet world.leads connection after.waiting (closing_line connection (reason_of after)) (closing_line_seen fleet connection (reason_of after)))
 
 happens_seen : (fleet : Fleet) (world : World) (event : Event) (next : World × List Say) → happens world event ≡ Some next → AllSeenIn fleet next.1
 unfolding happens
