@@ -1,4 +1,4 @@
-ghost use Rattle.std.specs.Prelude.{◌≡◌, ◌≢◌, ℕ, ◌<◌, None, unwrap_or, IfOk, IfErr, OnOk, OnErr};
+ghost use Rattle.std.specs.Prelude.{◌≡◌, ◌≢◌, ℕ, ◌<◌, length, None, unwrap_or, IfOk, IfErr, OnOk, OnErr};
 ghost use Rattle.dq_base.specs.Images.{page_at, page_count};
 ghost use Rattle.dq_base.specs.Applying.{page_fault, IsRefusal};
 ghost use Rattle.read_marks.specs.Marks.{mark_at, live_count, least_mark};
@@ -7,8 +7,8 @@ ghost use Rattle.checkpoint_core.specs.Store.{fresh_store, newest, newest_image,
 
 use crate::files::{lay, make_room};
 use crate::frame_log::FrameLog;
-use crate::reading::{image_under, page_count_under, page_under};
-use dq_base::{Image, NumberedPage, Page, PageFault, PageSet, set_lengths};
+use crate::reading::{image_under, lengths_under, page_count_under, page_under};
+use dq_base::{Image, Lengths, NumberedPage, Page, PageFault, PageSet, set_lengths};
 use read_marks::{MarkFault, MarkId, Marks};
 use std::alloc::{AllocError, Global};
 use std::marker::Model;
@@ -160,6 +160,17 @@ impl PageStore {
         let side = self.side.as_slice();
         let all = self.log.len();
         page_count_under(main, side, &self.log, all)
+    }
+
+    /// The lengths of both files of the image with all commits. Constant cost; takes no memory.
+    pub fn lengths(&self) -> Lengths
+        ensures main { result.main ≡ length (newest_image self.now).main }
+        ensures side { result.side ≡ length (newest_image self.now).side }
+    {
+        let main = self.main.as_slice();
+        let side = self.side.as_slice();
+        let all = self.log.len();
+        lengths_under(main, side, &self.log, all)
     }
 
     /// The image that a live mark shows. Copies the base, and lays the frames below the mark into the copy. `Err` is want

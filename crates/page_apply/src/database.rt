@@ -10,9 +10,10 @@ use checkpoint_core::PageStore;
 use dq_base::{Image, Items, Name, NumberedPage, PageFault, PageSet};
 use std::alloc::{AllocError, Global};
 
-/// A database: its pages under readers, and the pages of a transaction that has not ended.
+/// A database of a machine: its pages under readers, and the pages of a transaction that has not ended. `Machine::databases`
+/// lends all of them to be read.
 #[derive(Debug, Drop)]
-pub(crate) struct Database {
+pub struct Database {
     pub(crate) name: Name,
     /// Its place in the machine's order of opening.
     pub(crate) place: usize,
