@@ -15,3 +15,4 @@ pub mod Undos
 pub mod Commits
 pub mod Alones
 pub mod Turns
+pub mod Examples

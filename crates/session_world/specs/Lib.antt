@@ -5,3 +5,4 @@ pub mod Replies
 pub mod Laws
 pub mod Logs
 pub mod Alone
+pub mod Examples

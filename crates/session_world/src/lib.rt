@@ -4,6 +4,14 @@
 #![tactic(auto)]
 
 ghost use Rattle.session_world.specs.Alone.{AloneIsSafe, ScriptsAreSafe};
+ghost use Rattle.session_world.specs.Examples.{
+  WriteWaits,
+  OldImages,
+  TurnEnds,
+  ProposalStays,
+  LeadershipGoes,
+  TransactionFits,
+};
 ghost use Rattle.session_world.specs.Laws.{
   LivesAreSafe,
   LivesLast,
@@ -83,4 +91,16 @@ pub fn flights_stand<E: Engine>()
 pub fn alone_is_safe<E: Engine>()
     ensures turns { (kind : _) → AloneIsSafe (E.meaning kind) kind }
     ensures scripts { (kind : _) → ScriptsAreSafe (E.meaning kind) kind }
+{}
+
+/// Small lives under the engine of cells, computed: a write is answered when it is applied, a transaction reads its own image
+/// and can't write over an old one, a hang-up ends the write turn and leaves a proposal, a leader that is deposed refuses
+/// what it proposed. And a life in which a transaction is committed and read, each event of which fits. So no law is empty.
+pub fn lives_are_made()
+    ensures write { WriteWaits }
+    ensures old_images { OldImages }
+    ensures turn { TurnEnds }
+    ensures proposal { ProposalStays }
+    ensures lost { LeadershipGoes }
+    ensures fits { TransactionFits }
 {}
