@@ -1,33 +1,30 @@
 -- What a command does to the databases of a node, seen as a map from names.
-use Rattle.std.proofs.Common.{◌≡◌, ◌≢◌, ◌⊎◌, ℕ, suc, ◌+◌, ◌-◌, ◌≤◌, Bool, true, false, true≢false, cond, List, [], ◌∷◌, ◌++◌, length, drop, map, refl, sym, ap, ◌∙◌, subst, ⊎_elim, arith, length-append, Ordering, Less, Equal, Greater}
-use Rattle.std.specs.Prelude.{bytes_eq, find, is_none, unwrap_or, Option, Some, None}
+use Rattle.std.proofs.Common.{◌≡◌, ◌≢◌, ℕ, suc, ◌≤◌, Bool, true, false, cond, List, [], ◌∷◌, ◌++◌, length, map, refl, sym, ap, ◌∙◌, subst, ⊎_elim, arith, length-append, Ordering, Less, Equal, Greater}
+use Rattle.std.specs.Prelude.{bytes_eq, is_none, unwrap_or, Option, Some, None}
 use Rattle.std.specs.Option.{option_map}
 use Rattle.std.specs.Ordering.{is_eq, match_ordering}
 use Rattle.std.specs.List.{AllByRecursion}
 use Rattle.std.specs.List.Sorted.{IsStrictlySortedBy}
 use Rattle.std.proofs.lemmas.List.{length-drop}
-use Rattle.std.proofs.lemmas.Bool.{cond-true, cond-false, cond_both, cases_Bool}
+use Rattle.std.proofs.lemmas.Bool.{cond-true, cond-false, cond_both}
 use Rattle.std.proofs.lemmas.Map.Text.{is_eq-slice_cmp}
-use Rattle.dq_base.specs.declared.images.Image.{Image}
 use Rattle.dq_base.specs.declared.pages.NumberedPage.{NumberedPage}
-use Rattle.dq_base.specs.declared.pages.PageSet.{PageSet}
 use Rattle.dq_base.specs.Applying.{applied, page_fault}
-use Rattle.frame_commands.specs.declared.command.Command.{Command}
 use Rattle.frame_commands.specs.declared.command.Command.TheVariants.{OpenDb, Frames, Undo, Checkpoint}
 use Rattle.read_marks.specs.Marks.{least_mark}
 use Rattle.read_marks.proofs.MarkTables.{least_mark-some}
-use Rattle.checkpoint_core.specs.Store.{Store, newest, newest_image, committed, checkpointed, sets_to_move, MarksWithin}
+use Rattle.checkpoint_core.specs.Store.{Store, newest, newest_image, committed, sets_to_move, MarksWithin}
 use Rattle.checkpoint_core.proofs.Shown.{after_sets-append}
 use Rattle.page_apply.specs.declared.database.Database.{Database}
 use Rattle.page_apply.specs.ByName.{at_name, change_first, Ascend}
-use Rattle.page_apply.specs.Files.{pending_of, pending_without, image_after}
-use Rattle.page_apply.specs.Machines.{names_of, AllWithin, IsMachine}
+use Rattle.page_apply.specs.Files.{pending_of}
+use Rattle.page_apply.specs.Machines.{names_of, AllWithin}
 use Rattle.page_apply.specs.Databases as databases
 use Rattle.page_apply.specs.Databases.{has_name, named, opened, grown, moved}
 use Rattle.page_apply.proofs.Contents.{checkpointed_image}
 use Rattle.page_apply.proofs.Named.{compare, map_at_name, map_change_first}
 use Rattle.page_apply.proofs.Ordered.{all_above}
-use Rattle.session_rules.specs.Machine.{Base, Machine, blank, base_of, machine_of, with_name, with_commit, with_pending, framed, undone, checked, changed_at, act}
+use Rattle.session_rules.specs.Machine.{Base, Machine, blank, base_of, with_name, with_commit, with_pending, framed, undone, checked, changed_at, act}
 use Rattle.session_rules.specs.Laws.{MachinesFollow}
 use Rattle.session_rules.proofs.Names.{same_name, name_is, names_apart, one_or_other}
 

@@ -8,7 +8,6 @@ use Rattle.dq_base.specs.Changes.{changed}
 use Rattle.wire_words.specs.declared.value.Value.{Value}
 use Rattle.wire_msgs.specs.declared.request.Request.{Request}
 use Rattle.wire_msgs.specs.declared.request.Request.TheVariants as requests
-use Rattle.wire_msgs.specs.declared.response.Response.{Response}
 use Rattle.wire_msgs.specs.declared.response.Response.TheVariants as responses
 use Rattle.sql_scan.specs.declared.pieces.Piece.{Piece}
 use Rattle.sql_scan.specs.declared.fault.ScanFault.{ScanFault}
@@ -19,17 +18,16 @@ use Rattle.sql_engine.specs.declared.answer.Ran.{Ran}
 use Rattle.sql_engine.specs.Replies.{Statement}
 use Rattle.page_apply.specs.Files.{empty_image}
 use Rattle.raft_rules.specs.Node.{Server, among, voters}
-use Rattle.session_rules.specs.Causes.{Cause, NotLeader, DatabaseOpen, ChangeInFlight, NoDatabase, NotAllowed, OneStatementWanted, WrongParameters, InTransaction, NoTransaction, BadName, BadNode, BadFormat, TargetBehind, TooManyStatements, TooManyDatabases, LogFull, AnswerTooBig, Locked, DatabaseFull}
-use Rattle.session_rules.specs.Entries.{Content, Does, Configures}
+use Rattle.session_rules.specs.Causes.{Cause, NotLeader, DatabaseOpen, ChangeInFlight, NoDatabase, NotAllowed, OneStatementWanted, WrongParameters, InTransaction, NoTransaction, BadName, BadNode, BadFormat, TargetBehind, TooManyStatements, TooManyDatabases, LogFull, AnswerTooBig, DatabaseFull}
 use Rattle.session_rules.specs.Machine.{Machine, is_named}
-use Rattle.session_rules.specs.Engines.{Answer, no_pages, Ending, Lacking, TooLarge, Stopped, Ended, no_answer, runs, Handed}
-use Rattle.session_rules.specs.Sessions.{Reply, Single, result, Prepared, Kind, Transaction, Session, Gateway, View, Nothing, Inside, Outside, Effect, HandsOver, JoinsPeer, Weighs, Turned, Refused, Lacks, Answers, Proposes, Affects, Writing, Committing}
+use Rattle.session_rules.specs.Engines.{Answer, no_pages, Ending, Lacking, TooLarge, Stopped, Ended, Handed}
+use Rattle.session_rules.specs.Sessions.{Reply, Prepared, Transaction, Session, Gateway, View, Nothing, Inside, Outside, HandsOver, JoinsPeer, Turned, Refused, Lacks, Answers, Proposes, Affects, Writing, Committing}
 use Rattle.session_rules.specs.Statements.{any_barred, is_left_out, wrong_params, with_params, with_all, prepared_at, prepared_count, prepared_from}
 use Rattle.session_rules.specs.Limits.{other_holds, change_in_flight, one_too_many, pages_full, log_full, first_cause, hindrance}
 use Rattle.session_rules.specs.Asking
 use Rattle.session_rules.specs.Asking.{Asked, Never, Tells, Sets, Opens, Creates, Prepares, Drops, Begins, Commits, RollsBack, Changes, Runs, Reads, asked, asked_by, at_leader, in_database}
-use Rattle.session_rules.specs.Requests.{with_tx, worked, flying, unless, row_cause, reply_of, change_of, outside_write, outside, inside, ground, run_in, committed, commit_in, does, on_request, handed_over, handed_for, handed}
-use Rattle.session_rules.specs.Outcomes.{gateway_after, reply_at_once, proposed_by}
+use Rattle.session_rules.specs.Requests.{worked, flying, unless, row_cause, reply_of, change_of, outside_write, outside, inside, ground, run_in, committed, commit_in, does, on_request, handed_over, handed_for, handed}
+use Rattle.session_rules.specs.Outcomes.{reply_at_once}
 use Rattle.session_rules.specs.Laws.{IsFailure, IsRefusal, IsRefused, NothingDone, RefusalsKeep, NoteTells, TurnedTells, NotesTell, IsChange, IsSole, ProposalIs, ProposesPages}
 
 -- ---- what is so of all that comes of a request

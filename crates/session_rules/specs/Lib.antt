@@ -10,3 +10,4 @@ pub mod Requests
 pub mod Events
 pub mod Outcomes
 pub mod Laws
+pub mod Seen

@@ -5,6 +5,7 @@
 #![tactic(auto)]
 
 ghost use Rattle.session_rules.specs.Laws.{RefusalsKeep, NotesTell, ProposesPages, MachinesFollow};
+ghost use Rattle.session_rules.specs.Seen.{WrittenIsSeen};
 
 /// A request that is answered by a FAILURE leaves the sessions as they were, and appends nothing.
 pub fn refusals_keep()
@@ -25,4 +26,9 @@ pub fn proposes_pages()
 /// A command does to the databases of a node, seen as a map from names, what it does to that map.
 pub fn machines_follow()
     ensures { MachinesFollow }
+{}
+
+/// What is written into a log is seen there again, in its term: commands and configurations that have a spelling.
+pub fn written_is_seen()
+    ensures { WrittenIsSeen }
 {}

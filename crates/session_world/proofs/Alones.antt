@@ -1,27 +1,25 @@
 -- One voter that never stops.
-use Rattle.std.proofs.Common.{◌≡◌, ℕ, zero, suc, ◌+◌, ◌-◌, ◌<◌, Bool, true, false, true≢false, cond, List, [], ◌∷◌, ◌++◌, length, refl, sym, ap, ◌∙◌, subst, arith, length-append}
-use Rattle.std.specs.Prelude.{◌==◌, ◌&&◌, nat_le, nat_lt, map, Option, Some, None}
+use Rattle.std.proofs.Common.{◌≡◌, ℕ, zero, suc, ◌+◌, ◌-◌, ◌<◌, true, false, List, [], ◌∷◌, ◌++◌, length, refl, sym, ap, ◌∙◌, subst, arith, length-append}
+use Rattle.std.specs.Prelude.{nat_le, map, Option, Some, None}
 use Rattle.std.specs.List.{filter}
 use Rattle.std.proofs.lemmas.List.{take_all}
 use Rattle.std.proofs.lemmas.Bool.{cond_both}
 use Rattle.wire_msgs.specs.declared.request.Request.{Request}
-use Rattle.wire_msgs.specs.declared.request.Request.TheVariants as requests
 use Rattle.frame_commands.specs.declared.command.Command.TheVariants.{Checkpoint}
 use Rattle.sql_engine.specs.declared.kind.EngineKind.{EngineKind}
 use Rattle.sql_engine.specs.Meanings.{Meaning}
-use Rattle.session_rules.specs.Causes.{NotLeader}
-use Rattle.session_rules.specs.Entries.{Content, Does, Other, Entry, entries_of}
+use Rattle.session_rules.specs.Entries.{Does, Other, Entry, entries_of}
 use Rattle.session_rules.specs.Machine.{files, base_at, act}
 use Rattle.session_rules.specs.Engines.{Answer}
-use Rattle.session_rules.specs.Sessions.{Effect, HandsOver, JoinsPeer, Weighs, Flight, Turned, Refused, Lacks, Answers, Proposes, Affects, may_ask}
-use Rattle.session_rules.specs.Asking.{Asked, Never, Tells, Sets, Opens, Creates, Prepares, Drops, Begins, Commits, RollsBack, Changes, Runs, Reads, asked_by, at_leader}
+use Rattle.session_rules.specs.Sessions.{Flight, Turned, Refused, Lacks, Answers, Proposes, Affects, may_ask}
+use Rattle.session_rules.specs.Asking.{Asked, Never, Tells, Sets, Opens, Creates, Prepares, Drops, Begins, Commits, RollsBack, Changes, Runs, Reads, asked_by}
 use Rattle.session_rules.specs.Requests.{does, on_request}
 use Rattle.session_rules.specs.Events.{connects}
 use Rattle.session_world.specs.Woven.{Woven}
 use Rattle.session_world.specs.Nodes.{Trail, Node, Standing, databases, view_of, started}
 use Rattle.session_world.specs.Life.{Event, Connect, Hangup, Call, Apply, Lead, Serve, Append, called, happens, run_from, Fits, AllFit, ArePlain}
 use Rattle.session_world.specs.Replies.{AllSaid}
-use Rattle.session_world.specs.Alone.{Turn, Timeout, Join, Leave, Ask, applies, settling, due, settled, checkpointed, takes_turn, alone_from, alone, AllowsTurn, AllowsTurns, SafeAlone, AloneIsSafe, script_turns, ScriptsAreSafe}
+use Rattle.session_world.specs.Alone.{Turn, Timeout, Join, Leave, Ask, applies, settling, due, settled, checkpointed, takes_turn, alone_from, alone, AllowsTurn, AllowsTurns, AloneIsSafe, script_turns, ScriptsAreSafe}
 use Rattle.session_world.proofs.Invariant.{FlightIs, NodeOk}
 use Rattle.session_world.proofs.Asks.{IsIdle, request_idle}
 use Rattle.session_world.proofs.Moves.{no}

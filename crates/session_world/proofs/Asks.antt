@@ -1,5 +1,5 @@
 -- What comes of a request keeps the invariant.
-use Rattle.std.proofs.Common.{◌≡◌, ◌⊎◌, inl, ℕ, suc, ◌+◌, ◌≤◌, max, Bool, true, false, true≢false, cond, List, [], ◌∷◌, ◌++◌, length, take, refl, sym, ap, ◌∙◌, subst, ⊎_elim, arith, length-append}
+use Rattle.std.proofs.Common.{◌≡◌, inl, ℕ, Bool, true, false, cond, List, [], ◌∷◌, ◌++◌, take, refl, sym, ap, ◌∙◌, subst, ⊎_elim, arith, length-append}
 use Rattle.std.specs.Prelude.{◌==◌, ◌&&◌, nat_lt, nat_le, map, Option, Some, None}
 use Rattle.std.proofs.lemmas.List.{length-take-le}
 use Rattle.std.proofs.lemmas.Bool.{cond_both, cases_Bool}
@@ -8,18 +8,15 @@ use Rattle.dq_base.specs.Images.{page_count}
 use Rattle.dq_base.specs.Changes.{changed}
 use Rattle.frame_commands.specs.declared.command.Command.TheVariants.{OpenDb}
 use Rattle.page_apply.specs.Files.{empty_image}
-use Rattle.raft_rules.specs.Node.{Server}
-use Rattle.wire_msgs.specs.declared.response.Response.{Response}
 use Rattle.wire_msgs.specs.declared.response.Response.TheVariants as responses
 use Rattle.wire_msgs.specs.declared.request.Request.{Request}
 use Rattle.wire_msgs.specs.declared.request.Request.TheVariants as requests
-use Rattle.sql_engine.specs.declared.answer.Ran.{Ran}
 use Rattle.sql_engine.specs.declared.kind.EngineKind.{EngineKind}
 use Rattle.sql_engine.specs.Replies.{Statement}
 use Rattle.sql_engine.specs.Replies.{Reply as StatementReply}
 use Rattle.sql_engine.specs.Meanings.{Meaning, IsShort}
 use Rattle.sql_engine.specs.Runs.{RanAll}
-use Rattle.session_rules.specs.Causes.{Cause, NotLeader, BadNode, BadFormat, AnswerTooBig, NoStatement, NoDatabase, NoTransaction, DatabaseFull, LogFull, Locked, engine_cause}
+use Rattle.session_rules.specs.Causes.{Cause, NotLeader, BadNode, BadFormat, AnswerTooBig, NoDatabase, NoTransaction, DatabaseFull, LogFull, Locked, engine_cause}
 use Rattle.session_rules.specs.Entries.{Content, Does, Configures, Entry, entries_of}
 use Rattle.session_rules.specs.Machine.{Machine, is_named, base_at, image_at}
 use Rattle.session_rules.specs.Engines.{Answer, no_pages, Ending, Lacking, TooLarge, Stopped, Ended, no_answer, AllowsAll, AllowsFor}
@@ -27,14 +24,14 @@ use Rattle.session_rules.specs.Sessions.{Prepared, Reply, Single, result, empty,
 use Rattle.session_rules.specs.Statements.{prepared_at, with_prepared, without_prepared, free_id}
 use Rattle.session_rules.specs.Limits.{other_holds, pages_full, log_full, first_cause, hindrance}
 use Rattle.session_rules.specs.Asking.{Asked, Never, Tells, Sets, Opens, Creates, Prepares, Drops, Begins, Commits, RollsBack, Changes, Runs, Reads, asked_by, at_leader, asks_finalize, no_database, is_other_node, files_of, within_size, body_size, info_of}
-use Rattle.session_rules.specs.Requests.{with_tx, with_statements, with_database, begun, worked, flying, row_cause, reply_of, change_of, outside_write, outside, inside, ground, run_in, committed, commit_in, creates, begins, does, on_request, handed_for, handed}
+use Rattle.session_rules.specs.Requests.{with_tx, with_statements, with_database, begun, worked, flying, row_cause, reply_of, outside_write, outside, inside, ground, run_in, committed, commit_in, does, on_request, handed_for, handed}
 use Rattle.session_rules.proofs.Images.{changed_same}
 use Rattle.session_world.specs.Nodes.{Trail, Node, Standing, databases, view_of}
 use Rattle.session_world.specs.Life.{query_by, called, IsPlain}
-use Rattle.session_world.specs.Replies.{QueryIs, AllSaid}
+use Rattle.session_world.specs.Replies.{QueryIs}
 use Rattle.session_world.proofs.Files.{touches, base_append, base_take, counts_between}
 use Rattle.session_world.proofs.Runs.{Led, RunsOk, runs_ok, ran_append}
-use Rattle.session_world.proofs.Invariant.{TxIs, KindOk, FlightIs, ApartBy, Apart, Bare, NodeOk, tx_grown, said_append}
+use Rattle.session_world.proofs.Invariant.{TxIs, KindOk, FlightIs, ApartBy, Apart, NodeOk, tx_grown, said_append}
 use Rattle.session_world.proofs.Moves.{no}
 use Rattle.session_world.proofs.Weaves.{woven_plain}
 use Rattle.session_world.proofs.Wrotes.{block_for}

@@ -1,13 +1,13 @@
 -- A request at a session.
 use Rattle.std.proofs.Common.{◌≡◌, ◌≢◌, ◌⊎◌, inl, inr, ℕ, suc, ◌+◌, ◌≤◌, Bool, true, false, true≢false, List, [], ◌∷◌, ◌++◌, length, take, refl, sym, ap, ◌∙◌, subst, ⊎_elim, arith, length-append}
-use Rattle.std.specs.Prelude.{◌==◌, ◌&&◌, Option, Some, None}
+use Rattle.std.specs.Prelude.{◌==◌, Option, Some, None}
 use Rattle.std.proofs.lemmas.List.{take-append-le}
 use Rattle.std.proofs.lemmas.Bool.{cond_both, cond-true, cases_Bool, cases_eq, eqb-true, eqb-false, and_from, eq-eqb, not-false, or_parts, leb-false}
 use Rattle.dq_base.specs.declared.images.Image.{Image}
 use Rattle.dq_base.specs.declared.pages.NumberedPage.{NumberedPage}
 use Rattle.dq_base.specs.Changes.{changed}
 use Rattle.wire_rows.specs.Answering.{parts_of}
-use Rattle.frame_commands.specs.Splitting.{before_last, split}
+use Rattle.frame_commands.specs.Splitting.{before_last}
 use Rattle.raft_rules.specs.Node.{among}
 use Rattle.sql_engine.specs.declared.answer.Ran.{Ran}
 use Rattle.sql_engine.specs.Replies.{Statement}
@@ -15,14 +15,14 @@ use Rattle.sql_engine.specs.Replies.{Reply as StatementReply}
 use Rattle.sql_engine.specs.Meanings.{Meaning, IsShort}
 use Rattle.sql_engine.specs.Meanings.{reply_of as told_by_statement}
 use Rattle.sql_engine.specs.Runs.{RanAll}
-use Rattle.session_rules.specs.Causes.{Cause, Locked, OutOfDate, DatabaseFull}
+use Rattle.session_rules.specs.Causes.{Cause}
 use Rattle.session_rules.specs.Entries.{Content, Entry, entries_of, tx_of}
 use Rattle.session_rules.specs.Machine.{Machine, base_at, image_at}
 use Rattle.session_rules.specs.Engines.{takes, no_answer}
 use Rattle.session_rules.specs.Sessions.{Reply, Kind, Transaction, Session, Gateway, Note, Nothing, Began, Inside, Outside, Turned, Refused, Answers, Proposes}
 use Rattle.session_rules.specs.Limits.{writes_to, is_write, other_holds, too_full, first_cause, hindrance, log_full}
 use Rattle.session_rules.specs.Requests.{flying, unless, rows_cause, or_cause, row_cause, reply_of, with_session}
-use Rattle.session_rules.proofs.Names.{same_name, is_name, one_or_other}
+use Rattle.session_rules.proofs.Names.{is_name, one_or_other}
 use Rattle.session_world.specs.Woven.{Woven}
 use Rattle.session_world.specs.Nodes.{Trail, Node, Standing, databases, view_of}
 use Rattle.session_world.specs.Life.{query_for, query_by, answered_trail, proposed_trail, called, sole}

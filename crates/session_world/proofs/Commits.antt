@@ -7,7 +7,6 @@ use Rattle.std.proofs.lemmas.Option.{slice_get_within, slice_get_cases}
 use Rattle.dq_base.specs.declared.images.Image.{Image}
 use Rattle.dq_base.specs.declared.pages.NumberedPage.{NumberedPage}
 use Rattle.dq_base.specs.declared.pages.PageSet.{PageSet}
-use Rattle.frame_commands.specs.declared.command.Command.{Command}
 use Rattle.frame_commands.specs.declared.command.Command.TheVariants.{OpenDb, Frames, Undo, Checkpoint}
 use Rattle.page_apply.specs.Files.{image_after, pending_of, pending_without}
 use Rattle.session_rules.specs.Entries.{Content, Does, Configures, Other, Entry, tx_of}

@@ -4,7 +4,7 @@ use Rattle.dq_base.specs.declared.images.Image.{Image}
 use Rattle.page_apply.specs.Files.{empty_image}
 use Rattle.sql_engine.specs.Meanings.{IsShort}
 use Rattle.sql_engine.specs.Meanings.{Answers as MayAnswer}
-use Rattle.sql_engine.specs.Cells.{cells, cell_rows, Outcome}
+use Rattle.sql_engine.specs.Cells.{cells, cell_rows}
 use Rattle.sql_engine.specs.Replies.{plain_rows}
 use Rattle.sql_scan.specs.Bytes.{is_space, is_digit, is_letter, is_word_start, is_word_part, is_sigil, is_quote, is_in_line}
 use Rattle.sql_scan.specs.Grammar.{has_end}
@@ -33,7 +33,7 @@ use Rattle.session_world.specs.Life.{happens}
 use Rattle.sql_engine.specs.CellTexts.{number, halves, statement_of}
 use Rattle.sql_engine.specs.Replies.{fault_in}
 use Rattle.sql_engine.specs.Cells.{cell_page, with_page, with_cell, wiped, outcome_of}
-use Rattle.std.specs.Prelude.{codes, Option, Some, None, Result, Ok}
+use Rattle.std.specs.Prelude.{codes, Option, Some, None, Ok}
 use Rattle.std.specs.Fmt.{digits}
 use Rattle.std.specs.List.{AllByRecursion}
 use Rattle.session_world.specs.Examples.{two_open, after, transaction, one, set_text, set_on, got_on, TransactionFits, WriteWaits, OldImages, TurnEnds, ProposalStays, LeadershipGoes}

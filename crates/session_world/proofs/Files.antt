@@ -1,17 +1,17 @@
 -- The databases after entries.
 use Rattle.std.proofs.Common.{◌≡◌, ◌≢◌, ℕ, zero, suc, ◌+◌, ◌-◌, ◌<◌, ◌≤◌, Bool, true, false, true≢false, List, [], ◌∷◌, ◌++◌, length, take, drop, map, refl, sym, ap, ◌∙◌, subst, arith, append_assoc, take-append-drop}
-use Rattle.std.specs.Prelude.{◌==◌, bytes_eq, is_none, Option, Some, None}
-use Rattle.std.proofs.lemmas.List.{take-append-le, drop-append-le, take-take, append-nil, drop-take}
+use Rattle.std.specs.Prelude.{◌==◌, bytes_eq, is_none, Some, None}
+use Rattle.std.proofs.lemmas.List.{take-append-le, drop-append-le, take-take, drop-take}
 use Rattle.std.proofs.lemmas.Bool.{cond_both, cond-true, cond-false, eq-eqb}
 use Rattle.dq_base.specs.declared.pages.NumberedPage.{NumberedPage}
 use Rattle.dq_base.specs.declared.pages.PageSet.{PageSet}
-use Rattle.dq_base.specs.Applying.{page_fault, last_page}
+use Rattle.dq_base.specs.Applying.{page_fault}
 use Rattle.frame_commands.specs.declared.command.Command.{Command}
 use Rattle.frame_commands.specs.declared.command.Command.TheVariants.{OpenDb, Frames, Undo, Checkpoint}
-use Rattle.frame_commands.specs.Splitting.{count_stated, split_from, before_last, split}
+use Rattle.frame_commands.specs.Splitting.{split_from, before_last, split}
 use Rattle.page_apply.specs.Files.{image_after, pending_of}
 use Rattle.session_rules.specs.Entries.{Content, Does, Configures, Other, Entry, entries_of}
-use Rattle.session_rules.specs.Machine.{Base, Machine, nothing, with_commit, framed, undone, checked, changed_at, act, done, files_from, files, base_at}
+use Rattle.session_rules.specs.Machine.{Base, Machine, nothing, with_commit, framed, checked, act, done, files_from, files, base_at}
 use Rattle.session_rules.proofs.Names.{same_name, names_apart}
 
 -- ---- what leaves a database alone

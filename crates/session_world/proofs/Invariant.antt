@@ -18,7 +18,7 @@ use Rattle.session_rules.proofs.Names.{name_is, same_name}
 use Rattle.session_world.specs.Woven.{Woven}
 use Rattle.session_world.specs.Nodes.{Query, Commit, Said, Trail, Node}
 use Rattle.session_world.specs.Life.{query_for, commit_of}
-use Rattle.session_world.specs.Replies.{QueryOk, CommitOk, change_entries, QueryIs, CommitIs, RowsAre, SaidOk, AllSaid}
+use Rattle.session_world.specs.Replies.{QueryOk, CommitOk, change_entries, QueryIs, CommitIs, RowsAre, AllSaid}
 use Rattle.session_world.proofs.Files.{Free, free_grown, base_append, base_take}
 
 -- no entry past the index does anything to the database, and nothing is pending in it there

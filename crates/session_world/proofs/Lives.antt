@@ -11,7 +11,7 @@ use Rattle.session_rules.specs.Sessions.{absent, Flight, may_ask}
 use Rattle.session_world.specs.Woven.{Woven}
 use Rattle.session_world.specs.Nodes.{Trail, Node, Standing, unseen, started}
 use Rattle.session_world.specs.Life.{Event, Connect, Hangup, Call, Apply, Lose, Lead, Serve, Append, Follow, happens, run_from, Fits, AllFit}
-use Rattle.session_world.specs.Laws.{Starts, FlightsStand, LivesAreSafe, LivesWeave}
+use Rattle.session_world.specs.Laws.{FlightsStand, LivesAreSafe, LivesWeave}
 use Rattle.session_world.proofs.Invariant.{NodeOk, bare_ok, FlightIs, FlightOk, write_of}
 use Rattle.session_world.proofs.Tables.{absent_bare}
 use Rattle.session_world.proofs.Applies.{apply_ok}

@@ -9,13 +9,13 @@ use Rattle.sql_engine.specs.Meanings.{Meaning}
 use Rattle.session_rules.specs.Causes.{LeadershipLost}
 use Rattle.session_rules.specs.Entries.{Content, Does, Configures, Other, Entry, entries_of}
 use Rattle.session_rules.specs.Machine.{base_at}
-use Rattle.session_rules.specs.Sessions.{Reply, Refusal, Flight, Session, Gateway, absent, fresh}
+use Rattle.session_rules.specs.Sessions.{Refusal, Flight, Session, Gateway, absent, fresh}
 use Rattle.session_rules.specs.Limits.{writes_to}
 use Rattle.session_rules.specs.Events.{lost, left, on_lost, told_lost, on_hangup, connects, connected, tidy}
 use Rattle.session_world.specs.Woven.{Woven}
 use Rattle.session_world.specs.Nodes.{Trail, Node, unseen}
-use Rattle.session_world.specs.Life.{Connect, Hangup, Lose, Lead, Serve, Append, Follow, tells, told_all, ArePlain, happens}
-use Rattle.session_world.specs.Replies.{SaidOk, AllSaid}
+use Rattle.session_world.specs.Life.{Connect, Hangup, Lose, Lead, Serve, Append, Follow, told_all, ArePlain, happens}
+use Rattle.session_world.specs.Replies.{AllSaid}
 use Rattle.session_world.proofs.Files.{Free}
 use Rattle.session_world.proofs.Invariant.{Calm, SessionOk, Bare, Held, NodeOk, calm_grown, session_grown, bare_ok, bare_writes, two_cond, said_append}
 use Rattle.session_world.proofs.Tables.{among_filter, among_append, among_last, absent_bare, lost_bare, lost_there}

@@ -27,7 +27,7 @@ use Rattle.session_rules.proofs.Images.{unchanged, changed_same}
 use Rattle.session_rules.proofs.Names.{name_is, is_name, same_name}
 use Rattle.session_world.specs.Nodes.{Node, Standing, databases, view_of, started}
 use Rattle.session_world.specs.Life.{Event, Connect, Hangup, Call, Apply, Lose, Lead, Serve, Append, Follow, ArePlain, called, happens, run_from, Fits, AllFit}
-use Rattle.session_world.specs.Laws.{Starts, life, Passes, OneTurn, CommitsPass}
+use Rattle.session_world.specs.Laws.{Starts, life, OneTurn, CommitsPass}
 use Rattle.session_world.proofs.Files.{Free, touches, alike_between, base_append, split_free}
 use Rattle.session_world.proofs.Invariant.{Calm, Apart, ApartBy, Bare, NodeOk, calm_grown}
 use Rattle.session_world.proofs.Tables.{none_holds, others_none}

@@ -1,18 +1,17 @@
 -- Undo entries for all that is pending.
-use Rattle.std.proofs.Common.{◌≡◌, ◌⊎◌, inl, inr, ℕ, true, false, true≢false, Bool, List, [], ◌∷◌, ◌++◌, refl, sym, ap, ◌∙◌, subst, ⊎_elim, Ordering, Less, Equal, Greater}
+use Rattle.std.proofs.Common.{◌≡◌, ◌⊎◌, inl, inr, ℕ, true, false, true≢false, List, [], ◌∷◌, refl, sym, ap, ◌∙◌, subst, ⊎_elim, Ordering, Less, Equal, Greater}
 use Rattle.std.specs.Prelude.{◌==◌, bytes_eq, Option, Some, None}
 use Rattle.std.specs.Ordering.{nat_cmp, match_ordering, is_eq}
 use Rattle.std.specs.Cmp.Lexicographic.{slice_cmp}
 use Rattle.std.proofs.lemmas.Map.Text.{is_eq-slice_cmp}
 use Rattle.std.proofs.lemmas.Bool.{cond_both, cond-true, cases_Bool, eq-eqb, or_cases, or_left, or_right}
-use Rattle.dq_base.specs.declared.pages.NumberedPage.{NumberedPage}
 use Rattle.dq_base.specs.declared.pages.PageSet.{PageSet}
 use Rattle.frame_commands.specs.declared.command.Command.{Command}
 use Rattle.frame_commands.specs.declared.command.Command.TheVariants.{OpenDb, Frames, Undo, Checkpoint}
 use Rattle.page_apply.specs.ByName.{at_name}
 use Rattle.page_apply.specs.Files.{pending_without}
 use Rattle.session_rules.specs.Entries.{Content, Does, Configures, Other, Entry, entries_of}
-use Rattle.session_rules.specs.Machine.{Base, Machine, is_named, nothing, with_name, framed, checked, changed_at, act, done, files_from, files}
+use Rattle.session_rules.specs.Machine.{Base, Machine, is_named, nothing, with_name, framed, checked, act, done, files_from, files}
 use Rattle.session_rules.proofs.Names.{name_is, same_name}
 use Rattle.session_world.specs.Logs.{with_undo, undos_for, undos, UndosClear}
 use Rattle.session_world.proofs.Files.{files_append}

@@ -4,9 +4,8 @@ use Rattle.std.specs.Prelude.{slice_get, Option, Some}
 use Rattle.std.proofs.lemmas.Bool.{cases_lt}
 use Rattle.std.proofs.lemmas.Option.{slice_get_within}
 use Rattle.dq_base.specs.declared.pages.NumberedPage.{NumberedPage}
-use Rattle.frame_commands.specs.declared.command.Command.{Command}
 use Rattle.frame_commands.specs.declared.command.Command.TheVariants.{OpenDb, Frames, Undo, Checkpoint}
-use Rattle.frame_commands.specs.Splitting.{count_stated, split_from, before_last, split}
+use Rattle.frame_commands.specs.Splitting.{split_from, before_last, split}
 use Rattle.session_rules.specs.Entries.{Content, Does, Configures, Other, Entry, tx_of, entries_of}
 use Rattle.session_world.specs.Woven.{Bears, Follows, Woven}
 use Rattle.session_world.specs.Life.{ArePlain}

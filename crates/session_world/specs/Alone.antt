@@ -1,6 +1,6 @@
 -- One voter that never stops: what is proposed is applied in the same step. Its run, turn by turn, and that of a script with
 -- its journal.
-use Rattle.std.specs.Prelude.{◌≡◌, ℕ, zero, suc, ◌-◌, Bool, true, false, ◌&&◌, nat_le, List, [], ◌∷◌, ◌++◌, length, drop, map, Option, Some, None, Result, Ok, Err, if◌then◌else◌}
+use Rattle.std.specs.Prelude.{◌≡◌, ℕ, zero, suc, ◌-◌, Bool, true, false, ◌&&◌, nat_le, List, [], ◌∷◌, ◌++◌, length, drop, map, Option, Some, None, Ok, Err, if◌then◌else◌}
 use Rattle.std.specs.List.{filter}
 use Rattle.dq_base.specs.declared.images.Image.{Image}
 use Rattle.wire_msgs.specs.declared.request.Request.{Request}

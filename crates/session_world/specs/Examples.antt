@@ -9,7 +9,7 @@ use Rattle.sql_engine.specs.declared.kind.EngineKind.TheVariants.{Cells}
 use Rattle.sql_engine.specs.Cells.{with_cell, cell_rows, cells}
 use Rattle.page_apply.specs.Files.{empty_image}
 use Rattle.session_rules.specs.Causes.{NotLeader, LeadershipLost, Locked, OutOfDate}
-use Rattle.session_rules.specs.Entries.{Other, Entry}
+use Rattle.session_rules.specs.Entries.{Other}
 use Rattle.session_rules.specs.Machine.{image_at}
 use Rattle.session_rules.specs.Sessions.{Reply, Refusal, Rows, result, db}
 use Rattle.session_world.specs.Nodes.{Said, Node, Standing, started}

@@ -1,5 +1,5 @@
 -- A node since it was started, as its sessions see it, and what its replies rest on.
-use Rattle.std.specs.Prelude.{ℕ, Bool, false, List, [], ◌∷◌, length, take, Option}
+use Rattle.std.specs.Prelude.{ℕ, Bool, false, List, [], length, take, Option}
 use Rattle.sql_engine.specs.declared.answer.Ran.{Ran}
 use Rattle.sql_engine.specs.Replies.{Statement}
 use Rattle.raft_rules.specs.Node.{Server}

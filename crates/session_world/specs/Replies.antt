@@ -1,11 +1,9 @@
 -- When a reply is right by a list of entries.
-use Rattle.std.specs.Prelude.{◌≡◌, ℕ, suc, ◌-◌, ◌<◌, ◌≤◌, List, [], ◌∷◌, length, Option, Some, None}
+use Rattle.std.specs.Prelude.{◌≡◌, ℕ, ◌-◌, ◌<◌, ◌≤◌, List, [], ◌∷◌, length, Option, Some, None}
 use Rattle.dq_base.specs.declared.images.Image.{Image}
-use Rattle.dq_base.specs.declared.pages.PageSet.{PageSet}
 use Rattle.dq_base.specs.Changes.{changed}
 use Rattle.frame_commands.specs.Splitting.{split}
 use Rattle.sql_engine.specs.declared.answer.Ran.{Ran}
-use Rattle.sql_engine.specs.Replies.{Statement}
 use Rattle.sql_engine.specs.Replies.{Reply as StatementReply}
 use Rattle.sql_engine.specs.Meanings.{Meaning, reply_of}
 use Rattle.sql_engine.specs.Runs.{RanAll}
