@@ -6,3 +6,9 @@ pub mod Segments
 pub mod Keeping
 pub mod AppendKeeps
 pub mod Appending
+pub mod CallsMade
+pub mod KeptCalls
+pub mod KeptFiles
+pub mod KeptLaw
+pub mod KeepRuns
+pub mod KeepStore
