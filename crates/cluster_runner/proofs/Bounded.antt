@@ -1,5 +1,5 @@
 -- The files of a machine are never longer together than the limit on what a list of commands states.
-use Rattle.std.proofs.Common.{◌≡◌, ℕ, zero, suc, ◌+◌, ◌/◌, ◌<◌, ◌≤◌, max, Bool, true, false, cond, List, [], ◌∷◌, ◌++◌, Option, Some, None, Ok, Err, length, take, drop, map, sum_by, Contains, refl, sym, ap, subst, ◌∙◌, arith}
+use Rattle.std.proofs.Common.{◌≡◌, ℕ, zero, suc, ◌+◌, ◌/◌, ◌<◌, ◌≤◌, max, Bool, true, false, cond, List, [], ◌∷◌, ◌++◌, Option, Some, None, Ok, Err, length, take, drop, sum_by, Contains, refl, sym, ap, subst, ◌∙◌, arith}
 use Rattle.std.specs.Prelude.{bytes_eq, Result}
 use Rattle.std.specs.List.{AllByRecursion}
 use Rattle.std.proofs.lemmas.List.{take-append-drop}
@@ -10,13 +10,11 @@ use Rattle.frame_commands.specs.declared.command.Command.{Command}
 use Rattle.frame_commands.specs.declared.command.Command.TheVariants.{OpenDb, Frames, Undo, Checkpoint}
 use Rattle.frame_commands.specs.declared.fault.CommandFault.{CommandFault}
 use Rattle.frame_commands.specs.Reading.{command_of}
-use Rattle.frame_commands.specs.Spelling.{Writes}
 use Rattle.frame_commands.proofs.CommandLaws.{command_found}
 use Rattle.page_apply.specs.Files.{Content, files}
 use Rattle.page_apply.specs.Stated as files_stated
 use Rattle.page_apply.specs.Stated.{IsSpelled, names_opened}
 use Rattle.page_apply.proofs.LimitLaw.{limit_bounds}
-use Rattle.command_list.specs.declared.stated.Stated.{Stated}
 use Rattle.command_list.specs.Limits.{length_stated_by, statements, table_of, is_allowed, may_join}
 use Rattle.command_list.specs.StatedLengths.{names_in, greatest_stated}
 use Rattle.command_list.proofs.StatedTables.{names_told, allowed_told}
@@ -30,7 +28,7 @@ use Rattle.cluster_runner.specs.Grammar.{line_of}
 use Rattle.cluster_runner.specs.Spelling.{AreHex}
 use Rattle.cluster_runner.specs.World.{World, happens}
 use Rattle.cluster_runner.specs.Holding.{Holding}
-use Rattle.cluster_runner.specs.Machines.{Fleet, take_at, with_command, joins, refusal, applies, place_named}
+use Rattle.cluster_runner.specs.Machines.{Fleet, take_at, with_command, applies, place_named}
 use Rattle.cluster_runner.specs.Scenes.{Scene, Nodes, Pages, plays, shown}
 use Rattle.cluster_runner.specs.Run.{Place, Opening, Within, Next, Fault, after_event, after_show, opened_at, line_step, said_step, step}
 use Rattle.cluster_runner.specs.Alike.{fleet_in, fleet_at, led, led_from, commands_of, Follows, length_of_all}

@@ -6,7 +6,7 @@ use Rattle.frame_commands.specs.declared.command.Command.{Command}
 use Rattle.frame_commands.specs.Numbers.{numbers_fit, HasLowNumbers}
 use Rattle.frame_commands.proofs.InOtherWords.{fit_low}
 use Rattle.command_list.specs.declared.stated.Stated.{Stated}
-use Rattle.command_list.specs.Limits.{noted, stated_by, table_of}
+use Rattle.command_list.specs.Limits.{noted, stated_by}
 use Rattle.command_list.specs.Kept.{IsKept}
 use Rattle.command_list.proofs.Statements.{table_more}
 

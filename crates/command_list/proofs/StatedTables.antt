@@ -1,5 +1,5 @@
 -- The table of a list of statements has each name once, with the greatest length that is stated for it.
-use Rattle.std.proofs.Common.{◌≡◌, ◌≢◌, ◌↔◌, ℕ, ◌≤◌, max, Bool, cond, leb, inl, inr, ◌⊎◌, List, [], ◌∷◌, ◌++◌, map, length, fold, sum_by, IsTrue, All, refl, sym, ap, subst, ◌∙◌, arith, append_assoc, append-nil}
+use Rattle.std.proofs.Common.{◌≡◌, ◌≢◌, ◌↔◌, ℕ, ◌≤◌, max, Bool, cond, leb, inl, inr, ◌⊎◌, List, [], ◌∷◌, ◌++◌, length, sum_by, IsTrue, All, refl, sym, ap, subst, ◌∙◌, arith, append_assoc, append-nil}
 use Rattle.std.specs.Prelude.{bytes_eq}
 use Rattle.std.specs.List.{AllByRecursion}
 use Rattle.std.proofs.lemmas.Bool.{and_parts, and_from, leb-true, le-leb}

@@ -1,6 +1,5 @@
 -- What a list of commands states, after one more.
-use Rattle.std.proofs.Common.{◌≡◌, ℕ, List, [], ◌∷◌, ◌++◌, fold, ap, ◌∙◌, append-nil}
-use Rattle.std.specs.List.{flat_map}
+use Rattle.std.proofs.Common.{◌≡◌, List, [], ◌∷◌, ◌++◌, ap, ◌∙◌, append-nil}
 use Rattle.std.proofs.lemmas.Grind.{fold-append, flat_map-append}
 use Rattle.frame_commands.specs.declared.command.Command.{Command}
 use Rattle.command_list.specs.declared.stated.Stated.{Stated}

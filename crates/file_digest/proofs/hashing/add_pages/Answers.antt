@@ -1,4 +1,4 @@
-use Rattle.std.proofs.Common.{◌≡◌, ℕ, ◌++◌, ◌*◌, ◌+◌, ◌-◌, ◌<◌, ◌≤◌, min, List, take, drop, length, sym, ap, subst, ◌∙◌, append_assoc, arith}
+use Rattle.std.proofs.Common.{◌≡◌, ℕ, ◌++◌, ◌*◌, ◌+◌, ◌-◌, ◌<◌, ◌≤◌, min, List, take, drop, length, ap, subst, ◌∙◌, append_assoc, arith}
 use Rattle.std.specs.Int.{div_ceil}
 use Rattle.sha2.specs.Hashers.{Holds256}
 use Rattle.checkpoint_core.specs.Store.{newest_image}
