@@ -50,7 +50,7 @@ query_by applied t r (Outside name ss) = query_for r name applied [] ss t.seen
 -- what is known of a connection after an answer at once
 abbrev pub answered_trail : ℕ → Trail → Note → Trail
 answered_trail applied t Nothing = t
-answered_trail applied t Began = record { seen = t.seen; at = applied; ran = [] }
+answered_trail applied t Began = record t { at = applied; ran = [] }
 answered_trail applied t (Inside name ss) = record { seen = max t.seen t.at; at = t.at; ran = t.ran ++ ss }
 answered_trail applied t (Outside name ss) = record { seen = max t.seen applied; at = applied; ran = ss }
 
@@ -59,7 +59,7 @@ abbrev pub proposed_trail : ℕ → Trail → Note → Trail
 proposed_trail applied t Nothing = t
 proposed_trail applied t Began = t
 proposed_trail applied t (Inside name ss) = t
-proposed_trail applied t (Outside name ss) = record { seen = t.seen; at = applied; ran = ss }
+proposed_trail applied t (Outside name ss) = record t { at = applied; ran = ss }
 
 -- ---- requests
 
@@ -68,42 +68,23 @@ abbrev pub tells : ℕ → Reply → Said
 tells conn reply = record { conn = conn; reply = reply; query = None; commit = None; index = 0; term = 0 }
 
 abbrev pub says : Node → List Said → Node
-says w more = record { term = w.term; leads = w.leads; serving = w.serving; log = w.log; applied = w.applied; gate = w.gate; trail = w.trail; said = w.said ++ more }
+says w more = record w { said = w.said ++ more }
 
 -- what comes of a request
 abbrev pub called : Node → ℕ → Turned → Node
 called w conn (Refused cause) = says w (tells conn (Refusal cause) ∷ [])
 called w conn Lacks = w
-called w conn (Answers s reply note) = record {
-  term = w.term;
-  leads = w.leads;
-  serving = w.serving;
-  log = w.log;
-  applied = w.applied;
+called w conn (Answers s reply note) = record w {
   gate = with_session w.gate conn s;
   trail = λ other. if other == conn then answered_trail w.applied (w.trail conn) note else w.trail other;
   said = w.said ++ record { conn = conn; reply = reply; query = query_by w.applied (w.trail conn) reply note; commit = None; index = 0; term = 0 } ∷ [];
 }
-called w conn (Proposes s contents note) = record {
-  term = w.term;
-  leads = w.leads;
-  serving = w.serving;
+called w conn (Proposes s contents note) = record w {
   log = w.log ++ entries_of w.term contents;
-  applied = w.applied;
   gate = with_session w.gate conn s;
   trail = λ other. if other == conn then proposed_trail w.applied (w.trail conn) note else w.trail other;
-  said = w.said;
 }
-called w conn (Affects effect) = record {
-  term = w.term;
-  leads = w.leads;
-  serving = w.serving;
-  log = w.log;
-  applied = w.applied;
-  gate = affected_by w.gate effect;
-  trail = w.trail;
-  said = w.said ++ tells conn empty ∷ [];
-}
+called w conn (Affects effect) = record w { gate = affected_by w.gate effect; said = w.said ++ tells conn empty ∷ [] }
 
 -- ---- entries that are applied
 
@@ -128,8 +109,8 @@ said_applied index trail session (conn ∷ conns) = said_by index conn (trail co
 abbrev pub landed_trail : ℕ → Trail → Kind → Trail
 landed_trail index t Opening = t
 landed_trail index t Configuring = t
-landed_trail index t (Writing reply) = record { seen = max t.seen index; at = t.at; ran = t.ran }
-landed_trail index t Committing = record { seen = max t.seen index; at = t.at; ran = t.ran }
+landed_trail index t (Writing reply) = record t { seen = max t.seen index }
+landed_trail index t Committing = record t { seen = max t.seen index }
 
 abbrev pub trail_by : ℕ → Trail → Option Flight → Trail
 trail_by index t None = t
@@ -140,17 +121,26 @@ trail_by index t (Some f) = if f.last == index then landed_trail index t f.kind 
 abbrev pub told_all : List (ℕ × Reply) → List Said
 told_all replies = map (λ (p : ℕ × Reply). tells p.0 p.1) replies
 
+-- the node where a connection that gets a session came
+abbrev pub joined : Node → ℕ → Node
+joined w conn = record w { gate = connected w.gate conn; trail = λ other. if other == conn then unseen else w.trail other }
+
 -- the node after an event
 unfoldable pub happens : Node → Event → Node
-happens w (Connect conn) = if connects w.gate conn then record { term = w.term; leads = w.leads; serving = w.serving; log = w.log; applied = w.applied; gate = connected w.gate conn; trail = λ other. if other == conn then unseen else w.trail other; said = w.said } else w
-happens w (Hangup conn) = record { term = w.term; leads = w.leads; serving = w.serving; log = w.log; applied = w.applied; gate = on_hangup w.gate conn; trail = w.trail; said = w.said }
+happens w (Connect conn) = if connects w.gate conn then joined w conn else w
+happens w (Hangup conn) = record w { gate = on_hangup w.gate conn }
 happens w (Call conn standing request answers) = if may_ask (w.gate.session conn) then called w conn (on_request (view_of w standing) (databases w) w.gate conn request answers) else w
-happens w Apply = record { term = w.term; leads = w.leads; serving = w.serving; log = w.log; applied = suc w.applied; gate = on_applied (suc w.applied) w.gate; trail = λ conn. trail_by (suc w.applied) (w.trail conn) (w.gate.session conn).flight; said = w.said ++ said_applied (suc w.applied) w.trail w.gate.session w.gate.conns }
-happens w (Lose term) = record { term = term; leads = false; serving = false; log = w.log; applied = w.applied; gate = on_lost w.gate; trail = w.trail; said = w.said ++ told_all (told_lost w.gate) }
-happens w (Lead term) = record { term = term; leads = true; serving = false; log = w.log; applied = w.applied; gate = w.gate; trail = w.trail; said = w.said }
-happens w Serve = record { term = w.term; leads = w.leads; serving = true; log = w.log; applied = w.applied; gate = w.gate; trail = w.trail; said = w.said }
-happens w (Append contents) = record { term = w.term; leads = w.leads; serving = w.serving; log = w.log ++ entries_of w.term contents; applied = w.applied; gate = w.gate; trail = w.trail; said = w.said }
-happens w (Follow entries) = record { term = w.term; leads = w.leads; serving = w.serving; log = take w.applied w.log ++ entries; applied = w.applied; gate = w.gate; trail = w.trail; said = w.said }
+happens w Apply = record w {
+  applied = suc w.applied;
+  gate = on_applied (suc w.applied) w.gate;
+  trail = λ conn. trail_by (suc w.applied) (w.trail conn) (w.gate.session conn).flight;
+  said = w.said ++ said_applied (suc w.applied) w.trail w.gate.session w.gate.conns;
+}
+happens w (Lose term) = record w { term = term; leads = false; serving = false; gate = on_lost w.gate; said = w.said ++ told_all (told_lost w.gate) }
+happens w (Lead term) = record w { term = term; leads = true; serving = false }
+happens w Serve = record w { serving = true }
+happens w (Append contents) = record w { log = w.log ++ entries_of w.term contents }
+happens w (Follow entries) = record w { log = take w.applied w.log ++ entries }
 
 abbrev pub run_from : Node → List Event → Node
 run_from w [] = w
