@@ -8,7 +8,7 @@ use Rattle.dq_base.specs.declared.pages.NumberedPage.{NumberedPage}
 use Rattle.dq_base.specs.Applying.{longest_file}
 use Rattle.dq_base.specs.Images.{page_at, page_count, pages_in, page_start, file_of, is_main, is_side}
 use Rattle.dq_base.specs.Changes.{changed_page, changed_from, numbers_above_one, sizes_of}
-use Rattle.dq_base.proofs.ChangedPages.{numbered, page_at_inside, page_at_past, page_at_is}
+use Rattle.dq_base.proofs.ChangedPages.{numbered, page_at_inside, page_at_past, page_at-one, page_at_is}
 use Rattle.dq_base.proofs.ChangeLaw.{file_of_main, file_of_side, length-sizes_page}
 use Rattle.dq_base.proofs.FileBytes.{length-page_from}
 use Rattle.dq_base.proofs.PutPages.{All-append}
@@ -16,7 +16,7 @@ use Rattle.wal_frames.specs.declared.frame.Frame.{Frame}
 use Rattle.wal_frames.specs.Text.{IsFrame}
 use Rattle.wal_frames.specs.Valid.{AreFrames}
 use Rattle.page_apply.specs.Files.{empty_image}
-use Rattle.page_apply.specs.Logs.{IsShort, listed, pages_from, pages_above_one, frame_of, plain_frames, image_frames}
+use Rattle.page_apply.specs.Logs.{IsShort, listed, pages_from, pages_above_one, all_pages, frame_of, plain_frames, image_frames}
 
 -- ---- one number more
 
@@ -182,3 +182,15 @@ pub image_frame_count : (image : Image) → length (image_frames image) ≡ page
 image_frame_count image =
     let front : length (plain_frames (pages_above_one image)) ≡ length (pages_above_one image) = length-map (pages_above_one image) (frame_of 0) in
     length-append (plain_frames (pages_above_one image)) (frame_of (page_count image) (sizes_of image) ∷ []) ∙ omega (arith, front, pages_counted image)
+
+-- ---- all pages
+
+pub all_counted : (image : Image) → length (all_pages image) ≡ page_count image
+all_counted image = length-append (pages_above_one image) (sizes_of image ∷ []) ∙ pages_counted image
+
+-- each is the image's page of its number
+pub all_own : (image : Image) → AllByRecursion (λ p. page_at image p.number ≡ Some p.page) (all_pages image)
+all_own image =
+    All-append (λ p. page_at image p.number ≡ Some p.page) (pages_above_one image) (sizes_of image ∷ [])
+    (pages_all (λ p. page_at image p.number ≡ Some p.page) 2 (numbers_above_one image) image (λ n page from to is. is))
+    (page_at-one image 1 refl, tt)
