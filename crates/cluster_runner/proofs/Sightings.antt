@@ -23,7 +23,7 @@ use Rattle.cluster_runner.specs.declared.cluster.Client.{Client}
 use Rattle.cluster_runner.specs.declared.cluster.Client.TheVariants.{Open, Gone}
 use Rattle.cluster_runner.specs.World.{heard, served, replies, closing_line}
 use Rattle.cluster_runner.specs.World.{World, happens, node_standing}
-use Rattle.cluster_runner.specs.Digest.{digest}
+use Rattle.file_digest.specs.Digest.{digest}
 use Rattle.cluster_runner.specs.Holding.{Holding}
 use Rattle.cluster_runner.specs.Machines.{Fleet, idle, joins, refusal, applies, place_named, take_at, standing, standing_of, standings}
 use Rattle.cluster_runner.specs.Scenes.{Scene, Nodes, Pages, plays, shown}

@@ -13,7 +13,7 @@ use Rattle.cluster_runner.specs.declared.cluster.Cluster.{Cluster}
 use Rattle.cluster_runner.specs.declared.grammar.Event.{Event}
 use Rattle.cluster_runner.specs.declared.grammar.Event.TheVariants.{Timeout, Connect, Bytes, Hangup, Put, Take}
 use Rattle.cluster_runner.specs.Answers.{answer}
-use Rattle.cluster_runner.specs.Digest.{digest}
+use Rattle.file_digest.specs.Digest.{digest}
 
 -- node 1, the only voter: whether it leads, and each client's connection
 pub record World : Type 0 where

@@ -6,9 +6,9 @@ ghost use Rattle.client_connection.specs.Connection.{received, reason_of};
 ghost use Rattle.cluster_runner.specs.World.{replies, closing_line, answered, left_open};
 
 use crate::answers::answer;
-use crate::digest::digest;
 use crate::grammar::Event;
 use client_connection::{CloseReason, Connection};
+use file_digest::digest;
 use std::alloc::{AllocError, AllocFailed, Global};
 use std::collections::BTreeMap;
 use wire_words::WireBytes;

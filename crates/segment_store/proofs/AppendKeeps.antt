@@ -1,12 +1,12 @@
 -- A batch is kept by an open store.
-use Rattle.std.proofs.Common.{◌≡◌, ℕ, suc, ◌+◌, ◌≤◌, Bool, true, false, cond, List, ◌++◌, length, Option, Some, refl, sym, ap, ◌∙◌, subst, arith, length-append}
+use Rattle.std.proofs.Common.{◌≡◌, ℕ, suc, ◌+◌, ◌≤◌, Bool, true, false, cond, List, [], ◌∷◌, ◌++◌, length, Option, Some, refl, sym, ap, ◌∙◌, subst, arith, length-append}
 use Rattle.std.specs.Prelude.{nat_lt}
 use Rattle.disk_model.specs.Disk.{Disk, Found}
 use Rattle.disk_model.specs.Calls.{Call, Done, Until}
 use Rattle.disk_model.specs.Trait.{Text}
 use Rattle.disk_model.specs.Spelled.{all_spelled}
 use Rattle.disk_model.proofs.Spelling.{done_under, until_under}
-use Rattle.store_laws.specs.Names.{First, Second, Segment, NodeDisk, NodeCall}
+use Rattle.store_laws.specs.Names.{First, Second, Segment, Snapshot, NodeDisk, NodeCall}
 use Rattle.store_laws.specs.Store.{Meta, Log, Kept, Loaded, kept, meta_of}
 use Rattle.store_laws.specs.Append.{append_calls, with_batch, CanAppend, Writes}
 use Rattle.store_laws.specs.Settled.{Settled}
@@ -24,17 +24,18 @@ use Rattle.store_batches.specs.Files.{node_format}
 use Rattle.store_batches.proofs.Lawfully.{is_lawful}
 use Rattle.store_batches.proofs.Written.{batches_read_back}
 use Rattle.segment_store.specs.FileNames.{file_name}
-use Rattle.segment_store.specs.Open.{Open, HasSize, IsOpen, stamp_of}
+use Rattle.segment_store.specs.Open.{Open, HasSize, IsOpen, stamp_of, segment_numbers, HasSnapshots}
 use Rattle.segment_store.specs.Grow.{grow_calls, begin_calls}
 use Rattle.segment_store.specs.Keeps.{folder, OldOrNew, HasNew}
 use Rattle.segment_store.proofs.NoTwoAlike.{no_two_alike}
+use Rattle.segment_store.proofs.Listing.{numbers_more, numbers_written, snapshots_same}
 
-word_format : format_in segment_word ≡ 2
+pub word_format : format_in segment_word ≡ 2
 unfolding format_in
 word_format = refl
 
 -- what follows bytes in format 2 leaves their format
-format_stays : (x y : List ℕ) → format_in x ≡ 2 → format_in (x ++ y) ≡ 2
+pub format_stays : (x y : List ℕ) → format_in x ≡ 2 → format_in (x ++ y) ≡ 2
 format_stays x y e =
     let long : 8 ≤ length x = is_lawful.opens_long x (ap (nat_lt 0) e) in
     is_lawful.version_front x y long ∙ e
@@ -67,10 +68,10 @@ module _ (k : Kept) (b : Log) (fits : Fits b) (can : CanAppend k b) where
     moments e u = record { crash = law.0 e u; seen = (seen_holds node_format (suc n) D s).batch n segment_word enc e u }
 
     -- the store then, with its other facts as they were
-    pub opened : (e : NodeDisk) → Done calls D e → (version count : ℕ) (first second : Option ℕ)
-        → (meta_of node_format D.read).stamp ≡ stamp_of version → HasSize first (D.read First) → HasSize second (D.read Second) → length (bytes ++ enc) ≡ count → format_in bytes ≡ 2
-        → HasNew (record { version = version; first = first; second = second; next = suc n; size = Some count }) new e
-    opened e u version count first second stamp f1 f2 long format =
+    pub opened : (e : NodeDisk) → Done calls D e → (version count : ℕ) (first second : Option ℕ) (snapshots : List ℕ)
+        → (meta_of node_format D.read).stamp ≡ stamp_of version → HasSize first (D.read First) → HasSize second (D.read Second) → length (bytes ++ enc) ≡ count → format_in bytes ≡ 2 → HasSnapshots snapshots D.read
+        → HasNew (record { version = version; first = first; second = second; next = suc n; size = Some count; segments = segment_numbers n D.read ++ n ∷ []; snapshots = snapshots }) new e
+    opened e u version count first second snapshots stamp f1 f2 long format listed =
         let c = law.1 e u in
         let r = files e u in
         let one : e.read First ≡ D.read First = r.others First (λ q. absurd cc) in
@@ -88,6 +89,8 @@ module _ (k : Kept) (b : Log) (fits : Fits b) (can : CanAppend k b) where
               size = (ap (λ (x : Found). x.there) r.here, ap (λ (x : Found). length x.bytes) r.here ∙ long);
               format = ap (λ (x : Found). format_in x.bytes) r.here ∙ format_stays bytes enc format;
             };
+            segments = numbers_written n (bytes ++ enc) D e r;
+            snapshots = snapshots_same snapshots D.read e.read (λ j. r.others (Snapshot j) (λ q. absurd cc)) listed;
           };
           crash = c.crash;
         }
@@ -116,11 +119,15 @@ module _ (k : Kept) (b : Log) (fits : Fits b) (can : CanAppend k b) (s : Open) (
     bytes_are : cond (D.read (Segment n)).there (D.read (Segment n)).bytes segment_word ≡ (D.read (Segment n)).bytes
     bytes_are = ap (λ (c : Bool). cond c (D.read (Segment n)).bytes segment_word) size.0
 
-    pub grow_done : (e : Disk Text) → Done (grow_calls (file_name (Segment n)) l (batch_bytes b)) d e → HasNew (record { version = s.version; first = s.first; second = s.second; next = suc n; size = Some (l + length (batch_bytes b)) }) (with_batch b k) (folder e)
+    listed : s.segments ≡ segment_numbers n D.read ++ n ∷ []
+    listed = o.segments ∙ ap (λ (t : ℕ). segment_numbers t D.read) before ∙ numbers_more n D.read size.0
+
+    pub grow_done : (e : Disk Text) → Done (grow_calls (file_name (Segment n)) l (batch_bytes b)) d e → HasNew (record { version = s.version; first = s.first; second = s.second; next = suc n; size = Some (l + length (batch_bytes b)); segments = s.segments; snapshots = s.snapshots }) (with_batch b k) (folder e)
     grow_done e u =
         let v = done_under file_name no_two_alike (calls k b fits can n D settled reads (λ t. format)) d e (subst (λ (c : List (Call Text)). Done c d e) spelled u) in
         let long : length (cond (D.read (Segment n)).there (D.read (Segment n)).bytes segment_word ++ batch_bytes b) ≡ l + length (batch_bytes b) = ap (λ (x : List ℕ). length (x ++ batch_bytes b)) bytes_are ∙ length-append (D.read (Segment n)).bytes (batch_bytes b) ∙ ap (λ (x : ℕ). x + length (batch_bytes b)) size.1 in
-        opened k b fits can n D settled reads (λ t. format) (folder e) v s.version (l + length (batch_bytes b)) s.first s.second o.stamp o.first o.second long (ap format_in bytes_are ∙ format)
+        subst (λ (ms : List ℕ). HasNew (record { version = s.version; first = s.first; second = s.second; next = suc n; size = Some (l + length (batch_bytes b)); segments = ms; snapshots = s.snapshots }) (with_batch b k) (folder e)) (sym listed)
+        (opened k b fits can n D settled reads (λ t. format) (folder e) v s.version (l + length (batch_bytes b)) s.first s.second s.snapshots o.stamp o.first o.second long (ap format_in bytes_are ∙ format) o.snapshots)
 
     pub grow_until : (e : Disk Text) → Until (grow_calls (file_name (Segment n)) l (batch_bytes b)) d e → OldOrNew (suc n) k (with_batch b k) (folder e)
     grow_until e u = moments k b fits can n D settled reads (λ t. format) (folder e) (until_under file_name no_two_alike (calls k b fits can n D settled reads (λ t. format)) d e (subst (λ (c : List (Call Text)). Until c d e) spelled u))
@@ -144,11 +151,12 @@ module _ (k : Kept) (b : Log) (fits : Fits b) (can : CanAppend k b) (s : Open) (
   word_is : cond (D.read (Segment s.next)).there (D.read (Segment s.next)).bytes segment_word ≡ segment_word
   word_is = ap (λ (c : Bool). cond c (D.read (Segment s.next)).bytes segment_word) none_there
 
-  pub begin_done : (e : Disk Text) → Done (begin_calls (file_name (Segment s.next)) segment_word (batch_bytes b)) d e → HasNew (record { version = s.version; first = s.first; second = s.second; next = suc s.next; size = Some (8 + length (batch_bytes b)) }) (with_batch b k) (folder e)
+  pub begin_done : (e : Disk Text) → Done (begin_calls (file_name (Segment s.next)) segment_word (batch_bytes b)) d e → HasNew (record { version = s.version; first = s.first; second = s.second; next = suc s.next; size = Some (8 + length (batch_bytes b)); segments = s.segments ++ s.next ∷ []; snapshots = s.snapshots }) (with_batch b k) (folder e)
   begin_done e u =
       let v = done_under file_name no_two_alike (calls k b fits can s.next D room.0 (room.1 ∙ o.reads) no_format) d e (subst (λ (c : List (Call Text)). Done c d e) begun u) in
       let long : length (cond (D.read (Segment s.next)).there (D.read (Segment s.next)).bytes segment_word ++ batch_bytes b) ≡ 8 + length (batch_bytes b) = ap (λ (x : List ℕ). length (x ++ batch_bytes b)) word_is ∙ length-append segment_word (batch_bytes b) in
-      opened k b fits can s.next D room.0 (room.1 ∙ o.reads) no_format (folder e) v s.version (8 + length (batch_bytes b)) s.first s.second o.stamp o.first o.second long (ap format_in word_is ∙ word_format)
+      subst (λ (ms : List ℕ). HasNew (record { version = s.version; first = s.first; second = s.second; next = suc s.next; size = Some (8 + length (batch_bytes b)); segments = ms ++ s.next ∷ []; snapshots = s.snapshots }) (with_batch b k) (folder e)) (sym o.segments)
+      (opened k b fits can s.next D room.0 (room.1 ∙ o.reads) no_format (folder e) v s.version (8 + length (batch_bytes b)) s.first s.second s.snapshots o.stamp o.first o.second long (ap format_in word_is ∙ word_format) o.snapshots)
 
   pub begin_until : (e : Disk Text) → Until (begin_calls (file_name (Segment s.next)) segment_word (batch_bytes b)) d e → OldOrNew (suc s.next) k (with_batch b k) (folder e)
   begin_until e u = moments k b fits can s.next D room.0 (room.1 ∙ o.reads) no_format (folder e) (until_under file_name no_two_alike (calls k b fits can s.next D room.0 (room.1 ∙ o.reads) no_format) d e (subst (λ (c : List (Call Text)). Until c d e) begun u))

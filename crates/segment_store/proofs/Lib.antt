@@ -1,7 +1,14 @@
 pub mod NoTwoAlike
+pub mod Listing
 pub mod BlockCalls
 pub mod MetaKeeps
 pub mod Segments
 pub mod Keeping
 pub mod AppendKeeps
 pub mod Appending
+pub mod CallsMade
+pub mod KeptCalls
+pub mod KeptFiles
+pub mod KeptLaw
+pub mod KeepRuns
+pub mod KeepStore

@@ -9,7 +9,7 @@ use Rattle.disk_model.specs.Rest.{Rest}
 use Rattle.disk_model.specs.Writing.{replace_calls}
 use Rattle.disk_model.specs.Spelled.{all_spelled}
 use Rattle.disk_model.proofs.Spelling.{done_under, until_under}
-use Rattle.store_laws.specs.Names.{Name, First, Second, Segment, NodeDisk, NodeCall}
+use Rattle.store_laws.specs.Names.{Name, First, Second, Segment, Snapshot, NodeDisk, NodeCall}
 use Rattle.store_laws.specs.Store.{Meta, Kept, meta_of}
 use Rattle.store_laws.specs.Meta.{next_stamp, goes_first, file_of, with_vote, set_long_calls}
 use Rattle.store_laws.specs.Laws.{IsNext, meta_file, meta_calls, AnyMoment, AtOk}
@@ -29,6 +29,7 @@ use Rattle.segment_store.specs.FileNames.{file_name}
 use Rattle.segment_store.specs.Open.{Open, HasSize, MayGrow, IsOpen, stamp_of, with_version, size_for}
 use Rattle.segment_store.specs.Keeps.{folder, OldOrNew, HasNew, block_calls}
 use Rattle.segment_store.proofs.NoTwoAlike.{no_two_alike}
+use Rattle.segment_store.proofs.Listing.{same_numbers, snapshots_same}
 
 -- the stamp after the one of a version
 next_is : (m : Meta) (v : ℕ) → m.stamp ≡ stamp_of v → next_stamp m ≡ suc (suc v)
@@ -174,6 +175,8 @@ module _ (s : Open) (k : Kept) (m : Metadata) (d : Disk Text) (o : IsOpen s k (f
           first = at_first odd refl w.files;
           second = at_second odd refl w.files;
           grows = grows s.size o.grows w.files;
+          segments = o.segments ∙ sym (same_numbers s.next e.read D.read (λ j l. ap (λ (x : Found). x.there) (segment_same w.files j)));
+          snapshots = snapshots_same s.snapshots D.read e.read (snapshot_same w.files) o.snapshots;
         };
         crash = c.crash;
       }
@@ -202,6 +205,13 @@ module _ (s : Open) (k : Kept) (m : Metadata) (d : Disk Text) (o : IsOpen s k (f
           apart : (b : Bool) → odd ≡ b → Segment j ≡ meta_file node_format D → ⊥
           apart true q z = let y : Segment j ≡ First = z ∙ file_is ∙ ap file_of q in absurd cc
           apart false q z = let y : Segment j ≡ Second = z ∙ file_is ∙ ap file_of q in absurd cc
+
+      snapshot_same : Replaced (meta_file node_format D) block D e → (j : ℕ) → e.read (Snapshot j) ≡ D.read (Snapshot j)
+      snapshot_same r j = r.others (Snapshot j) (apart odd refl)
+        where
+          apart : (b : Bool) → odd ≡ b → Snapshot j ≡ meta_file node_format D → ⊥
+          apart true q z = let y : Snapshot j ≡ First = z ∙ file_is ∙ ap file_of q in absurd cc
+          apart false q z = let y : Snapshot j ≡ Second = z ∙ file_is ∙ ap file_of q in absurd cc
 
       grows : (size : Option ℕ) → MayGrow s.next size D → Replaced (meta_file node_format D) block D e → MayGrow s.next size e
       grows None g r = tt

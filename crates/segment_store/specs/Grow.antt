@@ -27,8 +27,8 @@ room_in (Some n) = cond (nat_lt n 8388608) (Some n) None
 
 -- the store after a batch of so many bytes: in the segment that had room, or in a new one
 abbrev pub appended_to : Option ℕ → ℕ → Open → Open
-appended_to (Some n) count s = record { version = s.version; first = s.first; second = s.second; next = s.next; size = Some (n + count) }
-appended_to None count s = record { version = s.version; first = s.first; second = s.second; next = suc s.next; size = Some (8 + count) }
+appended_to (Some n) count s = record { version = s.version; first = s.first; second = s.second; next = s.next; size = Some (n + count); segments = s.segments; snapshots = s.snapshots }
+appended_to None count s = record { version = s.version; first = s.first; second = s.second; next = suc s.next; size = Some (8 + count); segments = s.segments ++ s.next ∷ []; snapshots = s.snapshots }
 
 abbrev pub with_appended : ℕ → Open → Open
 with_appended count s = appended_to (room_in s.size) count s

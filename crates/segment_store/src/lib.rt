@@ -3,6 +3,8 @@
 
 mod block;
 mod fault;
+mod keep_files;
+mod keep_plan;
 mod names;
 mod segment;
 mod store;

@@ -1,5 +1,5 @@
 -- What a request asks for, once it has passed the refusals that come before the engine, in their order.
-use Rattle.std.specs.Prelude.{ℕ, Bool, true, false, not, ◌&&◌, ◌||◌, ◌==◌, nat_lt, nat_le, List, [], ◌∷◌, ◌++◌, length, map, codes, Option, Some, None, Result, Ok, Err, if◌then◌else◌}
+use Rattle.std.specs.Prelude.{ℕ, Bool, not, ◌&&◌, ◌||◌, ◌==◌, nat_lt, nat_le, List, [], ◌∷◌, ◌++◌, length, map, codes, Option, Some, None, Result, Ok, Err, if◌then◌else◌}
 use Rattle.std.specs.List.{list_any}
 use Rattle.dq_base.specs.declared.images.Image.{Image}
 use Rattle.wire_words.specs.declared.value.Value.{Value}
@@ -8,7 +8,6 @@ use Rattle.wire_msgs.specs.declared.request.Request.TheVariants as requests
 use Rattle.wire_msgs.specs.declared.response.Response.{Response}
 use Rattle.wire_msgs.specs.declared.response.Response.TheVariants as responses
 use Rattle.wire_msgs.specs.declared.response.NodeInfo.{NodeInfo}
-use Rattle.wire_msgs.specs.declared.response.File.{File}
 use Rattle.wire_msgs.specs.Fields.{body_bytes}
 use Rattle.wire_msgs.specs.Responses.{response_line}
 use Rattle.sql_scan.specs.declared.pieces.Piece.{Piece}

@@ -1,5 +1,5 @@
 -- What the node tells its sessions: connections that come and go, entries that are applied, leadership that is lost.
-use Rattle.std.specs.Prelude.{ℕ, Bool, true, false, not, ◌&&◌, ◌==◌, nat_lt, nat_le, List, [], ◌∷◌, ◌++◌, length, map, is_none, Option, Some, None, if◌then◌else◌}
+use Rattle.std.specs.Prelude.{ℕ, Bool, true, not, ◌&&◌, ◌==◌, nat_lt, nat_le, List, [], ◌∷◌, ◌++◌, length, map, Option, Some, None, if◌then◌else◌}
 use Rattle.std.specs.List.{filter, flat_map}
 use Rattle.session_rules.specs.Causes.{LeadershipLost}
 use Rattle.session_rules.specs.Sessions.{Reply, Refusal, result, empty, db, Kind, Opening, Configuring, Writing, Committing, Flight, Session, Gateway, absent, fresh, is_busy}

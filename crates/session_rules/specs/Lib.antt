@@ -8,3 +8,6 @@ pub mod Limits
 pub mod Asking
 pub mod Requests
 pub mod Events
+pub mod Outcomes
+pub mod Laws
+pub mod Seen

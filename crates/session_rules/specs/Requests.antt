@@ -1,5 +1,5 @@
 -- What comes of a request at a session, with the answers of an engine to the statements that it is handed.
-use Rattle.std.specs.Prelude.{ℕ, suc, ◌+◌, Bool, true, false, not, ◌&&◌, ◌==◌, List, [], ◌∷◌, length, map, is_none, Option, Some, None, Result, Ok, Err, if◌then◌else◌}
+use Rattle.std.specs.Prelude.{ℕ, suc, ◌+◌, Bool, true, false, ◌&&◌, ◌==◌, List, [], ◌∷◌, length, map, Option, Some, None, Result, Ok, Err, if◌then◌else◌}
 use Rattle.dq_base.specs.declared.images.Image.{Image}
 use Rattle.dq_base.specs.declared.pages.NumberedPage.{NumberedPage}
 use Rattle.dq_base.specs.Images.{page_count}
@@ -9,7 +9,6 @@ use Rattle.wire_msgs.specs.declared.response.Response.TheVariants as responses
 use Rattle.wire_rows.specs.declared.fault.RowFault.{RowFault}
 use Rattle.wire_rows.specs.declared.fault.RowFault.TheVariants as row_faults
 use Rattle.wire_rows.specs.Answering.{parts_of}
-use Rattle.frame_commands.specs.declared.command.Command.{Command}
 use Rattle.frame_commands.specs.declared.command.Command.TheVariants.{OpenDb}
 use Rattle.frame_commands.specs.Splitting.{split}
 use Rattle.sql_engine.specs.declared.answer.Ran.{Ran}

@@ -1,5 +1,5 @@
 -- The statements of a text of SQL, and those that a session has prepared.
-use Rattle.std.specs.Prelude.{ℕ, suc, ◌-◌, Bool, true, false, not, ◌||◌, ◌==◌, List, [], ◌∷◌, length, take, drop, map, set, slice_get, sum_by, is_none, Option, Some, None, if◌then◌else◌}
+use Rattle.std.specs.Prelude.{ℕ, suc, ◌-◌, Bool, true, false, not, ◌||◌, ◌==◌, List, [], ◌∷◌, length, take, drop, set, slice_get, sum_by, is_none, Option, Some, None}
 use Rattle.std.specs.List.{list_any, count_by}
 use Rattle.wire_words.specs.declared.value.Value.{Value}
 use Rattle.sql_scan.specs.declared.pieces.Piece.{Piece}

@@ -3,3 +3,4 @@ pub mod Counts
 pub mod Changing
 pub mod Reaching
 pub mod Standing
+pub mod Opened

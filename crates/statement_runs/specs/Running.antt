@@ -7,6 +7,7 @@ use Rattle.dq_base.specs.Changes.{changed}
 use Rattle.sql_engine.specs.declared.answer.Ran.{Ran}
 use Rattle.sql_engine.specs.declared.kind.EngineKind.{EngineKind}
 use Rattle.sql_engine.specs.declared.fault.EngineFault.{EngineFault}
+use Rattle.sql_engine.specs.declared.fault.EngineFault.TheVariants as faults
 use Rattle.sql_engine.specs.Replies.{Statement}
 use Rattle.sql_engine.specs.Meanings.{Meaning, Answers, Faults, Told, Tells}
 use Rattle.session_rules.specs.Engines.{Answer, Ending, Lacking, TooLarge, Stopped, Ended, takes, no_answer, runs, AllowsAll}
@@ -36,6 +37,24 @@ pub record RanTo (m : Meaning) (kind : EngineKind) (tx : ℕ) (image : Image) (s
   pub allowed : AllowsAll m kind image statements answers
   pub told : TellsAll answers told_before told_now
   pub ends : Shows tx image (runs image no_answer statements answers) ending
+
+abbrev pub is_unopened : EngineFault → Bool
+is_unopened faults.Constraint = false
+is_unopened faults.Sql = false
+is_unopened (faults.Float row column) = false
+is_unopened (faults.NotText row column) = false
+is_unopened faults.Unopened = true
+is_unopened faults.NoMemory = false
+
+-- running ended since the files of an image were not opened
+abbrev pub ends_unopened : CodeEnding → Bool
+ends_unopened (codes.Ended ran) = false
+ends_unopened (codes.TooLarge answer) = false
+ends_unopened (codes.Stopped fault) = is_unopened fault
+
+abbrev pub stops_unopened : Option CodeEnding → Bool
+stops_unopened None = false
+stops_unopened (Some ending) = ends_unopened ending
 
 -- how running the only statement ends by its answer
 abbrev pub ending_of : Ran → CodeEnding

@@ -1,6 +1,6 @@
 //! Statements one after another, by an engine.
 
-ghost use Rattle.std.specs.Prelude.{◌≡◌, true, None, [], ◌∷◌, length, All, IfOk, OnOk};
+ghost use Rattle.std.specs.Prelude.{◌≡◌, ◌≤◌, ◌<◌, true, false, None, [], ◌∷◌, length, All, IfOk, OnOk};
 ghost use Rattle.dq_base.specs.Applying.{applied, page_fault};
 ghost use Rattle.dq_base.specs.Changes.{changed};
 ghost use Rattle.sql_scan.specs.Places.{StandsIn};
@@ -37,7 +37,8 @@ pub fn takes(pages: &[NumberedPage]) -> bool
 
 /// What comes of an answer to the only statement.
 fn ending_of(ran: Ran) -> Ending
-    ensures { result ≡ running.ending_of ran }
+    ensures ending { result ≡ running.ending_of ran }
+    ensures opened { running.ends_unopened result ≡ false }
 {
     if takes(ran.after.pages.as_slice()) {
         Ending::Ended(AllRan {
@@ -59,6 +60,8 @@ pub fn run_one<E: Engine>(
     tx: u64,
 ) -> Ending
     ensures kind { E.kind engine.new ≡ E.kind engine.old }
+    ensures openings { E.refused_openings engine.old ≤ E.refused_openings engine.new }
+    ensures unopened { running.ends_unopened result ≡ true → E.refused_openings engine.old < E.refused_openings engine.new }
     ensures ran { RanTo (E.meaning (E.kind engine.old)) (E.kind engine.old) tx image.now (record { text = text.now; params = params.now } ∷ []) (E.told engine.old) (E.told engine.new) result }
 {
     match engine.run(image, text, params, tx) {
@@ -124,7 +127,8 @@ fn no_answer(alloc: Global) -> Ran
 impl Progress {
     /// Takes an answer in, or says how running ends with it. `Err` is want of memory.
     fn take(&mut self, alloc: Global, base: &Image, ran: Ran) -> Result<Option<Ending>, AllocError>
-        ensures { IfOk result (running.TookIn (running.current base.now self.old.working) ran (running.current base.now self.new.working) self.new.answer) }
+        ensures took { IfOk result (running.TookIn (running.current base.now self.old.working) ran (running.current base.now self.new.working) self.new.answer) }
+        ensures opened { IfOk result (λ ending. running.stops_unopened ending ≡ false) }
     {
         let pages = ran.after.pages.as_slice();
         if !takes(pages) {
@@ -169,6 +173,8 @@ fn step<E: Engine>(
     tx: u64,
 ) -> Result<Option<Ending>, AllocError>
     ensures kind { E.kind engine.new ≡ E.kind engine.old }
+    ensures openings { E.refused_openings engine.old ≤ E.refused_openings engine.new }
+    ensures unopened { IfOk result (λ ending. running.stops_unopened ending ≡ true → E.refused_openings engine.old < E.refused_openings engine.new) }
     ensures step { IfOk result (Stepped (E.meaning (E.kind engine.old)) (E.kind engine.old) tx (running.current base.now progress.old.working) (record { text = text.now; params = params.now }) (E.told engine.old) (E.told engine.new) (running.current base.now progress.new.working) progress.new.answer) }
 {
     let reached = match &progress.working {
@@ -176,7 +182,10 @@ fn step<E: Engine>(
         None => base,
     };
     match engine.run(reached, text, params, tx) {
-        Ok(ran) => progress.take(alloc, base, ran),
+        Ok(ran) => {
+            let ending = progress.take(alloc, base, ran)?;
+            Ok(ending)
+        }
         Err(fault) => Ok(Some(Ending::Stopped(fault))),
     }
 }
@@ -194,6 +203,8 @@ fn run_several<E: Engine>(
     requires stand { All (StandsIn text.now) pieces.now }
     requires fit { wants pieces.now ≡ length params.now }
     ensures kind { E.kind engine.new ≡ E.kind engine.old }
+    ensures openings { E.refused_openings engine.old ≤ E.refused_openings engine.new }
+    ensures unopened { IfOk result (λ ending. running.ends_unopened ending ≡ true → E.refused_openings engine.old < E.refused_openings engine.new) }
     ensures ran { IfOk result (RanTo (E.meaning (E.kind engine.old)) (E.kind engine.old) tx image.now (assigned text.now pieces.now params.now) (E.told engine.old) (E.told engine.new)) }
 {
     let mut progress = Progress {
@@ -231,6 +242,8 @@ pub fn run_all<E: Engine>(
     requires stand { All (StandsIn text.now) pieces.now }
     requires fit { wants pieces.now ≡ length params.now }
     ensures kind { E.kind engine.new ≡ E.kind engine.old }
+    ensures openings { E.refused_openings engine.old ≤ E.refused_openings engine.new }
+    ensures unopened { IfOk result (λ ending. running.ends_unopened ending ≡ true → E.refused_openings engine.old < E.refused_openings engine.new) }
     ensures ran { IfOk result (RanTo (E.meaning (E.kind engine.old)) (E.kind engine.old) tx image.now (assigned text.now pieces.now params.now) (E.told engine.old) (E.told engine.new)) }
 {
     if let [piece] = pieces {

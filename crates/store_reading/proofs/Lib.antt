@@ -1,0 +1,5 @@
+pub mod Terms
+pub mod Runs
+pub mod Segments
+pub mod Positive
+pub mod Newer

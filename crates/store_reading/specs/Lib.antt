@@ -1,0 +1,3 @@
+pub mod Batches
+pub mod SegmentLog
+pub mod FilesRead
