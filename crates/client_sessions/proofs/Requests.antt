@@ -10,6 +10,7 @@ use Rattle.wire_msgs.specs.declared.request.Request.{Request}
 use Rattle.wire_msgs.specs.declared.request.Request.TheVariants as requests
 use Rattle.wire_msgs.specs.declared.response.Response.{Response}
 use Rattle.wire_msgs.specs.declared.response.Response.TheVariants as responses
+use Rattle.wire_msgs.specs.declared.fault.MsgFault.{MsgFault}
 use Rattle.wire_msgs.specs.Fields.{Field, Word, HaveSpellings}
 use Rattle.wire_msgs.specs.Responses.{IsWritable, optional, server_fields}
 use Rattle.sql_scan.specs.declared.pieces.Piece.{Piece}
@@ -20,7 +21,7 @@ use Rattle.sql_engine.specs.declared.answer.Ran.{Ran}
 use Rattle.sql_engine.specs.Replies.{Statement}
 use Rattle.raft_rules.specs.Node.{Server}
 use Rattle.session_rules.specs.Causes as causes
-use Rattle.session_rules.specs.Causes.{Cause, failure, message}
+use Rattle.session_rules.specs.Causes.{Cause, failure, message, unread_cause}
 use Rattle.session_rules.specs.Machine.{Machine}
 use Rattle.session_rules.specs.Engines.{Answer, no_pages, Ending, Lacking, TooLarge, Stopped, Ended, runs, no_answer}
 use Rattle.session_rules.specs.Sessions.{Reply, Refusal, Single, Rows, Note, Prepared, Kind, Flight, Transaction, Session, Gateway, View, Turned, Refused, Lacks, Answers, Proposes, Affects}
@@ -73,6 +74,10 @@ message_plain causes.DatabaseFull = refl
 
 pub refusal_sent : (cause : Cause) → CanSend (Refusal cause)
 refusal_sent cause = ((tt, (message_plain cause, tt)), tt)
+
+-- the refusal of a message that doesn't read can be written
+pub unread_writable : (fault : MsgFault) → IsWritable (failure (unread_cause fault))
+unread_writable fault = (refusal_sent (unread_cause fault)).0
 
 rows_sent : (answer : Ran) → CanSend (Rows answer)
 rows_sent answer = parts_writable answer.columns (cut answer.columns answer.rows)

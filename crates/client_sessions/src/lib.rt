@@ -5,6 +5,7 @@
 mod act;
 mod joining;
 mod laws;
+mod sending;
 
 pub use act::Act;
 pub use joining::Joining;
