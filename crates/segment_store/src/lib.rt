@@ -3,6 +3,12 @@
 
 mod block;
 mod fault;
+mod load_fault;
+mod loading;
+mod loading_calls;
+mod loading_list;
+mod loading_names;
+mod loading_reads;
 mod names;
 mod segment;
 mod store;
@@ -10,4 +16,5 @@ mod store;
 mod tests;
 
 pub use fault::StoreFault;
+pub use load_fault::LoadFault;
 pub use store::Store;
