@@ -43,7 +43,7 @@ pub(crate) fn page_count_under(main: &[u8], side: &[u8], log: &FrameLog, count: 
 }
 
 /// The lengths of both files after the first frames of a log.
-fn lengths_under(main: &[u8], side: &[u8], log: &FrameLog, count: usize) -> Lengths
+pub(crate) fn lengths_under(main: &[u8], side: &[u8], log: &FrameLog, count: usize) -> Lengths
     requires { count ≤ length log.now.pages }
     ensures main { result.main ≡ length (laid 0 (take count log.now.pages) (take count log.now.lengths) main.now) }
     ensures side { result.side ≡ length (laid 1 (take count log.now.pages) (take count log.now.lengths) side.now) }

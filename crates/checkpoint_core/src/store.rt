@@ -1,14 +1,16 @@
-ghost use Rattle.std.specs.Prelude.{◌≡◌, ◌≢◌, ℕ, ◌<◌, None, unwrap_or, IfOk, IfErr, OnOk, OnErr};
+ghost use Rattle.std.specs.Prelude.{◌≡◌, ◌≢◌, ℕ, ◌<◌, length, None, unwrap_or, IfOk, IfErr, OnOk, OnErr};
+ghost use Rattle.std.specs.List.{AllByRecursion};
 ghost use Rattle.dq_base.specs.Images.{page_at, page_count};
 ghost use Rattle.dq_base.specs.Applying.{page_fault, IsRefusal};
 ghost use Rattle.read_marks.specs.Marks.{mark_at, live_count, least_mark};
 ghost use Rattle.read_marks.specs.declared.marks.MarkFault.TheVariants.{Full};
+ghost use Rattle.checkpoint_core.specs.Log.{IsSized};
 ghost use Rattle.checkpoint_core.specs.Store.{fresh_store, newest, newest_image, IsLive, image_under, committed, pinned, released, checkpointed, pages_to_move, StillShows};
 
 use crate::files::{lay, make_room};
 use crate::frame_log::FrameLog;
-use crate::reading::{image_under, page_count_under, page_under};
-use dq_base::{Image, NumberedPage, Page, PageFault, PageSet, set_lengths};
+use crate::reading::{image_under, lengths_under, page_count_under, page_under};
+use dq_base::{Image, Lengths, NumberedPage, Page, PageFault, PageSet, set_lengths};
 use read_marks::{MarkFault, MarkId, Marks};
 use std::alloc::{AllocError, Global};
 use std::marker::Model;
@@ -79,6 +81,7 @@ impl PageStore {
         ensures done { OnOk result (self.new ≡ committed self.old pages.now) }
         ensures newest { IfOk result (λ mark. mark ≡ newest self.new) }
         ensures sound { OnOk result (page_fault pages.now ≡ None) }
+        ensures sized { OnOk result (AllByRecursion IsSized pages.now) }
         ensures refused { IfErr result (λ fault. IsRefusal fault (page_fault pages.now)) }
         ensures kept { OnErr result (self.new ≡ self.old) }
         ensures shown { (id : ℕ) → StillShows self.old self.new id }
@@ -160,6 +163,17 @@ impl PageStore {
         let side = self.side.as_slice();
         let all = self.log.len();
         page_count_under(main, side, &self.log, all)
+    }
+
+    /// The lengths of both files of the image with all commits, in bytes. Constant cost; takes no memory.
+    pub fn lengths(&self) -> Lengths
+        ensures main { result.main ≡ length (newest_image self.now).main }
+        ensures side { result.side ≡ length (newest_image self.now).side }
+    {
+        let main = self.main.as_slice();
+        let side = self.side.as_slice();
+        let all = self.log.len();
+        lengths_under(main, side, &self.log, all)
     }
 
     /// The image that a live mark shows. Copies the base, and lays the frames below the mark into the copy. `Err` is want

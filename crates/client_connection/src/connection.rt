@@ -1,6 +1,6 @@
-ghost use Rattle.std.specs.Prelude.{◌≡◌, [], ◌∷◌, ◌++◌, length, IfOk, OnOk, IsErr, MatchOption};
+ghost use Rattle.std.specs.Prelude.{◌≡◌, ◌||◌, not, nat_lt, ◌+◌, ◌≤◌, ◌<◌, ◌^◌, [], ◌∷◌, ◌++◌, length, take, sum_by, IfOk, OnOk, IsErr, MatchOption, if◌then◌else◌};
 ghost use Rattle.wire_words.specs.Stream.{going_on, client_limit, unread_bytes};
-ghost use Rattle.client_connection.specs.Connection.{IsFed, opened, received, reason_of, TakesFirst};
+ghost use Rattle.client_connection.specs.Connection.{IsFed, opened, received, with_more, held, room, message_size, version_room, stream_reason, reason_of, TakesFirst};
 
 use std::alloc::{AllocError, Global};
 use std::collections::VecDeque;
@@ -14,6 +14,8 @@ pub enum CloseReason {
     Version,
     /// Number 2: a header claims more words than a message may have.
     TooLong,
+    /// Number 3: there is no room for a client or for a byte of it.
+    Limit,
 }
 
 impl CloseReason {
@@ -26,11 +28,17 @@ impl CloseReason {
         match self {
             CloseReason::Version => 1,
             CloseReason::TooLong => 2,
+            CloseReason::Limit => 3,
         }
     }
 }
 
-/// A client's connection. Clauses see how its stream ends so far and the messages that wait.
+/// How many bytes of a connection may wait to be handled: 32 MiB. Those of a message that isn't there whole count, and header
+/// and body of each message that wasn't taken.
+pub const HELD_LIMIT: u64 = 33_554_432;
+
+/// A client's connection. Clauses see how its stream ends so far, the messages that wait, and whether a byte came for which
+/// there was no room.
 ///
 /// It holds the messages that were not taken and the part of a message that is unread, each byte once. The messages of
 /// the last piece stand in a list of their own until the next piece comes: so a piece that finds no memory changes
@@ -41,18 +49,22 @@ pub struct Connection {
     splitter: Splitter,
     earlier: VecDeque<Message>,
     latest: VecDeque<Message>,
+    // How many bytes the messages have that wait.
+    waiting_bytes: u64,
+    // The version word is there whole.
+    is_begun: bool,
+    is_full: bool,
 }
 
 impl Model for Connection {
     ghost use Rattle.std.specs.Prelude.{◌++◌};
-    ghost use Rattle.client_connection.specs.Connection.{Conn, IsFed};
+    ghost use Rattle.client_connection.specs.Connection.{Conn, Counts};
 
     ghost Value = { Conn };
 
-    ghost view = { λ c. record { end = c.splitter.end; waiting = c.earlier.items ++ c.latest.items } };
+    ghost view = { λ c. record { end = c.splitter.end; waiting = c.earlier.items ++ c.latest.items; full = c.is_full } };
 
-    // The splitter was fed a stream of a client.
-    ghost invariant = { λ c. IsFed c.splitter };
+    ghost invariant = { λ c. Counts c.splitter (c.earlier.items ++ c.latest.items) c.is_begun c.waiting_bytes };
 }
 
 // The messages that a piece adds. `Err` is want of memory, and changes nothing.
@@ -74,7 +86,7 @@ fn feed(alloc: Global, splitter: &mut Splitter, piece: &[u8]) -> Result<Vec<Mess
 fn end_reason(splitter: &mut Splitter) -> Result<Option<CloseReason>, AllocError>
     requires { IsFed splitter.old }
     ensures same { splitter.new ≡ splitter.old }
-    ensures reason { IfOk result (λ reason. reason ≡ reason_of splitter.old.end) }
+    ensures reason { IfOk result (λ reason. reason ≡ stream_reason splitter.old.end) }
 {
     match splitter.feed(&[]) {
         Ok(_) => Ok(None),
@@ -96,6 +108,49 @@ fn first_of(earlier: &mut VecDeque<Message>, latest: &mut VecDeque<Message>) -> 
     }
 }
 
+fn bytes_of(message: &Message) -> u64
+    requires { message_size message.now < 2 ^ 64 }
+    ensures { result ≡ message_size message.now }
+{
+    8 + message.body.len() as u64
+}
+
+fn bytes_of_all(messages: &[Message]) -> u64
+    requires { sum_by message_size messages.now < 2 ^ 64 }
+    ensures { result ≡ sum_by message_size messages.now }
+{
+    let mut count = 0;
+    for message in messages {
+        count += bytes_of(message);
+    }
+    count
+}
+
+// The part of a piece for which there is room.
+fn front_of(piece: &[u8], room: u64) -> &[u8]
+    ensures { result.now ≡ take room piece.now }
+{
+    if room < piece.len() as u64 {
+        &piece[..room as usize]
+    } else {
+        piece
+    }
+}
+
+// How many bytes of what is unread are the version word's.
+fn version_room(is_begun: bool) -> u64
+    ensures { result ≡ (if is_begun then 0 else 8) }
+{
+    if is_begun { 0 } else { 8 }
+}
+
+// Whether the version word is there whole, where so many bytes are unread.
+fn begins(is_begun: bool, unread: u64) -> bool
+    ensures { result ≡ (is_begun || not (nat_lt unread 8)) }
+{
+    is_begun || unread >= 8
+}
+
 impl Connection {
     /// A connection of which nothing has come. Takes no memory.
     pub fn new(alloc: Global) -> Connection
@@ -106,20 +161,57 @@ impl Connection {
             splitter: Splitter::new(alloc),
             earlier: VecDeque::new(alloc),
             latest: VecDeque::new(alloc),
+            waiting_bytes: 0,
+            is_begun: false,
+            is_full: false,
         }
     }
 
+    /// How many bytes are held: those that are unread, and header and body of each message that waits. Takes no memory.
+    #[tactic(auto, unfolding(crate::specs::Connection::held))]
+    pub fn held(&self) -> u64
+        ensures held { result ≡ held self.now }
+        ensures limit { result ≤ 33554432 + version_room self.now.end }
+    {
+        self.splitter.held() + self.waiting_bytes
+    }
+
+    // For how many bytes there is room. Before the version word is there whole, its eight bytes don't count.
+    fn room(&self) -> u64
+        ensures { result ≡ room self.now }
+    {
+        HELD_LIMIT + version_room(self.is_begun) - self.held()
+    }
+
+    // Reads bytes for which there is room. `Err` is want of memory, and changes nothing.
+    fn read(&mut self, bytes: &[u8]) -> Result<(), AllocError>
+        requires { length bytes.now ≤ room self.old }
+        ensures ok { OnOk result (self.new ≡ with_more self.old (going_on client_limit self.old.end bytes.now) self.old.full) }
+        ensures err { IsErr result → self.new ≡ self.old }
+    {
+        self.earlier.append(&mut self.latest)?;
+        let is_begun = begins(self.is_begun, self.splitter.held() + bytes.len() as u64);
+        let messages = feed(self.alloc, &mut self.splitter, bytes)?;
+        self.waiting_bytes += bytes_of_all(messages.as_slice());
+        self.is_begun = is_begun;
+        self.latest = VecDeque::from(messages);
+        Ok(())
+    }
+
     /// Takes the next piece of the stream, of any length: the messages that are whole with it wait behind those that wait
-    /// already. After the end of the stream nothing is read any more. `Err` is want of memory, and leaves the connection as
-    /// it was before the piece, so that the piece may be given again. Each byte is copied once, into its message; a message
-    /// that waits is moved once more, without its bytes.
+    /// already. After the end of the stream nothing is read any more, nor is a byte for which there is no room, or any byte
+    /// behind it. `Err` is want of memory, and leaves the connection as it was before the piece, so that the piece may be
+    /// given again. Each byte is copied once, into its message; a message that waits is moved once more, without its bytes.
     pub fn receive(&mut self, piece: &[u8]) -> Result<(), AllocError>
         ensures ok { OnOk result (self.new ≡ received self.old piece.now) }
         ensures err { IsErr result → self.new ≡ self.old }
     {
-        self.earlier.append(&mut self.latest)?;
-        let messages = feed(self.alloc, &mut self.splitter, piece)?;
-        self.latest = VecDeque::from(messages);
+        if self.is_full {
+            return Ok(());
+        }
+        let room = self.room();
+        self.read(front_of(piece, room))?;
+        self.is_full = room < piece.len() as u64;
         Ok(())
     }
 
@@ -127,16 +219,22 @@ impl Connection {
     pub fn next(&mut self) -> Option<Message>
         ensures { TakesFirst self.old self.new result }
     {
-        first_of(&mut self.earlier, &mut self.latest)
+        let message = first_of(&mut self.earlier, &mut self.latest)?;
+        self.waiting_bytes -= bytes_of(&message);
+        Some(message)
     }
 
-    /// Why the connection closes behind the messages that wait, if its stream is at its end. Nothing changes. `Err` is want
-    /// of memory.
+    /// Why the connection closes behind the messages that wait, if its stream is at its end or there was no room for a byte.
+    /// Where both are so, it is what came first. Nothing changes. `Err` is want of memory.
     pub fn close_reason(&mut self) -> Result<Option<CloseReason>, AllocError>
         ensures same { self.new ≡ self.old }
-        ensures reason { IfOk result (λ reason. reason ≡ reason_of self.old.end) }
+        ensures reason { IfOk result (λ reason. reason ≡ reason_of self.old) }
     {
-        end_reason(&mut self.splitter)
+        match end_reason(&mut self.splitter)? {
+            Some(reason) => Ok(Some(reason)),
+            None if self.is_full => Ok(Some(CloseReason::Limit)),
+            None => Ok(None),
+        }
     }
 
     /// How many bytes are unread: those of the message that isn't there whole yet. The messages that wait are not counted.

@@ -9,7 +9,11 @@ use Rattle.std.proofs.lemmas.List.Elements.{All-from_recursion, All-contains}
 use Rattle.frame_commands.specs.declared.command.Command.{Command}
 use Rattle.frame_commands.specs.declared.fault.CommandFault.{CommandFault}
 use Rattle.frame_commands.specs.Reading.{command_of}
-use Rattle.cluster_runner.specs.declared.database.Database.{Database}
+use Rattle.page_apply.specs.Files.{Content, act, files}
+use Rattle.page_apply.specs.AsMap.{Does}
+use Rattle.page_apply.proofs.AsMap.{files_in_order, files_changed}
+use Rattle.command_list.specs.Limits.{may_join}
+use Rattle.file_digest.specs.Digest.{digest}
 use Rattle.cluster_runner.specs.declared.cluster.Say.{Say}
 use Rattle.cluster_runner.specs.declared.cluster.Say.TheVariants.{Reply, Closed, Refused, Node, Machine}
 use Rattle.cluster_runner.specs.declared.grammar.Event.{Event}
@@ -25,16 +29,12 @@ use Rattle.cluster_runner.specs.declared.cluster.Client.{Client}
 use Rattle.cluster_runner.specs.declared.cluster.Client.TheVariants.{Open, Gone}
 use Rattle.cluster_runner.specs.World.{heard, served, replies, closing_line}
 use Rattle.cluster_runner.specs.World.{World, happens, node_standing}
-use Rattle.cluster_runner.specs.Machine.{act, files}
 use Rattle.cluster_runner.specs.Holding.{Holding}
-use Rattle.cluster_runner.specs.Digest.{digest}
-use Rattle.cluster_runner.specs.Limits.{may_join}
 use Rattle.cluster_runner.specs.Machines.{Fleet, idle, after_command, after_next, take_at, with_command, joins, refusal, applies, place_named, standing, standings}
 use Rattle.cluster_runner.specs.Scenes.{Scene, Nodes, Pages, plays, shown}
 use Rattle.cluster_runner.specs.Run.{Place, Opening, Within, Next, Fault, Run, idle_fleet, after_event, after_show, opened_at, line_step, said_step, step, onward, closing, run_from, run}
-use Rattle.cluster_runner.specs.ByName.{Does}
-use Rattle.cluster_runner.specs.Alike.{fleet_in, fleet_at, led, led_from, commands_of, moment, run_until, BeginsWith, Follows, IsDigestOf, Tells, KeepsAlike}
-use Rattle.cluster_runner.proofs.ByName.{files_in_order, files_changed}
+use Rattle.cluster_runner.specs.Alike.{fleet_in, fleet_at, led, led_from, commands_of, moment, run_until, BeginsWith, Follows, IsDigestOf, Tells, length_of_all, KeepsAlike}
+use Rattle.cluster_runner.proofs.Bounded.{list_sound, follower_within}
 use Rattle.cluster_runner.proofs.Elements.{all_weaker, all_append, all_set, all_get_or, where_some, where_mapped}
 use Rattle.cluster_runner.proofs.Choices.{some_is}
 use Rattle.cluster_runner.proofs.Sightings.{ok_is, all_seen}
@@ -83,7 +83,7 @@ follows_next commands machine (Some command) e f =
     let lt : machine.applied < length commands = slice_get_within commands machine.applied command e in
     record {
       within = omega (arith, lt);
-      holds = ap (λ (d : List Database). act d command) f.holds ∙ sym (fold-append act [] (take machine.applied commands) (command ∷ [])) ∙ ap files (sym (next_front commands machine.applied command e));
+      holds = ap (λ (d : List Content). act d command) f.holds ∙ sym (fold-append act [] (take machine.applied commands) (command ∷ [])) ∙ ap files (sym (next_front commands machine.applied command e));
     }
 
 -- ---- all machines
@@ -167,7 +167,7 @@ heard_tells world connection bytes (Some Gone) next e = subst (λ (n : World × 
 heard_tells world connection bytes (Some (Open c)) next e =
     let after = received c bytes in
     subst (λ (n : World × List Say). AllTell [] n.1) (some_is (served world connection after) next e)
-    (replies_tell world.leads connection after.waiting (closing_line connection (reason_of after.end)) (closing_line_tells connection (reason_of after.end)))
+    (replies_tell world.leads connection after.waiting (closing_line connection (reason_of after)) (closing_line_tells connection (reason_of after)))
 
 happens_tells : (world : World) (event : Event) (next : World × List Say) → happens world event ≡ Some next → AllTell [] next.1
 unfolding happens
@@ -330,12 +330,20 @@ module _ (script : List ℕ) where
   grows_to_end : (count : ℕ) → BeginsWith (commands_of script) (moment script count).commands
   grows_to_end count = lead_on Opening 1 (lines_of script) count tt
 
-  all_follow : (count : ℕ) → All (Follows (commands_of script)) (moment script count).machines
-  all_follow count =
+  each_follows : (count : ℕ) → AllByRecursion (Follows (commands_of script)) (moment script count).machines
+  each_follows count =
       let fleet = moment script count in
-      All-from_recursion (Follows (commands_of script)) fleet.machines
-      (all_weaker (Follows fleet.commands) (Follows (commands_of script)) (follows_grown (commands_of script) fleet.commands (grows_to_end count)) fleet.machines
-      (lead Opening 1 (take count (lines_of script)) tt).follow)
+      all_weaker (Follows fleet.commands) (Follows (commands_of script)) (follows_grown (commands_of script) fleet.commands (grows_to_end count)) fleet.machines
+      (lead Opening 1 (take count (lines_of script)) tt).follow
+
+  all_follow : (count : ℕ) → All (Follows (commands_of script)) (moment script count).machines
+  all_follow count = All-from_recursion (Follows (commands_of script)) (moment script count).machines (each_follows count)
+
+  all_bounded : (count : ℕ) → All (λ (machine : Holding). length_of_all machine.databases ≤ 67108864) (moment script count).machines
+  all_bounded count =
+      let machines = (moment script count).machines in
+      let P : Holding → Type 0 = λ machine. length_of_all machine.databases ≤ 67108864 in
+      All-from_recursion P machines (all_weaker (Follows (commands_of script)) P (follower_within (commands_of script) (list_sound script)) machines (each_follows count))
 
   same_holding : (early late : ℕ) (machine other : Holding) → Contains (moment script early).machines machine → Contains (moment script late).machines other → machine.applied ≡ other.applied → machine.databases ≡ other.databases
   same_holding early late machine other here there e =
@@ -371,6 +379,7 @@ module _ (script : List ℕ) where
     one_list = grows_to_end;
     follow = all_follow;
     same = same_holding;
+    bounded = all_bounded;
     told = all_told;
     same_digest = same_digests;
     told_until = all_told_until;

@@ -32,24 +32,24 @@ world_with leads clients = record { leads = leads; clients = clients }
 
 heard_is : (world mid new : World) (connection : ℕ) (bytes : List ℕ) (c : Conn) (client : Client) (said : List Say) → world.clients connection ≡ Some (Open c)
     → ((x : Client) → with_client mid connection x ≡ with_client world connection x) → mid.leads ≡ world.leads
-    → client ≡ left_open (reason_of (received c bytes).end) (answered (received c bytes))
-    → said ≡ replies mid.leads connection (received c bytes).waiting ++ closing_line connection (reason_of (received c bytes).end)
+    → client ≡ left_open (reason_of (received c bytes)) (answered (received c bytes))
+    → said ≡ replies mid.leads connection (received c bytes).waiting ++ closing_line connection (reason_of (received c bytes))
     → new ≡ with_client mid connection client → happens world (Bytes connection bytes) ≡ Some (new, said)
 unfolding happens
 heard_is world mid new connection bytes c client said stands others leads after told goes =
     let r = received c bytes in
-    let place : with_client world connection (left_open (reason_of r.end) (answered r)) ≡ new =
-    sym (goes ∙ ap (with_client mid connection) after ∙ others (left_open (reason_of r.end) (answered r))) in
-    let lines : replies world.leads connection r.waiting ++ closing_line connection (reason_of r.end) ≡ said =
-    sym (told ∙ ap (λ (b : Bool). replies b connection r.waiting ++ closing_line connection (reason_of r.end)) leads) in
+    let place : with_client world connection (left_open (reason_of r) (answered r)) ≡ new =
+    sym (goes ∙ ap (with_client mid connection) after ∙ others (left_open (reason_of r) (answered r))) in
+    let lines : replies world.leads connection r.waiting ++ closing_line connection (reason_of r) ≡ said =
+    sym (told ∙ ap (λ (b : Bool). replies b connection r.waiting ++ closing_line connection (reason_of r)) leads) in
     ap (heard world connection bytes) stands
-    ∙ ap (λ (w : World). Some (w, replies world.leads connection r.waiting ++ closing_line connection (reason_of r.end))) place
+    ∙ ap (λ (w : World). Some (w, replies world.leads connection r.waiting ++ closing_line connection (reason_of r))) place
     ∙ ap (λ (s : List Say). Some (new, s)) lines
 
 pub heard_so : (world mid new : World) (connection : ℕ) (bytes : List ℕ) (c : Conn) (client : Client) (said : List Say) (r : Result Unit AllocError) → world.clients connection ≡ Some (Open c)
     → ((x : Client) → with_client mid connection x ≡ with_client world connection x) → mid.leads ≡ world.leads
-    → client ≡ left_open (reason_of (received c bytes).end) (answered (received c bytes))
-    → said ≡ replies mid.leads connection (received c bytes).waiting ++ closing_line connection (reason_of (received c bytes).end)
+    → client ≡ left_open (reason_of (received c bytes)) (answered (received c bytes))
+    → said ≡ replies mid.leads connection (received c bytes).waiting ++ closing_line connection (reason_of (received c bytes))
     → OnOk r (new ≡ with_client mid connection client) → OnOk r (happens world (Bytes connection bytes) ≡ Some (new, said))
 heard_so world mid new connection bytes c client said (Err e) stands others leads after told goes = goes
 heard_so world mid new connection bytes c client said (Ok u) stands others leads after told goes = heard_is world mid new connection bytes c client said stands others leads after told goes

@@ -1,13 +1,10 @@
 pub mod Agreement
 pub mod Answering
-pub mod ByName
+pub mod Bounded
 pub mod Choices
-pub mod CommandSizes
-pub mod Databases
 pub mod Elements
 pub mod Halves
 pub mod HexWords
-pub mod NameLists
 pub mod Numbers
 pub mod Pieces
 pub mod Printed
@@ -16,6 +13,3 @@ pub mod Running
 pub mod Sightings
 pub mod SpelledLines
 pub mod Standings
-pub mod StatedTables
-pub mod Tables
-pub mod Statements

@@ -23,7 +23,7 @@ use Rattle.cluster_runner.specs.declared.cluster.Client.{Client}
 use Rattle.cluster_runner.specs.declared.cluster.Client.TheVariants.{Open, Gone}
 use Rattle.cluster_runner.specs.World.{heard, served, replies, closing_line}
 use Rattle.cluster_runner.specs.World.{World, happens, node_standing}
-use Rattle.cluster_runner.specs.Digest.{digest}
+use Rattle.file_digest.specs.Digest.{digest}
 use Rattle.cluster_runner.specs.Holding.{Holding}
 use Rattle.cluster_runner.specs.Machines.{Fleet, idle, joins, refusal, applies, place_named, take_at, standing, standing_of, standings}
 use Rattle.cluster_runner.specs.Scenes.{Scene, Nodes, Pages, plays, shown}
@@ -93,7 +93,7 @@ heard_seen fleet world connection bytes (Some Gone) next e = subst (λ (n : Worl
 heard_seen fleet world connection bytes (Some (Open c)) next e =
     let after = received c bytes in
     subst (λ (n : World × List Say). AllSeenIn fleet n.1) (some_is (served world connection after) next e)
-    (replies_seen fleet world.leads connection after.waiting (closing_line connection (reason_of after.end)) (closing_line_seen fleet connection (reason_of after.end)))
+    (replies_seen fleet world.leads connection after.waiting (closing_line connection (reason_of after)) (closing_line_seen fleet connection (reason_of after)))
 
 happens_seen : (fleet : Fleet) (world : World) (event : Event) (next : World × List Say) → happens world event ≡ Some next → AllSeenIn fleet next.1
 unfolding happens

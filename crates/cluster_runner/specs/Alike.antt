@@ -1,14 +1,15 @@
 -- A run has one list of commands, and machines that have applied as many of them hold the same files and pending pages, at
 -- whichever moments of the run.
-use Rattle.std.specs.Prelude.{◌≡◌, ◌≤◌, ◌+◌, ℕ, suc, List, [], ◌∷◌, ◌++◌, length, take, slice_get, All, Contains, Some, None, Ok, Err, ⊤}
+use Rattle.std.specs.Prelude.{◌≡◌, ◌≤◌, ◌+◌, ℕ, suc, List, [], ◌∷◌, ◌++◌, length, take, slice_get, sum_by, All, Contains, Some, None, Ok, Err, ⊤}
 use Rattle.frame_commands.specs.declared.command.Command.{Command}
 use Rattle.cluster_runner.specs.declared.cluster.Say.{Say}
 use Rattle.cluster_runner.specs.declared.cluster.Say.TheVariants.{Reply, Closed, Refused, Node, Machine}
 use Rattle.cluster_runner.specs.Lines.{lines_of}
-use Rattle.cluster_runner.specs.Machine.{files}
+use Rattle.page_apply.specs.Files.{Content, files}
+use Rattle.page_apply.specs.Stated.{length_of_files}
+use Rattle.page_apply.specs.AsMap.{AreInOrder, Does}
+use Rattle.file_digest.specs.Digest.{digest}
 use Rattle.cluster_runner.specs.Holding.{Holding}
-use Rattle.cluster_runner.specs.Digest.{digest}
-use Rattle.cluster_runner.specs.ByName.{AreInOrder, Does}
 use Rattle.cluster_runner.specs.Machines.{Fleet, standing_of}
 use Rattle.cluster_runner.specs.Scenes.{Scene, Nodes, Pages}
 use Rattle.cluster_runner.specs.Run.{Place, Opening, Within, Next, Run, idle_fleet, step, closing, run_from, run}
@@ -86,6 +87,10 @@ IsSeenIn fleet (Machine number applied bytes) = standing_of fleet number ≡ Som
 abbrev pub IsSeen : List ℕ → Say → Type 0
 IsSeen script say = (count : ℕ) × IsSeenIn (moment script count) say
 
+-- how long the files of databases are, all together
+abbrev pub length_of_all : List Content → ℕ
+length_of_all contents = sum_by (λ (content : Content). length_of_files content.image) contents
+
 -- What every run of a script keeps, of one list of commands.
 pub record KeepsAlike (script : List ℕ) : Type 0 where
   -- From a moment to a later one the list only grows, at its end.
@@ -97,6 +102,8 @@ pub record KeepsAlike (script : List ℕ) : Type 0 where
   -- So at any two moments machines that have applied as many commands hold the same.
   pub same : (early late : ℕ) (machine other : Holding) → Contains (moment script early).machines machine → Contains (moment script late).machines other → machine.applied ≡ other.applied
       → machine.databases ≡ other.databases
+  -- At each moment the files of each machine are together at most 67,108,864 bytes long.
+  pub bounded : (count : ℕ) → All (λ (machine : Holding). length_of_all machine.databases ≤ 67108864) (moment script count).machines
   -- Each line that is printed of a machine is of that list, also in a script that has a fault.
   pub told : All (Tells (commands_of script)) (run script).said
   -- And it is how the machine of its number stands at some moment.

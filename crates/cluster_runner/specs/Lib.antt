@@ -5,15 +5,10 @@ pub mod Spelling
 pub mod Answers
 pub mod World
 pub mod Holding
-pub mod Digest
 pub mod Machines
 pub mod Scenes
 pub mod Run
 pub mod Steps
-pub mod ByName
 pub mod Alike
 pub mod Outcome
 pub mod Stops
-pub mod Machine
-pub mod Limits
-pub mod StatedLengths

@@ -9,10 +9,10 @@ use Rattle.cluster_runner.specs.declared.cluster.Say.TheVariants.{Refused, Machi
 use Rattle.cluster_runner.specs.declared.grammar.Event.{Event}
 use Rattle.cluster_runner.specs.declared.grammar.Event.TheVariants.{Timeout, Connect, Bytes, Hangup, Put, Take}
 use Rattle.cluster_runner.specs.declared.machines.Machines.{Machines}
-use Rattle.cluster_runner.specs.Machine.{act}
+use Rattle.page_apply.specs.Files.{act}
 use Rattle.cluster_runner.specs.Holding.{Holding}
-use Rattle.cluster_runner.specs.Limits.{may_join}
-use Rattle.cluster_runner.specs.Digest.{digest}
+use Rattle.command_list.specs.Limits.{may_join}
+use Rattle.file_digest.specs.Digest.{digest}
 
 -- a list of commands, and the machines by their numbers from 1
 pub record Fleet : Type 0 where

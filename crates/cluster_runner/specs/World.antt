@@ -13,7 +13,7 @@ use Rattle.cluster_runner.specs.declared.cluster.Cluster.{Cluster}
 use Rattle.cluster_runner.specs.declared.grammar.Event.{Event}
 use Rattle.cluster_runner.specs.declared.grammar.Event.TheVariants.{Timeout, Connect, Bytes, Hangup, Put, Take}
 use Rattle.cluster_runner.specs.Answers.{answer}
-use Rattle.cluster_runner.specs.Digest.{digest}
+use Rattle.file_digest.specs.Digest.{digest}
 
 -- node 1, the only voter: whether it leads, and each client's connection
 pub record World : Type 0 where
@@ -53,7 +53,7 @@ closing_line connection (Some reason) = Closed connection reason ∷ []
 
 -- a connection of which no message waits any more
 abbrev pub answered : Conn → Conn
-answered c = record { end = c.end; waiting = [] }
+answered c = record { end = c.end; waiting = []; full = c.full }
 
 -- a connection, unless it has closed
 abbrev pub left_open : Option CloseReason → Conn → Client
@@ -63,7 +63,7 @@ left_open (Some reason) c = Gone
 -- the world after the messages that wait on a connection were answered, and what was said
 abbrev pub served : World → ℕ → Conn → World × List Say
 served world connection c =
-    (with_client world connection (left_open (reason_of c.end) (answered c)), replies world.leads connection c.waiting ++ closing_line connection (reason_of c.end))
+    (with_client world connection (left_open (reason_of c) (answered c)), replies world.leads connection c.waiting ++ closing_line connection (reason_of c))
 
 -- what a client's bytes do on a connection that stands so
 abbrev pub heard : World → ℕ → List ℕ → Option Client → Option (World × List Say)

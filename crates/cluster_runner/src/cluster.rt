@@ -6,9 +6,9 @@ ghost use Rattle.client_connection.specs.Connection.{received, reason_of};
 ghost use Rattle.cluster_runner.specs.World.{replies, closing_line, answered, left_open};
 
 use crate::answers::answer;
-use crate::digest::digest;
 use crate::grammar::Event;
 use client_connection::{CloseReason, Connection};
+use file_digest::digest;
 use std::alloc::{AllocError, AllocFailed, Global};
 use std::collections::BTreeMap;
 use wire_words::WireBytes;
@@ -110,8 +110,8 @@ fn answer_waiting(
 
 /// Closes the connection where its stream is at its end.
 fn close(connection: u32, client: Connection, said: &mut Vec<Say>) -> Result<Client, AllocError>
-    ensures client { IfOk result (λ after. after ≡ left_open (reason_of client.end) client) }
-    ensures said { OnOk result (said.new.items ≡ said.old.items ++ closing_line connection (reason_of client.end)) }
+    ensures client { IfOk result (λ after. after ≡ left_open (reason_of client) client) }
+    ensures said { OnOk result (said.new.items ≡ said.old.items ++ closing_line connection (reason_of client)) }
 {
     let mut client = client;
     let Some(reason) = client.close_reason()? else {
@@ -131,9 +131,9 @@ fn serve(
     said: &mut Vec<Say>,
 ) -> Result<Client, AllocError>
     requires { said.old.items ≡ [] }
-    ensures client { IfOk result (λ after. after ≡ left_open (reason_of (received client bytes.now).end) (answered (received client bytes.now))) }
+    ensures client { IfOk result (λ after. after ≡ left_open (reason_of (received client bytes.now)) (answered (received client bytes.now))) }
     ensures said { OnOk result (said.new.items ≡ replies leads connection (received client bytes.now).waiting
-        ++ closing_line connection (reason_of (received client bytes.now).end)) }
+        ++ closing_line connection (reason_of (received client bytes.now))) }
 {
     let mut client = client;
     client.receive(bytes)?;

@@ -3,21 +3,16 @@
 
 mod answers;
 mod cluster;
-mod command_list;
-mod database;
-mod digest;
 mod grammar;
 mod laws;
 mod lines;
-mod machine;
 mod machines;
 mod printing;
 mod run;
 mod scene;
 mod stage;
-mod stated;
 
 pub use cluster::Say;
 pub use grammar::{Event, ScriptLine};
-pub use laws::{limits_bound_what_is_stated, lines_read_back};
+pub use laws::lines_read_back;
 pub use run::{Outcome, run_script};

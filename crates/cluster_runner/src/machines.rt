@@ -6,51 +6,51 @@ ghost use Rattle.frame_commands.specs.Reading.{command_of};
 ghost use Rattle.cluster_runner.specs.Machines.{place_named, refusal};
 
 use crate::cluster::{EventFault, Say};
-use crate::command_list::CommandList;
-use crate::database::Database;
-use crate::digest::digest;
 use crate::grammar::Event;
-use crate::machine::act;
+use command_list::CommandList;
+use file_digest::digest;
 use frame_commands::{CommandFault, read_command};
+use page_apply::Machine;
 use std::alloc::{AllocError, Global};
 use std::marker::Model;
 
-/// One machine: its databases, and how many commands it has applied.
+/// One machine, and how many commands of the list it has applied.
 #[derive(Debug, Drop)]
-pub(crate) struct Machine {
-    databases: Vec<Database>,
+pub(crate) struct Replica {
+    machine: Machine,
     applied: usize,
 }
 
-impl Model for Machine {
+impl Model for Replica {
+    ghost use Rattle.page_apply.specs.Databases.{contents_of};
     ghost use Rattle.cluster_runner.specs.Holding.{Holding};
 
     ghost Value = { Holding };
 
-    ghost view = { λ m. record { databases = m.databases.items; applied = m.applied } };
+    ghost view = { λ r. record { databases = contents_of r.machine; applied = r.applied } };
 }
 
-impl Machine {
+impl Replica {
     ghost use Rattle.cluster_runner.specs.Machines.{idle, after_next, standing};
 
     /// A machine that has applied nothing.
-    fn new(alloc: Global) -> Machine
+    fn new(alloc: Global) -> Replica
         ensures { result ≡ idle }
     {
-        Machine {
-            databases: Vec::new(alloc),
+        Replica {
+            machine: Machine::new(alloc),
             applied: 0,
         }
     }
 
     /// Applies the next command of a list, where it has not applied all of them.
-    fn take_next(&mut self, alloc: Global, commands: &CommandList) -> Result<(), AllocError>
+    fn take_next(&mut self, commands: &CommandList) -> Result<(), AllocError>
         ensures { OnOk result (self.new ≡ after_next commands.now self.old) }
     {
         let Some(command) = commands.get(self.applied) else {
             return Ok(());
         };
-        act(alloc, &mut self.databases, command)?;
+        self.machine.act(command)?;
         self.applied += 1;
         Ok(())
     }
@@ -59,7 +59,7 @@ impl Machine {
     fn standing(&self, number: u64) -> Say
         ensures { result ≡ standing number self.now }
     {
-        let digest = digest(self.databases.as_slice());
+        let digest = digest(self.machine.databases());
         Say::Machine {
             number,
             applied: self.applied as u64,
@@ -72,7 +72,7 @@ impl Machine {
 #[derive(Debug, Drop)]
 pub(crate) struct Machines {
     commands: CommandList,
-    machines: Vec<Machine>,
+    machines: Vec<Replica>,
 }
 
 /// The place of a machine's number among so many.
@@ -108,7 +108,7 @@ impl Machines {
     {
         let mut machines = Vec::new(alloc);
         for _made in 0..count {
-            machines.push(Machine::new(alloc))?;
+            machines.push(Replica::new(alloc))?;
         }
         Ok(Machines {
             commands: CommandList::new(alloc),
@@ -130,7 +130,7 @@ impl Machines {
 
     /// A machine applies the next command of the list.
     #[tactic(auto, unfolding(crate::specs::Machines::applies))]
-    fn take_next(&mut self, alloc: Global, number: u32) -> Result<(), EventFault>
+    fn take_next(&mut self, number: u32) -> Result<(), EventFault>
         ensures ok { OnOk result (applies (fleet_of self.old) (Event.Take number) ≡ Some (fleet_of self.new, [])) }
         ensures fault { IsErrOf result EventFault.NotThere → applies (fleet_of self.old) (Event.Take number) ≡ None }
         ensures kept { IsErrOf result EventFault.NotThere → fleet_of self.new ≡ fleet_of self.old }
@@ -139,7 +139,7 @@ impl Machines {
             return Err(EventFault::NotThere);
         };
         let machine = &mut self.machines[place];
-        machine.take_next(alloc, &self.commands)?;
+        machine.take_next(&self.commands)?;
         Ok(())
     }
 
@@ -157,7 +157,7 @@ impl Machines {
                 Ok(refusal(alloc, joined)?)
             }
             Event::Take { machine } => {
-                self.take_next(alloc, machine)?;
+                self.take_next(machine)?;
                 Ok(Vec::new(alloc))
             }
             Event::Timeout { .. }

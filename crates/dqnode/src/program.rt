@@ -118,7 +118,7 @@ pub fn dqnode<S: Source, K: Sink>(
     // The script's first fault is that it has too many lines or events; the bytes read show it, and it is said.
     ensures large { result ≡ 9 → IsScript words.now × Faults Large (S.left input.old) (S.left input.new) (K.written output.old) (K.written output.new) }
     // A run has one list of commands: at every moment machines that have applied as many of them hold the same files and
-    // pending pages, and are shown so.
+    // pending pages, and are shown so. The files of each are together at most 67,108,864 bytes long.
     ensures alike { (script : List ℕ) → KeepsAlike script }
     // The input, the output failed in this call.
     ensures read_fault { result ≡ 3 → IsScript words.now × Rose (S.faults input.old) (S.faults input.new) }

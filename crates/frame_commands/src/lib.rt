@@ -19,4 +19,3 @@ pub use laws::{
 pub use reading::read_command;
 pub use splitting::{can_split, split};
 pub use writing::write_command;
-

@@ -15,7 +15,7 @@ use Rattle.page_apply.specs.Files as files
 use Rattle.page_apply.specs.Databases.{content_of, contents_of, has_name, opened, grown, with_commit, with_pending, frames, undone, moved, changed, act}
 use Rattle.page_apply.proofs.Named.{map_at_name, map_change_first}
 
-committed_image : (store : Store) (pages : List NumberedPage) → newest_image (committed store pages) ≡ applied (newest_image store) pages
+pub committed_image : (store : Store) (pages : List NumberedPage) → newest_image (committed store pages) ≡ applied (newest_image store) pages
 committed_image store pages = after_sets-append store.base store.sets (pages ∷ [])
 
 -- a checkpoint changes no image

@@ -40,7 +40,7 @@ not_refused true rest e = refl
 not_refused false rest e = absurd cc
 
 -- pages without a fault end in a sizes page
-fault_free : (last : Option NumberedPage) (front : List NumberedPage) → fault_before last front ≡ None → (p : NumberedPage) × (last ≡ Some p) × (is_sizes p ≡ true)
+pub fault_free : (last : Option NumberedPage) (front : List NumberedPage) → fault_before last front ≡ None → (p : NumberedPage) × (last ≡ Some p) × (is_sizes p ≡ true)
 unfolding fault_before
 fault_free None front e = absurd cc
 fault_free (Some p) front e = (p, refl, not_refused (is_sizes p) (earlier (order_fault 1 front) (length_fault (stated_main p.page) (stated_side p.page) front)) e)

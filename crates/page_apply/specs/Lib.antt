@@ -5,3 +5,6 @@ pub mod Databases
 pub mod Pins
 pub mod Machines
 pub mod Stated
+pub mod Logs
+pub mod Snapshot
+pub mod Restoring

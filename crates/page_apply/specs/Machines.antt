@@ -3,9 +3,10 @@ use Rattle.std.specs.Prelude.{◌≢◌, ℕ, ◌<◌, List, [], ◌∷◌, leng
 use Rattle.std.specs.List.{AllByRecursion}
 use Rattle.dq_base.specs.declared.pages.PageSet.{PageSet}
 use Rattle.frame_commands.specs.Numbers.{AreLow}
-use Rattle.checkpoint_core.specs.Store.{MarksWithin}
+use Rattle.checkpoint_core.specs.Store.{Store, newest_image, MarksWithin}
 use Rattle.page_apply.specs.declared.database.Database.{Database}
 use Rattle.page_apply.specs.ByName.{Ascend}
+use Rattle.page_apply.specs.Logs.{IsShort}
 
 -- the names of databases, as they stand
 abbrev pub names_of : List Database → List (List ℕ)
@@ -32,11 +33,19 @@ IsPendingLow (Some pending) = AreLow pending.pages
 abbrev pub AllPendingLow : List Database → Type 0
 AllPendingLow databases = AllByRecursion (λ d. IsPendingLow d.pending) databases
 
--- Databases stand by their names, each once; their places in the order of opening are
--- different numbers below their count; no mark sees too much, and no pending page has too high a number.
+-- Databases stand by their names, each once; their places in the order of opening are different numbers below their count;
+-- no mark sees too much, and no pending page has too high a number.
 pub record IsMachine (databases : List Database) : Type 0 where
   pub in_order : Ascend (names_of databases)
   pub below : AreBelow (length databases) databases
   pub apart : AreApart databases
   pub marks : AllWithin databases
   pub numbers : AllPendingLow databases
+
+-- no file is longer than a sizes page may state
+abbrev pub AllShort : List Database → Type 0
+AllShort databases = AllByRecursion (λ d. IsShort (newest_image d.store)) databases
+
+-- a change that leaves every file short where all were
+abbrev pub StaysShort : Store → Store → Type 0
+StaysShort old new = IsShort (newest_image old) → IsShort (newest_image new)

@@ -4,15 +4,17 @@ ghost use Rattle.std.specs.Prelude.{◌≡◌, ◌++◌, take, length, is_none, 
 ghost use Rattle.dq_base.specs.Applying.{page_fault};
 ghost use Rattle.checkpoint_core.specs.Store.{committed};
 ghost use Rattle.page_apply.specs.Files.{pending_of};
+ghost use Rattle.page_apply.specs.Machines.{StaysShort};
 ghost use Rattle.page_apply.specs.Databases.{opened, with_commit, with_pending, pages_in, is_pending, frames, undone, moved};
 
 use checkpoint_core::PageStore;
 use dq_base::{Image, Items, Name, NumberedPage, PageFault, PageSet};
 use std::alloc::{AllocError, Global};
 
-/// A database: its pages under readers, and the pages of a transaction that has not ended.
+/// A database of a machine: its pages under readers, and the pages of a transaction that has not ended. `Machine::databases`
+/// lends all of them to be read.
 #[derive(Debug, Drop)]
-pub(crate) struct Database {
+pub struct Database {
     pub(crate) name: Name,
     /// Its place in the machine's order of opening.
     pub(crate) place: usize,
@@ -27,6 +29,7 @@ pub(crate) struct Database {
 fn commit_or_stay(store: &mut PageStore, pages: &[NumberedPage]) -> Result<bool, AllocError>
     ensures sound { IfOk result (λ done. done ≡ is_none (page_fault pages.now)) }
     ensures ok { OnOk result (store.new ≡ (if is_none (page_fault pages.now) then committed store.old pages.now else store.old)) }
+    ensures short { OnOk result (StaysShort store.old store.new) }
     ensures kept { OnErr result (store.new ≡ store.old) }
 {
     match store.commit_pages(pages) {
@@ -53,6 +56,7 @@ impl Database {
     /// Makes pages one more commit, where they can be applied. `Err` is want of memory; the database is then unchanged.
     fn commit(&mut self, pages: &[NumberedPage]) -> Result<(), AllocError>
         ensures ok { OnOk result (self.new ≡ with_commit pages.now self.old) }
+        ensures short { OnOk result (StaysShort self.old.store self.new.store) }
         ensures kept { OnErr result (self.new ≡ self.old) }
     {
         let done = commit_or_stay(&mut self.store, pages)?;
@@ -101,6 +105,7 @@ impl Database {
         ensures all { OnOk result (all.new.items ≡ all.old.items ++ pages.now) }
         ensures ok { OnOk result (self.new ≡ (if commit then with_commit (all.old.items ++ pages.now) self.old else self.old)) }
         ensures front { OnErr result (take (length all.old.items) all.new.items ≡ all.old.items) }
+        ensures short { OnOk result (StaysShort self.old.store self.new.store) }
         ensures kept { OnErr result (self.new ≡ self.old) }
     {
         all.extend_from_slice(pages)?;
@@ -122,6 +127,7 @@ impl Database {
     ) -> Result<(), AllocError>
         requires { is_pending tx self.old.pending ≡ true }
         ensures ok { OnOk result (self.new ≡ frames tx commit pages.now self.old) }
+        ensures short { OnOk result (StaysShort self.old.store self.new.store) }
         ensures kept { OnErr result (self.new ≡ self.old) }
     {
         let mut all = self.take_pending(alloc);
@@ -149,6 +155,7 @@ impl Database {
         pages: &[NumberedPage],
     ) -> Result<(), AllocError>
         ensures ok { OnOk result (self.new ≡ frames tx commit pages.now self.old) }
+        ensures short { OnOk result (StaysShort self.old.store self.new.store) }
         ensures kept { OnErr result (self.new ≡ self.old) }
     {
         if self.awaits(tx) {

@@ -1,12 +1,19 @@
-ghost use Rattle.std.specs.Prelude.{◌≡◌, ℕ, ◌≤◌, List, [], ◌∷◌, ◌++◌, fold, sum_by};
+ghost use Rattle.std.specs.Prelude.{◌≡◌, ℕ, ◌≤◌, List, [], ◌∷◌, ◌++◌, length, fold, sum_by, Ok, None, Some};
 ghost use Rattle.std.specs.List.{AllByRecursion, Contains};
 ghost use Rattle.page_apply.specs.Stated.{greatest_stated, length_of_files, IsSpelled, names_opened};
+ghost use Rattle.dq_base.specs.declared.images.Image.{Image};
 ghost use Rattle.dq_base.specs.declared.pages.PageSet.{PageSet};
+ghost use Rattle.dq_base.specs.Applying.{applied, page_fault};
+ghost use Rattle.dq_base.specs.Images.{page_at, page_count};
+ghost use Rattle.page_apply.specs.Logs.{IsShort, all_pages};
 ghost use Rattle.frame_commands.specs.declared.command.Command.{Command};
 ghost use Rattle.frame_commands.specs.Splitting.{split};
 ghost use Rattle.page_apply.specs.declared.database.Database.{Database};
-ghost use Rattle.page_apply.specs.Files.{Content, changed, applied_set, NonePending, files};
+ghost use Rattle.page_apply.specs.Files.{Content, empty_image, changed, applied_set, NonePending, files};
 ghost use Rattle.page_apply.specs.Files as of_files;
+ghost use Rattle.wire_words.specs.Items.{AreBytes};
+ghost use Rattle.page_apply.specs.Snapshot.{IsSnapshot};
+ghost use Rattle.page_apply.specs.Restoring.{snapshot_of, restored};
 ghost use Rattle.page_apply.specs.AsMap.{AreInOrder, Does};
 ghost use Rattle.page_apply.specs.Databases.{contents_of, act};
 
@@ -46,4 +53,22 @@ pub fn limit_bounds_files()
         AllByRecursion (λ name. Contains names name) (names_opened (front ++ later)) →
         sum_by (greatest_stated (front ++ later)) names ≤ limit →
         sum_by (λ (content : Content). length_of_files content.image) (files front) ≤ limit }
+{}
+
+/// Bytes are read as a machine exactly where they are its snapshot: what is read is spelled so, and what is spelled so is
+/// read. What a machine that was read shows is what its snapshot says.
+pub fn snapshots_read_back()
+    ensures spelled { (contents : List Content) (bytes : List ℕ) → AreBytes bytes → snapshot_of bytes ≡ Ok contents → IsSnapshot contents bytes }
+    ensures read { (contents : List Content) (bytes : List ℕ) → IsSnapshot contents bytes → snapshot_of bytes ≡ Ok contents }
+    ensures shown { (contents : List Content) → contents_of (restored contents) ≡ contents }
+{}
+
+/// The pages that a snapshot holds of an image are as many as its page count says, and each is the image's page of its
+/// number. They are a set without a fault, so their numbers ascend and the sizes page is the last; and two empty files
+/// become the image by them.
+pub fn images_are_their_pages()
+    ensures count { (image : Image) → length (all_pages image) ≡ page_count image }
+    ensures each { (image : Image) → AllByRecursion (λ p. page_at image p.number ≡ Some p.page) (all_pages image) }
+    ensures sound { (image : Image) → IsShort image → page_fault (all_pages image) ≡ None }
+    ensures whole { (image : Image) → IsShort image → applied empty_image (all_pages image) ≡ image }
 {}

@@ -8,7 +8,7 @@ ghost use Rattle.checkpoint_core.specs.Store.{newest, newest_image};
 ghost use Rattle.page_apply.specs.ByName.{change_first, Ascend};
 ghost use Rattle.page_apply.specs.declared.database.Database.{Database};
 ghost use Rattle.page_apply.specs.Files as of_files;
-ghost use Rattle.page_apply.specs.Machines.{names_of};
+ghost use Rattle.page_apply.specs.Machines.{names_of, AllShort};
 ghost use Rattle.page_apply.specs.Pins.{Pinning, StillPinned};
 ghost use Rattle.page_apply.specs.Databases.{contents_of, has_name, named, frames, undone, moved, changed, act, tx_pending};
 
@@ -24,19 +24,19 @@ use std::marker::Model;
 #[derive(Debug, Drop)]
 pub struct Machine {
     pub(crate) databases: Vec<Database>,
-    alloc: Global,
+    pub(crate) alloc: Global,
 }
 
 impl Model for Machine {
     ghost use Rattle.std.specs.Prelude.{List};
     ghost use Rattle.page_apply.specs.declared.database.Database.{Database};
-    ghost use Rattle.page_apply.specs.Machines.{IsMachine};
+    ghost use Rattle.page_apply.specs.Machines.{IsMachine, AllShort};
 
     ghost Value = { List Database };
 
     ghost view = { λ m. m.databases.items };
 
-    ghost invariant = { λ m. IsMachine m.databases.items };
+    ghost invariant = { λ m. IsMachine m.databases.items × AllShort m.databases.items };
 }
 
 /// Takes pages of a transaction into the database of a name, which is made where there is none. `Err` is want of memory;
@@ -50,6 +50,7 @@ fn take_frames(
     pages: &[NumberedPage],
 ) -> Result<(), AllocError>
     ensures ok { OnOk result (databases.new.items ≡ changed name.now (frames tx commit pages.now) databases.old.items) }
+    ensures short { OnOk result (AllShort databases.old.items → AllShort databases.new.items) }
     ensures kept { OnErr result (databases.new.items ≡ databases.old.items) }
 {
     match place_of(databases.as_slice(), name.as_str()) {
@@ -115,6 +116,7 @@ fn names(alloc: Global, databases: &[Database]) -> Result<Vec<Name>, AllocError>
 #[tactic(auto, unfolding(crate::specs::Databases::act))]
 fn act_on(alloc: Global, databases: &mut Vec<Database>, command: &Command) -> Result<(), AllocError>
     ensures ok { OnOk result (databases.new.items ≡ act databases.old.items command.now) }
+    ensures short { OnOk result (AllShort databases.old.items → AllShort databases.new.items) }
     ensures kept { OnErr result (databases.new.items ≡ databases.old.items) }
 {
     match command {

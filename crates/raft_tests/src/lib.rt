@@ -3,6 +3,8 @@
 #![tactic(auto)]
 
 #[cfg(test)]
+mod figure;
+#[cfg(test)]
 mod logs;
 #[cfg(test)]
 mod nodes;

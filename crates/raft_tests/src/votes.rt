@@ -154,19 +154,19 @@ fn two_candidates() -> (bool, bool) {
     (first, second)
 }
 
-// Whether a node of a term stands for election, and its term then.
-fn timeout_at(term: u64) -> (bool, u64) {
+// Whether a node of a term, with a vote for node 2, stands for election, and its term and its vote then.
+fn timeout_at(term: u64) -> (bool, u64, u64) {
     let mut votes = VoteCore::new(1, term, 2);
     let stands = votes.on_timeout();
-    (stands, votes.term())
+    (stands, votes.term(), votes.vote())
 }
 
 // Two candidates of one term: the first one that asks has the vote.
 #[test]
 fn one_vote_a_term(rt: HostRuntime) -> Result<(), Fail> {
     assert_eq!(rt; two_candidates(), (true, false));
-    assert_eq!(rt; timeout_at(4_294_967_294), (true, 4_294_967_295));
-    assert_eq!(rt; timeout_at(4_294_967_295), (false, 4_294_967_295));
+    assert_eq!(rt; timeout_at(4_294_967_294), (true, 4_294_967_295, 1));
+    assert_eq!(rt; timeout_at(4_294_967_295), (false, 4_294_967_295, 2));
     Ok(())
 }
 

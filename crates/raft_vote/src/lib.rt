@@ -31,4 +31,3 @@ pub use server::{Server, ServerRole, Servers};
 pub use servers_fault::ServersFault;
 pub use votes::VoteCore;
 pub use writing::write_message;
-

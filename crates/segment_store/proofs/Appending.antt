@@ -39,11 +39,14 @@ may_grow s k d l room o = subst (λ (n : Option ℕ). MayGrow s.next n (folder d
 last_is : (s : Open) (k : Kept) (d : Disk Text) (l number : ℕ) (g : Grows s.next l (folder d)) → number ≡ s.next - 1 → g.last ≡ number
 last_is s k d l number g is = omega (arith, is, g.before)
 
-grow_may_write : (s : Open) (k : Kept) (l number : ℕ) → room_in s.size ≡ Some l → number ≡ s.next - 1 → (d : Disk Text) → IsOpen s k (folder d) → MayWrite (file_name (Segment number)) l d
+pub grow_may_write : (s : Open) (k : Kept) (l number : ℕ) → room_in s.size ≡ Some l → number ≡ s.next - 1 → (d : Disk Text) → IsOpen s k (folder d) → MayWrite (file_name (Segment number)) l d
 grow_may_write s k l number room is d o =
     let g = may_grow s k d l room o in
     subst (λ (n : ℕ). MayWrite (file_name (Segment n)) l d) (last_is s k d l number g is)
     (record { within = omega (arith, g.size.1); no_removal = λ q. not_gone _ (sym (o.settled.segment g.last).standing ∙ q) })
+
+pub is_free : (s : Open) (k : Kept) (d : Disk Text) → IsOpen s k (folder d) → IsFree (file_name (Segment s.next)) d
+is_free s k d o = record { not_there = o.settled.above s.next (omega arith); rest = o.settled.segment s.next }
 
 module _ {E : Type 0} (tells : Bool) (before after : Disk Text → Type 0) (s now : Open) (k : Kept) (b : Log) (fits : Fits b) (can : CanAppend k b) (result : Result Unit E) where
   abbrev count : ℕ
@@ -74,7 +77,7 @@ module _ {E : Type 0} (tells : Bool) (before after : Disk Text → Type 0) (s no
       → (Known tells before (IsFree (file_name (Segment s.next))) → Went (begin_calls (file_name (Segment s.next)) segment_word (batch_bytes b)) before after result)
       → Keeps tells before after s now (with_appended count s).next k (with_batch b k) result
   begin_kept room noted went known =
-      let free = known_map tells before (λ d. IsOpen s k (folder d)) (IsFree (file_name (Segment s.next))) known (λ d o. record { not_there = o.settled.above s.next (omega arith); rest = o.settled.segment s.next }) in
+      let free = known_map tells before (λ d. IsOpen s k (folder d)) (IsFree (file_name (Segment s.next))) known (λ d o. is_free s k d o) in
       as_noted tells before after s now (appended_to None count s) (with_appended count s).next k (with_batch b k) result noted (λ y. known_went _ before after result tells (λ d. IsOpen s k (folder d)) (λ e. HasNew (appended_to None count s) (with_batch b k) (folder e)) (λ e. OldOrNew (with_appended count s).next k (with_batch b k) (folder e)) y (went free)
       (λ d e o u. begin_done k b fits can s d o e u)
       (λ d e o u. subst (λ (t : ℕ). OldOrNew t k (with_batch b k) (folder e)) (ap (λ (r : Option ℕ). (appended_to r count s).next) (sym room)) (begin_until k b fits can s d o e u))) known

@@ -21,3 +21,9 @@ pub mod LoadJudged
 pub mod LoadSettles
 pub mod LoadEnds
 pub mod LoadOpens
+pub mod CallsMade
+pub mod KeptCalls
+pub mod KeptFiles
+pub mod KeptLaw
+pub mod KeepRuns
+pub mod KeepStore

@@ -9,3 +9,6 @@ pub mod Loading
 pub mod Reads
 pub mod Repairs
 pub mod Settling
+pub mod MadeCalls
+pub mod Keeping
+pub mod Plans

@@ -3,6 +3,8 @@
 
 mod block;
 mod fault;
+mod keep_files;
+mod keep_plan;
 mod load_fault;
 mod loading;
 mod loading_calls;

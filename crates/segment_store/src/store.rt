@@ -6,6 +6,7 @@ ghost use Rattle.store_laws.specs.Store.{Kept, Log};
 ghost use Rattle.store_laws.specs.Append.{with_batch, CanAppend};
 ghost use Rattle.store_laws.specs.Meta.{file_of, with_vote};
 ghost use Rattle.store_format.specs.Metadata.{block_bytes};
+ghost use Rattle.store_format.specs.Snapshots.{snapshot_bytes};
 ghost use Rattle.store_batches.specs.Batches.{batch_bytes};
 ghost use Rattle.store_batches.specs.Written.{segment_word, Fits};
 ghost use Rattle.segment_store.specs.FileNames.{file_name};
@@ -13,13 +14,18 @@ ghost use Rattle.segment_store.specs.Grow.{grow_calls, begin_calls, IsFree, room
 ghost use Rattle.segment_store.specs.Faults.{DiskCause};
 ghost use Rattle.segment_store.specs.Open.{HaveDigits, size_for, with_version};
 ghost use Rattle.segment_store.specs.Keeps.{Keeps, Went, block_calls};
+ghost use Rattle.segment_store.specs.Keeping.{CanKeep, KeepsSnapshot, kept_calls, later_than, snap_value, with_kept};
+ghost use Rattle.segment_store.specs.Plans.{IsPlan};
+ghost use Rattle.segment_store.specs.MadeCalls.{Makes, version_calls, batch_calls_in};
 
 use crate::block::write_block;
 use crate::fault::StoreFault;
+use crate::keep_files::follow;
+use crate::keep_plan::{KeepPlan, kept_indices, new_segment, new_snapshot, old_files};
 use crate::names::{File, NUMBERS, file_name, metadata_file};
 use crate::segment::{begin_segment, grow_segment};
 use disk_model::Disk;
-use raft_vote::Entry;
+use raft_vote::{Entry, Snapshot};
 use std::alloc::{AllocError, Global};
 use std::marker::Model;
 use store_batches::batch_bytes;
@@ -195,6 +201,7 @@ impl Store {
         vote: u64,
     ) -> Result<(), StoreFault>
         ensures kept { (k : Kept) → Keeps D.tells (D.states disk.old) (D.states disk.new) self.old self.new self.old.next k (with_vote term vote k) result }
+        ensures calls { (k : Kept) → Makes D.tells (D.states disk.old) (D.states disk.new) self.old k (version_calls (suc self.old.version) self.old term vote) result }
         ensures cause { DiskCause (D.faults disk.old) (D.faults disk.new) result }
     {
         let Some(version) = self.next_version() else {
@@ -259,6 +266,7 @@ impl Store {
         requires { size < 8388608 }
         ensures kept { (k : Kept) (b : Log) → batch.now ≡ batch_bytes b → Fits b → CanAppend k b → room_in self.old.size ≡ Some size →
             Keeps D.tells (D.states disk.old) (D.states disk.new) self.old self.new (with_appended (length (batch_bytes b)) self.old).next k (with_batch b k) result }
+        ensures calls { (k : Kept) → room_in self.old.size ≡ Some size → Makes D.tells (D.states disk.old) (D.states disk.new) self.old k (batch_calls_in (Some size) self.old batch.now) result }
         ensures cause { DiskCause (D.faults disk.old) (D.faults disk.new) result }
     {
         grow_batch(self.alloc, disk, self.last(), size, batch)?;
@@ -270,6 +278,7 @@ impl Store {
     fn begin<D: Disk>(&mut self, disk: &mut D, batch: &[u8]) -> Result<(), StoreFault>
         ensures kept { (k : Kept) (b : Log) → batch.now ≡ batch_bytes b → Fits b → CanAppend k b → room_in self.old.size ≡ None →
             Keeps D.tells (D.states disk.old) (D.states disk.new) self.old self.new (with_appended (length (batch_bytes b)) self.old).next k (with_batch b k) result }
+        ensures calls { (k : Kept) → Makes D.tells (D.states disk.old) (D.states disk.new) self.old k (batch_calls_in None self.old batch.now) result }
         ensures cause { DiskCause (D.faults disk.old) (D.faults disk.new) result }
     {
         let Some(number) = self.new_number() else {
@@ -295,6 +304,7 @@ impl Store {
     ) -> Result<(), StoreFault>
         ensures kept { (k : Kept) → CanAppend k (record { first = first; entries = entries.now }) →
             Keeps D.tells (D.states disk.old) (D.states disk.new) self.old self.new (with_appended (length (batch_bytes (record { first = first; entries = entries.now }))) self.old).next k (with_batch (record { first = first; entries = entries.now }) k) result }
+        ensures calls { (k : Kept) → Makes D.tells (D.states disk.old) (D.states disk.new) self.old k (batch_calls_in (room_in self.old.size) self.old (batch_bytes (record { first = first; entries = entries.now }))) result }
         ensures cause { DiskCause (D.faults disk.old) (D.faults disk.new) result }
     {
         let batch = batch_bytes(self.alloc, first, entries)?;
@@ -302,5 +312,80 @@ impl Store {
             Some(size) => self.grow(disk, size, batch.as_slice()),
             None => self.begin(disk, batch.as_slice()),
         }
+    }
+
+    // What keeping a snapshot writes and removes. Nothing is left for the store's own memory to refuse later.
+    fn plan(&self, snapshot: &Snapshot, first: u64, rest: &[Entry]) -> Result<KeepPlan, AllocError>
+        ensures { IfOk result (λ plan. IsPlan self.now (snap_value snapshot.now) (record { first = first; entries = rest.now }) plan) }
+    {
+        let Some(number) = self.new_number() else {
+            return Err(AllocError);
+        };
+        if snapshot.index >= NUMBERS {
+            return Err(AllocError);
+        }
+        let is_there = self.snapshots.contains(&snapshot.index);
+        let content = snapshot.bytes.as_slice();
+        let file = new_snapshot(self.alloc, snapshot.index, snapshot.term, content, is_there)?;
+        let segment = new_segment(self.alloc, number, first, rest)?;
+        let old = old_files(self.alloc, &self.segments, &self.snapshots, snapshot.index)?;
+        Ok(KeepPlan {
+            snapshot: file,
+            segment,
+            old,
+        })
+    }
+
+    fn note_kept(&mut self, segments: Vec<u64>, snapshots: Vec<u64>, index: u64, batch: &[u8])
+        requires number { self.old.next < 10000000000000000 }
+        requires index { index < 10000000000000000 }
+        requires segments { segments.items ≡ self.old.next ∷ [] }
+        requires snapshots { snapshots.items ≡ index ∷ later_than index self.old.snapshots }
+        ensures { self.new ≡ with_kept index (length batch.now) self.old }
+    {
+        let _index = index;
+        self.segments = segments;
+        self.snapshots = snapshots;
+        self.next += 1;
+        self.size = Some(8 + batch.len() as u64);
+    }
+
+    /// Keeps a snapshot with the log behind it: the entries `rest` from the index `first` on. A term is kept, the
+    /// snapshot's index is above the kept one's, `first` is at least 1 and at most one past the snapshot's index, and the
+    /// given log is what stays of the kept one behind the snapshot: its part from `first` on, where it has the snapshot's
+    /// entry or begins right past it, and else nothing. Where that isn't so nothing is said of what is kept.
+    ///
+    /// After `Ok` exactly the snapshot with this log is kept. After an `Err` it is that or what was kept before, or the
+    /// snapshot with a longer old part of the log; the store has to be loaded again.
+    ///
+    /// The snapshot's file is written and synced, and the names; an old file of its name is first cut to nothing. A new
+    /// segment begins with the entries. Then older segments go ascending, with a sync of the names after each, and older
+    /// snapshots. Each byte of the snapshot is copied once and written once, and so is each entry. A snapshot's index or a
+    /// segment's number of more than sixteen digits, an entry of more than 4,294,967,295 bytes and want of the store's own
+    /// memory are answered as want of memory, with nothing written.
+    pub fn keep_snapshot<D: Disk>(
+        &mut self,
+        disk: &mut D,
+        snapshot: &Snapshot,
+        first: u64,
+        rest: &[Entry],
+    ) -> Result<(), StoreFault>
+        ensures kept { (k : Kept) → CanKeep k (snap_value snapshot.now) (record { first = first; entries = rest.now }) →
+            KeepsSnapshot D.tells (D.states disk.old) (D.states disk.new) self.old self.new k (snap_value snapshot.now) (record { first = first; entries = rest.now }) result }
+        ensures calls { (k : Kept) → CanKeep k (snap_value snapshot.now) (record { first = first; entries = rest.now }) →
+            Makes D.tells (D.states disk.old) (D.states disk.new) self.old k (kept_calls self.old snapshot.now.index (snapshot_bytes snapshot.now.index snapshot.now.term snapshot.now.bytes) (batch_bytes (record { first = first; entries = rest.now }))) result }
+        ensures cause { DiskCause (D.faults disk.old) (D.faults disk.new) result }
+    {
+        let plan = self.plan(snapshot, first, rest)?;
+        let segments = with_number(self.alloc, &[], self.next)?;
+        let snapshots = kept_indices(self.alloc, snapshot.index, &self.snapshots)?;
+        follow(disk, &plan)?;
+        self.note_kept(
+            segments,
+            snapshots,
+            snapshot.index,
+            plan.segment.batch.as_slice(),
+        );
+        Ok(())
     }
 }

@@ -1,4 +1,4 @@
-use Rattle.std.proofs.Common.{◌≡◌, ℕ, ◌+◌, List, ◌++◌, Some, map, sym, ap, ◌∙◌, subst, arith}
+use Rattle.std.proofs.Common.{◌≡◌, ℕ, ◌+◌, List, [], ◌∷◌, ◌++◌, Some, map, sym, ap, ◌∙◌, subst, arith}
 use Rattle.std.specs.Prelude.{vec_capacity}
 use Rattle.std.specs.List.{AllByRecursion}
 use Rattle.std.proofs.lemmas.Result.{err_from_is_err_and}
@@ -42,6 +42,16 @@ returns-clause-done c =
     (λ i. store_of (record { main = c.make_room.ensures.kept i; side = c.make_room-2.ensures.kept i }) (c.in_ok-append.ensures.done i).pages (next i) a.marks)
     ∙ commit_is base (vec_capacity a.main) (vec_capacity a.side) a.log.pages set a.log.lengths a.newest a.marks c.self.invariant c.in_ok-lengths.ensures.0
     ∙ ap (λ (s : Store). committed s set) c.self.view_is
+
+-- what holds of all items holds of the later ones
+later_all : (P : NumberedPage → Type 0) (xs ys : List NumberedPage) → AllByRecursion P (xs ++ ys) → AllByRecursion P ys
+later_all P [] ys all = all
+later_all P (x ∷ xs) ys all = later_all P xs ys all.1
+
+pub returns-clause-sized : goal.returns-clause-sized
+returns-clause-sized c =
+    let a = c.self.inside in
+    later_all IsSized a.log.pages c.args.pages.now (subst (λ (l : Log). AllByRecursion IsSized l.pages) c.in_ok-append.ensures.done c.len-frames.ensures.sized)
 
 pub returns-clause-newest : goal.returns-clause-newest
 returns-clause-newest c =

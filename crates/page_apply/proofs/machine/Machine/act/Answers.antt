@@ -6,10 +6,14 @@ use Rattle.page_apply.specs.Databases.{contents_of}
 use Rattle.page_apply.specs.Pins.{StillPinned}
 use Rattle.page_apply.proofs.Acting.{machine_after, pinned_after}
 use Rattle.page_apply.proofs.Contents.{shown_after}
+use Rattle.page_apply.proofs.Short.{short_after}
 use Rattle.page_apply.proofs.machine.Machine.act.Goals as goal
 
 pub invariant_of-self : goal.invariant_of-self
-invariant_of-self c = machine_after c.act_on.result c.self.inside.databases.items c.act_on.new.databases.items c.args.command.now c.requires c.self.invariant c.act_on.ensures.ok c.act_on.ensures.kept
+invariant_of-self c = (
+  machine_after c.act_on.result c.self.inside.databases.items c.act_on.new.databases.items c.args.command.now c.requires c.self.invariant.0 c.act_on.ensures.ok c.act_on.ensures.kept,
+  short_after c.act_on.result c.self.inside.databases.items c.act_on.new.databases.items c.act_on.ensures.short c.act_on.ensures.kept c.self.invariant.1,
+)
 
 pub returns-clause-files : goal.returns-clause-files
 returns-clause-files c =
@@ -19,4 +23,4 @@ returns-clause-files c =
 pub returns-clause-shown : goal.returns-clause-shown
 returns-clause-shown c pin =
     subst (λ (ds : List Database). StillPinned ds c.act_on.new.databases.items pin) c.self.view_is
-    (pinned_after c.act_on.result c.self.inside.databases.items c.act_on.new.databases.items c.args.command.now c.requires c.self.invariant c.act_on.ensures.ok c.act_on.ensures.kept pin)
+    (pinned_after c.act_on.result c.self.inside.databases.items c.act_on.new.databases.items c.args.command.now c.requires c.self.invariant.0 c.act_on.ensures.ok c.act_on.ensures.kept pin)

@@ -1,12 +1,16 @@
 use Rattle.std.proofs.Common.{List, sym, subst}
 use Rattle.page_apply.specs.declared.database.Database.{Database}
-use Rattle.page_apply.specs.Machines.{IsMachine}
+use Rattle.page_apply.specs.Machines.{IsMachine, AllShort}
 use Rattle.page_apply.specs.Pins.{IsPinned, StillPinned}
+use Rattle.page_apply.proofs.Short.{release_short}
 use Rattle.page_apply.proofs.Acting.{release_machine, release_pinned}
 use Rattle.page_apply.proofs.machine.Machine.release.Goals as goal
 
 pub invariant_of-self : goal.invariant_of-self
-invariant_of-self c = subst IsMachine (sym c.release_pin.ensures) (release_machine c.args.pin c.self.inside.databases.items c.self.invariant)
+invariant_of-self c = (
+  subst IsMachine (sym c.release_pin.ensures) (release_machine c.args.pin c.self.inside.databases.items c.self.invariant.0),
+  subst AllShort (sym c.release_pin.ensures) (release_short c.args.pin c.self.inside.databases.items c.self.invariant.1),
+)
 
 pub returns-clause-shown : goal.returns-clause-shown
 returns-clause-shown c other apart =

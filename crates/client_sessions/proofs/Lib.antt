@@ -1,0 +1,7 @@
+pub mod Asking
+pub mod Offers
+pub mod Requests
+pub mod Soundness
+pub mod Telling
+pub mod Turns
+pub mod Whole

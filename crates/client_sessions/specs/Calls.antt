@@ -1,0 +1,87 @@
+-- What comes of a message, and what is told to connections, as code tells it.
+use Rattle.std.specs.Prelude.{◌≡◌, ℕ, List, [], ◌∷◌, map, Option, Some, None, Result, Ok, Err}
+use Rattle.wire_words.specs.declared.message.Message.{Message}
+use Rattle.client_connection.specs.Connection.{Conn}
+use Rattle.wire_msgs.specs.declared.request.Request.{Request}
+use Rattle.wire_msgs.specs.declared.response.Response.{Response}
+use Rattle.wire_msgs.specs.declared.response.Response.TheVariants.{Empty}
+use Rattle.wire_msgs.specs.declared.fault.MsgFault.{MsgFault}
+use Rattle.wire_msgs.specs.Responses.{response_bytes}
+use Rattle.wire_msgs.specs.Reading.{request_of}
+use Rattle.sql_engine.specs.declared.kind.EngineKind.{EngineKind}
+use Rattle.sql_engine.specs.Meanings.{Meaning, Told}
+use Rattle.session_rules.specs.Causes.{unread_cause, failure}
+use Rattle.session_rules.specs.Machine.{Machine}
+use Rattle.session_rules.specs.Sessions.{Gateway, View}
+use Rattle.gateway.specs.declared.act.Act.{Act as GatewayAct}
+use Rattle.gateway.specs.declared.act.Act.TheVariants as gateway
+use Rattle.gateway.specs.Calls.{TurnedBy}
+use Rattle.client_sessions.specs.declared.act.Act.{Act}
+use Rattle.client_sessions.specs.declared.act.Act.TheVariants.{Reply, Propose, Transfer, Peer}
+use Rattle.client_sessions.specs.Clients.{Clients, with_stream, Offer, offered, next_offer, taken, with_sessions}
+
+-- responses as they are sent, each a message
+abbrev pub bytes_of : List Response → List (List ℕ)
+bytes_of responses = map response_bytes responses
+
+-- what a node is to do for a connection
+abbrev pub act_on : ℕ → GatewayAct → Act
+act_on conn (gateway.Reply responses) = Reply conn (bytes_of responses)
+act_on conn (gateway.Propose entries) = Propose conn entries
+act_on conn (gateway.Transfer id) = Transfer conn id (response_bytes Empty)
+act_on conn (gateway.Peer id) = Peer conn id (response_bytes Empty)
+
+-- The first message was taken of a connection that is open and whose session isn't busy; or there is none.
+abbrev pub TookFrom : Clients → Clients → ℕ → List ℕ → Option Message → Type 0
+TookFrom old new conn turns None = (offered old conn turns ≡ None) × (new ≡ old)
+TookFrom old new conn turns (Some m) = (stream : Conn) × (offered old conn turns ≡ Some (record { conn = conn; message = m; stream = stream; turns = conn ∷ turns })) × (new ≡ record { sessions = old.sessions; streams = with_stream old.streams conn (Some stream); turns = old.turns })
+
+-- The message whose turn it was was taken, with its connection; or no message's turn was left.
+abbrev pub TookNext : Clients → Clients → Option (ℕ × Message) → Type 0
+TookNext old new None = (next_offer old ≡ None) × (new ≡ taken old None)
+TookNext old new (Some took) = (offer : Offer) × (next_offer old ≡ Some offer) × (offer.conn ≡ took.0) × (offer.message ≡ took.1) × (new ≡ taken old (Some offer))
+
+-- A request came to this act and these sessions by answers that the engine may give and told.
+pub record Asked (m : Meaning) (kind : EngineKind) (v : View) (machine : Machine) (g : Gateway) (conn : ℕ) (request : Request) (told_before told_now : Option Told) (now : Gateway) (act : Act) : Type 0 where
+  pub gateway_act : GatewayAct
+  pub turned : TurnedBy m kind v machine g conn request told_before told_now now gateway_act
+  pub act_is : act ≡ act_on conn gateway_act
+
+-- A message that doesn't read as a request is refused; nothing else changes.
+pub record Unread (g : Gateway) (conn : ℕ) (fault : MsgFault) (told_before told_now : Option Told) (now : Gateway) (act : Act) : Type 0 where
+  pub sessions_stay : now ≡ g
+  pub untold : told_now ≡ told_before
+  pub act_is : act ≡ Reply conn (bytes_of (failure (unread_cause fault) ∷ []))
+
+-- What a message came to, by what it reads as.
+abbrev pub Comes : Meaning → EngineKind → View → Machine → Gateway → ℕ → Result Request MsgFault → Option Told → Option Told → Gateway → Act → Type 0
+Comes m kind v machine g conn (Ok request) before now sessions act = Asked m kind v machine g conn request before now sessions act
+Comes m kind v machine g conn (Err fault) before now sessions act = Unread g conn fault before now sessions act
+
+-- The message whose turn it was was taken, and came to this act; all other messages, streams and turns are as they were.
+pub record TookOffer (m : Meaning) (kind : EngineKind) (v : View) (machine : Machine) (old : Clients) (told_before told_now : Option Told) (new : Clients) (act : Act) : Type 0 where
+  pub offer : Offer
+  pub next : next_offer old ≡ Some offer
+  pub came : Comes m kind v machine old.sessions offer.conn (request_of offer.message) told_before told_now new.sessions act
+  pub rest : new ≡ with_sessions (taken old (Some offer)) new.sessions
+
+-- no message's turn was left
+pub record WasIdle (old : Clients) (told_before told_now : Option Told) (new : Clients) : Type 0 where
+  pub none : next_offer old ≡ None
+  pub untold : told_now ≡ told_before
+  pub rest : new ≡ taken old None
+
+abbrev pub TookTurn : Meaning → EngineKind → View → Machine → Clients → Option Told → Option Told → Clients → Option Act → Type 0
+TookTurn m kind v machine old before now new None = WasIdle old before now new
+TookTurn m kind v machine old before now new (Some act) = TookOffer m kind v machine old before now new act
+
+-- a response to a connection, as it is sent
+abbrev pub sent_to : ℕ × Response → ℕ × List ℕ
+sent_to told = (told.0, response_bytes told.1)
+
+abbrev pub sent : List (ℕ × Response) → List (ℕ × List ℕ)
+sent told = map sent_to told
+
+-- the connections that are told something, in order: one of several responses as often
+abbrev pub told_conns : List (ℕ × Response) → List ℕ
+told_conns told = map (λ (t : ℕ × Response). t.0) told

@@ -1,0 +1,20 @@
+ghost use Rattle.std.specs.Prelude.{◌≡◌, ℕ, List, Some};
+ghost use Rattle.client_connection.specs.Connection.{Conn};
+ghost use Rattle.session_rules.specs.Events as events;
+ghost use Rattle.client_sessions.specs.Clients.{Clients, no_clients, joined, without, Offer, next_offer, IsOffered, freed, Sound};
+
+/// A law: the message whose turn it is is the first that waits on a connection that is open and whose session has no proposal
+/// in flight. So the requests of a connection come in the order of its stream, one at a time.
+pub fn offers_are_first()
+    ensures { (k : Clients) (offer : Offer) → next_offer k ≡ Some offer → IsOffered k offer }
+{}
+
+/// A law: whoever comes and goes, whatever is applied and whenever leadership is lost, a connection is open exactly where its
+/// session is there and hasn't hung up, and the reply that a proposal in flight gets can be sent.
+pub fn clients_stay_sound()
+    ensures started { Sound no_clients }
+    ensures joined { (k : Clients) (conn : ℕ) → Sound k → Sound (joined k conn) }
+    ensures left { (k : Clients) (conn : ℕ) (stream : Conn) → k.streams conn ≡ Some stream → Sound k → Sound (without k conn) }
+    ensures applied { (k : Clients) (index : ℕ) (conns : List ℕ) → Sound k → Sound (freed k (events.on_applied index k.sessions) conns) }
+    ensures lost { (k : Clients) (conns : List ℕ) → Sound k → Sound (freed k (events.on_lost k.sessions) conns) }
+{}

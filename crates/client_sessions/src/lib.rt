@@ -1,0 +1,12 @@
+//! The clients of a node: from the bytes of a connection to its requests, in order and one at a time, and from what comes
+//! of them to the bytes of its replies.
+#![tactic(auto)]
+
+mod act;
+mod joining;
+mod laws;
+mod sending;
+
+pub use act::Act;
+pub use joining::Joining;
+pub use laws::{clients_stay_sound, offers_are_first};

@@ -1,0 +1,120 @@
+ghost use Rattle.std.specs.Prelude.{◌≡◌, [], ◌∷◌, ◌++◌, true, false, OnOk, IsErr, Err};
+ghost use Rattle.sql_engine.specs.declared.fault.EngineFault.TheVariants as faults;
+ghost use Rattle.engine_journal.specs.Noting.{note_of};
+
+use crate::copying::note;
+use crate::noted::Noted;
+use dq_base::Image;
+use sql_engine::{Engine, EngineFault, Ran};
+use std::alloc::{AllocError, Global};
+use std::marker::Model;
+use wire_words::Value;
+
+/// An engine that keeps a copy of each answer of the engine in it, and tells them. What statements mean, its kind and its
+/// count of refused openings are those of the engine in it.
+///
+/// A copy of an answer takes as many bytes as the answer: its rows, the names of its columns and its pages. A run costs what
+/// it costs in the engine, and that copy.
+///
+/// Where there is no room for a copy the run answers want of memory, and from then on the list is cut: each later run answers
+/// want of memory too, and the engine in it isn't asked again.
+#[derive(Debug, Drop)]
+pub struct NotedEngine<E> {
+    alloc: Global,
+    engine: E,
+    noted: Vec<Noted>,
+    cut: bool,
+}
+
+impl<E> Model for NotedEngine<E> {
+    ghost use Rattle.engine_journal.specs.Noting.{Noting};
+
+    ghost Value = { Noting E };
+
+    ghost view = { λ e. record { engine = e.engine; noted = e.noted.items; cut = e.cut } };
+}
+
+impl<E> NotedEngine<E> {
+    /// An engine that keeps the answers of this one, from now on. Takes no memory.
+    pub fn new(alloc: Global, engine: E) -> NotedEngine<E>
+        ensures { result ≡ record { engine = engine; noted = []; cut = false } }
+    {
+        NotedEngine {
+            alloc,
+            engine,
+            noted: Vec::new(alloc),
+            cut: false,
+        }
+    }
+
+    /// Whether a copy found no room, so that the list is cut. Takes no memory.
+    pub fn is_cut(&self) -> bool
+        ensures { result ≡ self.now.cut }
+    {
+        self.cut
+    }
+
+    // Moves the items to the end of others. `Err` is want of memory, and changes nothing.
+    pub(crate) fn move_noted(&mut self, items: &mut Vec<Noted>) -> Result<(), AllocError>
+        ensures moved { OnOk result (items.new.items ≡ items.old.items ++ self.old.noted) }
+        ensures emptied { OnOk result (self.new ≡ record self.old { noted = [] }) }
+        ensures same { IsErr result → (items.new.items ≡ items.old.items) × (self.new ≡ self.old) }
+    {
+        items.append(&mut self.noted)
+    }
+}
+
+// Keeps a copy of the answer behind the others. `Err` is want of memory, and keeps nothing.
+fn keep(
+    alloc: Global,
+    noted: &mut Vec<Noted>,
+    answer: &Result<Ran, EngineFault>,
+) -> Result<(), AllocError>
+    ensures kept { OnOk result (noted.new.items ≡ noted.old.items ++ note_of answer.now ∷ []) }
+    ensures same { IsErr result → noted.new.items ≡ noted.old.items }
+{
+    noted.reserve(1)?;
+    noted.push(note(alloc, answer)?)?;
+    Ok(())
+}
+
+impl<E: Engine> Engine for NotedEngine<E> {
+    ghost use Rattle.std.specs.Prelude.{Some};
+    ghost use Rattle.engine_journal.specs.Noting.{told_by};
+
+    ghost meaning = { E.meaning };
+
+    ghost kind = { λ e. E.kind e.engine };
+
+    ghost refused_openings = { λ e. E.refused_openings e.engine };
+
+    ghost told = { λ e. Some (told_by e.noted e.cut) };
+
+    fn run(
+        &mut self,
+        image: &Image,
+        text: &str,
+        params: &[Value],
+        tx: u64,
+    ) -> Result<Ran, EngineFault> {
+        if self.cut {
+            return Err(EngineFault::NoMemory);
+        }
+        let answer = self.engine.run(image, text, params, tx);
+        match keep(self.alloc, &mut self.noted, &answer) {
+            Ok(()) => answer,
+            Err(AllocError) => {
+                self.cut = true;
+                Err(EngineFault::NoMemory)
+            }
+        }
+    }
+
+    fn fork(&self) -> Result<NotedEngine<E>, AllocError> {
+        Ok(NotedEngine::new(self.alloc, self.engine.fork()?))
+    }
+
+    fn ready(&mut self, image: &Image) {
+        self.engine.ready(image);
+    }
+}

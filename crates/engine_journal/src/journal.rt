@@ -1,0 +1,51 @@
+ghost use Rattle.std.specs.Prelude.{◌≡◌, [], ◌++◌, OnOk, IsErr};
+
+use crate::engine::NotedEngine;
+use crate::noted::Noted;
+use std::alloc::{AllocError, Global};
+use std::marker::Model;
+
+/// The journal of a run: what came that the run's own input doesn't say, in the order in which it came. Clauses see the list
+/// of its items.
+#[derive(Debug, Drop)]
+pub struct Journal {
+    items: Vec<Noted>,
+}
+
+impl Model for Journal {
+    ghost use Rattle.std.specs.Prelude.{List};
+    ghost use Rattle.engine_journal.specs.declared.noted.Noted.{Noted};
+
+    ghost Value = { List Noted };
+
+    ghost view = { λ j. j.items.items };
+}
+
+impl Journal {
+    /// A journal without items. Takes no memory.
+    pub fn new(alloc: Global) -> Journal
+        ensures { result ≡ [] }
+    {
+        Journal {
+            items: Vec::new(alloc),
+        }
+    }
+
+    /// The items, in the order in which they came. Takes no memory.
+    pub fn items(&self) -> &[Noted]
+        ensures { result.now ≡ self.now }
+    {
+        self.items.as_slice()
+    }
+
+    /// Moves the items that the engine has kept to the end of the journal, so that the engine begins an empty list. Whether
+    /// its list is cut stays. No answer is copied; an item is moved once, without what it owns. `Err` is want of memory, and
+    /// changes nothing.
+    pub fn take_from<E>(&mut self, engine: &mut NotedEngine<E>) -> Result<(), AllocError>
+        ensures taken { OnOk result (self.new ≡ self.old ++ engine.old.noted) }
+        ensures emptied { OnOk result (engine.new ≡ record engine.old { noted = [] }) }
+        ensures same { IsErr result → (self.new ≡ self.old) × (engine.new ≡ engine.old) }
+    {
+        engine.move_noted(&mut self.items)
+    }
+}

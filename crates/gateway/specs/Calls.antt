@@ -1,0 +1,66 @@
+-- What a call of the gateway did: the definitions' outcome, as code tells it.
+use Rattle.std.specs.Prelude.{◌≡◌, ℕ, ◌≤◌, ◌<◌, Bool, true, false, List, [], ◌∷◌, map, flat_map, Option, Some, None}
+use Rattle.std.specs.List.{AllByRecursion}
+use Rattle.dq_base.specs.Names.{has_nul}
+use Rattle.wire_msgs.specs.declared.request.Request.{Request}
+use Rattle.wire_msgs.specs.declared.request.Request.TheVariants as requests
+use Rattle.wire_msgs.specs.declared.response.Response.{Response}
+use Rattle.wire_msgs.specs.declared.response.Response.TheVariants as responses
+use Rattle.sql_engine.specs.declared.kind.EngineKind.{EngineKind}
+use Rattle.sql_engine.specs.Meanings.{Meaning, Told}
+use Rattle.session_rules.specs.Causes.{failure}
+use Rattle.session_rules.specs.Entries.{written}
+use Rattle.session_rules.specs.Machine.{Machine}
+use Rattle.session_rules.specs.Engines.{Answer, AllowsFor}
+use Rattle.session_rules.specs.Sessions.{Reply, responses_of, Gateway, View, Flight, Session, Effect, HandsOver, JoinsPeer, Weighs, Turned, Refused, Lacks, Answers, Proposes, Affects}
+use Rattle.session_rules.specs.Requests.{on_request, handed, with_session, affected_by}
+use Rattle.statement_runs.specs.Running.{TellsAll}
+use Rattle.gateway.specs.declared.act.Act.{Act}
+use Rattle.gateway.specs.declared.act.Act.TheVariants as acts
+
+-- what a request does beside the sessions
+abbrev pub act_for : Effect → Act
+act_for (HandsOver id) = acts.Transfer id
+act_for (JoinsPeer id) = acts.Peer id
+act_for (Weighs weight) = acts.Reply (responses.Empty ∷ [])
+
+-- What comes of a request, as code tells it: the sessions after it, and the act. A refusal leaves all as it was; no answer
+-- of the engine is ever missing.
+abbrev pub Is : View → Gateway → ℕ → Turned → Gateway → Act → Type 0
+Is v g conn (Refused cause) now act = (now ≡ g) × (act ≡ acts.Reply (failure cause ∷ []))
+Is v g conn Lacks now act = ⊥
+Is v g conn (Answers session reply note) now act = (now ≡ with_session g conn session) × (act ≡ acts.Reply (responses_of reply))
+Is v g conn (Proposes session contents note) now act = (now ≡ with_session g conn session) × (act ≡ acts.Propose (written v.term contents))
+Is v g conn (Affects effect) now act = (now ≡ affected_by g effect) × (act ≡ act_for effect)
+
+-- There are answers that the engine may give to what the request hands it, and which it told one after the other; by them
+-- the request comes to this act and these sessions.
+pub record TurnedBy (m : Meaning) (kind : EngineKind) (v : View) (machine : Machine) (g : Gateway) (conn : ℕ) (request : Request) (told_before told_now : Option Told) (now : Gateway) (act : Act) : Type 0 where
+  pub answers : List Answer
+  pub allowed : AllowsFor m kind (handed v machine g conn request) answers
+  pub told : TellsAll answers told_before told_now
+  pub is : Is v g conn (on_request v machine g conn request answers) now act
+
+-- a reply to a connection, in the responses that it is told in
+abbrev pub told_in : ℕ × Reply → List (ℕ × Response)
+told_in r = map (λ (response : Response). (r.0, response)) (responses_of r.1)
+
+abbrev pub all_told : List (ℕ × Reply) → List (ℕ × Response)
+all_told replies = flat_map told_in replies
+
+-- no text of the request holds a NUL
+abbrev pub HasNoNul : Request → Type 0
+HasNoNul (requests.Open name flags vfs) = has_nul name ≡ false
+HasNoNul (requests.Prepare db sql wide) = has_nul sql ≡ false
+HasNoNul (requests.ExecSql db sql params wide) = has_nul sql ≡ false
+HasNoNul (requests.QuerySql db sql params wide) = has_nul sql ≡ false
+HasNoNul (requests.Dump name) = has_nul name ≡ false
+HasNoNul request = Unit {0}
+
+-- a serving leader's term has 32 bits, so that the number of a transaction has 64
+abbrev pub HasShortTerm : View → Type 0
+HasShortTerm v = v.serving ≡ true → v.term ≤ 4294967295
+
+-- all proposals in flight were made in this term
+abbrev pub FlownIn : ℕ → Gateway → Type 0
+FlownIn term g = (conn : ℕ) (flight : Flight) → (g.session conn).flight ≡ Some flight → flight.term ≡ term

@@ -1,0 +1,140 @@
+//! The gateway and its calls.
+
+ghost use Rattle.std.specs.Prelude.{◌≡◌, ◌<◌, ◌≤◌, true, false, [], ◌∷◌, OnOk, OnErr, IfOk, if◌then◌else◌};
+ghost use Rattle.std.specs.Prelude.{List};
+ghost use Rattle.page_apply.specs.declared.database.Database.{Database};
+ghost use Rattle.session_rules.specs.Causes.{NotADatabase, failure};
+ghost use Rattle.session_rules.specs.Sessions.{no_sessions, is_busy, may_ask};
+ghost use Rattle.session_rules.specs.Machine.{machine_of};
+ghost use Rattle.session_rules.specs.Events as events;
+ghost use Rattle.gateway.specs.Calls.{TurnedBy, HasNoNul, HasShortTerm, FlownIn, all_told};
+ghost use Rattle.gateway.specs.Seen.{seen, pins_of, PinsOf};
+
+use crate::act::Act;
+use crate::view::View;
+use page_apply::Machine;
+use sql_engine::Engine;
+use std::alloc::{AllocError, Global};
+use wire_msgs::{Request, Response};
+
+/// All sessions of a node. A connection has one session at most, and a session one request at a time.
+///
+/// Clauses see its sessions by `seen`, with the images that their open transactions have pinned in the machine, so the calls
+/// that take the machine want its live marks to be those of the sessions, and leave it so.
+#[derive(Debug, Drop)]
+pub struct Gateway {
+    alloc: Global,
+}
+
+impl Gateway {
+    /// A gateway without sessions. Takes no memory.
+    #[tactic(auto, unfolding(crate::specs::Seen::seen, crate::specs::Seen::pins_of))]
+    pub fn new(alloc: Global) -> Gateway
+        ensures sessions { (databases : List Database) → seen result databases ≡ no_sessions }
+        ensures pins { pins_of result ≡ [] }
+    {
+        Gateway { alloc }
+    }
+
+    /// Gives a connection a session; false exactly where 64 are there, hung-up ones counted. No session of this gateway has
+    /// the connection's number. `Err` is want of memory; nothing has changed then.
+    pub fn connect(&mut self, conn: u64) -> Result<bool, AllocError>
+        requires { (databases : List Database) → ((seen self.old databases).session conn).there ≡ false }
+        ensures connected { OnOk result ((databases : List Database) → seen self.new databases ≡ (if events.connects (seen self.old databases) conn then events.connected (seen self.old databases) conn else seen self.old databases)) }
+        ensures told { IfOk result (λ new. (databases : List Database) → new ≡ events.connects (seen self.old databases) conn) }
+        ensures pins { pins_of self.new ≡ pins_of self.old }
+        ensures failed { OnErr result ((databases : List Database) → seen self.new databases ≡ seen self.old databases) }
+    {
+        Err(AllocError)
+    }
+
+    /// What comes of a request of a connection: a refusal or another answer at once, entries to be appended, or something
+    /// for the node to do. The connection's session is there, is not hung up and has no proposal out; `busy` tells. The
+    /// machine is that of the earlier calls with the commands applied since.
+    ///
+    /// A refused request has changed nothing. `Err` is want of memory; then nothing has changed either but what the engine
+    /// told.
+    ///
+    /// Costs, besides the engine's, in the order of the request's bytes and of the pages that it changes. Outside a
+    /// transaction a statement's image is copied once, inside one it is not.
+    pub fn on_request<E: Engine>(
+        &mut self,
+        conn: u64,
+        request: &Request,
+        view: &View,
+        machine: &mut Machine,
+        engine: &mut E,
+    ) -> Result<Act, AllocError>
+        requires ready { may_ask ((seen self.old machine.old).session conn) ≡ true }
+        requires pins { PinsOf self.old machine.old }
+        requires text { HasNoNul request.now }
+        requires term { HasShortTerm view.now }
+        // The definition's outcome, by answers that the engine may give and told.
+        ensures turned { IfOk result (TurnedBy (E.meaning (E.kind engine.old)) (E.kind engine.old) view.now (machine_of machine.old) (seen self.old machine.old) conn request.now (E.told engine.old) (E.told engine.new) (seen self.new machine.new)) }
+        ensures failed { OnErr result (seen self.new machine.new ≡ seen self.old machine.old) }
+        // The databases stay; their live marks are those of the sessions.
+        ensures files { machine_of machine.new ≡ machine_of machine.old }
+        ensures pins_after { PinsOf self.new machine.new }
+        // The engine stays of its kind, and its files were not opened only where it counted so.
+        ensures kind { E.kind engine.new ≡ E.kind engine.old }
+        ensures openings { E.refused_openings engine.old ≤ E.refused_openings engine.new }
+        ensures unopened { IfOk result (λ act. act ≡ Act.Reply (failure NotADatabase ∷ []) → E.refused_openings engine.old < E.refused_openings engine.new) }
+    {
+        Err(AllocError)
+    }
+
+    /// An entry of a term is applied: the proposal that ends with it is done, and its client, if it is there, is answered.
+    /// All proposals in flight are of that term. The machine has the entry applied. `Err` is want of memory; nothing has
+    /// changed then.
+    pub fn on_applied(
+        &mut self,
+        index: u64,
+        term: u64,
+        machine: &mut Machine,
+    ) -> Result<Vec<(u64, Response)>, AllocError>
+        requires pins { PinsOf self.old machine.old }
+        requires term { FlownIn term (seen self.old machine.old) }
+        ensures landed { OnOk result (seen self.new machine.new ≡ events.on_applied index (seen self.old machine.old)) }
+        ensures told { IfOk result (λ told. told.items ≡ all_told (events.told_applied index (seen self.old machine.old))) }
+        ensures failed { OnErr result (seen self.new machine.new ≡ seen self.old machine.old) }
+        ensures files { machine_of machine.new ≡ machine_of machine.old }
+        ensures pins_after { PinsOf self.new machine.new }
+    {
+        Err(AllocError)
+    }
+
+    /// The node no longer leads the term of the proposals in flight: they and all transactions end, and each client that
+    /// waits is told so, in the order of the proposals' last entries. Databases and statements stay. No mark of the machine
+    /// is live then. `Err` is want of memory; nothing has changed then.
+    pub fn on_lost(&mut self, machine: &mut Machine) -> Result<Vec<(u64, Response)>, AllocError>
+        requires pins { PinsOf self.old machine.old }
+        ensures lost { OnOk result (seen self.new machine.new ≡ events.on_lost (seen self.old machine.old)) }
+        ensures told { IfOk result (λ told. told.items ≡ all_told (events.told_lost (seen self.old machine.old))) }
+        ensures unmarked { OnOk result (pins_of self.new ≡ []) }
+        ensures failed { OnErr result (seen self.new machine.new ≡ seen self.old machine.old) }
+        ensures files { machine_of machine.new ≡ machine_of machine.old }
+        ensures pins_after { PinsOf self.new machine.new }
+    {
+        Err(AllocError)
+    }
+
+    /// The client of a connection has gone. Its session goes too, with its transaction; where a proposal is in flight, that,
+    /// and the turn to write with it, stays until it is applied or lost. Takes no memory.
+    #[tactic(auto, unfolding(crate::specs::Seen::seen))]
+    pub fn on_hangup(&mut self, conn: u64, machine: &mut Machine)
+        requires there { ((seen self.old machine.old).session conn).there ≡ true }
+        requires open { ((seen self.old machine.old).session conn).hung ≡ false }
+        requires pins { PinsOf self.old machine.old }
+        ensures left { seen self.new machine.new ≡ events.on_hangup (seen self.old machine.old) conn }
+        ensures files { machine_of machine.new ≡ machine_of machine.old }
+        ensures pins_after { PinsOf self.new machine.new }
+    {}
+
+    /// Whether a proposal of the connection's session is in flight. Takes no memory.
+    #[tactic(auto, unfolding(crate::specs::Seen::seen))]
+    pub fn busy(&self, conn: u64) -> bool
+        ensures { (databases : List Database) → result ≡ is_busy ((seen self.now databases).session conn) }
+    {
+        false
+    }
+}

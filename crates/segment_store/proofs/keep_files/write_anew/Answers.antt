@@ -1,0 +1,14 @@
+use Rattle.std.proofs.lemmas.Result.{err_from_is_err_and}
+use Rattle.disk_model.proofs.Runs.{ran_stops, ran_then}
+use Rattle.segment_store.proofs.KeepRuns.{cut_may_write}
+use Rattle.segment_store.proofs.keep_files.write_anew.Goals as goal
+
+pub returns-in_err-cut-clause-ran : goal.returns-in_err-cut-clause-ran
+returns-in_err-cut-clause-ran g c = λ known.
+    let p = err_from_is_err_and c.from_residual.result c.from_residual.ensures.1 in
+    rw p.1 (ran_stops _ _ _ _ _ _ c.in_err-cut.ensures.told)
+
+pub returns-clause-ran : goal.returns-clause-ran
+returns-clause-ran g c = λ known.
+    let cut = c.in_ok-cut.ensures.told in
+    ran_then _ _ _ _ _ _ c.replace.result cut (c.replace.ensures.ran (cut_may_write c.args.name.now g.D.Disk.tells _ _ c.in_ok-cut.field-0 known cut))

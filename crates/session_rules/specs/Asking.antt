@@ -1,0 +1,244 @@
+-- What a request asks for, once it has passed the refusals that come before the engine, in their order.
+use Rattle.std.specs.Prelude.{ℕ, Bool, not, ◌&&◌, ◌||◌, ◌==◌, nat_lt, nat_le, List, [], ◌∷◌, ◌++◌, length, map, codes, Option, Some, None, Result, Ok, Err, if◌then◌else◌}
+use Rattle.std.specs.List.{list_any}
+use Rattle.dq_base.specs.declared.images.Image.{Image}
+use Rattle.wire_words.specs.declared.value.Value.{Value}
+use Rattle.wire_msgs.specs.declared.request.Request.{Request}
+use Rattle.wire_msgs.specs.declared.request.Request.TheVariants as requests
+use Rattle.wire_msgs.specs.declared.response.Response.{Response}
+use Rattle.wire_msgs.specs.declared.response.Response.TheVariants as responses
+use Rattle.wire_msgs.specs.declared.response.NodeInfo.{NodeInfo}
+use Rattle.wire_msgs.specs.Fields.{body_bytes}
+use Rattle.wire_msgs.specs.Responses.{response_line}
+use Rattle.sql_scan.specs.declared.pieces.Piece.{Piece}
+use Rattle.sql_scan.specs.declared.fault.ScanFault.{ScanFault}
+use Rattle.sql_scan.specs.declared.heading.WordKind.{WordKind}
+use Rattle.sql_scan.specs.declared.heading.WordKind.TheVariants as words
+use Rattle.sql_scan.specs.Statements.{scan_of}
+use Rattle.sql_engine.specs.Replies.{Statement}
+use Rattle.raft_rules.specs.Node.{Server, among, voters}
+use Rattle.session_rules.specs.Causes.{Cause, NotLeader, DatabaseOpen, ChangeInFlight, NoDatabase, NoStatement, NotAllowed, OneStatementWanted, WrongParameters, InTransaction, NoTransaction, BadName, BadNode, BadFormat, TargetBehind, TooManyStatements, TooManyDatabases, LogFull, AnswerTooBig, scan_cause}
+use Rattle.session_rules.specs.Machine.{Machine, is_named}
+use Rattle.session_rules.specs.Sessions.{Prepared, Session, Gateway, View, Effect, HandsOver, JoinsPeer, Weighs, in_tx}
+use Rattle.session_rules.specs.Statements.{prepared_from, any_barred, is_left_out, wrong_params, with_params, with_all, prepared_at, prepared_count}
+use Rattle.session_rules.specs.Limits.{change_in_flight, one_too_many, log_full}
+
+-- What is asked for: nothing, as it is refused; a response, and nothing else; an effect beside the sessions; a database
+-- that is there, or a new one; a statement to be prepared, with the place of the rest of its text where that is told, or to be
+-- let go; a transaction to begin (at once with the write turn, or not) or to end; other servers of the cluster; statements
+-- to run, or one whose rows are told.
+pub data Asked : Type 0 where
+  Never : (cause : Cause) → Asked
+  Tells : (response : Response) → Asked
+  Sets : (effect : Effect) → Asked
+  Opens : (name : List ℕ) → Asked
+  Creates : (name : List ℕ) → Asked
+  Prepares : (prepared : Prepared) (tail : Option ℕ) → Asked
+  Drops : (id : ℕ) → Asked
+  Begins : (at_once : Bool) → Asked
+  Commits : Asked
+  RollsBack : Asked
+  Changes : (servers : List Server) → Asked
+  Runs : (statements : List Statement) → Asked
+  Reads : (statement : Statement) → Asked
+
+-- ---- what needs no database
+
+-- the leader that the node knows; id 0 and no address where it knows none
+abbrev pub leader_known : Option Server → Response
+leader_known None = responses.Server 0 []
+leader_known (Some server) = responses.Server server.id server.address
+
+abbrev pub asks_describe : ℕ → ℕ → Asked
+asks_describe weight format = if format == 0 then Tells (responses.Metadata 0 weight) else Never BadFormat
+
+-- a server as it is told, with its role or not
+abbrev pub info_of : Bool → Server → NodeInfo
+info_of roles server = record { id = server.id; address = server.address; role = if roles then Some server.role else None }
+
+abbrev pub asks_cluster : View → ℕ → Asked
+asks_cluster v format = if nat_le format 1 then Tells (responses.Servers (map (info_of (format == 1)) v.servers)) else Never BadFormat
+
+-- the node is another one of the configuration
+abbrev pub is_other_node : View → ℕ → Bool
+is_other_node v id = not (id == v.id) && list_any (λ (server : Server). server.id == id) v.servers
+
+abbrev pub asks_connect : View → ℕ → Asked
+asks_connect v id = if v.links && is_other_node v id then Sets (JoinsPeer id) else Never BadNode
+
+-- the node is this one, or its log is known to reach the leader's last index
+abbrev pub may_take_over : View → ℕ → Bool
+may_take_over v id = (id == v.id) || among v.even id
+
+abbrev pub asks_transfer : View → ℕ → Asked
+asks_transfer v id = if among (voters v.servers) id then (if may_take_over v id then Sets (HandsOver id) else Never TargetBehind) else Never BadNode
+
+-- The servers can't be changed yet; the request is refused where it would be looked at.
+abbrev pub asks_change : Gateway → Asked
+asks_change g = if change_in_flight g then Never ChangeInFlight else Never BadNode
+
+-- the two files of a database
+abbrev pub files_of : List ℕ → Image → Response
+files_of name image = responses.Files (record { name = name; content = image.main } ∷ record { name = name ++ codes "-side"; content = image.side } ∷ [])
+
+-- how many bytes the body of a response has
+abbrev pub body_size : Response → ℕ
+body_size response = length (body_bytes (response_line response).fields)
+
+abbrev pub within_size : Response → Asked
+within_size response = if nat_lt 16777216 (body_size response) then Never AnswerTooBig else Tells response
+
+abbrev pub asks_dump : Machine → List ℕ → Asked
+asks_dump m name = if is_named m.names name then within_size (files_of name (m.base name).image) else Never NoDatabase
+
+-- ---- databases
+
+-- the session has opened a database
+abbrev pub has_database : Session → Bool
+has_database s = nat_lt 0 (length s.database)
+
+-- 1 to 255 bytes
+abbrev pub is_name : List ℕ → Bool
+is_name name = nat_le 1 (length name) && nat_le (length name) 255
+
+abbrev pub asks_new : View → Machine → Gateway → List ℕ → Asked
+asks_new v m g name = if one_too_many m g name then Never TooManyDatabases else if log_full v then Never LogFull else Creates name
+
+abbrev pub asks_open : View → Machine → Gateway → Session → List ℕ → Asked
+asks_open v m g s name =
+    if has_database s then Never DatabaseOpen
+    else if not (is_name name) then Never BadName
+    else if is_named m.names name then Opens name
+    else asks_new v m g name
+
+-- the number is not that of the session's database
+abbrev pub no_database : Session → ℕ → Bool
+no_database s db = not (has_database s && (db == 0))
+
+-- what is asked of the session's database
+abbrev pub in_database : Session → ℕ → Asked → Asked
+in_database s db asked = if no_database s db then Never NoDatabase else asked
+
+-- ---- statements
+
+-- a statement with its parameters, by its kind
+abbrev pub asks_kind : Bool → WordKind → Statement → Asked
+asks_kind active (words.Begin at_once) statement = if active then Never InTransaction else Begins at_once
+asks_kind active words.Commit statement = if active then Commits else Never NoTransaction
+asks_kind active words.Rollback statement = if active then RollsBack else Never NoTransaction
+asks_kind active words.Write statement = Runs (statement ∷ [])
+asks_kind active words.LeftOut statement = Never NotAllowed
+asks_kind active words.Other statement = Runs (statement ∷ [])
+
+-- one statement, whose rows are dropped
+abbrev pub asks_one : Bool → Prepared → List Value → Asked
+asks_one active p params =
+    if is_left_out p.word then Never NotAllowed
+    else if wrong_params (p ∷ []) params then Never WrongParameters
+    else asks_kind active p.word (with_all p params)
+
+-- several statements, or none
+abbrev pub asks_several : List Prepared → List Value → Asked
+asks_several ps params =
+    if any_barred ps then Never NotAllowed
+    else if wrong_params ps params then Never WrongParameters
+    else Runs (with_params ps params)
+
+abbrev pub asks_statements : Bool → List Prepared → List Value → Asked
+asks_statements active [] params = asks_several [] params
+asks_statements active (p ∷ []) params = asks_one active p params
+asks_statements active (p ∷ q ∷ ps) params = asks_several (p ∷ q ∷ ps) params
+
+-- a text of statements, as it was cut
+abbrev pub asks_text : Bool → List ℕ → Result (List Piece) ScanFault → List Value → Asked
+asks_text active sql (Err fault) params = Never (scan_cause fault)
+asks_text active sql (Ok pieces) params = asks_statements active (map (prepared_from sql) pieces) params
+
+-- one statement, whose rows are told
+abbrev pub asks_query : Prepared → List Value → Asked
+asks_query p params =
+    if any_barred (p ∷ []) then Never NotAllowed
+    else if wrong_params (p ∷ []) params then Never WrongParameters
+    else Reads (with_all p params)
+
+-- not exactly one statement where one is wanted
+abbrev pub not_one : List Prepared → Asked
+not_one ps = if any_barred ps then Never NotAllowed else Never OneStatementWanted
+
+abbrev pub asks_sole : List Prepared → List Value → Asked
+asks_sole [] params = not_one []
+asks_sole (p ∷ []) params = asks_query p params
+asks_sole (p ∷ q ∷ ps) params = not_one (p ∷ q ∷ ps)
+
+abbrev pub asks_rows : List ℕ → Result (List Piece) ScanFault → List Value → Asked
+asks_rows sql (Err fault) params = Never (scan_cause fault)
+asks_rows sql (Ok pieces) params = asks_sole (map (prepared_from sql) pieces) params
+
+-- ---- prepared statements
+
+abbrev pub asks_exec : Bool → Option Prepared → List Value → Asked
+asks_exec active None params = Never NoStatement
+asks_exec active (Some p) params = asks_one active p params
+
+abbrev pub asks_prepared_query : Option Prepared → List Value → Asked
+asks_prepared_query None params = Never NoStatement
+asks_prepared_query (Some p) params = asks_query p params
+
+abbrev pub asks_finalize : Option Prepared → ℕ → Asked
+asks_finalize None id = Never NoStatement
+asks_finalize (Some p) id = Drops id
+
+-- a statement is prepared, where there is room
+abbrev pub with_room : Session → Prepared → Option ℕ → Asked
+with_room s p tail = if nat_le 64 (prepared_count s.statements) then Never TooManyStatements else Prepares p tail
+
+-- the place of the rest, which is told in schema 1
+abbrev pub tail_of : Bool → Piece → Option ℕ
+tail_of wide piece = if wide then Some piece.after else None
+
+-- in schema 0 there is one statement, in schema 1 the first of several is prepared
+abbrev pub asks_prepare_pieces : Session → List ℕ → Bool → List Piece → Asked
+asks_prepare_pieces s sql wide [] = Never OneStatementWanted
+asks_prepare_pieces s sql wide (p ∷ []) = if is_left_out p.word then Never NotAllowed else with_room s (prepared_from sql p) (tail_of wide p)
+asks_prepare_pieces s sql wide (p ∷ q ∷ ps) =
+    if any_barred (map (prepared_from sql) (p ∷ q ∷ ps)) then Never NotAllowed
+    else if wide then with_room s (prepared_from sql p) (tail_of wide p)
+    else Never OneStatementWanted
+
+abbrev pub asks_prepare : Session → List ℕ → Bool → Result (List Piece) ScanFault → Asked
+asks_prepare s sql wide (Err fault) = Never (scan_cause fault)
+asks_prepare s sql wide (Ok pieces) = asks_prepare_pieces s sql wide pieces
+
+-- ---- requests
+
+-- what a serving leader alone answers
+abbrev pub at_leader : View → Asked → Asked
+at_leader v asked = if v.serving then asked else Never NotLeader
+
+-- What a session asks for by a request. The refusals are tried in this order: not a serving leader; a second database, or
+-- a change of the cluster while one is in flight; no such database or statement; a text, statement, parameters, name,
+-- node or format that may not be; a limit on statements, databases or the log.
+unfoldable pub asked_by : View → Machine → Gateway → Session → Request → Asked
+asked_by v m g s requests.Leader = Tells (leader_known v.leader)
+asked_by v m g s (requests.Client id) = Tells (responses.Welcome 15000)
+asked_by v m g s (requests.Open name flags vfs) = at_leader v (asks_open v m g s name)
+asked_by v m g s (requests.Prepare db sql wide) = at_leader v (in_database s db (asks_prepare s sql wide (scan_of sql)))
+asked_by v m g s (requests.Exec db id params wide) = at_leader v (in_database s db (asks_exec (in_tx s) (prepared_at s.statements id) params))
+asked_by v m g s (requests.Query db id params wide) = at_leader v (in_database s db (asks_prepared_query (prepared_at s.statements id) params))
+asked_by v m g s (requests.Finalize db id) = in_database s db (asks_finalize (prepared_at s.statements id) id)
+asked_by v m g s (requests.ExecSql db sql params wide) = at_leader v (in_database s db (asks_text (in_tx s) sql (scan_of sql) params))
+asked_by v m g s (requests.QuerySql db sql params wide) = at_leader v (in_database s db (asks_rows sql (scan_of sql) params))
+asked_by v m g s (requests.Interrupt db) = in_database s db (Tells responses.Empty)
+asked_by v m g s (requests.Connect id address) = asks_connect v id
+asked_by v m g s (requests.Add id address) = at_leader v (asks_change g)
+asked_by v m g s (requests.Assign id role) = at_leader v (asks_change g)
+asked_by v m g s (requests.Remove id) = at_leader v (asks_change g)
+asked_by v m g s (requests.Dump name) = asks_dump m name
+asked_by v m g s (requests.Cluster format) = asks_cluster v format
+asked_by v m g s (requests.Transfer id) = at_leader v (asks_transfer v id)
+asked_by v m g s (requests.Describe format) = asks_describe g.weight format
+asked_by v m g s (requests.Weight weight) = Sets (Weighs weight)
+
+-- the same of a connection's session
+abbrev pub asked : View → Machine → Gateway → ℕ → Request → Asked
+asked v m g conn request = asked_by v m g (g.session conn) request

@@ -1,0 +1,13 @@
+pub mod Causes
+pub mod Entries
+pub mod Machine
+pub mod Engines
+pub mod Sessions
+pub mod Statements
+pub mod Limits
+pub mod Asking
+pub mod Requests
+pub mod Events
+pub mod Outcomes
+pub mod Laws
+pub mod Seen

@@ -1,0 +1,195 @@
+-- What comes of a request at a session, with the answers of an engine to the statements that it is handed.
+use Rattle.std.specs.Prelude.{ℕ, suc, ◌+◌, Bool, true, false, ◌&&◌, ◌==◌, List, [], ◌∷◌, length, map, Option, Some, None, Result, Ok, Err, if◌then◌else◌}
+use Rattle.dq_base.specs.declared.images.Image.{Image}
+use Rattle.dq_base.specs.declared.pages.NumberedPage.{NumberedPage}
+use Rattle.dq_base.specs.Images.{page_count}
+use Rattle.dq_base.specs.Changes.{changed}
+use Rattle.wire_msgs.specs.declared.request.Request.{Request}
+use Rattle.wire_msgs.specs.declared.response.Response.TheVariants as responses
+use Rattle.wire_rows.specs.declared.fault.RowFault.{RowFault}
+use Rattle.wire_rows.specs.declared.fault.RowFault.TheVariants as row_faults
+use Rattle.wire_rows.specs.Answering.{parts_of}
+use Rattle.frame_commands.specs.declared.command.Command.TheVariants.{OpenDb}
+use Rattle.frame_commands.specs.Splitting.{split}
+use Rattle.sql_engine.specs.declared.answer.Ran.{Ran}
+use Rattle.sql_engine.specs.Replies.{Statement}
+use Rattle.page_apply.specs.Files.{empty_image}
+use Rattle.session_rules.specs.Causes.{Cause, NulInText, AnswerTooBig, OutOfMemory, Locked, LogFull, DatabaseFull, NoTransaction, engine_cause}
+use Rattle.session_rules.specs.Entries.{Content, Does, Configures, tx_of}
+use Rattle.session_rules.specs.Machine.{Base, Machine}
+use Rattle.session_rules.specs.Engines.{Answer, no_pages, Ending, Lacking, TooLarge, Stopped, Ended, no_answer, runs, Handed}
+use Rattle.session_rules.specs.Sessions.{Reply, Single, Rows, result, empty, db, Prepared, Kind, Opening, Configuring, Writing, Committing, Flight, Transaction, Session, Gateway, View, Nothing, Began, Inside, Outside, Effect, HandsOver, JoinsPeer, Weighs, Turned, Refused, Lacks, Answers, Proposes, Affects}
+use Rattle.session_rules.specs.Statements.{free_id, with_prepared, without_prepared}
+use Rattle.session_rules.specs.Limits.{other_holds, pages_full, log_full, first_cause, hindrance}
+use Rattle.session_rules.specs.Asking.{Asked, Never, Tells, Sets, Opens, Creates, Prepares, Drops, Begins, Commits, RollsBack, Changes, Runs, Reads, asked}
+
+-- ---- the session after it
+
+abbrev pub with_tx : Session → Option Transaction → Session
+with_tx s tx = record { there = s.there; hung = s.hung; database = s.database; statements = s.statements; tx = tx; flight = s.flight }
+
+abbrev pub with_flight : Session → Option Flight → Session
+with_flight s flight = record { there = s.there; hung = s.hung; database = s.database; statements = s.statements; tx = s.tx; flight = flight }
+
+abbrev pub with_statements : Session → List (Option Prepared) → Session
+with_statements s statements = record { there = s.there; hung = s.hung; database = s.database; statements = statements; tx = s.tx; flight = s.flight }
+
+-- the session with this database, and no proposal
+abbrev pub with_database : Session → List ℕ → Session
+with_database s name = record { there = s.there; hung = s.hung; database = name; statements = s.statements; tx = s.tx; flight = None }
+
+-- a transaction over the newest image of a database
+abbrev pub begun_over : List ℕ → Base → Bool → Transaction
+begun_over name base at_once = record { name = name; mark = base.newest; pinned = base.image; working = base.image; turn = at_once }
+
+abbrev pub begun : Machine → Session → Bool → Session
+begun m s at_once = with_tx s (Some (begun_over s.database (m.base s.database) at_once))
+
+-- the transaction with another image of its own
+abbrev pub worked : Session → Transaction → Image → Bool → Session
+worked s x to turn = with_tx s (Some (record { name = x.name; mark = x.mark; pinned = x.pinned; working = to; turn = turn }))
+
+-- a proposal of these entries, which come next in the log
+abbrev pub flying : View → Session → List ℕ → List Content → ℕ → Kind → Session
+flying v s name contents pages kind = with_flight s (Some (record { name = name; first = suc v.last; last = v.last + length contents; term = v.term; pages = pages; kind = kind }))
+
+-- ---- statements
+
+-- refused where there is a cause
+abbrev pub unless : Option Cause → Turned → Turned
+unless None turned = turned
+unless (Some cause) turned = Refused cause
+
+-- why rows can't be told
+abbrev pub rows_cause : Result (List (List ℕ)) RowFault → Option Cause
+rows_cause (Ok parts) = None
+rows_cause (Err (row_faults.Nul row column)) = Some NulInText
+rows_cause (Err (row_faults.TooBig bytes)) = Some AnswerTooBig
+rows_cause (Err row_faults.NoMemory) = Some OutOfMemory
+
+abbrev pub or_cause : Option Cause → Option Cause → Option Cause
+or_cause None later = later
+or_cause (Some cause) later = Some cause
+
+-- where rows are to be told, why they can't be; else what hinders besides
+unfoldable pub row_cause : Bool → Ran → Option Cause → Option Cause
+row_cause rows answer others = if rows then or_cause (rows_cause (parts_of answer.columns answer.rows)) others else others
+
+-- the reply to statements that ran
+abbrev pub reply_of : Bool → Ran → Reply
+reply_of true answer = Rows answer
+reply_of false answer = result answer.affected
+
+-- the entries that change the pages of a database, as the next of the view's term
+abbrev pub change_of : View → List ℕ → List NumberedPage → List Content
+change_of v name pages = map Does (split name (record { tx = tx_of v.term (suc v.last); pages = pages }))
+
+-- outside a transaction a write is proposed, where nothing hinders it: the log's end, rows that can't be told, the turn, pages
+unfoldable pub outside_write : View → Machine → Gateway → ℕ → Session → List Statement → Bool → List NumberedPage → Image → Ran → Turned
+outside_write v m g conn s ss rows pages to answer =
+    unless (first_cause (log_full v) LogFull (row_cause rows answer (hindrance m g conn s.database (m.base s.database).newest pages to)))
+    (Proposes (flying v s s.database (change_of v s.database pages) (page_count to) (Writing (reply_of rows answer))) (change_of v s.database pages) (Outside s.database ss))
+
+-- Statements outside a transaction came to an end, over the newest image.
+unfoldable pub outside : View → Machine → Gateway → ℕ → Session → List Statement → Bool → Ending → Turned
+outside v m g conn s ss rows Lacking = Lacks
+outside v m g conn s ss rows (TooLarge answer) = unless (first_cause (log_full v) LogFull (row_cause rows answer (hindrance m g conn s.database (m.base s.database).newest answer.after.pages (m.base s.database).image))) (Refused DatabaseFull)
+outside v m g conn s ss rows (Stopped fault) = Refused (engine_cause fault)
+outside v m g conn s ss rows (Ended to answer) =
+    let pages = changed (m.base s.database).image to in
+    if no_pages pages
+    then unless (row_cause rows answer None) (Answers s (reply_of rows answer) (Outside s.database ss))
+    else outside_write v m g conn s ss rows pages to answer
+
+-- Statements inside a transaction came to an end, over its working image. The first that changes pages takes the turn.
+unfoldable pub inside : Machine → Gateway → ℕ → Session → Transaction → List Statement → Bool → Ending → Turned
+inside m g conn s x ss rows Lacking = Lacks
+inside m g conn s x ss rows (TooLarge answer) = unless (row_cause rows answer (hindrance m g conn x.name x.mark answer.after.pages x.working)) (Refused DatabaseFull)
+inside m g conn s x ss rows (Stopped fault) = Refused (engine_cause fault)
+inside m g conn s x ss rows (Ended to answer) =
+    let pages = changed x.working to in
+    if no_pages pages
+    then unless (row_cause rows answer None) (Answers (worked s x to x.turn) (reply_of rows answer) (Inside x.name ss))
+    else unless (row_cause rows answer (hindrance m g conn x.name x.mark pages to)) (Answers (worked s x to true) (reply_of rows answer) (Inside x.name ss))
+
+-- over which image a session's statements run
+abbrev pub ground : Machine → Session → Option Transaction → Image
+ground m s None = (m.base s.database).image
+ground m s (Some x) = x.working
+
+abbrev pub run_in : View → Machine → Gateway → ℕ → Session → Option Transaction → List Statement → Bool → List Answer → Turned
+run_in v m g conn s None ss rows answers = outside v m g conn s ss rows (runs (m.base s.database).image no_answer ss answers)
+run_in v m g conn s (Some x) ss rows answers = inside m g conn s x ss rows (runs x.working no_answer ss answers)
+
+-- ---- the end of a transaction
+
+-- A commit proposes the pages that differ between pinned and working image; where none differ, the transaction is over.
+unfoldable pub committed : View → Machine → Gateway → ℕ → Session → Transaction → Turned
+committed v m g conn s x =
+    let pages = changed x.pinned x.working in
+    if no_pages pages
+    then Answers (with_tx s None) (result 0) Nothing
+    else unless (first_cause (log_full v) LogFull (hindrance m g conn x.name x.mark pages x.working))
+    (Proposes (flying v s x.name (change_of v x.name pages) (page_count x.working) Committing) (change_of v x.name pages) Nothing)
+
+abbrev pub commit_in : View → Machine → Gateway → ℕ → Session → Option Transaction → Turned
+commit_in v m g conn s None = Refused NoTransaction
+commit_in v m g conn s (Some x) = committed v m g conn s x
+
+-- ---- requests
+
+-- a new database is proposed, where it has room
+abbrev pub creates : View → Machine → Gateway → Session → List ℕ → Turned
+creates v m g s name =
+    if pages_full m g name empty_image then Refused DatabaseFull
+    else Proposes (flying v s name (Does (OpenDb name) ∷ []) 0 Opening) (Does (OpenDb name) ∷ []) Nothing
+
+-- a transaction begins; at once with the write turn, or without it
+abbrev pub begins : Machine → Gateway → ℕ → Session → Bool → Turned
+begins m g conn s at_once = if at_once && other_holds g conn s.database then Refused Locked else Answers (begun m s at_once) (result 0) Began
+
+-- What comes of what is asked, with the refusals that come at or behind the engine.
+unfoldable pub does : View → Machine → Gateway → ℕ → Session → Asked → List Answer → Turned
+does v m g conn s (Never cause) answers = Refused cause
+does v m g conn s (Tells response) answers = Answers s (Single response) Nothing
+does v m g conn s (Sets effect) answers = Affects effect
+does v m g conn s (Opens name) answers = Answers (with_database s name) db Nothing
+does v m g conn s (Creates name) answers = creates v m g s name
+does v m g conn s (Prepares p tail) answers = Answers (with_statements s (with_prepared p s.statements)) (Single (responses.Stmt 0 (free_id s.statements) p.params tail)) Nothing
+does v m g conn s (Drops id) answers = Answers (with_statements s (without_prepared id s.statements)) empty Nothing
+does v m g conn s (Begins at_once) answers = begins m g conn s at_once
+does v m g conn s Commits answers = commit_in v m g conn s s.tx
+does v m g conn s RollsBack answers = Answers (with_tx s None) (result 0) Nothing
+does v m g conn s (Changes servers) answers = if log_full v then Refused LogFull else Proposes (flying v s [] (Configures servers ∷ []) 0 Configuring) (Configures servers ∷ []) Nothing
+does v m g conn s (Runs ss) answers = run_in v m g conn s s.tx ss false answers
+does v m g conn s (Reads statement) answers = run_in v m g conn s s.tx (statement ∷ []) true answers
+
+-- A request at a session that is there, is not hung up and has no proposal in flight.
+unfoldable pub on_request : View → Machine → Gateway → ℕ → Request → List Answer → Turned
+on_request v m g conn request answers = does v m g conn (g.session conn) (asked v m g conn request) answers
+
+-- ---- what a request hands to the engine
+
+abbrev pub handed_over : Image → List Statement → Option Handed
+handed_over image ss = Some (record { image = image; statements = ss })
+
+abbrev pub handed_for : Machine → Session → Asked → Option Handed
+handed_for m s (Runs ss) = handed_over (ground m s s.tx) ss
+handed_for m s (Reads statement) = handed_over (ground m s s.tx) (statement ∷ [])
+handed_for m s asked = None
+
+-- The image and the statements that a request hands to the engine, which runs those that it comes to.
+unfoldable pub handed : View → Machine → Gateway → ℕ → Request → Option Handed
+handed v m g conn request = handed_for m (g.session conn) (asked v m g conn request)
+
+-- ---- the gateway after it
+
+-- the gateway with another session of a connection
+unfoldable pub with_session : Gateway → ℕ → Session → Gateway
+with_session g conn s = record { conns = g.conns; session = λ other. if other == conn then s else g.session other; weight = g.weight }
+
+-- the gateway after an effect beside the sessions
+abbrev pub affected_by : Gateway → Effect → Gateway
+affected_by g (HandsOver id) = g
+affected_by g (JoinsPeer id) = g
+affected_by g (Weighs weight) = record { conns = g.conns; session = g.session; weight = weight }

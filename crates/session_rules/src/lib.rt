@@ -1,0 +1,34 @@
+//! The rules of a node's sessions as definitions: what a request asks for, each refusal in its order, what statements come
+//! to by an engine's answers, what is proposed, and what applied entries, a lost leadership and a hang-up do to all
+//! sessions. The contracts of the code cite them, and so do the laws over the lives of nodes. Nothing here runs: a law is
+//! the promise of an empty function.
+#![tactic(auto)]
+
+ghost use Rattle.session_rules.specs.Laws.{RefusalsKeep, NotesTell, ProposesPages, MachinesFollow};
+ghost use Rattle.session_rules.specs.Seen.{WrittenIsSeen};
+
+/// A request that is answered by a FAILURE leaves the sessions as they were, and appends nothing.
+pub fn refusals_keep()
+    ensures { RefusalsKeep }
+{}
+
+/// What is noted of an answered request are all statements that it handed to the engine, and no others.
+pub fn notes_tell()
+    ensures { NotesTell }
+{}
+
+/// What a request proposes is the split change of pages from one image to another, with the transaction of the next entry, or
+/// one entry: a new database, or other servers. It is never a statement.
+pub fn proposes_pages()
+    ensures { ProposesPages }
+{}
+
+/// A command does to the databases of a node, seen as a map from names, what it does to that map.
+pub fn machines_follow()
+    ensures { MachinesFollow }
+{}
+
+/// What is written into a log is seen there again, in its term: commands and configurations that have a spelling.
+pub fn written_is_seen()
+    ensures { WrittenIsSeen }
+{}

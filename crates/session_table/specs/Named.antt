@@ -1,0 +1,67 @@
+-- The causes, replies and kinds of the rules, by those of code.
+use Rattle.std.specs.Prelude.{◌≡◌, Option, Some, None, Result, Ok, Err}
+use Rattle.wire_rows.specs.Answering.{parts_of}
+use Rattle.sql_engine.specs.declared.answer.Ran.{Ran}
+use Rattle.session_rules.specs.Causes as rules
+use Rattle.session_rules.specs.Requests.{rows_cause}
+use Rattle.session_rules.specs.Causes.{Cause as RuleCause}
+use Rattle.session_rules.specs.Sessions.{Reply as RuleReply, Refusal, Single, Rows, Kind, Opening, Writing, Committing}
+use Rattle.session_table.specs.declared.cause.Cause.{Cause}
+use Rattle.session_table.specs.declared.reply.Reply.{Reply}
+use Rattle.session_table.specs.declared.reply.Reply.TheVariants as replies
+use Rattle.session_table.specs.declared.session.FlightKind.{FlightKind}
+use Rattle.session_table.specs.declared.session.FlightKind.TheVariants as kinds
+use Rattle.session_table.specs.declared.cause.Cause.TheVariants as causes
+
+abbrev pub cause_named : Cause → RuleCause
+cause_named causes.BadRequest = rules.BadRequest
+cause_named causes.FloatParameter = rules.FloatParameter
+cause_named causes.NotLeader = rules.NotLeader
+cause_named causes.LeadershipLost = rules.LeadershipLost
+cause_named causes.DatabaseOpen = rules.DatabaseOpen
+cause_named causes.ChangeInFlight = rules.ChangeInFlight
+cause_named causes.NoDatabase = rules.NoDatabase
+cause_named causes.NoStatement = rules.NoStatement
+cause_named causes.OpenQuote = rules.OpenQuote
+cause_named causes.OpenComment = rules.OpenComment
+cause_named causes.NamedParameter = rules.NamedParameter
+cause_named causes.BadParameterNumber = rules.BadParameterNumber
+cause_named causes.NotAllowed = rules.NotAllowed
+cause_named causes.OneStatementWanted = rules.OneStatementWanted
+cause_named causes.WrongParameters = rules.WrongParameters
+cause_named causes.InTransaction = rules.InTransaction
+cause_named causes.NoTransaction = rules.NoTransaction
+cause_named causes.BadName = rules.BadName
+cause_named causes.BadNode = rules.BadNode
+cause_named causes.BadRole = rules.BadRole
+cause_named causes.BadFormat = rules.BadFormat
+cause_named causes.TargetBehind = rules.TargetBehind
+cause_named causes.TooManyStatements = rules.TooManyStatements
+cause_named causes.TooManyDatabases = rules.TooManyDatabases
+cause_named causes.LogFull = rules.LogFull
+cause_named causes.ConstraintFailed = rules.ConstraintFailed
+cause_named causes.SqlError = rules.SqlError
+cause_named causes.NotADatabase = rules.NotADatabase
+cause_named causes.FloatColumn = rules.FloatColumn
+cause_named causes.NotUtf8 = rules.NotUtf8
+cause_named causes.OutOfMemory = rules.OutOfMemory
+cause_named causes.NulInText = rules.NulInText
+cause_named causes.AnswerTooBig = rules.AnswerTooBig
+cause_named causes.Locked = rules.Locked
+cause_named causes.OutOfDate = rules.OutOfDate
+cause_named causes.DatabaseFull = rules.DatabaseFull
+
+abbrev pub reply_named : Reply → RuleReply
+reply_named (replies.Refusal cause) = Refusal (cause_named cause)
+reply_named (replies.Single response) = Single response
+reply_named (replies.Rows answer) = Rows answer
+
+abbrev pub kind_named : FlightKind → Kind
+kind_named kinds.Opening = Opening
+kind_named (kinds.Writing reply) = Writing (reply_named reply)
+kind_named kinds.Committing = Committing
+
+-- The rows of an answer are told, where they can be; else the cause is that for which they can't.
+abbrev pub TellsRows : Ran → Result Ran Cause → Type 0
+TellsRows answer (Ok told) = (told ≡ answer) × (rows_cause (parts_of answer.columns answer.rows) ≡ None)
+TellsRows answer (Err cause) = rows_cause (parts_of answer.columns answer.rows) ≡ Some (cause_named cause)

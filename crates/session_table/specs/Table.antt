@@ -1,0 +1,59 @@
+-- A table of sessions as the rules see it, with the images that open transactions have pinned in a machine.
+use Rattle.std.specs.Prelude.{◌≢◌, ℕ, ◌==◌, Bool, true, not, ◌&&◌, List, [], ◌∷◌, ◌++◌, map, find, Option, Some, None}
+use Rattle.std.specs.Option.{option_map}
+use Rattle.std.specs.List.{AllByRecursion}
+use Rattle.page_apply.specs.declared.database.Database.{Database}
+use Rattle.page_apply.specs.Pins.{Pinning, pinned_image}
+use Rattle.session_rules.specs.Sessions.{Transaction as RuleTransaction, Session as RuleSession, Gateway, absent}
+use Rattle.session_rules.specs.Limits.{holds, flown_by}
+use Rattle.session_table.specs.declared.session.Session.{Session}
+use Rattle.session_table.specs.declared.session.Transaction.{Transaction}
+
+-- the name of the database that was opened; the empty name where none was
+abbrev pub database_of : Option (List ℕ) → List ℕ
+database_of None = []
+database_of (Some name) = name
+
+-- an open transaction over the database of a name, with the image that its mark shows
+abbrev pub transaction_of : List Database → List ℕ → Transaction → RuleTransaction
+transaction_of databases name x = record { name = name; mark = x.mark; pinned = pinned_image databases x.pin; working = x.working; turn = x.turn }
+
+abbrev pub session_of : List Database → Session → RuleSession
+session_of databases s = record { there = true; hung = s.hung; database = database_of s.database; statements = s.statements.items; tx = option_map (transaction_of databases (database_of s.database)) s.transaction; flight = s.flight }
+
+abbrev pub has_conn : ℕ → Session → Bool
+has_conn conn s = s.conn == conn
+
+abbrev pub session_found : List Database → Option Session → RuleSession
+session_found databases None = absent
+session_found databases (Some s) = session_of databases s
+
+-- the session of a connection
+unfoldable pub session_at : List Database → List Session → ℕ → RuleSession
+session_at databases sessions conn = session_found databases (find (has_conn conn) sessions)
+
+-- the table as the rules' gateway
+unfoldable pub table_of : List Database → List Session → ℕ → Gateway
+table_of databases sessions weight = record { conns = map (λ (s : Session). s.conn) sessions; session = session_at databases sessions; weight = weight }
+
+-- no two sessions are of one connection
+abbrev pub AreApart : List Session → Type 0
+AreApart [] = Unit {0}
+AreApart (s ∷ ss) = AllByRecursion (λ (t : Session). s.conn ≢ t.conn) ss × AreApart ss
+
+-- whether the session of another connection has the turn to write of the database of a name
+abbrev pub holds_beside : List Database → ℕ → List ℕ → Session → Bool
+holds_beside databases conn name s = not (s.conn == conn) && holds (session_of databases s) name
+
+-- the pages that a session's proposal gives a database
+abbrev pub flown_in : List ℕ → Session → ℕ
+flown_in name s = flown_by s.flight name
+
+abbrev pub pin_of : Option Transaction → List Pinning
+pin_of None = []
+pin_of (Some x) = x.pin ∷ []
+
+-- the read marks of the transactions
+abbrev pub pins_of : List Session → List Pinning
+pins_of [] = []
+pins_of (s ∷ ss) = pin_of s.transaction ++ pins_of ss

@@ -1,0 +1,17 @@
+//! The sessions of a node as a table: what each has opened, prepared and begun, what it has in flight, and what that means
+//! for the others.
+#![tactic(auto)]
+
+mod cause;
+mod laws;
+mod limits;
+mod reply;
+mod session;
+mod statements;
+
+pub use cause::Cause;
+pub use laws::{commands_make_no_marks, marks_change_no_database, released_marks_are_spent};
+pub use limits::{flown, other_holds};
+pub use reply::{Reply, ToldRows};
+pub use session::{Flight, FlightKind, Prepared, Session, Transaction};
+pub use statements::{finalize, prepare, prepared_at, prepared_count};

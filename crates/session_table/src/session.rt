@@ -1,0 +1,94 @@
+//! One session.
+
+use crate::reply::Reply;
+use dq_base::{Image, Name};
+use page_apply::Pin;
+use sql_scan::WordKind;
+use std::marker::Model;
+use wire_words::WireText;
+
+/// A prepared statement. Clauses see it as the rules' one.
+#[derive(Debug, Drop)]
+pub struct Prepared {
+    /// Its text.
+    pub text: WireText,
+    /// What kind of statement it is.
+    pub word: WordKind,
+    /// How many parameters it has.
+    pub params: u64,
+}
+
+impl Model for Prepared {
+    ghost use Rattle.session_rules.specs.Sessions.{Prepared as RulePrepared};
+
+    ghost Value = { RulePrepared };
+
+    ghost view = { λ p. record { text = p.text; word = p.word; params = p.params } };
+}
+
+/// What a proposal in flight is for.
+#[derive(Debug, Drop)]
+pub enum FlightKind {
+    /// A new database.
+    Opening,
+    /// The write of statements outside a transaction, with the reply that it gets.
+    Writing(Reply),
+    /// The commit of the open transaction.
+    Committing,
+}
+
+/// A proposal in flight. Clauses see it as the rules' one.
+#[derive(Debug, Drop)]
+pub struct Flight {
+    /// The database that it is for.
+    pub name: Name,
+    /// The index of its first entry.
+    pub first: u64,
+    /// That of its last one.
+    pub last: u64,
+    /// The term in which its entries were appended.
+    pub term: u64,
+    /// How many pages the database has after it.
+    pub pages: u64,
+    /// What it is for.
+    pub kind: FlightKind,
+}
+
+impl Model for Flight {
+    ghost use Rattle.session_rules.specs.Sessions.{Flight as RuleFlight};
+    ghost use Rattle.session_table.specs.Named.{kind_named};
+
+    ghost Value = { RuleFlight };
+
+    ghost view = { λ f. record { name = f.name; first = f.first; last = f.last; term = f.term; pages = f.pages; kind = kind_named f.kind } };
+}
+
+/// An open transaction of a session over its database.
+#[derive(Debug, Drop)]
+pub struct Transaction {
+    /// How many commits the database had when it began.
+    pub mark: u64,
+    /// The read mark of the image at that time.
+    pub pin: Pin,
+    /// That image with the transaction's own changes.
+    pub working: Image,
+    /// Whether it has the turn to write.
+    pub turn: bool,
+}
+
+/// A session of a connection.
+#[derive(Debug, Drop)]
+pub struct Session {
+    /// The connection's number.
+    pub conn: u64,
+    /// Whether its client has gone while its proposal is in flight.
+    pub hung: bool,
+    /// The database that it has opened.
+    pub database: Option<Name>,
+    /// The statements that it has prepared, by their numbers.
+    pub statements: Vec<Option<Prepared>>,
+    /// Its open transaction.
+    pub transaction: Option<Transaction>,
+    /// Its proposal in flight.
+    pub flight: Option<Flight>,
+}

@@ -1,0 +1,221 @@
+-- One voter that never stops.
+use Rattle.std.proofs.Common.{◌≡◌, ℕ, zero, suc, ◌+◌, ◌-◌, ◌<◌, true, false, List, [], ◌∷◌, ◌++◌, length, refl, sym, ap, ◌∙◌, subst, arith, length-append}
+use Rattle.std.specs.Prelude.{nat_le, map, Option, Some, None}
+use Rattle.std.specs.List.{filter}
+use Rattle.std.proofs.lemmas.List.{take_all}
+use Rattle.std.proofs.lemmas.Bool.{cond_both}
+use Rattle.wire_msgs.specs.declared.request.Request.{Request}
+use Rattle.frame_commands.specs.declared.command.Command.TheVariants.{Checkpoint}
+use Rattle.sql_engine.specs.declared.kind.EngineKind.{EngineKind}
+use Rattle.sql_engine.specs.Meanings.{Meaning}
+use Rattle.session_rules.specs.Entries.{Does, Other, Entry, entries_of}
+use Rattle.session_rules.specs.Machine.{files, base_at, act}
+use Rattle.session_rules.specs.Engines.{Answer}
+use Rattle.session_rules.specs.Sessions.{Flight, Turned, Refused, Lacks, Answers, Proposes, Affects, may_ask}
+use Rattle.session_rules.specs.Asking.{Asked, Never, Tells, Sets, Opens, Creates, Prepares, Drops, Begins, Commits, RollsBack, Changes, Runs, Reads, asked_by}
+use Rattle.session_rules.specs.Requests.{does, on_request}
+use Rattle.session_rules.specs.Events.{connects}
+use Rattle.session_world.specs.Woven.{Woven}
+use Rattle.session_world.specs.Nodes.{Trail, Node, Standing, databases, view_of, started}
+use Rattle.session_world.specs.Life.{Event, Connect, Hangup, Call, Apply, Lead, Serve, Append, called, happens, run_from, Fits, AllFit, ArePlain}
+use Rattle.session_world.specs.Replies.{AllSaid}
+use Rattle.session_world.specs.Alone.{Turn, Timeout, Join, Leave, Ask, applies, settling, due, settled, checkpointed, takes_turn, alone_from, alone, AllowsTurn, AllowsTurns, AloneIsSafe, script_turns, ScriptsAreSafe}
+use Rattle.session_world.proofs.Invariant.{FlightIs, NodeOk}
+use Rattle.session_world.proofs.Asks.{IsIdle, request_idle}
+use Rattle.session_world.proofs.Moves.{no}
+use Rattle.session_world.proofs.Lives.{happens_ok, run_ok, started_ok}
+use Rattle.session_world.proofs.Lasts.{run_append}
+
+-- the one node between two turns
+record Rests (mean : Meaning) (w : Node) : Type 0 where
+  node : NodeOk mean w
+  all : w.applied ≡ length w.log
+  same : w.leads ≡ w.serving
+  empty : w.leads ≡ false → w.log ≡ []
+
+-- a node in the midst of a turn
+record Works (mean : Meaning) (w : Node) : Type 0 where
+  node : NodeOk mean w
+  leads : w.leads ≡ true
+  serves : w.serving ≡ true
+
+-- it works, and all is applied
+record Settled (mean : Meaning) (w : Node) : Type 0 where
+  works : Works mean w
+  all : w.applied ≡ length w.log
+
+-- what an event leaves of the node itself
+pub record Same (w v : Node) : Type 0 where
+  pub leads : v.leads ≡ w.leads
+  pub serving : v.serving ≡ w.serving
+  pub applied : v.applied ≡ w.applied
+
+same_refl : (w : Node) → Same w w
+same_refl w = record { leads = refl; serving = refl; applied = refl }
+
+called_same : (w : Node) (c : ℕ) (t : Turned) → Same w (called w c t)
+called_same w c (Refused why) = record { leads = refl; serving = refl; applied = refl }
+called_same w c Lacks = same_refl w
+called_same w c (Answers s r note) = record { leads = refl; serving = refl; applied = refl }
+called_same w c (Affects effect) = record { leads = refl; serving = refl; applied = refl }
+called_same w c (Proposes s contents note) = record { leads = refl; serving = refl; applied = refl }
+
+pub call_same : (w : Node) (c : ℕ) (standing : Standing) (r : Request) (answers : List Answer) → Same w (happens w (Call c standing r answers))
+unfolding happens
+call_same w c standing r answers = cond_both (may_ask (w.gate.session c)) _ w (Same w) (λ e. called_same w c _) (λ e. same_refl w)
+
+apply_log : (w : Node) → (happens w Apply).log ≡ w.log
+unfolding happens
+apply_log w = refl
+
+apply_next : (w : Node) → (happens w Apply).applied ≡ suc w.applied
+unfolding happens
+apply_next w = refl
+
+plain_due : (ns : List (List ℕ)) → ArePlain true (map (λ (n : List ℕ). Does (Checkpoint n)) ns)
+plain_due [] = tt
+plain_due (n ∷ ns) = (tt, plain_due ns)
+
+-- where the node does not serve, a request appends nothing
+idle_log : (w : Node) (c : ℕ) (standing : Standing) (x : Asked) (answers : List Answer) → IsIdle x → (called w c (does (view_of w standing) (databases w) w.gate c (w.gate.session c) x answers)).log ≡ w.log
+unfolding does
+idle_log w c standing (Never cause) answers h = refl
+idle_log w c standing (Tells response) answers h = refl
+idle_log w c standing (Sets effect) answers h = refl
+idle_log w c standing (Opens name) answers h = absurd h
+idle_log w c standing (Creates name) answers h = absurd h
+idle_log w c standing (Prepares p tail) answers h = absurd h
+idle_log w c standing (Drops id) answers h = refl
+idle_log w c standing (Begins at_once) answers h = absurd h
+idle_log w c standing Commits answers h = absurd h
+idle_log w c standing RollsBack answers h = absurd h
+idle_log w c standing (Changes servers) answers h = absurd h
+idle_log w c standing (Runs ss) answers h = absurd h
+idle_log w c standing (Reads s) answers h = absurd h
+
+request_log : (w : Node) (c : ℕ) (standing : Standing) (r : Request) (answers : List Answer) → w.serving ≡ false → (called w c (on_request (view_of w standing) (databases w) w.gate c r answers)).log ≡ w.log
+unfolding on_request
+request_log w c standing r answers off = idle_log w c standing (asked_by (view_of w standing) (databases w) w.gate (w.gate.session c) r) answers (request_idle (view_of w standing) (databases w) w.gate (w.gate.session c) off r)
+
+call_log : (w : Node) (c : ℕ) (standing : Standing) (r : Request) (answers : List Answer) → w.serving ≡ false → (happens w (Call c standing r answers)).log ≡ w.log
+unfolding happens
+call_log w c standing r answers off = cond_both (may_ask (w.gate.session c)) _ w (λ v. v.log ≡ w.log) (λ e. request_log w c standing r answers off) (λ e. refl)
+
+-- the first timeout
+no_pending : (log : List Entry) (k : ℕ) (n : List ℕ) → log ≡ [] → k ≡ 0 → (base_at (log ++ entries_of 1 (Other ∷ [])) (suc k) n).pending ≡ None
+unfolding files act
+no_pending log k n l e = subst (λ xs. (base_at (xs ++ entries_of 1 (Other ∷ [])) (suc k) n).pending ≡ None) (sym l) (subst (λ j. (base_at ([] ++ entries_of 1 (Other ∷ [])) (suc j) n).pending ≡ None) (sym e) refl)
+
+join_same : (w : Node) (c : ℕ) → Same w (happens w (Connect c)) × ((happens w (Connect c)).log ≡ w.log)
+unfolding happens
+join_same w c = cond_both (connects w.gate c) _ w (λ v. Same w v × (v.log ≡ w.log)) (λ e. (record { leads = refl; serving = refl; applied = refl }, refl)) (λ e. (same_refl w, refl))
+
+leave_same : (w : Node) (c : ℕ) → Same w (happens w (Hangup c)) × ((happens w (Hangup c)).log ≡ w.log)
+unfolding happens
+leave_same w c = (record { leads = refl; serving = refl; applied = refl }, refl)
+
+no_entries : Woven []
+no_entries = record { at = λ i name tx term b pages pos x. absurd (none_some x.is) }
+  where
+    none_some : {A : Type 0} {x : A} → None ≡ Some x → ⊥
+    none_some e = cc
+
+module _ (mean : Meaning) (kind : EngineKind) where
+  rests_of : (w : Node) → Settled mean w → Rests mean w
+  rests_of w s = record { node = s.works.node; all = s.all; same = s.works.leads ∙ sym s.works.serves; empty = λ e. no (sym e ∙ s.works.leads) }
+
+  works_call : (w : Node) (c : ℕ) (standing : Standing) (r : Request) (answers : List Answer) → Fits mean kind w (Call c standing r answers) → Works mean w → Works mean (happens w (Call c standing r answers))
+  works_call w c standing r answers h a = let s = call_same w c standing r answers in record { node = happens_ok mean kind w (Call c standing r answers) h a.node; leads = s.leads ∙ a.leads; serves = s.serving ∙ a.serves }
+
+  works_apply : (w : Node) → w.applied < length w.log → Works mean w → Works mean (happens w Apply)
+  unfolding happens
+  works_apply w h a = record { node = happens_ok mean kind w Apply h a.node; leads = a.leads; serves = a.serves }
+
+  settle : (k : ℕ) (w : Node) → w.applied + k ≡ length w.log → Works mean w → AllFit mean kind w (applies k) × Settled mean (run_from w (applies k))
+  settle zero w e a = (tt, record { works = a; all = omega arith })
+  settle (suc k) w e a =
+      let h : w.applied < length w.log = omega arith in
+      let next = apply_next w in
+      let size = ap length (apply_log w) in
+      let e' : (happens w Apply).applied + k ≡ length (happens w Apply).log = omega arith in
+      let r = settle k (happens w Apply) e' (works_apply w h a) in
+      ((h, r.0), r.1)
+
+  settles : (w : Node) → Works mean w → AllFit mean kind w (settling w) × Settled mean (settled w)
+  settles w a = let h = a.node.applied in settle (length w.log - w.applied) w (omega arith) a
+
+  due_fits : (w : Node) → Works mean w → Fits mean kind w (Append (due (databases w)))
+  due_fits w a = (a.leads, subst (λ b. ArePlain b (due (databases w))) (sym a.serves) (plain_due (filter (λ (n : List ℕ). nat_le 1000 ((databases w).base n).since) (databases w).names)))
+
+  works_due : (w : Node) → Works mean w → Works mean (checkpointed w)
+  unfolding happens
+  works_due w a = record { node = happens_ok mean kind w (Append (due (databases w))) (due_fits w a) a.node; leads = a.leads; serves = a.serves }
+
+  fit_append : (w : Node) (xs ys : List Event) → AllFit mean kind w xs → AllFit mean kind (run_from w xs) ys → AllFit mean kind w (xs ++ ys)
+  fit_append w [] ys a b = b
+  fit_append w (x ∷ xs) ys a b = (a.0, fit_append (happens w x) xs ys a.1 b)
+
+  -- a request at the leader
+  ask_leading : (w : Node) (c : ℕ) (standing : Standing) (r : Request) (answers : List Answer) → Fits mean kind w (Call c standing r answers) → Works mean w → Settled mean (run_from w (Call c standing r answers ∷ settling (happens w (Call c standing r answers)) ++ Append (due (databases (settled (happens w (Call c standing r answers))))) ∷ settling (checkpointed (settled (happens w (Call c standing r answers))))))
+  ask_leading w c standing r answers h a =
+      let one = happens w (Call c standing r answers) in
+      let two = settles one (works_call w c standing r answers h a) in
+      let last = settles (checkpointed (settled one)) (works_due (settled one) two.1.works) in
+      subst (Settled mean) (sym (run_append one (settling one) (Append (due (databases (settled one))) ∷ settling (checkpointed (settled one))))) last.1
+
+  -- the same node with the same log rests as before
+  still_rests : (w v : Node) → Rests mean w → NodeOk mean v → Same w v → v.log ≡ w.log → Rests mean v
+  still_rests w v a n s l = record {
+    node = n;
+    all = s.applied ∙ a.all ∙ sym (ap length l);
+    same = s.leads ∙ a.same ∙ sym s.serving;
+    empty = λ e. l ∙ a.empty (sym s.leads ∙ e);
+  }
+
+  elected : (w : Node) → w.leads ≡ false → Rests mean w → Rests mean (run_from w (Lead 1 ∷ Append (Other ∷ []) ∷ Apply ∷ Serve ∷ []))
+  unfolding happens
+  elected w off a =
+      let empty = a.empty off in
+      let none : w.applied ≡ 0 = a.all ∙ ap length empty in
+      let long = length-append w.log (entries_of 1 (Other ∷ [])) in
+      let all = a.all in
+      let full : suc w.applied ≡ length (w.log ++ entries_of 1 (Other ∷ [])) = omega arith in
+      let fits : AllFit mean kind w (Lead 1 ∷ Append (Other ∷ []) ∷ Apply ∷ Serve ∷ []) = (off, ((refl, (tt, tt)), (omega arith, ((refl, full, λ n. no_pending w.log w.applied n empty none), tt)))) in
+      record {
+        node = run_ok mean kind w (Lead 1 ∷ Append (Other ∷ []) ∷ Apply ∷ Serve ∷ []) fits a.node;
+        all = full;
+        same = refl;
+        empty = λ e. no (sym e);
+      }
+
+  turn_ok : (w : Node) (t : Turn) → AllowsTurn mean kind w t → Rests mean w → Rests mean (takes_turn w t)
+  turn_ok w Timeout h a = cond_both w.leads [] (Lead 1 ∷ Append (Other ∷ []) ∷ Apply ∷ Serve ∷ []) (λ es. Rests mean (run_from w es)) (λ e. a) (λ e. elected w e a)
+  turn_ok w (Join c) h a = let s = join_same w c in still_rests w (happens w (Connect c)) a (happens_ok mean kind w (Connect c) tt a.node) s.0 s.1
+  turn_ok w (Leave c) h a = let s = leave_same w c in still_rests w (happens w (Hangup c)) a (happens_ok mean kind w (Hangup c) tt a.node) s.0 s.1
+  turn_ok w (Ask c standing r answers) h a = cond_both w.leads _ (Call c standing r answers ∷ []) (λ es. Rests mean (run_from w es))
+      (λ e. rests_of _ (ask_leading w c standing r answers h (record { node = a.node; leads = e; serves = sym a.same ∙ e })))
+      (λ e. still_rests w (happens w (Call c standing r answers)) a (happens_ok mean kind w (Call c standing r answers) h a.node) (call_same w c standing r answers) (call_log w c standing r answers (sym a.same ∙ e)))
+
+  turns_ok : (ts : List Turn) (w : Node) → AllowsTurns mean kind w ts → Rests mean w → Rests mean (alone_from w ts)
+  turns_ok [] w h a = a
+  turns_ok (t ∷ ts) w h a = turns_ok ts (takes_turn w t) h.1 (turn_ok w t h.0 a)
+
+  no_flight : (log : List Entry) (applied term : ℕ) (t : Trail) (o : Option Flight) → applied ≡ length log → FlightIs mean log applied term t o → o ≡ None
+  no_flight log applied term t None e a = refl
+  no_flight log applied term t (Some f) e a = let x = a.ahead in let y = a.within in absurd (omega arith)
+
+  pub alone_is_safe_holds : AloneIsSafe mean kind
+  unfolding alone
+  alone_is_safe_holds ts h =
+      let w = alone_from (started [] 0 0) ts in
+      let r = turns_ok ts (started [] 0 0) h (record { node = started_ok mean kind [] 0 0 (omega arith) no_entries; all = refl; same = refl; empty = λ e. refl }) in
+      let full = r.all in
+      record {
+        applied = r.all;
+        said = subst (λ l. AllSaid mean l w.said) (take_all w.applied w.log (omega arith)) r.node.said;
+        woven = r.node.woven;
+        answered = λ c. no_flight w.log w.applied w.term (w.trail c) (w.gate.session c).flight r.all (r.node.sessions c).flight;
+      }
+
+  pub scripts_are_safe_hold : ScriptsAreSafe mean kind
+  scripts_are_safe_hold standing lines journal h = alone_is_safe_holds (script_turns standing lines journal) h

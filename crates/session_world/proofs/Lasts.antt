@@ -1,0 +1,131 @@
+-- What was applied and said stays; when a reply that waited is said.
+use Rattle.std.proofs.Common.{◌≡◌, ◌≢◌, ℕ, suc, ◌≤◌, Bool, true, false, List, [], ◌∷◌, ◌++◌, length, take, refl, sym, ap, ◌∙◌, subst, ⊎_elim, arith, append_assoc}
+use Rattle.std.specs.Prelude.{◌==◌, Option, Some, None}
+use Rattle.std.proofs.lemmas.List.{take-append-le, take-take, length-take-le, append-nil}
+use Rattle.std.proofs.lemmas.Bool.{cond_both, cases_Bool, eqb-true}
+use Rattle.sql_engine.specs.declared.kind.EngineKind.{EngineKind}
+use Rattle.sql_engine.specs.Meanings.{Meaning}
+use Rattle.session_rules.specs.Entries.{Entry, entries_of}
+use Rattle.session_rules.specs.Sessions.{Reply, Kind, Opening, Configuring, Writing, Committing, Flight, Turned, Refused, Lacks, Answers, Proposes, Affects, may_ask}
+use Rattle.session_rules.specs.Events.{connects, told_lost}
+use Rattle.session_world.specs.Nodes.{Said, Trail, Node, started, applied_entries}
+use Rattle.session_world.specs.Life.{Event, Connect, Hangup, Call, Apply, Lose, Lead, Serve, Append, Follow, told_all, called, said_landed, said_by, said_applied, happens, run_from, AllFit}
+use Rattle.session_world.specs.Laws.{Lasts, LivesLast, SaidHere, AllHere, AnsweredHere}
+use Rattle.session_world.proofs.Invariant.{FlightIs, NodeOk}
+use Rattle.session_world.proofs.Applies.{front_grows}
+use Rattle.session_world.proofs.Lives.{happens_ok, run_ok, started_ok}
+
+lasts_refl : (w : Node) → Lasts w w
+lasts_refl w = record { more = []; applied = sym (append-nil (applied_entries w)); later = []; said = sym (append-nil w.said) }
+
+lasts_trans : {u v w : Node} → Lasts u v → Lasts v w → Lasts u w
+lasts_trans {u} {v} {w} a b = record {
+  more = a.more ++ b.more;
+  applied = b.applied ∙ ap (λ l. l ++ b.more) a.applied ∙ append_assoc (applied_entries u) a.more b.more;
+  later = a.later ++ b.later;
+  said = b.said ∙ ap (λ l. l ++ b.later) a.said ∙ append_assoc u.said a.later b.later;
+}
+
+lasts_called : (w : Node) (c : ℕ) (t : Turned) → w.applied ≤ length w.log → Lasts w (called w c t)
+lasts_called w c (Refused why) h = record { more = []; applied = sym (append-nil (applied_entries w)); later = _; said = refl }
+lasts_called w c Lacks h = lasts_refl w
+lasts_called w c (Answers s r note) h = record { more = []; applied = sym (append-nil (applied_entries w)); later = _; said = refl }
+lasts_called w c (Affects effect) h = record { more = []; applied = sym (append-nil (applied_entries w)); later = _; said = refl }
+lasts_called w c (Proposes s contents note) h = record { more = []; applied = take-append-le w.applied w.log (entries_of w.term contents) h ∙ sym (append-nil (applied_entries w)); later = []; said = sym (append-nil w.said) }
+
+pub run_append : (w : Node) (es fs : List Event) → run_from w (es ++ fs) ≡ run_from (run_from w es) fs
+run_append w [] fs = refl
+run_append w (e ∷ es) fs = run_append (happens w e) es fs
+
+-- at its place
+
+here_append : (v : Node) (xs ys : List Said) → AllHere v xs → AllHere v ys → AllHere v (xs ++ ys)
+here_append v [] ys a b = b
+here_append v (x ∷ xs) ys a b = (a.0, here_append v xs ys a.1 b)
+
+here_told : (v : Node) (rs : List (ℕ × Reply)) → AllHere v (told_all rs)
+here_told v [] = tt
+here_told v (r ∷ rs) = ((λ h. absurd (omega (arith, h))), here_told v rs)
+
+landed_here : (v : Node) (c : ℕ) (t : Trail) (f : Flight) (k : Kind) → f.last ≡ v.applied → f.term ≡ v.term → v.leads ≡ true → SaidHere v (said_landed c t f k)
+landed_here v c t f Opening i t' l h = (i, t', l)
+landed_here v c t f Configuring i t' l h = (i, t', l)
+landed_here v c t f (Writing reply) i t' l h = (i, t', l)
+landed_here v c t f Committing i t' l h = (i, t', l)
+
+some_none : {A : Type 0} {x : A} → Some x ≡ None → ⊥
+some_none e = cc
+
+called_here : (w : Node) (c : ℕ) (t : Turned) → (more : List Said) × ((called w c t).said ≡ w.said ++ more) × AllHere (called w c t) more
+called_here w c (Refused why) = (_, refl, ((λ h. absurd (omega (arith, h))), tt))
+called_here w c Lacks = ([], sym (append-nil w.said), tt)
+called_here w c (Answers s r note) = (_, refl, ((λ h. absurd (omega (arith, h))), tt))
+called_here w c (Affects effect) = (_, refl, ((λ h. absurd (omega (arith, h))), tt))
+called_here w c (Proposes s contents note) = ([], sym (append-nil w.said), tt)
+
+abbrev pub Answers_here : Node → Node → Type 0
+Answers_here w v = (more : List Said) × (v.said ≡ w.said ++ more) × AllHere v more
+
+module _ (mean : Meaning) (kind : EngineKind) where
+  pub lasts_step : (w : Node) (e : Event) → NodeOk mean w → Lasts w (happens w e)
+  unfolding happens
+  lasts_step w (Connect c) a = cond_both (connects w.gate c) _ w (Lasts w) (λ e. record { more = []; applied = sym (append-nil (applied_entries w)); later = []; said = sym (append-nil w.said) }) (λ e. lasts_refl w)
+  lasts_step w (Hangup c) a = record { more = []; applied = sym (append-nil (applied_entries w)); later = []; said = sym (append-nil w.said) }
+  lasts_step w (Call c standing r answers) a = cond_both (may_ask (w.gate.session c)) _ w (Lasts w) (λ e. lasts_called w c _ a.applied) (λ e. lasts_refl w)
+  lasts_step w Apply a = record { more = _; applied = front_grows w.applied w.log; later = _; said = refl }
+  lasts_step w (Lose t) a = record { more = []; applied = sym (append-nil (applied_entries w)); later = _; said = refl }
+  lasts_step w (Lead t) a = record { more = []; applied = sym (append-nil (applied_entries w)); later = []; said = sym (append-nil w.said) }
+  lasts_step w Serve a = record { more = []; applied = sym (append-nil (applied_entries w)); later = []; said = sym (append-nil w.said) }
+  lasts_step w (Append contents) a = record { more = []; applied = take-append-le w.applied w.log (entries_of w.term contents) a.applied ∙ sym (append-nil (applied_entries w)); later = []; said = sym (append-nil w.said) }
+  lasts_step w (Follow es) a =
+      let low = a.applied in
+      let long = length-take-le w.applied w.log low in
+      let same : take w.applied (take w.applied w.log ++ es) ≡ take w.applied w.log = take-append-le w.applied (take w.applied w.log) es (omega arith) ∙ take-take w.applied w.applied w.log (omega arith) in
+      record { more = []; applied = same ∙ sym (append-nil (applied_entries w)); later = []; said = sym (append-nil w.said) }
+
+  lasts_run : (w : Node) (es : List Event) → AllFit mean kind w es → NodeOk mean w → Lasts w (run_from w es)
+  lasts_run w [] h a = lasts_refl w
+  lasts_run w (e ∷ es) h a = lasts_trans (lasts_step w e a) (lasts_run (happens w e) es h.1 (happens_ok mean kind w e h.0 a))
+
+  pub fit_parts : (w : Node) (es fs : List Event) → AllFit mean kind w (es ++ fs) → AllFit mean kind w es × AllFit mean kind (run_from w es) fs
+  fit_parts w [] fs h = (tt, h)
+  fit_parts w (e ∷ es) fs h = let r = fit_parts (happens w e) es fs h.1 in ((h.0, r.0), r.1)
+
+  pub lives_last_hold : LivesLast mean kind
+  lives_last_hold log applied term es fs s h =
+      let w = started log applied term in
+      let p = fit_parts w es fs h in
+      let a = run_ok mean kind w es p.0 (started_ok mean kind log applied term s.within s.woven) in
+      subst (Lasts (run_from w es)) (sym (run_append w es fs)) (lasts_run (run_from w es) fs p.1 a)
+
+  by_here : (v : Node) (log : List Entry) (before index c : ℕ) (t : Trail) (hung : Bool) (o : Option Flight) → index ≡ v.applied → FlightIs mean log before v.term t o → (o ≢ None → v.leads ≡ true) → AllHere v (said_by index c t hung o)
+  by_here v log before index c t hung None i f l = tt
+  by_here v log before index c t hung (Some x) i f l =
+      cond_both (x.last == index) _ _ (AllHere v) (λ e. cond_both hung _ _ (AllHere v) (λ h. tt) (λ h. (landed_here v c t x x.kind (eqb-true _ _ e ∙ i) f.of_term (l (λ z. some_none z)), tt))) (λ e. tt)
+
+  applied_here : (w v : Node) (cs : List ℕ) → NodeOk mean w → suc w.applied ≡ v.applied → w.term ≡ v.term → w.leads ≡ v.leads → AllHere v (said_applied (suc w.applied) w.trail w.gate.session cs)
+  applied_here w v [] a i t l = tt
+  applied_here w v (c ∷ cs) a i t l = here_append v _ _
+      (by_here v w.log w.applied (suc w.applied) c (w.trail c) (w.gate.session c).hung (w.gate.session c).flight i
+      (subst (λ k. FlightIs mean w.log w.applied k (w.trail c) (w.gate.session c).flight) t (a.sessions c).flight)
+      (λ n. sym l ∙ ⊎_elim (λ (s : w.serving ≡ true). a.leads s) (λ (s : w.serving ≡ false). absurd (n (a.idle s c).flight)) (cases_Bool w.serving)))
+      (applied_here w v cs a i t l)
+
+  pub step_here : (w : Node) (e : Event) → NodeOk mean w → Answers_here w (happens w e)
+  unfolding happens
+  step_here w (Connect c) a = cond_both (connects w.gate c) _ w (Answers_here w) (λ e. ([], sym (append-nil w.said), tt)) (λ e. ([], sym (append-nil w.said), tt))
+  step_here w (Hangup c) a = ([], sym (append-nil w.said), tt)
+  step_here w (Call c standing r answers) a = cond_both (may_ask (w.gate.session c)) _ w (Answers_here w) (λ e. called_here w c _) (λ e. ([], sym (append-nil w.said), tt))
+  step_here w Apply a = (_, refl, applied_here w (happens w Apply) w.gate.conns a refl refl refl)
+  step_here w (Lose t) a = (_, refl, here_told (happens w (Lose t)) (told_lost w.gate))
+  step_here w (Lead t) a = ([], sym (append-nil w.said), tt)
+  step_here w Serve a = ([], sym (append-nil w.said), tt)
+  step_here w (Append contents) a = ([], sym (append-nil w.said), tt)
+  step_here w (Follow es) a = ([], sym (append-nil w.said), tt)
+
+  pub answered_here_holds : AnsweredHere mean kind
+  answered_here_holds log applied term es e s h =
+      let w = started log applied term in
+      let p = fit_parts w es (e ∷ []) h in
+      let a = run_ok mean kind w es p.0 (started_ok mean kind log applied term s.within s.woven) in
+      subst (Answers_here (run_from w es)) (sym (run_append w es (e ∷ []))) (step_here (run_from w es) e a)

@@ -1,0 +1,145 @@
+-- One voter that never stops: what is proposed is applied in the same step. Its run, turn by turn, and that of a script with
+-- its journal.
+use Rattle.std.specs.Prelude.{◌≡◌, ℕ, zero, suc, ◌-◌, Bool, true, false, ◌&&◌, nat_le, List, [], ◌∷◌, ◌++◌, length, drop, map, Option, Some, None, Ok, Err, if◌then◌else◌}
+use Rattle.std.specs.List.{filter}
+use Rattle.dq_base.specs.declared.images.Image.{Image}
+use Rattle.wire_msgs.specs.declared.request.Request.{Request}
+use Rattle.frame_commands.specs.declared.command.Command.TheVariants.{Checkpoint}
+use Rattle.sql_engine.specs.declared.kind.EngineKind.{EngineKind}
+use Rattle.sql_engine.specs.Replies.{Statement}
+use Rattle.sql_engine.specs.Meanings.{Meaning}
+use Rattle.page_apply.specs.Files.{image_after}
+use Rattle.session_rules.specs.Entries.{Content, Does, Other}
+use Rattle.session_rules.specs.Machine.{Machine}
+use Rattle.session_rules.specs.Engines.{Answer, takes, Handed, AllowsFor}
+use Rattle.session_rules.specs.Sessions.{Turned, Refused, Lacks, Answers, Proposes, Affects, may_ask}
+use Rattle.session_rules.specs.Requests.{on_request, handed}
+use Rattle.session_world.specs.Woven.{Woven}
+use Rattle.session_world.specs.Nodes.{Node, Standing, databases, view_of, started}
+use Rattle.session_world.specs.Life.{Event, Connect, Hangup, Call, Apply, Lead, Serve, Append, happens, run_from}
+use Rattle.session_world.specs.Replies.{AllSaid}
+
+-- What happens at the node in one turn: a timeout; a connection comes, or goes; a request with the engine's answers.
+pub data Turn : Type 0 where
+  Timeout : Turn
+  Join : (conn : ℕ) → Turn
+  Leave : (conn : ℕ) → Turn
+  Ask : (conn : ℕ) (standing : Standing) (request : Request) (answers : List Answer) → Turn
+
+abbrev pub applies : ℕ → List Event
+applies zero = []
+applies (suc more) = Apply ∷ applies more
+
+-- all that is in the log is applied
+abbrev pub settling : Node → List Event
+settling w = applies (length w.log - w.applied)
+
+-- a Checkpoint of each database of which 1,000 pages or more were committed since its last one
+abbrev pub due : Machine → List Content
+due m = map (λ (name : List ℕ). Does (Checkpoint name)) (filter (λ (name : List ℕ). nat_le 1000 (m.base name).since) m.names)
+
+abbrev pub settled : Node → Node
+settled w = run_from w (settling w)
+
+-- the node after the checkpoints that are due
+abbrev pub checkpointed : Node → Node
+checkpointed w = happens w (Append (due (databases w)))
+
+-- The events of a turn. The first timeout makes the node the leader of term 1, which serves at once.
+abbrev pub events_of : Node → Turn → List Event
+events_of w Timeout = if w.leads then [] else Lead 1 ∷ Append (Other ∷ []) ∷ Apply ∷ Serve ∷ []
+events_of w (Join conn) = Connect conn ∷ []
+events_of w (Leave conn) = Hangup conn ∷ []
+events_of w (Ask conn standing request answers) =
+    if w.leads
+    then Call conn standing request answers ∷ settling (happens w (Call conn standing request answers)) ++ Append (due (databases (settled (happens w (Call conn standing request answers))))) ∷ settling (checkpointed (settled (happens w (Call conn standing request answers))))
+    else Call conn standing request answers ∷ []
+
+abbrev pub takes_turn : Node → Turn → Node
+takes_turn w t = run_from w (events_of w t)
+
+abbrev pub alone_from : Node → List Turn → Node
+alone_from w [] = w
+alone_from w (t ∷ ts) = alone_from (takes_turn w t) ts
+
+-- the one node after these turns
+unfoldable pub alone : List Turn → Node
+alone ts = alone_from (started [] 0 0) ts
+
+-- each answer of a turn is one that the engine may give to what the turn's request hands it
+abbrev pub AllowsTurn : Meaning → EngineKind → Node → Turn → Type 0
+AllowsTurn m kind w Timeout = Unit {0}
+AllowsTurn m kind w (Join conn) = Unit {0}
+AllowsTurn m kind w (Leave conn) = Unit {0}
+AllowsTurn m kind w (Ask conn standing request answers) = may_ask (w.gate.session conn) ≡ true → AllowsFor m kind (handed (view_of w standing) (databases w) w.gate conn request) answers
+
+abbrev pub AllowsTurns : Meaning → EngineKind → Node → List Turn → Type 0
+AllowsTurns m kind w [] = Unit {0}
+AllowsTurns m kind w (t ∷ ts) = AllowsTurn m kind w t × AllowsTurns m kind (takes_turn w t) ts
+
+-- The one node has applied its whole log; each reply is right by it; the entries of each transaction stand in one piece; and
+-- no request waits for its answer.
+pub record SafeAlone (m : Meaning) (w : Node) : Type 0 where
+  pub applied : w.applied ≡ length w.log
+  pub said : AllSaid m w.log w.said
+  pub woven : Woven w.log
+  pub answered : (conn : ℕ) → (w.gate.session conn).flight ≡ None
+
+-- So it is after each list of turns.
+abbrev pub AloneIsSafe : Meaning → EngineKind → Type 0
+AloneIsSafe m kind = (ts : List Turn) → AllowsTurns m kind (started [] 0 0) ts → SafeAlone m (alone ts)
+
+-- ---- scripts
+
+-- how many answers of a journal the statements of a request use
+unfoldable pub used : Image → List Statement → List Answer → ℕ
+used image [] answers = 0
+used image (s ∷ ss) [] = 0
+used image (s ∷ ss) (Ok ran ∷ answers) = suc (if takes ran.after.pages then used (image_after image ran.after.pages) ss answers else 0)
+used image (s ∷ ss) (Err fault ∷ answers) = 1
+
+abbrev pub used_for : Option Handed → List Answer → ℕ
+used_for None answers = 0
+used_for (Some x) answers = used x.image x.statements answers
+
+-- an answer that is needed is missing
+abbrev pub lacks : Turned → Bool
+lacks (Refused cause) = false
+lacks Lacks = true
+lacks (Answers s reply note) = false
+lacks (Proposes s contents note) = false
+lacks (Affects effect) = false
+
+-- what a line of a script asks of the node
+pub data Line : Type 0 where
+  Times : Line
+  Opens : (conn : ℕ) → Line
+  Closes : (conn : ℕ) → Line
+  Sends : (conn : ℕ) (request : Request) → Line
+
+-- what the request lacks of the journal, where it is handled at all
+abbrev pub lacks_now : Standing → Node → ℕ → Request → List Answer → Bool
+lacks_now standing w conn request journal = may_ask (w.gate.session conn) && lacks (on_request (view_of w standing) (databases w) w.gate conn request journal)
+
+-- the journal behind the answers that the request uses
+abbrev pub rest_of : Standing → Node → ℕ → Request → List Answer → List Answer
+rest_of standing w conn request journal = drop (if may_ask (w.gate.session conn) then used_for (handed (view_of w standing) (databases w) w.gate conn request) journal else 0) journal
+
+-- The turns that lines make with one journal for all of them: each request takes its answers off the front. The run ends
+-- before a request that lacks one.
+abbrev pub turns_of : (Node → Standing) → Node → List Answer → List Line → List Turn
+turns_of standing w journal [] = []
+turns_of standing w journal (Times ∷ lines) = Timeout ∷ turns_of standing (takes_turn w Timeout) journal lines
+turns_of standing w journal (Opens conn ∷ lines) = Join conn ∷ turns_of standing (takes_turn w (Join conn)) journal lines
+turns_of standing w journal (Closes conn ∷ lines) = Leave conn ∷ turns_of standing (takes_turn w (Leave conn)) journal lines
+turns_of standing w journal (Sends conn request ∷ lines) =
+    if lacks_now (standing w) w conn request journal then []
+    else Ask conn (standing w) request journal ∷ turns_of standing (takes_turn w (Ask conn (standing w) request journal)) (rest_of (standing w) w conn request journal) lines
+
+-- the turns of a script's lines with its journal, where a node's standing is told by what it is
+abbrev pub script_turns : (Node → Standing) → List Line → List Answer → List Turn
+script_turns standing lines journal = turns_of standing (started [] 0 0) journal lines
+
+-- Where each answer that the journal gives is one that the engine may give, the run of a script with its journal is safe.
+abbrev pub ScriptsAreSafe : Meaning → EngineKind → Type 0
+ScriptsAreSafe m kind = (standing : Node → Standing) (lines : List Line) (journal : List Answer) → AllowsTurns m kind (started [] 0 0) (script_turns standing lines journal) → SafeAlone m (alone (script_turns standing lines journal))

@@ -1,0 +1,92 @@
+-- What holds of each life of a node.
+use Rattle.std.specs.Prelude.{◌≡◌, ◌≢◌, ◌⊎◌, ℕ, suc, ◌<◌, ◌≤◌, true, false, List, [], ◌∷◌, ◌++◌, length, Some, None}
+use Rattle.dq_base.specs.Changes.{changed}
+use Rattle.sql_engine.specs.declared.kind.EngineKind.{EngineKind}
+use Rattle.sql_engine.specs.Meanings.{Meaning}
+use Rattle.session_rules.specs.Causes.{LeadershipLost}
+use Rattle.session_rules.specs.Entries.{Entry}
+use Rattle.session_rules.specs.Engines.{no_pages}
+use Rattle.session_rules.specs.Sessions.{Refusal, Flight, Transaction}
+use Rattle.session_rules.specs.Limits.{is_write, holds, other_holds}
+use Rattle.session_world.specs.Woven.{Woven}
+use Rattle.session_world.specs.Nodes.{Said, Node, databases, started, applied_entries}
+use Rattle.session_world.specs.Life.{Event, Apply, Lose, commit_of, happens, run_from, AllFit}
+use Rattle.session_world.specs.Replies.{CommitOk, AllSaid}
+
+-- the node after these events
+abbrev pub life : List Entry → ℕ → ℕ → List Event → Node
+life log applied term es = run_from (started log applied term) es
+
+-- a node may start so
+pub record Starts (log : List Entry) (applied : ℕ) : Type 0 where
+  pub within : applied ≤ length log
+  pub woven : Woven log
+
+-- Something holds of every node after events that fit, from every start.
+abbrev pub OfLives : Meaning → EngineKind → (Node → Type 0) → Type 0
+OfLives m kind P = (log : List Entry) (applied term : ℕ) (es : List Event) → Starts log applied → AllFit m kind (started log applied term) es → P (life log applied term es)
+
+-- Each reply of a life is right by the entries that the node has applied.
+abbrev pub LivesAreSafe : Meaning → EngineKind → Type 0
+LivesAreSafe m kind = OfLives m kind (λ w. AllSaid m (applied_entries w) w.said)
+
+-- What was applied stays, and what was said.
+pub record Lasts (w v : Node) : Type 0 where
+  pub more : List Entry
+  pub applied : applied_entries v ≡ applied_entries w ++ more
+  pub later : List Said
+  pub said : v.said ≡ w.said ++ later
+
+abbrev pub LivesLast : Meaning → EngineKind → Type 0
+LivesLast m kind = (log : List Entry) (applied term : ℕ) (es fs : List Event) → Starts log applied → AllFit m kind (started log applied term) (es ++ fs) → Lasts (life log applied term es) (life log applied term (es ++ fs))
+
+-- A reply that waited for an entry is said where the node, leading in the term of that entry, has just applied it.
+abbrev pub SaidHere : Node → Said → Type 0
+SaidHere w x = 0 < x.index → (x.index ≡ w.applied) × (x.term ≡ w.term) × (w.leads ≡ true)
+
+abbrev pub AllHere : Node → List Said → Type 0
+AllHere w [] = Unit {0}
+AllHere w (x ∷ xs) = SaidHere w x × AllHere w xs
+
+abbrev pub AnsweredHere : Meaning → EngineKind → Type 0
+AnsweredHere m kind = (log : List Entry) (applied term : ℕ) (es : List Event) (e : Event) → Starts log applied → AllFit m kind (started log applied term) (es ++ e ∷ []) → (more : List Said) × ((life log applied term (es ++ e ∷ [])).said ≡ (life log applied term es).said ++ more) × AllHere (life log applied term (es ++ e ∷ [])) more
+
+-- some reply is to this connection, and such as the test says
+abbrev pub SaidTo : ℕ → (Said → Type 0) → List Said → Type 0
+SaidTo conn P [] = ⊥
+SaidTo conn P (x ∷ xs) = ((x.conn ≡ conn) × P x) ⊎ SaidTo conn P xs
+
+-- A proposal in flight whose client is there is answered where its last entry is applied, and with a refusal where leadership
+-- is lost before.
+abbrev pub IsAnswered : Node → ℕ → Flight → Type 0
+IsAnswered w conn f = (f.last ≡ suc w.applied → SaidTo conn (λ x. x.index ≡ f.last) (happens w Apply).said) × ((term : ℕ) → SaidTo conn (λ x. x.reply ≡ Refusal LeadershipLost) (happens w (Lose term)).said)
+
+abbrev pub AnswersCome : Meaning → EngineKind → Type 0
+AnswersCome m kind = OfLives m kind (λ w. (conn : ℕ) (f : Flight) → (w.gate.session conn).flight ≡ Some f → (w.gate.session conn).hung ≡ false → IsAnswered w conn f)
+
+-- The log of each life is woven.
+abbrev pub LivesWeave : Meaning → EngineKind → Type 0
+LivesWeave m kind = OfLives m kind (λ w. Woven w.log)
+
+-- At most one session has the write turn of a database.
+abbrev pub OneTurn : Meaning → EngineKind → Type 0
+OneTurn m kind = OfLives m kind (λ w. (one other : ℕ) (name : List ℕ) → one ≢ other → holds (w.gate.session one) name ≡ true → holds (w.gate.session other) name ≡ true → ⊥)
+
+-- The commit of a transaction meets nothing that others did: nobody else has the turn, and no commit came between.
+pub record Passes (w : Node) (conn : ℕ) (x : Transaction) : Type 0 where
+  pub turn : other_holds w.gate conn x.name ≡ false
+  pub newest : ((databases w).base x.name).newest ≡ x.mark
+
+-- So it is with each transaction that changed pages: its COMMIT is refused neither for the turn nor for an old image.
+abbrev pub CommitsPass : Meaning → EngineKind → Type 0
+CommitsPass m kind = OfLives m kind (λ w. (conn : ℕ) (x : Transaction) → (w.gate.session conn).tx ≡ Some x → (w.gate.session conn).flight ≡ None → no_pages (changed x.pinned x.working) ≡ false → Passes w conn x)
+
+-- A write in flight already stands whole in the node's log, ahead of what is applied, in the node's term: as a commit it is
+-- right by that log.
+pub record Stands (m : Meaning) (w : Node) (conn : ℕ) (f : Flight) : Type 0 where
+  pub commit : CommitOk m w.log (commit_of f (w.trail conn).ran)
+  pub term : f.term ≡ w.term
+  pub ahead : w.applied < f.last
+
+abbrev pub FlightsStand : Meaning → EngineKind → Type 0
+FlightsStand m kind = OfLives m kind (λ w. (conn : ℕ) (f : Flight) → (w.gate.session conn).flight ≡ Some f → is_write f.kind ≡ true → Stands m w conn f)

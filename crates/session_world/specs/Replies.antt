@@ -1,0 +1,68 @@
+-- When a reply is right by a list of entries.
+use Rattle.std.specs.Prelude.{◌≡◌, ℕ, ◌-◌, ◌<◌, ◌≤◌, List, [], ◌∷◌, length, Option, Some, None}
+use Rattle.dq_base.specs.declared.images.Image.{Image}
+use Rattle.dq_base.specs.Changes.{changed}
+use Rattle.frame_commands.specs.Splitting.{split}
+use Rattle.sql_engine.specs.declared.answer.Ran.{Ran}
+use Rattle.sql_engine.specs.Replies.{Reply as StatementReply}
+use Rattle.sql_engine.specs.Meanings.{Meaning, reply_of}
+use Rattle.sql_engine.specs.Runs.{RanAll}
+use Rattle.std.specs.Prelude.{map}
+use Rattle.session_rules.specs.Entries.{Does, Entry, entries_of, tx_of}
+use Rattle.session_rules.specs.Machine.{image_at, part}
+use Rattle.session_rules.specs.Sessions.{Reply, Refusal, Single, Rows}
+use Rattle.session_world.specs.Nodes.{Query, Commit, Said}
+
+-- The answer is what the query's statement may give over what the transaction's statements so far reached from an image of
+-- these entries; and that image is no older than what the connection had seen.
+pub record QueryOk (m : Meaning) (log : List Entry) (q : Query) : Type 0 where
+  pub within : q.at ≤ length log
+  pub newer : q.seen ≤ q.at
+  pub over : Image
+  pub replies : List StatementReply
+  pub so_far : RanAll m (image_at log q.at q.name) q.before over replies
+  pub left : Image
+  pub ran : m.runs over q.statement left (reply_of q.answer)
+
+-- the pages that lead from one image to another, as the entries of a transaction
+abbrev pub change_entries : ℕ → ℕ → List ℕ → Image → Image → List Entry
+change_entries term first name before after = entries_of term (map Does (split name (record { tx = tx_of term first; pages = changed before after })))
+
+-- The commit's entries stand in this list, and nothing between them: they are the change of pages from the image right before
+-- the first of them to the image after the last. Between these two images its statements ran.
+pub record CommitOk (m : Meaning) (log : List Entry) (c : Commit) : Type 0 where
+  pub low : 0 < c.first
+  pub order : c.first ≤ c.last
+  pub within : c.last ≤ length log
+  pub entries : part log c.first c.last ≡ change_entries c.term c.first c.name (image_at log (c.first - 1) c.name) (image_at log c.last c.name)
+  pub replies : List StatementReply
+  pub ran : RanAll m (image_at log (c.first - 1) c.name) c.statements (image_at log c.last c.name) replies
+
+abbrev pub QueryIs : Meaning → List Entry → Option Query → Type 0
+QueryIs m log None = Unit {0}
+QueryIs m log (Some q) = QueryOk m log q
+
+abbrev pub CommitIs : Meaning → List Entry → Option Commit → Type 0
+CommitIs m log None = Unit {0}
+CommitIs m log (Some c) = CommitOk m log c
+
+-- the answer of the query, if any, is this one
+abbrev pub Answers : Option Query → Ran → Type 0
+Answers None answer = ⊥
+Answers (Some q) answer = answer ≡ q.answer
+
+-- rows are those of the query
+abbrev pub RowsAre : Reply → Option Query → Type 0
+RowsAre (Refusal cause) o = Unit {0}
+RowsAre (Single response) o = Unit {0}
+RowsAre (Rows answer) o = Answers o answer
+
+-- A reply is right by these entries: rows are those of its query, and its query and its commit are as they should be.
+pub record SaidOk (m : Meaning) (log : List Entry) (x : Said) : Type 0 where
+  pub rows : RowsAre x.reply x.query
+  pub query : QueryIs m log x.query
+  pub commit : CommitIs m log x.commit
+
+abbrev pub AllSaid : Meaning → List Entry → List Said → Type 0
+AllSaid m log [] = Unit {0}
+AllSaid m log (x ∷ xs) = SaidOk m log x × AllSaid m log xs

@@ -1,0 +1,6 @@
+pub mod Sizes
+pub mod Counts
+pub mod Changing
+pub mod Reaching
+pub mod Standing
+pub mod Opened

@@ -1,0 +1,169 @@
+-- Statements that ran so far, and how running them ends.
+use Rattle.std.proofs.Common.{◌≡◌, ◌<◌, ◌^◌, ℕ, Bool, true, false, cond, List, [], ◌∷◌, ◌++◌, length, Option, Some, None, is_none, Ok, Err, ◌⊎◌, inl, inr, refl, sym, ap, subst, ◌∙◌, append_assoc, append-nil, arith}
+use Rattle.std.proofs.lemmas.Bool.{cases_Bool, cond-true, cond-false}
+use Rattle.dq_base.specs.declared.images.Image.{Image}
+use Rattle.dq_base.specs.declared.pages.NumberedPage.{NumberedPage}
+use Rattle.dq_base.specs.declared.pages.PageSet.{PageSet}
+use Rattle.dq_base.specs.Applying.{applied, page_fault, fault_before}
+use Rattle.dq_base.specs.Changes.{changed}
+use Rattle.page_apply.specs.Files.{image_after}
+use Rattle.sql_engine.specs.declared.answer.Ran.{Ran}
+use Rattle.sql_engine.specs.declared.kind.EngineKind.{EngineKind}
+use Rattle.sql_engine.specs.declared.fault.EngineFault.{EngineFault}
+use Rattle.sql_engine.specs.Replies.{Statement}
+use Rattle.sql_engine.specs.Meanings.{Meaning, Answers, Faults, IsShort, Told, Tells}
+use Rattle.sql_engine.proofs.ChangeLists.{changed_none}
+use Rattle.sql_engine.proofs.Leading.{leads_on}
+use Rattle.statement_runs.proofs.Changing.{change_leads}
+use Rattle.session_rules.specs.Engines.{Answer, Ending, TooLarge, Stopped, Ended, no_pages, takes, no_answer, runs, AllowsRest, AllowsAll}
+use Rattle.statement_runs.specs.declared.ending.AllRan.{AllRan}
+use Rattle.statement_runs.specs.declared.ending.Ending.{Ending as CodeEnding}
+use Rattle.statement_runs.specs.declared.ending.Ending.TheVariants as codes
+use Rattle.statement_runs.specs.Running.{TellsAll, change_in, Shows, RanTo, ending_of, Went, WentTooFar, Failed}
+
+-- The answers so far lead from the first image to the one that was reached, with these statements still to run.
+pub record Reached (m : Meaning) (kind : EngineKind) (base : Image) (statements rest : List Statement) (told_before told_now : Option Told) (cur : Image) (last : Ran) : Type 0 where
+  pub answers : List Answer
+  pub told : TellsAll answers told_before told_now
+  pub runs_on : (more : List Answer) → runs base no_answer statements (answers ++ more) ≡ runs cur last rest more
+  pub allows_on : (more : List Answer) → AllowsAll m kind cur rest more → AllowsAll m kind base statements (answers ++ more)
+  pub short : (cur ≡ base) ⊎ IsShort cur
+
+pub reached_start : (m : Meaning) (kind : EngineKind) (base : Image) (statements : List Statement) (told : Option Told) → Reached m kind base statements statements told told base no_answer
+unfolding TellsAll
+reached_start m kind base statements told = record {
+  answers = [];
+  told = refl;
+  runs_on = λ more. refl;
+  allows_on = λ more h. h;
+  short = inl refl;
+}
+
+tells_more : (answers : List Answer) (a : Answer) (before now next : Option Told) → TellsAll answers before now → Tells a now next → TellsAll (answers ++ a ∷ []) before next
+unfolding TellsAll
+tells_more [] a before now next same t = (next, subst (λ (told : Option Told). Tells a told next) (sym same) t, refl)
+tells_more (b ∷ bs) a before now next h t = (h.0, h.1, tells_more bs a h.0 now next h.2 t)
+
+-- pages that are taken lead to the image with them applied
+after_nothing : (image : Image) → image_after image [] ≡ applied image []
+unfolding applied fault_before
+after_nothing image = refl
+
+pub after_is : (image : Image) (pages : List NumberedPage) → takes pages ≡ true → image_after image pages ≡ applied image pages
+unfolding takes
+after_is image [] taken = after_nothing image
+after_is image (p ∷ ps) taken = cond-true (is_none (page_fault (p ∷ ps))) (applied image (p ∷ ps)) image taken
+
+runs_one : (cur to : Image) (last : Ran) (s : Statement) (rest : List Statement) (ran : Ran) (more : List Answer) → takes ran.after.pages ≡ true → to ≡ applied cur ran.after.pages
+    → runs cur last (s ∷ rest) (Ok ran ∷ more) ≡ runs to ran rest more
+unfolding runs
+runs_one cur to last s rest ran more taken image =
+    cond-true (takes ran.after.pages) (runs (image_after cur ran.after.pages) ran rest more) (TooLarge ran) taken
+    ∙ ap (λ (i : Image). runs i ran rest more) (after_is cur ran.after.pages taken ∙ sym image)
+
+allows_one : (m : Meaning) (kind : EngineKind) (tx : ℕ) (cur to : Image) (s : Statement) (rest : List Statement) (ran : Ran) (more : List Answer) → Answers m cur s tx ran → takes ran.after.pages ≡ true → to ≡ applied cur ran.after.pages
+    → AllowsAll m kind to rest more → AllowsAll m kind cur (s ∷ rest) (Ok ran ∷ more)
+allows_one m kind tx cur to s rest ran more a taken image h =
+    let there : AllowsAll m kind (image_after cur ran.after.pages) rest more = subst (λ (i : Image). AllowsAll m kind i rest more) (image ∙ sym (after_is cur ran.after.pages taken)) h in
+    let gate : AllowsRest (takes ran.after.pages) (AllowsAll m kind (image_after cur ran.after.pages) rest more) = subst (λ (b : Bool). AllowsRest b (AllowsAll m kind (image_after cur ran.after.pages) rest more)) (sym taken) there in
+    ((tx, a), gate)
+
+reached_short : (m : Meaning) (tx : ℕ) (cur to : Image) (s : Statement) (ran : Ran) (a : Answers m cur s tx ran) → to ≡ applied cur ran.after.pages → IsShort to
+reached_short m tx cur to s ran a image =
+    let e : to ≡ a.after = image ∙ leads_on m cur s tx ran a in
+    subst IsShort (sym e) a.short
+
+pub reached_more : (m : Meaning) (kind : EngineKind) (tx : ℕ) (base : Image) (statements : List Statement) (s : Statement) (rest : List Statement) (before now next : Option Told) (cur to : Image) (last ran : Ran)
+    → Reached m kind base statements (s ∷ rest) before now cur last → Went m tx cur s now next to ran → Reached m kind base statements rest before next to ran
+reached_more m kind tx base statements s rest before now next cur to last ran r w = record {
+  answers = r.answers ++ Ok ran ∷ [];
+  told = tells_more r.answers (Ok ran) before now next r.told w.told;
+  runs_on = λ more. ap (runs base no_answer statements) (append_assoc r.answers (Ok ran ∷ []) more) ∙ r.runs_on (Ok ran ∷ more) ∙ runs_one cur to last s rest ran more w.taken w.image;
+  allows_on = λ more h. subst (λ (told : List Answer). AllowsAll m kind base statements told) (sym (append_assoc r.answers (Ok ran ∷ []) more)) (r.allows_on (Ok ran ∷ more) (allows_one m kind tx cur to s rest ran more w.answers w.taken w.image h));
+  short = inr (reached_short m tx cur to s ran w.answers w.image);
+}
+
+-- Where what is reached ends with these answers more, all of it does.
+ran_to : (m : Meaning) (kind : EngineKind) (tx : ℕ) (base : Image) (statements rest : List Statement) (before now next : Option Told) (cur : Image) (last : Ran) (more : List Answer) (ending : CodeEnding)
+    → (r : Reached m kind base statements rest before now cur last) → TellsAll (r.answers ++ more) before next → AllowsAll m kind cur rest more → Shows tx base (runs cur last rest more) ending
+    → RanTo m kind tx base statements before next ending
+ran_to m kind tx base statements rest before now next cur last more ending r told allowed shows = record {
+  answers = r.answers ++ more;
+  allowed = r.allows_on more allowed;
+  told = told;
+  ends = subst (λ (e : Ending). Shows tx base e ending) (sym (r.runs_on more)) shows;
+}
+
+after_none : (base : Image) → applied base [] ≡ base
+unfolding applied
+after_none base = refl
+
+change_shown : (base cur : Image) → (cur ≡ base) ⊎ IsShort cur → applied base (changed base cur) ≡ cur
+change_shown base cur short =
+    elim short [
+      | inl same ↦ ap (applied base) (ap (changed base) same ∙ changed_none base) ∙ after_none base ∙ sym same
+      | inr s ↦ change_leads base cur s
+    ]
+
+pub reached_end : (m : Meaning) (kind : EngineKind) (tx : ℕ) (base : Image) (statements : List Statement) (before now : Option Told) (cur : Image) (last : Ran) (ran : AllRan)
+    → Reached m kind base statements [] before now cur last → ran.answer ≡ last → change_in ran ≡ record { tx = tx; pages = changed base cur } → RanTo m kind tx base statements before now (codes.Ended ran)
+unfolding runs
+reached_end m kind tx base statements before now cur last ran r answer change =
+    ran_to m kind tx base statements [] before now now cur last [] (codes.Ended ran) r
+    (subst (λ (rest : List Answer). TellsAll rest before now) (sym (append-nil r.answers)) r.told)
+    tt
+    (ran, refl, answer, change, change_shown base cur r.short)
+
+pub reached_fault : (m : Meaning) (kind : EngineKind) (tx : ℕ) (base : Image) (statements : List Statement) (s : Statement) (rest : List Statement) (before now next : Option Told) (cur : Image) (last : Ran) (fault : EngineFault)
+    → Reached m kind base statements (s ∷ rest) before now cur last → Failed m kind cur s now next fault → RanTo m kind tx base statements before next (codes.Stopped fault)
+unfolding runs
+reached_fault m kind tx base statements s rest before now next cur last fault r f =
+    ran_to m kind tx base statements (s ∷ rest) before now next cur last (Err fault ∷ []) (codes.Stopped fault) r
+    (tells_more r.answers (Err fault) before now next r.told f.told)
+    f.faults
+    refl
+
+too_large : (cur : Image) (last : Ran) (s : Statement) (rest : List Statement) (ran : Ran) → takes ran.after.pages ≡ false → runs cur last (s ∷ rest) (Ok ran ∷ []) ≡ TooLarge ran
+unfolding runs
+too_large cur last s rest ran refused = cond-false (takes ran.after.pages) (runs (image_after cur ran.after.pages) ran rest []) (TooLarge ran) refused
+
+allows_last : (m : Meaning) (kind : EngineKind) (tx : ℕ) (cur : Image) (s : Statement) (rest : List Statement) (ran : Ran) → Answers m cur s tx ran → takes ran.after.pages ≡ false → AllowsAll m kind cur (s ∷ rest) (Ok ran ∷ [])
+allows_last m kind tx cur s rest ran a refused =
+    let gate : AllowsRest (takes ran.after.pages) (AllowsAll m kind (image_after cur ran.after.pages) rest []) = subst (λ (b : Bool). AllowsRest b (AllowsAll m kind (image_after cur ran.after.pages) rest [])) (sym refused) tt in
+    ((tx, a), gate)
+
+pub reached_too_far : (m : Meaning) (kind : EngineKind) (tx : ℕ) (base : Image) (statements : List Statement) (s : Statement) (rest : List Statement) (before now next : Option Told) (cur : Image) (last ran : Ran)
+    → Reached m kind base statements (s ∷ rest) before now cur last → WentTooFar m tx cur s now next ran → RanTo m kind tx base statements before next (codes.TooLarge ran)
+reached_too_far m kind tx base statements s rest before now next cur last ran r w =
+    ran_to m kind tx base statements (s ∷ rest) before now next cur last (Ok ran ∷ []) (codes.TooLarge ran) r
+    (tells_more r.answers (Ok ran) before now next r.told w.told)
+    (allows_last m kind tx cur s rest ran w.answers w.refused)
+    (subst (λ (e : Ending). Shows tx base e (codes.TooLarge ran)) (sym (too_large cur last s rest ran w.refused)) refl)
+
+abbrev the_set : ℕ → List NumberedPage → PageSet
+the_set tx pages = record { tx = tx; pages = pages }
+
+abbrev alone : Ran → AllRan
+alone ran = record { together = None; answer = ran }
+
+-- what comes of an answer to the only statement
+pub ran_alone : (m : Meaning) (kind : EngineKind) (tx : ℕ) (base : Image) (s : Statement) (before now : Option Told) (ran : Ran) → Answers m base s tx ran → Tells (Ok ran) before now → RanTo m kind tx base (s ∷ []) before now (ending_of ran)
+ran_alone m kind tx base s before now ran a told =
+    elim (cases_Bool (takes ran.after.pages)) [
+      | inl taken ↦
+          let to : Image = applied base ran.after.pages in
+          let is : to ≡ a.after = leads_on m base s tx ran a in
+          let change : ran.after ≡ record { tx = tx; pages = changed base to } = a.pages ∙ ap (λ (i : Image). the_set tx (changed base i)) (sym is) in
+          let w : Went m tx base s before now to ran = record { answers = a; told = told; taken = taken; image = refl } in
+          let all : Reached m kind base (s ∷ []) [] before now to ran = reached_more m kind tx base (s ∷ []) s [] before before now base to no_answer ran (reached_start m kind base (s ∷ []) before) w in
+          let e : ending_of ran ≡ codes.Ended (alone ran) = cond-true (takes ran.after.pages) (codes.Ended (alone ran)) (codes.TooLarge ran) taken in
+          subst (λ (c : CodeEnding). RanTo m kind tx base (s ∷ []) before now c) (sym e) (reached_end m kind tx base (s ∷ []) before now to ran (alone ran) all refl change)
+      | inr refused ↦
+          let w : WentTooFar m tx base s before now ran = record { answers = a; told = told; refused = refused } in
+          let e : ending_of ran ≡ codes.TooLarge ran = cond-false (takes ran.after.pages) (codes.Ended (alone ran)) (codes.TooLarge ran) refused in
+          subst (λ (c : CodeEnding). RanTo m kind tx base (s ∷ []) before now c) (sym e) (reached_too_far m kind tx base (s ∷ []) s [] before before now base no_answer ran (reached_start m kind base (s ∷ []) before) w)
+    ]
+
+pub failed_alone : (m : Meaning) (kind : EngineKind) (tx : ℕ) (base : Image) (s : Statement) (before now : Option Told) (fault : EngineFault) → Faults m kind base s fault → Tells (Err fault) before now → RanTo m kind tx base (s ∷ []) before now (codes.Stopped fault)
+failed_alone m kind tx base s before now fault faults told =
+    reached_fault m kind tx base (s ∷ []) s [] before before now base no_answer fault (reached_start m kind base (s ∷ []) before) (record { faults = faults; told = told })

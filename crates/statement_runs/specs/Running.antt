@@ -1,0 +1,95 @@
+-- What running statements one after another came to.
+use Rattle.std.specs.Prelude.{◌≡◌, ℕ, Bool, true, false, List, [], ◌∷◌, unwrap_or, Option, Some, None, Result, Ok, Err, if◌then◌else◌}
+use Rattle.dq_base.specs.declared.images.Image.{Image}
+use Rattle.dq_base.specs.declared.pages.PageSet.{PageSet}
+use Rattle.dq_base.specs.Applying.{applied}
+use Rattle.dq_base.specs.Changes.{changed}
+use Rattle.sql_engine.specs.declared.answer.Ran.{Ran}
+use Rattle.sql_engine.specs.declared.kind.EngineKind.{EngineKind}
+use Rattle.sql_engine.specs.declared.fault.EngineFault.{EngineFault}
+use Rattle.sql_engine.specs.declared.fault.EngineFault.TheVariants as faults
+use Rattle.sql_engine.specs.Replies.{Statement}
+use Rattle.sql_engine.specs.Meanings.{Meaning, Answers, Faults, Told, Tells}
+use Rattle.session_rules.specs.Engines.{Answer, Ending, Lacking, TooLarge, Stopped, Ended, takes, no_answer, runs, AllowsAll}
+use Rattle.statement_runs.specs.declared.ending.AllRan.{AllRan}
+use Rattle.statement_runs.specs.declared.ending.Ending.{Ending as CodeEnding}
+use Rattle.statement_runs.specs.declared.ending.Ending.TheVariants as codes
+
+-- the engine told these answers one after the other
+unfoldable pub TellsAll : List Answer → Option Told → Option Told → Type 0
+TellsAll [] before now = before ≡ now
+TellsAll (a ∷ rest) before now = (next : Option Told) × Tells a before next × TellsAll rest next now
+
+-- the pages that statements changed together, as code has them: those of the only one, or those of all of them
+abbrev pub change_in : AllRan → PageSet
+change_in ran = unwrap_or ran.together ran.answer.after
+
+-- how code shows an ending
+abbrev pub Shows : ℕ → Image → Ending → CodeEnding → Type 0
+Shows tx from Lacking ending = ⊥
+Shows tx from (TooLarge answer) ending = ending ≡ codes.TooLarge answer
+Shows tx from (Stopped fault) ending = ending ≡ codes.Stopped fault
+Shows tx from (Ended to answer) ending = (ran : AllRan) × (ending ≡ codes.Ended ran) × (ran.answer ≡ answer) × (change_in ran ≡ record { tx = tx; pages = changed from to }) × (applied from (changed from to) ≡ to)
+
+-- What running came to: there are answers that the engine may give and told, and by them it ends so.
+pub record RanTo (m : Meaning) (kind : EngineKind) (tx : ℕ) (image : Image) (statements : List Statement) (told_before told_now : Option Told) (ending : CodeEnding) : Type 0 where
+  pub answers : List Answer
+  pub allowed : AllowsAll m kind image statements answers
+  pub told : TellsAll answers told_before told_now
+  pub ends : Shows tx image (runs image no_answer statements answers) ending
+
+abbrev pub is_unopened : EngineFault → Bool
+is_unopened faults.Constraint = false
+is_unopened faults.Sql = false
+is_unopened (faults.Float row column) = false
+is_unopened (faults.NotText row column) = false
+is_unopened faults.Unopened = true
+is_unopened faults.NoMemory = false
+
+-- running ended since the files of an image were not opened
+abbrev pub ends_unopened : CodeEnding → Bool
+ends_unopened (codes.Ended ran) = false
+ends_unopened (codes.TooLarge answer) = false
+ends_unopened (codes.Stopped fault) = is_unopened fault
+
+abbrev pub stops_unopened : Option CodeEnding → Bool
+stops_unopened None = false
+stops_unopened (Some ending) = ends_unopened ending
+
+-- how running the only statement ends by its answer
+abbrev pub ending_of : Ran → CodeEnding
+ending_of ran = if takes ran.after.pages then codes.Ended (record { together = None; answer = ran }) else codes.TooLarge ran
+
+-- the image that statements have reached
+abbrev pub current : Image → Option Image → Image
+current base None = base
+current base (Some image) = image
+
+-- one more statement ran: its answer, and the image after its pages
+pub record Went (m : Meaning) (tx : ℕ) (from : Image) (s : Statement) (told_before told_now : Option Told) (to : Image) (ran : Ran) : Type 0 where
+  pub answers : Answers m from s tx ran
+  pub told : Tells (Ok ran) told_before told_now
+  pub taken : takes ran.after.pages ≡ true
+  pub image : to ≡ applied from ran.after.pages
+
+-- it was the last, since its pages can't be applied
+pub record WentTooFar (m : Meaning) (tx : ℕ) (from : Image) (s : Statement) (told_before told_now : Option Told) (ran : Ran) : Type 0 where
+  pub answers : Answers m from s tx ran
+  pub told : Tells (Ok ran) told_before told_now
+  pub refused : takes ran.after.pages ≡ false
+
+-- it was the last, since the engine refuses it
+pub record Failed (m : Meaning) (kind : EngineKind) (from : Image) (s : Statement) (told_before told_now : Option Told) (fault : EngineFault) : Type 0 where
+  pub faults : Faults m kind from s fault
+  pub told : Tells (Err fault) told_before told_now
+
+abbrev pub Stepped : Meaning → EngineKind → ℕ → Image → Statement → Option Told → Option Told → Image → Ran → Option CodeEnding → Type 0
+Stepped m kind tx from s before now to ran None = Went m tx from s before now to ran
+Stepped m kind tx from s before now to ran (Some (codes.TooLarge answer)) = WentTooFar m tx from s before now answer
+Stepped m kind tx from s before now to ran (Some (codes.Stopped fault)) = Failed m kind from s before now fault
+Stepped m kind tx from s before now to ran (Some (codes.Ended all)) = ⊥
+
+-- an answer was taken in, or it ends running
+abbrev pub TookIn : Image → Ran → Image → Ran → Option CodeEnding → Type 0
+TookIn from ran to answer None = (takes ran.after.pages ≡ true) × (to ≡ applied from ran.after.pages) × (answer ≡ ran)
+TookIn from ran to answer (Some ending) = (takes ran.after.pages ≡ false) × (ending ≡ codes.TooLarge ran)

@@ -1,0 +1,12 @@
+//! Statements of a text, and running them one after another by an engine.
+#![tactic(auto)]
+
+mod change;
+mod ending;
+mod running;
+mod text;
+
+pub use change::change_between;
+pub use ending::{AllRan, Ending};
+pub use running::{run_all, run_one, takes};
+pub use text::{any_barred, is_control, is_left_out, params_fit};
