@@ -51,8 +51,8 @@ pub record Added (before : End) (piece : List ℕ) (added : Stream) : Type 0 whe
 versioned_within : (limit version : ℕ) (behind : List ℕ) → Within (length behind) (versioned limit version behind)
 versioned_within limit version behind =
     elim (version == 1) as (λ b. Within (length behind) (cond b (messages_in limit behind) (ended (Broken (Version version))))) [
-    true ↦ messages_within limit behind
-    | false ↦ record { bytes = omega arith; begun = refl }
+      | true ↦ messages_within limit behind
+      | false ↦ record { bytes = omega arith; begun = refl }
     ]
 
 opening_long : (bytes piece : List ℕ) (version : ℕ) → ltb (length (bytes ++ piece)) 8 ≡ false

@@ -29,19 +29,18 @@ received_more c bytes piece taken h =
     elim c.full as (λ b. HasTaken
     (cond b c (with_more c (going_on client_limit c.end (take (room c) piece)) (ltb (room c) (length piece))))
     (bytes ++ cond b [] (take (room c) piece)) taken) [
-    true ↦ rw append-nil h
-    | false ↦ read_more c bytes (take (room c) piece) taken (ltb (room c) (length piece)) h
+      | true ↦ rw append-nil h
+      | false ↦ read_more c bytes (take (room c) piece) taken (ltb (room c) (length piece)) h
     ]
 
 -- where no byte was without room, all of a piece was read
 pub all_read : (c : Conn) (piece : List ℕ) → (received c piece).full ≡ false → read_of c piece ≡ piece
 all_read c piece e = all_of c.full c piece refl e where
-
-    all_of : (b : Bool) (c : Conn) (piece : List ℕ) → c.full ≡ b
-        → (cond b c (with_more c (going_on client_limit c.end (take (room c) piece)) (ltb (room c) (length piece)))).full ≡ false
-        → cond b [] (take (room c) piece) ≡ piece
-    all_of true c piece is e = absurd cc
-    all_of false c piece is e = let fits : length piece ≤ room c = ltb-false _ _ e in take_all (room c) piece fits
+  all_of : (b : Bool) (c : Conn) (piece : List ℕ) → c.full ≡ b
+      → (cond b c (with_more c (going_on client_limit c.end (take (room c) piece)) (ltb (room c) (length piece)))).full ≡ false
+      → cond b [] (take (room c) piece) ≡ piece
+  all_of true c piece is e = absurd cc
+  all_of false c piece is e = let fits : length piece ≤ room c = ltb-false _ _ e in take_all (room c) piece fits
 
 pub taken_more : (old new : Conn) (bytes : List ℕ) (taken : List Message) (m : Message) → HasTaken old bytes taken → old ≡ record { end = new.end; waiting = m ∷ new.waiting; full = new.full } → HasTaken new bytes (taken ++ m ∷ [])
 taken_more old new bytes taken m h is = record {

@@ -7,7 +7,8 @@ use Rattle.disk_model.specs.Trait.{Text}
 use Rattle.disk_model.specs.Spelled.{all_spelled}
 use Rattle.disk_model.proofs.Spelling.{done_under, until_under}
 use Rattle.store_laws.specs.Names.{First, Second, Segment, Snapshot, NodeDisk, NodeCall}
-use Rattle.store_laws.specs.Store.{Meta, Log, Kept, Loaded, kept, meta_of}
+use Rattle.store_laws.specs.Store.{Log, Kept, Loaded, kept, meta_of}
+use Rattle.store_laws.specs.Meta.{next_stamp}
 use Rattle.store_laws.specs.Append.{append_calls, with_batch, CanAppend, Writes}
 use Rattle.store_laws.specs.Settled.{Settled}
 use Rattle.store_laws.specs.Laws.{AnyMoment, AtOk}
@@ -24,7 +25,7 @@ use Rattle.store_batches.specs.Files.{node_format}
 use Rattle.store_batches.proofs.Lawfully.{is_lawful}
 use Rattle.store_batches.proofs.Written.{batches_read_back}
 use Rattle.segment_store.specs.FileNames.{file_name}
-use Rattle.segment_store.specs.Open.{Open, HasSize, IsOpen, stamp_of, segment_numbers, HasSnapshots}
+use Rattle.segment_store.specs.Open.{Open, HasSize, IsOpen, segment_numbers, HasSnapshots}
 use Rattle.segment_store.specs.Grow.{grow_calls, begin_calls}
 use Rattle.segment_store.specs.Keeps.{folder, OldOrNew, HasNew}
 use Rattle.segment_store.proofs.NoTwoAlike.{no_two_alike}
@@ -69,7 +70,7 @@ module _ (k : Kept) (b : Log) (fits : Fits b) (can : CanAppend k b) where
 
     -- the store then, with its other facts as they were
     pub opened : (e : NodeDisk) → Done calls D e → (version count : ℕ) (first second : Option ℕ) (snapshots : List ℕ)
-        → (meta_of node_format D.read).stamp ≡ stamp_of version → HasSize first (D.read First) → HasSize second (D.read Second) → length (bytes ++ enc) ≡ count → format_in bytes ≡ 2 → HasSnapshots snapshots D.read
+        → next_stamp (meta_of node_format D.read) ≡ suc (suc version) → HasSize first (D.read First) → HasSize second (D.read Second) → length (bytes ++ enc) ≡ count → format_in bytes ≡ 2 → HasSnapshots snapshots D.read
         → HasNew (record { version = version; first = first; second = second; next = suc n; size = Some count; segments = segment_numbers n D.read ++ n ∷ []; snapshots = snapshots }) new e
     opened e u version count first second snapshots stamp f1 f2 long format listed =
         let c = law.1 e u in
@@ -80,7 +81,7 @@ module _ (k : Kept) (b : Log) (fits : Fits b) (can : CanAppend k b) where
           is_open = record {
             settled = c.settled;
             reads = c.read;
-            stamp = ap (λ (m : Meta). m.stamp) (meta_same node_format e.read D.read one two) ∙ stamp;
+            stamp = ap next_stamp (meta_same node_format e.read D.read one two) ∙ stamp;
             first = subst (HasSize first) (sym one) f1;
             second = subst (HasSize second) (sym two) f2;
             grows = record {

@@ -8,7 +8,8 @@ use Rattle.disk_model.specs.Spelled.{all_spelled}
 use Rattle.disk_model.proofs.Spelling.{done_under, until_under}
 use Rattle.disk_model.proofs.Runs.{known_map}
 use Rattle.store_laws.specs.Names.{Segment, Snapshot, NodeFiles, NodeDisk, NodeCall}
-use Rattle.store_laws.specs.Store.{Meta, Snap, Log, Kept, snap_in}
+use Rattle.store_laws.specs.Store.{Snap, Log, Kept, snap_in}
+use Rattle.store_laws.specs.Meta.{next_stamp}
 use Rattle.store_laws.specs.Chance.{NoChance}
 use Rattle.store_laws.specs.Laws.{Comes}
 use Rattle.store_laws.specs.Snapshots.{with_snapshot, IsNewer, keep_calls, BeforeOrLonger}
@@ -94,7 +95,7 @@ module _ (k : Kept) (s : Snap) (new : Log) (can : CanKeep k s new) (fits : Fits 
         is_open = record {
           settled = c.settled;
           reads = c.read;
-          stamp = ap (λ (m : Meta). m.stamp) (meta_same node_format e.read D.read w.first w.second) ∙ o.stamp;
+          stamp = ap next_stamp (meta_same node_format e.read D.read w.first w.second) ∙ o.stamp;
           first = subst (HasSize was.first) (sym w.first) o.first;
           second = subst (HasSize was.second) (sym w.second) o.second;
           grows = record {

@@ -26,16 +26,15 @@ use Rattle.store_format.specs.Words.{format_in}
 use Rattle.store_batches.specs.Files.{node_format}
 use Rattle.store_batches.proofs.Lawfully.{is_lawful}
 use Rattle.segment_store.specs.FileNames.{file_name}
-use Rattle.segment_store.specs.Open.{Open, HasSize, MayGrow, IsOpen, stamp_of, with_version, size_for}
+use Rattle.segment_store.specs.Open.{Open, HasSize, MayGrow, IsOpen, with_version, size_for}
 use Rattle.segment_store.specs.Keeps.{folder, OldOrNew, HasNew, block_calls}
 use Rattle.segment_store.proofs.NoTwoAlike.{no_two_alike}
 use Rattle.segment_store.proofs.Listing.{same_numbers, snapshots_same}
 
--- the stamp after the one of a version
-next_is : (m : Meta) (v : ℕ) → m.stamp ≡ stamp_of v → next_stamp m ≡ suc (suc v)
-next_is m zero e = ap (λ (s : ℕ). cond (s == 0) 2 (suc s)) e
-next_is m (suc v) e =
-    let some : (suc (suc v) == 0) ≡ false = ne_eqb (suc (suc v)) 0 (λ q. absurd (omega (arith, q))) in
+-- the stamp that comes after a version's own
+stamp_next : (m : Meta) (v : ℕ) → m.stamp ≡ suc v → next_stamp m ≡ suc (suc v)
+stamp_next m v e =
+    let some : (suc v == 0) ≡ false = ne_eqb (suc v) 0 (λ q. absurd (omega (arith, q))) in
     ap (λ (s : ℕ). cond (s == 0) 2 (suc s)) e ∙ cond-false _ _ _ some
 
 same_side : (v : ℕ) → goes_first (suc v) ≡ (v % 2 == 1)
@@ -71,7 +70,7 @@ module _ (s : Open) (k : Kept) (m : Metadata) (d : Disk Text) (o : IsOpen s k (f
   new = with_vote m.term m.vote k
 
   next : next_stamp (meta_of node_format D.read) ≡ suc m.version
-  next = next_is (meta_of node_format D.read) s.version o.stamp ∙ ap suc (sym version)
+  next = o.stamp ∙ ap suc (sym version)
 
   side : goes_first (next_stamp (meta_of node_format D.read)) ≡ odd
   side = ap goes_first next ∙ same_side m.version
@@ -171,7 +170,7 @@ module _ (s : Open) (k : Kept) (m : Metadata) (d : Disk Text) (o : IsOpen s k (f
         is_open = record {
           settled = c.settled;
           reads = c.read;
-          stamp = ap (λ (x : Meta). x.stamp) w.newest ∙ next ∙ ap (λ (v : ℕ). suc v) version ∙ ap stamp_of (sym version);
+          stamp = stamp_next (meta_of node_format e.read) m.version (ap (λ (x : Meta). x.stamp) w.newest ∙ next);
           first = at_first odd refl w.files;
           second = at_second odd refl w.files;
           grows = grows s.size o.grows w.files;

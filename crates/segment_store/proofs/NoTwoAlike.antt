@@ -1,5 +1,5 @@
 -- No two files of a node have names that are alike.
-use Rattle.std.proofs.Common.{◌≡◌, ℕ, ◌+◌, ◌/◌, ◌%◌, ◌<◌, ◌≤◌, false, List, [], ◌∷◌, ◌++◌, length, take, drop, get_or, replicate, refl, sym, ap, ◌∙◌, subst, arith, length-append}
+use Rattle.std.proofs.Common.{◌≡◌, ℕ, zero, suc, ◌+◌, ◌/◌, ◌%◌, ◌<◌, ◌≤◌, Bool, true, false, List, [], ◌∷◌, ◌++◌, length, take, drop, get_or, replicate, refl, sym, ap, ◌∙◌, subst, arith, length-append}
 use Rattle.std.specs.Prelude.{◌==◌, ◌||◌, codes, map}
 use Rattle.std.proofs.lemmas.Bool.{ne_eqb}
 use Rattle.std.proofs.lemmas.List.Folds.{list_any-append}
@@ -8,6 +8,7 @@ use Rattle.segment_store.specs.declared.names.File.{File}
 use Rattle.segment_store.specs.declared.names.File.TheVariants as files
 use Rattle.std.proofs.lemmas.List.{append-nil, take_at, length-replicate}
 use Rattle.store_laws.specs.Names.{Name, First, Second, Segment, Snapshot}
+use Rattle.segment_store.specs.Listed.{numbered}
 use Rattle.segment_store.specs.FileNames.{powers, digit, sixteen, number_text, file_name, name_of, number_of}
 
 sixteen_long : (n : ℕ) → length (sixteen n) ≡ 16
@@ -62,12 +63,12 @@ numbers_alike n m e =
     same_digits n m above front
   where
     rest : ℕ → List ℕ
-    rest n = replicate (n / 10000000000000000) 48
+    rest n = replicate (n / 10000000000000000) 0
 
-    all : (n : ℕ) → length (sixteen n ++ replicate (n / 10000000000000000) 48) ≡ 16 + n / 10000000000000000
+    all : (n : ℕ) → length (sixteen n ++ replicate (n / 10000000000000000) 0) ≡ 16 + n / 10000000000000000
     all n =
-        let more : length (replicate {A = ℕ} (n / 10000000000000000) 48) ≡ n / 10000000000000000 = length-replicate (n / 10000000000000000) 48 in
-        length-append (sixteen n) (replicate (n / 10000000000000000) 48) ∙ (λ i. sixteen_long n i + more i)
+        let more : length (replicate {A = ℕ} (n / 10000000000000000) 0) ≡ n / 10000000000000000 = length-replicate (n / 10000000000000000) 0 in
+        length-append (sixteen n) (replicate (n / 10000000000000000) 0) ∙ (λ i. sixteen_long n i + more i)
 
 -- the first two letters tell the kinds apart, and the last one the two files of metadata
 pub no_two_alike : (m n : Name) → file_name m ≡ file_name n → m ≡ n
@@ -94,7 +95,7 @@ pub small_number : (n : ℕ) → n < 10000000000000000 → number_text n ≡ six
 unfolding number_text
 small_number n h =
     let none : n / 10000000000000000 ≡ 0 = omega arith in
-    ap (λ (k : ℕ). sixteen n ++ replicate k 48) none ∙ append-nil (sixteen n)
+    ap (λ (k : ℕ). sixteen n ++ replicate k 0) none ∙ append-nil (sixteen n)
 
 pub behind_kind : (kind text : List ℕ) (n : ℕ) → n < 10000000000000000 → text ≡ kind ++ sixteen n → text ≡ kind ++ number_text n
 behind_kind kind text n h e = e ∙ ap (λ (x : List ℕ). kind ++ x) (sym (small_number n h))
@@ -123,3 +124,22 @@ named files.First text h e = subst IsName (sym e) (record { not_empty = omega ar
 named files.Second text h e = subst IsName (sym e) (record { not_empty = omega arith; short = omega arith; no_nul = refl })
 named (files.Segment k) text h e = subst IsName (sym e) (numbered_name (codes "segment-") k h (omega arith) (omega arith) refl)
 named (files.Snapshot k) text h e = subst IsName (sym e) (numbered_name (codes "snapshot-") k h (omega arith) (omega arith) refl)
+
+-- a number of more digits is in no name
+nuls : (kind : List ℕ) (n : ℕ) → 10000000000000000 ≤ n → has_nul (kind ++ number_text n) ≡ true
+unfolding number_text
+nuls kind n h = list_any-append (λ (b : ℕ). b == 0) kind (sixteen n ++ replicate (n / 10000000000000000) 0) ∙ second _ _ (list_any-append (λ (b : ℕ). b == 0) (sixteen n) (replicate (n / 10000000000000000) 0) ∙ second _ _ (some (n / 10000000000000000) (omega (arith, h))))
+  where
+    some : (k : ℕ) → 0 < k → has_nul (replicate k 0) ≡ true
+    some zero l = absurd (omega (arith, l))
+    some (suc k) l = refl
+
+    second : (a b : Bool) → b ≡ true → (a || b) ≡ true
+    second true b e = refl
+    second false b e = e
+
+pub beyond_digits : (n : Name) → 10000000000000000 ≤ numbered n → IsName (file_name n) → ⊥
+beyond_digits First h name = absurd (omega (arith, h))
+beyond_digits Second h name = absurd (omega (arith, h))
+beyond_digits (Segment k) h name = let z : true ≡ false = sym (nuls (codes "segment-") k h) ∙ name.no_nul in absurd cc
+beyond_digits (Snapshot k) h name = let z : true ≡ false = sym (nuls (codes "snapshot-") k h) ∙ name.no_nul in absurd cc

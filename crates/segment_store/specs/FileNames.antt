@@ -17,9 +17,9 @@ unfoldable pub sixteen : ℕ → List ℕ
 sixteen n = map (digit n) powers
 
 -- A number in sixteen digits. What a greater number, which no file has, is beyond them stands behind them as so many
--- zeros, so that no two numbers are alike.
+-- NULs, which no name has, so that no two numbers are alike.
 unfoldable pub number_text : ℕ → List ℕ
-number_text n = sixteen n ++ replicate (n / 10000000000000000) 48
+number_text n = sixteen n ++ replicate (n / 10000000000000000) 0
 
 abbrev pub file_name : Name → List ℕ
 file_name First = codes "metadata1"

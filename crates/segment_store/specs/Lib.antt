@@ -3,6 +3,12 @@ pub mod Faults
 pub mod Open
 pub mod Keeps
 pub mod Grow
+pub mod Listed
+pub mod LoadFaults
+pub mod Loading
+pub mod Reads
+pub mod Repairs
+pub mod Settling
 pub mod MadeCalls
 pub mod Keeping
 pub mod Plans

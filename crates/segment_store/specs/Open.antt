@@ -4,6 +4,7 @@ use Rattle.std.specs.List.{list_any}
 use Rattle.disk_model.specs.Disk.{Found}
 use Rattle.store_laws.specs.Names.{First, Second, Segment, Snapshot, NodeFiles, NodeDisk}
 use Rattle.store_laws.specs.Store.{Kept, Loaded, kept, meta_of}
+use Rattle.store_laws.specs.Meta.{next_stamp}
 use Rattle.store_laws.specs.Settled.{Settled}
 use Rattle.store_laws.specs.Snapshots.{AllBelow}
 use Rattle.store_format.specs.Words.{format_in}
@@ -24,10 +25,6 @@ pub record Open : Type 0 where
 -- Numbers of files have sixteen digits: those of all segments, and the next one too or it is the first that has more.
 abbrev pub HaveDigits : ℕ → List ℕ → List ℕ → Type 0
 HaveDigits next segments snapshots = (next ≤ 10000000000000000) × (AllBelow 10000000000000000 segments × AllBelow 10000000000000000 snapshots)
-
-abbrev pub stamp_of : ℕ → ℕ
-stamp_of zero = 0
-stamp_of (suc v) = suc (suc v)
 
 -- a file is this long, or isn't there
 abbrev pub HasSize : Option ℕ → Found → Type 0
@@ -61,7 +58,7 @@ HasSnapshots ms g = (j : ℕ) → j < 10000000000000000 → (g (Snapshot j)).the
 pub record IsOpen (s : Open) (k : Kept) (d : NodeDisk) : Type 0 where
   pub settled : Settled node_format s.next d
   pub reads : kept node_format s.next d.read ≡ Loaded k
-  pub stamp : (meta_of node_format d.read).stamp ≡ stamp_of s.version
+  pub stamp : next_stamp (meta_of node_format d.read) ≡ suc (suc s.version)
   pub first : HasSize s.first (d.read First)
   pub second : HasSize s.second (d.read Second)
   pub grows : MayGrow s.next s.size d

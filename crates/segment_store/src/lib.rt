@@ -5,6 +5,12 @@ mod block;
 mod fault;
 mod keep_files;
 mod keep_plan;
+mod load_fault;
+mod loading;
+mod loading_calls;
+mod loading_list;
+mod loading_names;
+mod loading_reads;
 mod names;
 mod segment;
 mod store;
@@ -12,4 +18,5 @@ mod store;
 mod tests;
 
 pub use fault::StoreFault;
+pub use load_fault::LoadFault;
 pub use store::Store;

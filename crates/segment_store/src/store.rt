@@ -12,7 +12,7 @@ ghost use Rattle.store_batches.specs.Written.{segment_word, Fits};
 ghost use Rattle.segment_store.specs.FileNames.{file_name};
 ghost use Rattle.segment_store.specs.Grow.{grow_calls, begin_calls, IsFree, room_in, appended_to, with_appended};
 ghost use Rattle.segment_store.specs.Faults.{DiskCause};
-ghost use Rattle.segment_store.specs.Open.{size_for, with_version};
+ghost use Rattle.segment_store.specs.Open.{HaveDigits, size_for, with_version};
 ghost use Rattle.segment_store.specs.Keeps.{Keeps, Went, block_calls};
 ghost use Rattle.segment_store.specs.Keeping.{CanKeep, KeepsSnapshot, kept_calls, later_than, snap_value, with_kept};
 ghost use Rattle.segment_store.specs.Plans.{IsPlan};
@@ -100,8 +100,8 @@ fn grow_batch<D: Disk>(
     Ok(())
 }
 
-// Begins the segment of this number with a batch.
-fn begin_batch<D: Disk>(
+/// Begins the segment of this number with a batch.
+pub(crate) fn begin_batch<D: Disk>(
     alloc: Global,
     disk: &mut D,
     number: u64,
@@ -138,6 +138,30 @@ impl Store {
             size: None,
             segments: Vec::new(alloc),
             snapshots: Vec::new(alloc),
+        }
+    }
+
+    /// A store that was loaded, whose next batch begins a segment.
+    pub(crate) fn opened(
+        alloc: Global,
+        version: u64,
+        sizes: (Option<u64>, Option<u64>),
+        next: u64,
+        segments: Vec<u64>,
+        snapshots: Vec<u64>,
+    ) -> Store
+        requires { HaveDigits next segments.items snapshots.items }
+        ensures { result ≡ record { version = version; first = sizes.0; second = sizes.1; next = next; size = None; segments = segments.items; snapshots = snapshots.items } }
+    {
+        Store {
+            alloc,
+            version,
+            first: sizes.0,
+            second: sizes.1,
+            next,
+            size: None,
+            segments,
+            snapshots,
         }
     }
 

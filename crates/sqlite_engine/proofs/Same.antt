@@ -22,8 +22,9 @@ use Rattle.sqlite.specs.State.{State, HasCleanDisk, IsLive, Opens, IsUnchanged, 
 use Rattle.sqlite_schema.specs.declared.schema.Schema.{Schema}
 use Rattle.sqlite_resolve.specs.declared.compiled.Compiled.{Compiled}
 use Rattle.sqlite_resolve.specs.Compile.{compiled}
-use Rattle.sqlite_engine.specs.Sql.{files_of, Finds, Closed, ShowsOnly, HasColumns, is_of_store}
-use Rattle.sqlite_engine.specs.Shows.{FailsSomehow}
+use Rattle.sqlite_engine.specs.declared.shows.Shows.{Shows}
+use Rattle.sqlite_engine.specs.Sql.{files_of, Finds, Closed, ShowsOnly, HasColumns, Gives, is_of_store}
+use Rattle.sqlite_engine.specs.Shows.{showing, FailsSomehow}
 use Rattle.sqlite.specs.Steps.{Outlines}
 use Rattle.sqlite.specs.declared.error.Error.{Error}
 
@@ -65,8 +66,8 @@ pub compiled_is : (schema : Schema) (sql : List ℕ) (c : Compiled) → compiled
 unfolding understood
 compiled_is schema sql c h = rw h
 
-pub still_columns : (text : List ℕ) (count : ℕ) (old new : State) → IsUnchanged old new → HasColumns old text count → HasColumns new text count
-still_columns text count old new same h = (h.0, h.1, subst (λ (d : Database). Outlines (understood d.schema text) h.0) (sym same.0.now_is) h.2, h.3)
+pub still_columns : (text : List ℕ) (columns : List (List ℕ)) (old new : State) → IsUnchanged old new → HasColumns old text columns → HasColumns new text columns
+still_columns text columns old new same h = (h.0, h.1, subst (λ (d : Database). Outlines (understood d.schema text) h.0) (sym same.0.now_is) h.2, h.3)
 
 pub not_run : (sql : List ℕ) (params : Row) (old new : State) (e : Error) → IsNotRun old new sql params e → Executes sql params old new (Err e)
 unfolding ExecutesIn
@@ -141,3 +142,8 @@ outline_keeps sql params old new e other h = not_of_store old new e other (not_r
 pub somehow_keeps : (sql : List ℕ) (params : Row) (old new : State) (e : Error) → is_of_store e ≡ false → FailsSomehow sql params old new e → IsUnchanged old new
 somehow_keeps sql params old new e other (inl h) = execute_keeps sql params old new e other h
 somehow_keeps sql params old new e other (inr h) = query_keeps sql params old new e other h
+
+-- rows that were shown, with how many the connection says were changed
+pub rows_given : (text : List ℕ) (params : Row) (old new : State) (columns : List (List ℕ)) (rows : List Row) (shows : Shows) → shows.affected ≡ new.changes → shows.rows.items ≡ rows → Shown text params old new rows
+    → Gives text params old new (showing columns shows)
+rows_given text params old new columns rows shows counted same shown = inr (subst (λ (r : List Row). Shown text params old new r) (sym same) shown, counted)

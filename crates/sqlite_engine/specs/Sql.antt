@@ -40,21 +40,21 @@ pub record Closed (image : Image) (s : State) : Type 0 where
   pub is_open : IsTrue s.is_open
   pub holds : HoldsAlone (files_of image) s.committed.trees
 
--- what a statement shows: how many rows it changed, how many columns it has, and its rows
+-- what a statement shows: how many rows it changed, the names of its columns, and its rows
 pub record Showing : Type 0 where
   pub affected : ℕ
-  pub columns : ℕ
+  pub columns : List (List ℕ)
   pub rows : List Row
 
--- as many columns as the crate says of this text in this state
-abbrev pub HasColumns : State → List ℕ → ℕ → Type 0
-HasColumns s text columns = (o : Outline) × (o.text ≡ text) × Outlines (understood s.now.schema text) o × (length o.columns ≡ columns)
+-- the names of the columns that the crate says of this text in this state
+abbrev pub HasColumns : State → List ℕ → List (List ℕ) → Type 0
+HasColumns s text columns = (o : Outline) × (o.text ≡ text) × Outlines (understood s.now.schema text) o × (o.columns ≡ columns)
 
 -- The statement shows no rows, or it shows these. A connection that was just opened counts no changes, so what it counts
 -- then is this statement's.
 abbrev pub Gives : List ℕ → Row → State → State → Showing → Type 0
 Gives text params old new showing =
-    ((showing.columns ≡ 0) × (showing.rows ≡ []) × Executes text params old new (Ok showing.affected))
+    ((showing.columns ≡ []) × (showing.rows ≡ []) × Executes text params old new (Ok showing.affected))
     ⊎ (Shown text params old new showing.rows × (showing.affected ≡ new.changes))
 
 -- it is understood, and is no statement with RETURNING: where it shows rows it writes nothing

@@ -71,7 +71,7 @@ pub(crate) fn close(conn: Conn) -> Option<PairDisk>
 
 /// What the statement of a text shows, before it is run.
 pub(crate) fn outline(conn: &mut Conn, text: &str) -> Result<Statement, Error>
-    ensures ok { IfOk result (λ statement. HasColumns (file_state conn.old) text.now (length statement.columns)) }
+    ensures ok { IfOk result (λ statement. HasColumns (file_state conn.old) text.now statement.columns) }
     ensures same { OnOk result (IsUnchanged (file_state conn.old) (file_state conn.new)) }
     ensures limit { (file_state conn.new).step_limit ≡ (file_state conn.old).step_limit }
     ensures err { IfErr result (λ error. (params : _) → IsNotRun (file_state conn.old) (file_state conn.new) text.now params error) }

@@ -1,7 +1,9 @@
 ghost use Rattle.std.specs.Prelude.{◌≡◌, ◌≤◌, ◌<◌, ◌⊎◌, [], ◌∷◌, ◌++◌, None, length, slice_index_or, IfOk, IfErr, IfSome, OnOk};
+ghost use Rattle.std.specs.List.{Contains};
+ghost use Rattle.sql_engine.specs.Meanings.{Answers, Faults, CountsOpenings, Tells};
 ghost use Rattle.sql_engine.specs.declared.kind.EngineKind.TheVariants.{Sqlite};
-ghost use Rattle.sqlite_engine.specs.Keeping.{newest};
-ghost use Rattle.sqlite_engine.specs.Openings.{IsUnopened};
+ghost use Rattle.sqlite_engine.specs.Keeping.{newest, images_of};
+ghost use Rattle.sqlite_engine.specs.Openings.{IsUnopened, OpensNothing};
 ghost use Rattle.sqlite_engine.specs.Meant.{sql_meaning};
 
 use crate::connection::OpenFault;
@@ -27,11 +29,12 @@ pub struct SqliteEngine {
 }
 
 impl Model for SqliteEngine {
+    ghost use Rattle.sqlite_engine.specs.Keeping.{images_of};
     ghost use Rattle.sqlite_engine.specs.Openings.{Openings};
 
     ghost Value = { Openings };
 
-    ghost view = { λ a. record { tried = a.tried; refused = a.refused } };
+    ghost view = { λ a. record { tried = a.tried; refused = a.refused; opened = images_of a.kept.items } };
 }
 
 // It is written out, so that a caller does not prove again how each part is dropped.
@@ -49,7 +52,7 @@ impl Drop for SqliteEngine {
 impl SqliteEngine {
     /// An engine with nothing open. Takes no memory.
     pub fn new(alloc: Global) -> SqliteEngine
-        ensures { result ≡ record { tried = 0; refused = 0 } }
+        ensures { result ≡ record { tried = 0; refused = 0; opened = [] } }
     {
         SqliteEngine {
             alloc,
@@ -71,6 +74,7 @@ impl SqliteEngine {
         ensures ok { IfOk result (λ kept. kept.base ≡ image.now) }
         ensures same { OnOk result (self.new.refused ≡ self.old.refused) }
         ensures fault { IfErr result (IsUnopened self.old.refused self.new.refused) }
+        ensures opens { OpensNothing image.now self.old self.new }
     {
         if let Some(kept) = take(&mut self.kept, image) {
             return Ok(kept);
@@ -85,7 +89,8 @@ impl SqliteEngine {
 
     /// Keeps a connection, where there is one.
     fn keep(&mut self, left: Option<Kept>)
-        ensures { self.new ≡ self.old }
+        ensures tried { self.new.tried ≡ self.old.tried }
+        ensures refused { self.new.refused ≡ self.old.refused }
     {
         if let Some(kept) = left {
             add(&mut self.kept, kept);
@@ -123,7 +128,8 @@ fn drop_oldest(list: &mut Vec<Kept>)
 
 /// Takes the connection over this image out of the list.
 fn take(list: &mut Vec<Kept>, image: &Image) -> Option<Kept>
-    ensures { IfSome result (λ kept. kept.base ≡ image.now) }
+    ensures over { IfSome result (λ kept. kept.base ≡ image.now) }
+    ensures none { result ≡ None → Contains (images_of list.old.items) image.now → ⊥ }
 {
     match place_of(list, image) {
         Some(at) => Some(list.remove(at)),
@@ -133,7 +139,8 @@ fn take(list: &mut Vec<Kept>, image: &Image) -> Option<Kept>
 
 /// Where in the list the connection over this image stands.
 fn place_of(list: &[Kept], image: &Image) -> Option<usize>
-    ensures { IfSome result (λ at. (at < length list.now) × ((other : _) → (slice_index_or list.now at other).base ≡ image.now)) }
+    ensures some { IfSome result (λ at. (at < length list.now) × ((other : _) → (slice_index_or list.now at other).base ≡ image.now)) }
+    ensures none { result ≡ None → Contains (images_of list.now) image.now → ⊥ }
 {
     for (at, kept) in list.iter().enumerate() {
         if kept.is_over(image) {
@@ -162,7 +169,13 @@ impl Engine for SqliteEngine {
         text: &str,
         params: &[Value],
         tx: u64,
-    ) -> Result<Ran, EngineFault> {
+    ) -> Result<Ran, EngineFault>
+        ensures answers { IfOk result (Answers sql_meaning image.now (record { text = text.now; params = params.now }) tx) }
+        ensures faults { IfErr result (Faults sql_meaning Sqlite image.now (record { text = text.now; params = params.now })) }
+        ensures openings { CountsOpenings self.old.refused self.new.refused result }
+        ensures told { Tells result None None }
+        ensures opens { OpensNothing image.now self.old self.new }
+    {
         match self.opened(image) {
             Ok(kept) => {
                 let (left, answer) = run_on(self.alloc, kept, text, params, tx);
@@ -173,13 +186,18 @@ impl Engine for SqliteEngine {
         }
     }
 
-    fn fork(&self) -> Result<SqliteEngine, AllocError> {
+    fn fork(&self) -> Result<SqliteEngine, AllocError>
+        ensures { IfOk result (λ other. other ≡ record { tried = 0; refused = 0; opened = [] }) }
+    {
         Ok(SqliteEngine::new(self.alloc))
     }
 
     /// Opens the image where it isn't open, which costs 25 to 75 microseconds a page, two copies of the image, and a third that
     /// is kept beside the connection; else it costs the comparison of the image's bytes.
-    fn ready(&mut self, image: &Image) {
+    fn ready(&mut self, image: &Image)
+        ensures openings { self.old.refused ≤ self.new.refused }
+        ensures opens { OpensNothing image.now self.old self.new }
+    {
         if let Ok(kept) = self.opened(image) {
             self.keep(Some(kept));
         }

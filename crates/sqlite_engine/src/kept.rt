@@ -1,4 +1,4 @@
-ghost use Rattle.std.specs.Prelude.{◌≡◌, false, [], length, Some, IsTrue, IfOk, IfErr, IfSome, Err};
+ghost use Rattle.std.specs.Prelude.{◌≡◌, ◌↔◌, false, [], Some, IsTrue, IfOk, IfErr, IfSome, Err};
 ghost use Rattle.sqlite.specs.Files.{file_state};
 ghost use Rattle.sqlite.specs.Listing.{understood};
 ghost use Rattle.sqlite.specs.State.{Executes, FailsToQuery};
@@ -13,7 +13,7 @@ use crate::shows::Shows;
 use dq_base::Image;
 use record_disk::PairDisk;
 use sqlite::types::ValueRef;
-use sqlite::{Error, ErrorCode, Statement};
+use sqlite::{Error, ErrorCode, Row, Statement};
 use std::alloc::Global;
 
 /// A connection that is kept open over an image. It finds that image.
@@ -62,7 +62,7 @@ impl Kept {
 
     /// Whether it is open over this image. It compares the bytes, the side file's first.
     pub(crate) fn is_over(&self, image: &Image) -> bool
-        ensures { IsTrue result → self.now.base ≡ image.now }
+        ensures { IsTrue result ↔ self.now.base ≡ image.now }
     {
         self.base.side.as_slice() == image.side.as_slice()
             && self.base.main.as_slice() == image.main.as_slice()
@@ -84,7 +84,7 @@ fn left_after(base: Image, conn: Conn, error: Error) -> Option<Kept>
 /// What the statement of a text shows, before it is run.
 pub(crate) fn prepared(kept: Kept, text: &str) -> Result<(Kept, Statement), Failure>
     ensures base { IfOk result (λ r. r.0.base ≡ kept.base) }
-    ensures columns { IfOk result (λ r. HasColumns (file_state r.0.conn) text.now (length r.1.columns)) }
+    ensures columns { IfOk result (λ r. HasColumns (file_state r.0.conn) text.now r.1.columns) }
     ensures left { IfErr result (λ failure. IfSome failure.left (λ left. left.base ≡ kept.base)) }
     ensures fails { IfErr result (λ failure. (params : _) → ∥ FailsOn kept.base text.now params failure.error ∥₁) }
 {
@@ -101,27 +101,38 @@ pub(crate) fn prepared(kept: Kept, text: &str) -> Result<(Kept, Statement), Fail
 /// Shows the rows of a statement that changes nothing. The connection stays.
 pub(crate) fn look(
     kept: Kept,
-    columns: usize,
+    statement: &Statement,
     text: &str,
     params: &[ValueRef<'_>],
 ) -> Result<(Kept, Shows), Failure>
-    requires columns { HasColumns (file_state kept.conn) text.now columns }
+    requires columns { HasColumns (file_state kept.conn) text.now statement.now.columns }
     requires only { ShowsOnly (understood (file_state kept.conn).now.schema text.now) }
     ensures base { IfOk result (λ r. r.0.base ≡ kept.base) }
-    ensures ran { IfOk result (λ r. ∥ RanOn kept.base text.now (bound params.now) kept.base (showing columns r.1) ∥₁) }
+    ensures ran { IfOk result (λ r. ∥ RanOn kept.base text.now (bound params.now) kept.base (showing statement.now.columns r.1) ∥₁) }
     ensures left { IfErr result (λ failure. IfSome failure.left (λ left. left.base ≡ kept.base)) }
     ensures fails { IfErr result (λ failure. ∥ FailsOn kept.base text.now (bound params.now) failure.error ∥₁) }
 {
     let Kept { base, mut conn } = kept;
     match query(&mut conn, text, params) {
         Ok(rows) => {
-            let affected = conn.changes();
-            Ok((kept_over(base, conn), Shows { affected, rows }))
+            let shows = shows_of(&conn, rows);
+            Ok((kept_over(base, conn), shows))
         }
         Err(error) => Err(Failure {
             left: left_after(base, conn, error),
             error,
         }),
+    }
+}
+
+/// These rows, with how many rows the connection says were changed.
+fn shows_of(conn: &Conn, rows: Vec<Row>) -> Shows
+    ensures affected { result.affected ≡ (file_state conn.now).changes }
+    ensures rows { result.rows.items ≡ rows.items }
+{
+    Shows {
+        affected: conn.changes(),
+        rows,
     }
 }
 
@@ -131,10 +142,7 @@ fn run_rows(conn: &mut Conn, text: &str, params: &[ValueRef<'_>]) -> Result<Show
     ensures limit { (file_state conn.new).step_limit ≡ (file_state conn.old).step_limit }
 {
     match query(conn, text, params) {
-        Ok(rows) => Ok(Shows {
-            affected: conn.changes(),
-            rows,
-        }),
+        Ok(rows) => Ok(shows_of(conn, rows)),
         Err(error) => Err(error),
     }
 }
@@ -145,7 +153,7 @@ fn run_plain(
     text: &str,
     params: &[ValueRef<'_>],
 ) -> Result<Shows, Error>
-    ensures ok { IfOk result (λ shows. Gives text.now (bound params.now) (file_state conn.old) (file_state conn.new) (showing 0 shows)) }
+    ensures ok { (columns : _) → columns ≡ [] → IfOk result (λ shows. Gives text.now (bound params.now) (file_state conn.old) (file_state conn.new) (showing columns shows)) }
     ensures bare { IfOk result (λ shows. shows.rows.items ≡ []) }
     ensures err { IfErr result (λ error. Executes text.now (bound params.now) (file_state conn.old) (file_state conn.new) (Err error)) }
     ensures limit { (file_state conn.new).step_limit ≡ (file_state conn.old).step_limit }
@@ -164,19 +172,19 @@ fn run_plain(
 pub(crate) fn change(
     alloc: Global,
     kept: Kept,
-    columns: usize,
+    statement: &Statement,
     text: &str,
     params: &[ValueRef<'_>],
 ) -> Result<(Image, PairDisk, Shows), Failure>
-    requires columns { HasColumns (file_state kept.conn) text.now columns }
+    requires columns { HasColumns (file_state kept.conn) text.now statement.now.columns }
     ensures base { IfOk result (λ r. r.0 ≡ kept.base) }
-    ensures ran { IfOk result (λ r. ∥ RanOn kept.base text.now (bound params.now) r.1.after (showing columns r.2) ∥₁) }
-    ensures bare { IfOk result (λ r. columns ≡ 0 → r.2.rows.items ≡ []) }
+    ensures ran { IfOk result (λ r. ∥ RanOn kept.base text.now (bound params.now) r.1.after (showing statement.now.columns r.2) ∥₁) }
+    ensures bare { IfOk result (λ r. statement.now.columns ≡ [] → r.2.rows.items ≡ []) }
     ensures left { IfErr result (λ failure. IfSome failure.left (λ left. left.base ≡ kept.base)) }
     ensures fails { IfErr result (λ failure. (refusal : _) → refusal_of failure.error ≡ Some refusal → ∥ FailsOn kept.base text.now (bound params.now) failure.error ∥₁) }
 {
     let Kept { base, mut conn } = kept;
-    match ask(alloc, &mut conn, columns, text, params) {
+    match ask(alloc, &mut conn, statement, text, params) {
         Ok(shows) => match close(conn) {
             Some(pair) => Ok((base, pair, shows)),
             None => Err(Failure {
@@ -194,17 +202,17 @@ pub(crate) fn change(
 fn ask(
     alloc: Global,
     conn: &mut Conn,
-    columns: usize,
+    statement: &Statement,
     text: &str,
     params: &[ValueRef<'_>],
 ) -> Result<Shows, Error>
-    ensures ok { IfOk result (λ shows. Gives text.now (bound params.now) (file_state conn.old) (file_state conn.new) (showing columns shows)) }
-    ensures bare { IfOk result (λ shows. columns ≡ 0 → shows.rows.items ≡ []) }
+    ensures ok { IfOk result (λ shows. Gives text.now (bound params.now) (file_state conn.old) (file_state conn.new) (showing statement.now.columns shows)) }
+    ensures bare { IfOk result (λ shows. statement.now.columns ≡ [] → shows.rows.items ≡ []) }
     ensures err { IfErr result (FailsSomehow text.now (bound params.now) (file_state conn.old) (file_state conn.new)) }
     ensures limit { (file_state conn.new).step_limit ≡ (file_state conn.old).step_limit }
 {
-    match columns {
-        0 => run_plain(alloc, conn, text, params),
-        _ => run_rows(conn, text, params),
+    match statement.column_names() {
+        [] => run_plain(alloc, conn, text, params),
+        [_, ..] => run_rows(conn, text, params),
     }
 }

@@ -1,4 +1,4 @@
-ghost use Rattle.std.specs.Prelude.{◌≡◌, [], length, IfOk, IfErr, IfSome};
+ghost use Rattle.std.specs.Prelude.{◌≡◌, ◌<◌, [], length, IsTrue, IfOk, IfErr, IfSome};
 ghost use Rattle.dq_base.specs.Changes.{changed};
 ghost use Rattle.sqlite.specs.Listing.{understood};
 ghost use Rattle.sqlite.specs.Values.{bound};
@@ -54,15 +54,14 @@ fn run_prepared(
     params: &[ValueRef<'_>],
     tx: u64,
 ) -> (Option<Kept>, Result<Ran, EngineFault>)
-    requires { HasColumns (file_state kept.conn) text.now (length statement.now.columns) }
+    requires { HasColumns (file_state kept.conn) text.now statement.now.columns }
     ensures answers { IfOk result.1 (AnswersAs kept.base text.now (bound params.now) tx) }
     ensures faults { IfErr result.1 (FaultsAs kept.base text.now (bound params.now)) }
 {
-    let columns = statement.column_count();
     let Ok(names) = names_of(alloc, statement) else {
         return (Some(kept), Err(EngineFault::NoMemory));
     };
-    match run_columns(alloc, kept, columns, text, params, tx) {
+    match run_columns(alloc, kept, statement, text, params, tx) {
         Ok((left, shows, after)) => (left, told(alloc, names, shows, after)),
         Err(failure) => (failure.left, Err(fault_of(failure.error))),
     }
@@ -73,37 +72,39 @@ fn run_prepared(
 fn run_columns(
     alloc: Global,
     kept: Kept,
-    columns: usize,
+    statement: &Statement,
     text: &str,
     params: &[ValueRef<'_>],
     tx: u64,
 ) -> Result<(Option<Kept>, Shows, PageSet), Failure>
-    requires { HasColumns (file_state kept.conn) text.now columns }
-    ensures led { IfOk result (λ r. Led kept.base text.now (bound params.now) tx (showing columns r.1) r.2) }
-    ensures bare { IfOk result (λ r. columns ≡ 0 → r.1.rows.items ≡ []) }
+    requires { HasColumns (file_state kept.conn) text.now statement.now.columns }
+    ensures led { IfOk result (λ r. Led kept.base text.now (bound params.now) tx (showing statement.now.columns r.1) r.2) }
+    ensures bare { IfOk result (λ r. statement.now.columns ≡ [] → r.1.rows.items ≡ []) }
     ensures fails { IfErr result (λ failure. IsRefused kept.base text.now (bound params.now) failure.error) }
 {
-    if columns != 0 && kept.shows_only(alloc, text) {
-        looked(alloc, kept, columns, text, params, tx)
+    if statement.column_count() > 0 && kept.shows_only(alloc, text) {
+        looked(alloc, kept, statement, text, params, tx)
     } else {
-        changed(alloc, kept, columns, text, params, tx)
+        changed(alloc, kept, statement, text, params, tx)
     }
 }
 
 fn looked(
     alloc: Global,
     kept: Kept,
-    columns: usize,
+    statement: &Statement,
     text: &str,
     params: &[ValueRef<'_>],
     tx: u64,
 ) -> Result<(Option<Kept>, Shows, PageSet), Failure>
-    requires columns { HasColumns (file_state kept.conn) text.now columns }
+    requires columns { HasColumns (file_state kept.conn) text.now statement.now.columns }
     requires only { ShowsOnly (understood (file_state kept.conn).now.schema text.now) }
-    ensures led { IfOk result (λ r. Led kept.base text.now (bound params.now) tx (showing columns r.1) r.2) }
+    requires some { 0 < length statement.now.columns }
+    ensures bare { IfOk result (λ r. statement.now.columns ≡ [] → r.1.rows.items ≡ []) }
+    ensures led { IfOk result (λ r. Led kept.base text.now (bound params.now) tx (showing statement.now.columns r.1) r.2) }
     ensures fails { IfErr result (λ failure. IsRefused kept.base text.now (bound params.now) failure.error) }
 {
-    match look(kept, columns, text, params) {
+    match look(kept, statement, text, params) {
         Ok((kept, shows)) => {
             is_short(&kept.base);
             Ok((Some(kept), shows, no_pages(alloc, tx)))
@@ -125,17 +126,17 @@ fn no_pages(alloc: Global, tx: u64) -> PageSet
 fn changed(
     alloc: Global,
     kept: Kept,
-    columns: usize,
+    statement: &Statement,
     text: &str,
     params: &[ValueRef<'_>],
     tx: u64,
 ) -> Result<(Option<Kept>, Shows, PageSet), Failure>
-    requires { HasColumns (file_state kept.conn) text.now columns }
-    ensures led { IfOk result (λ r. Led kept.base text.now (bound params.now) tx (showing columns r.1) r.2) }
-    ensures bare { IfOk result (λ r. columns ≡ 0 → r.1.rows.items ≡ []) }
+    requires { HasColumns (file_state kept.conn) text.now statement.now.columns }
+    ensures led { IfOk result (λ r. Led kept.base text.now (bound params.now) tx (showing statement.now.columns r.1) r.2) }
+    ensures bare { IfOk result (λ r. statement.now.columns ≡ [] → r.1.rows.items ≡ []) }
     ensures fails { IfErr result (λ failure. IsRefused kept.base text.now (bound params.now) failure.error) }
 {
-    match change(alloc, kept, columns, text, params) {
+    match change(alloc, kept, statement, text, params) {
         Ok((base, pair, shows)) => match taken(alloc, &base, pair, tx) {
             Some(set) => Ok((None, shows, set)),
             None => Err(Failure {
@@ -154,7 +155,7 @@ fn changed(
 fn taken(alloc: Global, base: &Image, pair: PairDisk, tx: u64) -> Option<PageSet>
     ensures { IfSome result (λ set. IsShort pair.after × (set ≡ record { tx = tx; pages = changed base.now pair.after })) }
 {
-    if !pair.began_with(base) {
+    if !began_with(&pair, base) {
         return None;
     }
     match pair.changes(alloc, tx) {
@@ -164,6 +165,14 @@ fn taken(alloc: Global, base: &Image, pair: PairDisk, tx: u64) -> Option<PageSet
         }
         Err(_) => None,
     }
+}
+
+/// Whether this is the image that the files began with.
+#[tactic(auto, using(crate::proofs::Answering::same_image_is))]
+fn began_with(pair: &PairDisk, base: &Image) -> bool
+    ensures { IsTrue result → pair.now.before ≡ base.now }
+{
+    pair.began_with(base)
 }
 
 /// The files of any image are shorter than 2^64 bytes.

@@ -171,11 +171,7 @@ impl FilesRead {
         ensures fits { self.now.segments.log.first < 2 ^ 64 }
     {
         let first = self.log_first();
-        if self.is_stale() {
-            Some(first)
-        } else {
-            None
-        }
+        if self.is_stale() { Some(first) } else { None }
     }
 
     // Whether some batch or snapshot stands without metadata.

@@ -12,11 +12,7 @@ use store_batches::{FoundBatch, read_batch};
 use store_format::format_in;
 
 // The batch that bytes begin with, if any. It has some bytes.
-fn next_batch(
-    alloc: Global,
-    format: u64,
-    bytes: &[u8],
-) -> Result<Option<FoundBatch>, AllocError>
+fn next_batch(alloc: Global, format: u64, bytes: &[u8]) -> Result<Option<FoundBatch>, AllocError>
     ensures { IfOk result (λ found. MatchOption found ((batch_in format bytes.now).size ≡ 0) (λ b. (batch_in format bytes.now ≡ record { batch = record { first = b.first; entries = b.entries }; size = b.size }) × (0 < b.size))) }
 {
     let found = read_batch(alloc, format, bytes)?;
@@ -64,11 +60,7 @@ fn take_batches(
 
 /// Takes the batches of a segment into the log, and answers how far it reads: to the end of its whole batches, and not at
 /// all where its first word says no format.
-pub fn take_segment(
-    alloc: Global,
-    bytes: &[u8],
-    log: &mut BatchLog,
-) -> Result<usize, AllocError>
+pub fn take_segment(alloc: Global, bytes: &[u8], log: &mut BatchLog) -> Result<usize, AllocError>
     ensures { IfOk result (λ good. InLog node_format bytes.now log.old log.new good) }
 {
     let format = format_in(bytes);

@@ -2,7 +2,7 @@ use Rattle.std.proofs.Common.{refl, inr}
 use Rattle.std.proofs.Math.Logic.{∥∥₁_map}
 use Rattle.sqlite.specs.Files.{file_state}
 use Rattle.sqlite_engine.proofs.Clean.{always_clean}
-use Rattle.sqlite_engine.proofs.Same.{still_finds, only_shows, query_keeps}
+use Rattle.sqlite_engine.proofs.Same.{still_finds, only_shows, query_keeps, rows_given}
 use Rattle.sqlite_engine.proofs.kept.look.Goals as goal
 
 pub kept_over-requires : goal.kept_over-requires
@@ -19,7 +19,7 @@ returns-in-Ok-clause-ran c =
     let same = only_shows c.args.text.now _ _ (file_state c.query.new.conn) _ c.requires.only c.in-Ok.ensures.ok in
     ∥∥₁_map c.args.kept.stands (λ h. record {
       now = c.query.new.conn;
-      answers = record { was = c.args.kept.conn; found = h; columns = c.requires.columns; gives = inr (c.in-Ok.ensures.ok, c.changes-affected.ensures) };
+      answers = record { was = c.args.kept.conn; found = h; columns = c.requires.columns; gives = rows_given _ _ _ _ c.args.statement.now.columns _ c.shows_of-shows.result c.shows_of-shows.ensures.affected c.shows_of-shows.ensures.rows c.in-Ok.ensures.ok };
       leaves = inr (refl, same);
     })
 

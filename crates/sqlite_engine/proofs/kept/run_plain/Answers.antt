@@ -1,5 +1,5 @@
-use Rattle.std.proofs.Common.{refl, inl, rules}
+use Rattle.std.proofs.Common.{inl, rules}
 use Rattle.sqlite_engine.proofs.kept.run_plain.Goals as goal
 
 pub returns-in-Ok-clause-ok : goal.returns-in-Ok-clause-ok
-returns-in-Ok-clause-ok c = inl (refl, search rules, c.in-Ok.ensures.runs)
+returns-in-Ok-clause-ok c columns none = inl (none, search rules, c.in-Ok.ensures.runs)
