@@ -17,7 +17,8 @@ use sql_engine::Engine;
 use std::alloc::{AllocError, Global};
 use wire_msgs::{Request, Response};
 
-/// All sessions of a node. A connection has one session at most, and a session one request at a time.
+/// All sessions of a node. So far it holds none: the bodies that would give a connection a session are still to come. A
+/// connection has one session at most, and a session one request at a time.
 ///
 /// Clauses see its sessions by `seen`, with the images that their open transactions have pinned in the machine, so the calls
 /// that take the machine want its live marks to be those of the sessions, and leave it so.

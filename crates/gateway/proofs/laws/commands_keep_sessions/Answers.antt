@@ -1,0 +1,8 @@
+use Rattle.gateway.proofs.Keeping.{marks_stay, sessions_stay}
+use Rattle.gateway.proofs.laws.commands_keep_sessions.Goals as goal
+
+pub returns-clause-pins : goal.returns-clause-pins
+returns-clause-pins c = marks_stay
+
+pub returns-clause-sessions : goal.returns-clause-sessions
+returns-clause-sessions c = sessions_stay
