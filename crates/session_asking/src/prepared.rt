@@ -1,0 +1,118 @@
+//! Statements that are prepared already, or stand alone in their text.
+
+ghost use Rattle.std.specs.Prelude.{◌≡◌, [], ◌∷◌, Option};
+ghost use Rattle.std.specs.Option.{is_some};
+ghost use Rattle.session_rules.specs.Asking as rules;
+ghost use Rattle.session_rules.specs.Sessions.{Prepared as RulePrepared};
+ghost use Rattle.session_rules.specs.Statements as statements;
+ghost use Rattle.session_rules.specs.Statements.{with_all};
+ghost use Rattle.session_asking.specs.Meant.{meant, CanRun};
+
+use crate::wanted::Wanted;
+use session_table::{Cause, Prepared};
+use sql_scan::WordKind;
+use statement_runs::{is_control, is_left_out};
+use wire_words::Value;
+
+/// Whether a statement wants another number of parameters than there are.
+fn wrong_params(prepared: &Prepared, params: &[Value]) -> bool
+    ensures { result ≡ statements.wrong_params (prepared.now ∷ []) params.now }
+{
+    let wants = prepared.params;
+    wants != params.len() as u64
+}
+
+/// What a statement that may run wants, by its kind.
+fn wanted_by_kind(inside: bool, prepared: Prepared, params: &[Value]) -> Wanted
+    ensures wants { meant params.now result ≡ rules.asks_kind inside prepared.word (with_all prepared params.now) }
+    ensures runs { CanRun params.now result }
+{
+    let word = prepared.word;
+    match word {
+        WordKind::Begin { at_once } => {
+            if inside {
+                Wanted::Never(Cause::InTransaction)
+            } else {
+                Wanted::Begins(at_once)
+            }
+        }
+        WordKind::Commit => {
+            if inside {
+                Wanted::Commits
+            } else {
+                Wanted::Never(Cause::NoTransaction)
+            }
+        }
+        WordKind::Rollback => {
+            if inside {
+                Wanted::RollsBack
+            } else {
+                Wanted::Never(Cause::NoTransaction)
+            }
+        }
+        WordKind::LeftOut => Wanted::Never(Cause::NotAllowed),
+        WordKind::Write => Wanted::RunsOne(prepared),
+        WordKind::Other => Wanted::RunsOne(prepared),
+    }
+}
+
+/// What one statement wants whose rows are dropped, where a transaction is open or none is.
+pub(crate) fn wanted_by_one(inside: bool, prepared: Prepared, params: &[Value]) -> Wanted
+    ensures wants { meant params.now result ≡ rules.asks_one inside prepared params.now }
+    ensures runs { CanRun params.now result }
+{
+    let word = prepared.word;
+    if is_left_out(word) {
+        return Wanted::Never(Cause::NotAllowed);
+    }
+    if wrong_params(&prepared, params) {
+        return Wanted::Never(Cause::WrongParameters);
+    }
+    wanted_by_kind(inside, prepared, params)
+}
+
+/// What one statement wants whose rows are told.
+pub(crate) fn wanted_by_reading(prepared: Prepared, params: &[Value]) -> Wanted
+    ensures { meant params.now result ≡ rules.asks_query prepared params.now }
+{
+    let word = prepared.word;
+    if is_control(word) || is_left_out(word) {
+        return Wanted::Never(Cause::NotAllowed);
+    }
+    if wrong_params(&prepared, params) {
+        return Wanted::Never(Cause::WrongParameters);
+    }
+    Wanted::Reads(prepared)
+}
+
+/// What an EXEC of a prepared statement wants, where a transaction is open or none is. The statement is that of the
+/// request's number, if there is one. Takes no memory.
+pub fn wanted_by_exec(inside: bool, statement: Option<Prepared>, params: &[Value]) -> Wanted
+    ensures { meant params.now result ≡ rules.asks_exec inside statement params.now }
+{
+    match statement {
+        Some(prepared) => wanted_by_one(inside, prepared, params),
+        None => Wanted::Never(Cause::NoStatement),
+    }
+}
+
+/// What a QUERY of a prepared statement wants. Takes no memory.
+pub fn wanted_by_query(statement: Option<Prepared>, params: &[Value]) -> Wanted
+    ensures { meant params.now result ≡ rules.asks_prepared_query statement params.now }
+{
+    match statement {
+        Some(prepared) => wanted_by_reading(prepared, params),
+        None => Wanted::Never(Cause::NoStatement),
+    }
+}
+
+/// What a FINALIZE wants of the statement of a number, which is there or not. Takes no memory.
+pub fn wanted_by_finalize(there: bool, id: u64) -> Wanted
+    ensures { (statement : Option RulePrepared) → is_some statement ≡ there → meant [] result ≡ rules.asks_finalize statement id }
+{
+    if there {
+        Wanted::Drops(id)
+    } else {
+        Wanted::Never(Cause::NoStatement)
+    }
+}

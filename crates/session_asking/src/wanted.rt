@@ -1,0 +1,36 @@
+use dq_base::Items;
+use session_table::{Cause, Prepared};
+use sql_scan::Piece;
+use wire_words::WireText;
+
+/// The statements of a text, none or several.
+#[derive(Debug, Drop)]
+pub struct Script {
+    /// The text.
+    pub text: WireText,
+    /// Where they stand in it.
+    pub pieces: Items<Piece>,
+}
+
+/// What a request for statements wants, once it has passed the refusals that come before the engine.
+#[derive(Debug, Drop)]
+pub enum Wanted {
+    /// Nothing: it is refused.
+    Never(Cause),
+    /// A statement is to be prepared, with the place of the rest of its text where that is told.
+    Prepares(Prepared, Option<u64>),
+    /// A prepared statement is to be let go.
+    Drops(u64),
+    /// A transaction begins, at once with the turn to write or not.
+    Begins(bool),
+    /// The transaction ends with its changes.
+    Commits,
+    /// The transaction ends without them.
+    RollsBack,
+    /// A statement runs with all parameters, and its rows are dropped.
+    RunsOne(Prepared),
+    /// Statements run one after another, and their rows are dropped.
+    RunsAll(Script),
+    /// A statement runs with all parameters, and its rows are told.
+    Reads(Prepared),
+}
