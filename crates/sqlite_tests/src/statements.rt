@@ -1,4 +1,4 @@
-use dq_base::{Bytes, Image, apply};
+use dq_base::{Bytes, Image, PageSet, apply};
 use sql_engine::{CellEngine, Engine, EngineFault, Ran};
 use sqlite_engine::{AnyEngine, SqliteEngine};
 use std::alloc::{AllocError, Global};
@@ -85,6 +85,38 @@ fn a_table_is_made_and_filled(rt: HostRuntime) -> Result<(), Fail> {
     let database = filled(rt.alloc())?;
     let mut engine = database.engine.fork()?;
     assert_eq!(rt; asked(&mut engine, &database.image)?, (true, 0, 1));
+    Ok(())
+}
+
+/// The pages that a statement changes.
+fn pages_of(database: &mut Database, text: &str, params: &[Value]) -> Result<PageSet, Fail> {
+    let Ran {
+        after,
+        affected: _,
+        columns: _,
+        rows: _,
+    } = database.engine.run(&database.image, text, params, 1)?;
+    apply(&mut database.image, &after)?;
+    Ok(after)
+}
+
+/// An empty image to which the pages of a table that was made and filled elsewhere were applied, and nothing else.
+fn second_image(alloc: Global) -> Result<Image, Fail> {
+    let mut database = Database::new(alloc);
+    let params = five_and_x(alloc)?;
+    let made = pages_of(&mut database, "CREATE TABLE t (a INT, b TEXT)", &[])?;
+    let filled = pages_of(&mut database, "INSERT INTO t VALUES (?, ?)", &params)?;
+    let mut second = Image::new(alloc);
+    apply(&mut second, &made)?;
+    apply(&mut second, &filled)?;
+    Ok(second)
+}
+
+#[test]
+fn pages_lead_to_the_same_rows_elsewhere(rt: HostRuntime) -> Result<(), Fail> {
+    let second = second_image(rt.alloc())?;
+    let mut engine = SqliteEngine::new(rt.alloc());
+    assert_eq!(rt; asked(&mut engine, &second)?, (true, 0, 1));
     Ok(())
 }
 
