@@ -7,4 +7,6 @@ mod cells;
 #[cfg(test)]
 mod commands;
 #[cfg(test)]
+mod journals;
+#[cfg(test)]
 mod scans;
