@@ -6,3 +6,7 @@
 mod batches;
 #[cfg(test)]
 mod formats;
+#[cfg(test)]
+mod loading;
+#[cfg(test)]
+mod stores;

@@ -1,0 +1,294 @@
+ghost use Rattle.dq_base.specs.Names.{IsName};
+
+use disk_model::{Disk, DiskFault, MemDisk, Stop};
+use segment_store::{LoadFault, Store};
+use std::alloc::{AllocError, Global};
+use std::test::Fail;
+use store_reading::Kept;
+use wire_words::Writer;
+
+// The files were computed with Python's zlib and hashlib.
+
+/// The files of a node, by their places in a row.
+const FILES: usize = 5;
+
+/// The words of metadata of version 5 with term 3 and vote 2, in format 1.
+const METADATA: &[u64] = &[1, 5, 3, 2, 0x6b1e_18f0];
+
+/// Snapshot 7 of term 2, in format 1.
+const SNAPSHOT: &[u64] = &[1, 7, 2, 3, 0xef9c_ec15, 0x63_6261];
+
+/// Snapshot 7 of term 9, in format 2.
+const OTHER: &[u64] = &[2, 7, 9, 3, 0x23af_47df_594f_7ea0, 0x63_6261];
+
+/// Entries 6 and 7 of term 2, in format 1.
+const FRONT: &[u64] = &[
+    1,
+    0x3537_a782_1f2b_9cf2,
+    6,
+    2,
+    2,
+    0x3_0000_0001,
+    2,
+    0x1_0000_0001,
+    0x63_6261,
+    0x64,
+];
+
+/// Entry 8 of term 3, in format 1.
+const BACK: &[u64] = &[1, 0x10d6_b751, 8, 1, 3, 2];
+
+/// Entry 3 of term 2, in format 1.
+const LATE: &[u64] = &[1, 0xeb2a_5f74_088f_b226, 3, 1, 2, 0x3_0000_0001, 0x63_6261];
+
+/// A segment without entries that begins at index 6, in format 2.
+const EMPTIED: &[u64] = &[2, 0x3c7c_9aa5_e45d_9a5e, 0x141c_fc98_42c4_b0e3, 6, 0];
+
+/// A folder of format 1 with a snapshot and two segments.
+const WHOLE: [&[u64]; FILES] = [METADATA, &[], SNAPSHOT, FRONT, BACK];
+
+/// What a load answers.
+#[derive(Clone, Copy, Debug, PartialEq, Eq)]
+enum Answer {
+    /// Term, vote, the snapshot's index, the first index and the number of entries.
+    Kept(u64, u64, u64, u64, usize),
+    /// The fault.
+    Fault(LoadFault),
+}
+
+fn name(file: usize) -> &'static str
+    ensures { IsName result.now }
+{
+    match file {
+        0 => "metadata1",
+        1 => "metadata2",
+        2 => "snapshot-0000000000000007",
+        3 => "segment-0000000000000001",
+        4 => "segment-0000000000000002",
+        _ => "segment-0000000000000003",
+    }
+}
+
+/// These words as bytes.
+fn bytes_of(alloc: Global, words: &[u64]) -> Result<Vec<u8>, AllocError> {
+    let mut out = Writer::new(alloc);
+    for word in words {
+        out.word(*word)?;
+    }
+    Ok(out.finish().into_vec())
+}
+
+/// Puts a file down, cut to a length.
+fn put(
+    alloc: Global,
+    disk: &mut MemDisk,
+    file: usize,
+    words: &[u64],
+    length: usize,
+) -> Result<(), DiskFault> {
+    if words.is_empty() {
+        return Ok(());
+    }
+    let bytes = bytes_of(alloc, words)?;
+    let end = length.min(bytes.len());
+    disk.write_at(name(file), 0, &bytes.as_slice()[..end])?;
+    disk.sync(name(file))?;
+    disk.sync_names()
+}
+
+/// A disk with these files, one of which is cut to a length.
+fn fill(
+    alloc: Global,
+    disk: &mut MemDisk,
+    files: &[&[u64]; FILES],
+    cut: usize,
+    length: usize,
+) -> Result<(), DiskFault> {
+    for file in 0..FILES {
+        let words = files[file];
+        let length = if file == cut { length } else { usize::MAX };
+        put(alloc, disk, file, words, length)?;
+    }
+    Ok(())
+}
+
+fn answer_of(kept: &Kept) -> Answer {
+    let snapshot = match &kept.snapshot {
+        Some(snapshot) => snapshot.index,
+        None => 0,
+    };
+    Answer::Kept(
+        kept.term,
+        kept.vote,
+        snapshot,
+        kept.first,
+        kept.entries.len(),
+    )
+}
+
+/// What a load of the disk answers.
+fn load(alloc: Global, disk: &mut MemDisk) -> Answer {
+    match Store::load(alloc, disk) {
+        Ok((_store, kept)) => answer_of(&kept),
+        Err(fault) => Answer::Fault(fault),
+    }
+}
+
+/// What a look at the disk answers.
+fn look(alloc: Global, disk: &mut MemDisk) -> Answer {
+    match Store::look(alloc, disk) {
+        Ok(kept) => answer_of(&kept),
+        Err(fault) => Answer::Fault(fault),
+    }
+}
+
+/// What a look and two loads of a folder answer, where all three answer the same.
+fn loaded_alike(
+    alloc: Global,
+    files: &[&[u64]; FILES],
+    cut: usize,
+    length: usize,
+) -> Result<Option<Answer>, DiskFault> {
+    let mut disk = MemDisk::new(alloc);
+    fill(alloc, &mut disk, files, cut, length)?;
+    let seen = look(alloc, &mut disk);
+    let first = load(alloc, &mut disk);
+    let second = load(alloc, &mut disk);
+    if seen == first && first == second {
+        Ok(Some(first))
+    } else {
+        Ok(None)
+    }
+}
+
+/// What is answered where one file of the whole folder is cut to a length.
+fn wanted(file: usize, length: usize) -> Answer {
+    match file {
+        0 => Answer::Fault(LoadFault::NoMeta),
+        2 => Answer::Fault(LoadFault::Gap(6, 0)),
+        3 if length < 8 => Answer::Fault(LoadFault::Damaged(1, 0)),
+        3 if length == 8 => Answer::Kept(3, 2, 7, 8, 1),
+        3 => Answer::Fault(LoadFault::Damaged(1, 8)),
+        _ => Answer::Kept(3, 2, 7, 6, 2),
+    }
+}
+
+#[test]
+fn folders_load_by_the_rules(rt: HostRuntime) {
+    let rows: [([&[u64]; FILES], Answer); 7] = [
+        ([&[], &[], &[], &[], &[]], Answer::Kept(0, 0, 0, 1, 0)),
+        (WHOLE, Answer::Kept(3, 2, 7, 6, 3)),
+        (
+            [METADATA, &[], SNAPSHOT, &[], &[]],
+            Answer::Kept(3, 2, 7, 8, 0),
+        ),
+        (
+            [METADATA, &[], OTHER, FRONT, BACK],
+            Answer::Kept(3, 2, 7, 8, 0),
+        ),
+        (
+            [METADATA, &[], &[], LATE, &[]],
+            Answer::Fault(LoadFault::Gap(3, 0)),
+        ),
+        (
+            [&[], &[], &[], FRONT, &[]],
+            Answer::Fault(LoadFault::NoMeta),
+        ),
+        (
+            [&[], &[], SNAPSHOT, &[], &[]],
+            Answer::Fault(LoadFault::NoMeta),
+        ),
+    ];
+    for (files, wanted) in &rows {
+        assert!(rt; loaded_alike(rt.alloc(), files, 0, usize::MAX) == Ok(Some(*wanted)));
+    }
+}
+
+#[test]
+fn files_cut_at_every_byte_load_by_the_rules(rt: HostRuntime) {
+    for (file, size) in [(0, 40), (2, 48), (3, 80), (4, 48)] {
+        for length in 0..size {
+            assert!(rt;
+                loaded_alike(rt.alloc(), &WHOLE, file, length) == Ok(Some(wanted(file, length)))
+            );
+        }
+    }
+}
+
+/// The term that is loaded after `set_meta` stopped at a call, with a pick, and whether it answered `Ok`.
+fn after_stop(alloc: Global, call: u64, pick: u64) -> Option<(bool, Answer)> {
+    let mut disk = MemDisk::new(alloc);
+    fill(alloc, &mut disk, &WHOLE, 0, usize::MAX).ok()?;
+    let (mut store, _kept) = Store::load(alloc, &mut disk).ok()?;
+    disk.arm(Some(Stop { call, pick }), None);
+    let answered = store.set_meta(&mut disk, 4, 0).is_ok();
+    disk.crash(0).ok()?;
+    Some((answered, load(alloc, &mut disk)))
+}
+
+#[test]
+fn a_stopped_set_meta_kept_the_old_state_or_the_new_one(rt: HostRuntime) {
+    let old = Answer::Kept(3, 2, 7, 6, 3);
+    let new = Answer::Kept(4, 0, 7, 6, 3);
+    for (call, pick, wanted) in [(1, 0, old), (1, 2, old), (1, 1, new)] {
+        assert_eq!(rt; after_stop(rt.alloc(), call, pick), Some((false, wanted)));
+    }
+    for call in 1..5 {
+        for pick in 0..16 {
+            let after = after_stop(rt.alloc(), call, pick);
+            assert!(rt; after == Some((call > 3, new)) || after == Some((false, old)));
+        }
+    }
+}
+
+/// Whether a file of a disk has these words.
+fn has_words(
+    alloc: Global,
+    disk: &mut MemDisk,
+    file: usize,
+    words: &[u64],
+) -> Result<bool, DiskFault> {
+    let wanted = bytes_of(alloc, words)?;
+    let mut bytes = [0; 64];
+    let count = disk.read_at(name(file), 0, &mut bytes)?;
+    Ok(&bytes[..count.min(64)] == wanted.as_slice())
+}
+
+/// Whether the file has these words after a load of a folder and a call of `set_meta`.
+fn written(alloc: Global, files: &[&[u64]; FILES], file: usize, words: &[u64]) -> Option<bool> {
+    let mut disk = MemDisk::new(alloc);
+    fill(alloc, &mut disk, files, 0, usize::MAX).ok()?;
+    let (mut store, _kept) = Store::load(alloc, &mut disk).ok()?;
+    store.set_meta(&mut disk, 4, 0).ok()?;
+    has_words(alloc, &mut disk, file, words).ok()
+}
+
+#[test]
+fn files_after_a_load_are_written_in_format_2(rt: HostRuntime) {
+    let second = [2, 6, 4, 0, 0x6288_889d_b51e_9f74];
+    for (files, file, words) in [
+        (&WHOLE, 1, second.as_slice()),
+        (&WHOLE, 0, METADATA),
+        (&[METADATA, &[], OTHER, FRONT, BACK], 5, EMPTIED),
+    ] {
+        assert_eq!(rt; written(rt.alloc(), files, file, words), Some(true));
+    }
+}
+
+/// What a load answers where a call of the disk fails.
+fn failing(alloc: Global, call: u64) -> Result<Answer, DiskFault> {
+    let mut disk = MemDisk::new(alloc);
+    fill(alloc, &mut disk, &WHOLE, 0, usize::MAX)?;
+    disk.arm(None, Some(call));
+    Ok(load(alloc, &mut disk))
+}
+
+#[test]
+fn a_disk_that_fails_is_answered(rt: HostRuntime) {
+    for call in 1..15 {
+        assert_eq!(rt;
+            failing(rt.alloc(), call),
+            Ok(Answer::Fault(LoadFault::DiskFault))
+        );
+    }
+}
