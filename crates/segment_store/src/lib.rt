@@ -14,8 +14,6 @@ mod loading_reads;
 mod names;
 mod segment;
 mod store;
-#[cfg(test)]
-mod tests;
 
 pub use fault::StoreFault;
 pub use load_fault::LoadFault;

@@ -126,21 +126,6 @@ fn with_number(alloc: Global, numbers: &[u64], number: u64) -> Result<Vec<u64>, 
 }
 
 impl Store {
-    /// A store over a folder without files.
-    #[cfg(test)]
-    pub(crate) fn fresh(alloc: Global) -> Store {
-        Store {
-            alloc,
-            version: 0,
-            first: None,
-            second: None,
-            next: 1,
-            size: None,
-            segments: Vec::new(alloc),
-            snapshots: Vec::new(alloc),
-        }
-    }
-
     /// A store that was loaded, whose next batch begins a segment.
     pub(crate) fn opened(
         alloc: Global,
