@@ -9,4 +9,6 @@ mod formats;
 #[cfg(test)]
 mod loading;
 #[cfg(test)]
+mod stops;
+#[cfg(test)]
 mod stores;
