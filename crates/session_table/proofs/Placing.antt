@@ -185,8 +185,9 @@ joins databases ss weight conn new none few is = joined_so (table_of databases s
 pub full_stays : (databases : List Database) (ss : List Session) (weight conn : ℕ) → 64 ≤ length ss → Joined (table_of databases ss weight) conn false (table_of databases ss weight)
 full_stays databases ss weight conn full = joined_so (table_of databases ss weight) conn false (table_of databases ss weight) (is_full databases ss weight conn full) refl
 
-pub taken_stays : (databases : List Database) (ss : List Session) (weight conn place : ℕ) (d : Session) → AreApart ss → StandsAt conn ss place → Joined (table_of databases ss weight) conn false (table_of databases ss weight)
-taken_stays databases ss weight conn place d apart at = joined_so (table_of databases ss weight) conn false (table_of databases ss weight) (is_taken databases ss weight conn place d apart at) refl
+pub taken_stays : (databases : List Database) (ss : List Session) (weight conn place : ℕ) → AreApart ss → StandsAt conn ss place → Joined (table_of databases ss weight) conn false (table_of databases ss weight)
+taken_stays databases [] weight conn place apart at = let within : place < 0 = at.within in absurd (omega arith)
+taken_stays databases (s ∷ ss) weight conn place apart at = joined_so (table_of databases (s ∷ ss) weight) conn false (table_of databases (s ∷ ss) weight) (is_taken databases (s ∷ ss) weight conn place s apart at) refl
 
 -- ---- a session that was changed
 
