@@ -1,15 +1,13 @@
 //! Statements that are prepared already, or stand alone in their text.
 
-ghost use Rattle.std.specs.Prelude.{◌≡◌, [], ◌∷◌, Option};
-ghost use Rattle.std.specs.Option.{is_some};
+ghost use Rattle.std.specs.Prelude.{◌≡◌, [], ◌∷◌};
 ghost use Rattle.session_rules.specs.Asking as rules;
-ghost use Rattle.session_rules.specs.Sessions.{Prepared as RulePrepared};
 ghost use Rattle.session_rules.specs.Statements as statements;
 ghost use Rattle.session_rules.specs.Statements.{with_all};
-ghost use Rattle.session_asking.specs.Meant.{meant, CanRun};
+ghost use Rattle.session_asking.specs.Meant.{meant, CanRun, CanBeDone};
 
 use crate::wanted::Wanted;
-use session_table::{Cause, Prepared};
+use session_table::{Cause, Prepared, Session, prepared_at};
 use sql_scan::WordKind;
 use statement_runs::{is_control, is_left_out};
 use wire_words::Value;
@@ -106,13 +104,13 @@ pub fn wanted_by_query(statement: Option<Prepared>, params: &[Value]) -> Wanted
     }
 }
 
-/// What a FINALIZE wants of the statement of a number, which is there or not. Takes no memory.
-pub fn wanted_by_finalize(there: bool, id: u64) -> Wanted
-    ensures { (statement : Option RulePrepared) → is_some statement ≡ there → meant [] result ≡ rules.asks_finalize statement id }
+/// What a FINALIZE wants of the statement of a number. Takes no memory.
+pub fn wanted_by_finalize(session: &Session, id: u32) -> Wanted
+    ensures wants { meant [] result ≡ rules.asks_finalize (statements.prepared_at session.now.statements.items id) id }
+    ensures can { CanBeDone session.now.statements.items [] result }
 {
-    if there {
-        Wanted::Drops(id)
-    } else {
-        Wanted::Never(Cause::NoStatement)
+    match prepared_at(session.statements.as_slice(), id) {
+        Some(_prepared) => Wanted::Drops(id),
+        None => Wanted::Never(Cause::NoStatement),
     }
 }
