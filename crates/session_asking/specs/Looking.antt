@@ -1,5 +1,6 @@
 -- What code looks for in sessions and databases.
-use Rattle.std.specs.Prelude.{◌≡◌, ◌≤◌, ◌+◌, ◌*◌, ◌/◌, ℕ, Bool, List, [], ◌∷◌, length, insert, bytes_eq, Option, if◌then◌else◌}
+use Rattle.std.specs.Prelude.{◌==◌, ◌&&◌, ◌≡◌, ◌≤◌, ◌+◌, ◌*◌, ◌/◌, ℕ, Bool, List, [], ◌∷◌, length, insert, bytes_eq, Option, if◌then◌else◌}
+use Rattle.raft_rules.specs.Node.{Server}
 use Rattle.session_rules.specs.Machine.{Machine, with_name}
 use Rattle.session_rules.specs.Sessions.{Gateway}
 use Rattle.session_rules.specs.Limits.{held_pages, opened_by, is_configuring}
@@ -17,6 +18,10 @@ proposed_by s = opened_by s.flight
 -- a session's change of the cluster is in flight
 abbrev pub is_changing : Session → Bool
 is_changing s = is_configuring s.flight
+
+-- the server has this id, and votes
+abbrev pub votes_as : ℕ → Server → Bool
+votes_as id server = (server.role == 0) && (server.id == id)
 
 -- the pages of a database other than the one of a name
 abbrev pub pages_beside : Machine → Gateway → List ℕ → List ℕ → ℕ

@@ -85,8 +85,9 @@ pub(crate) fn wanted_by_reading(prepared: Prepared, params: &[Value]) -> Wanted
 
 /// What an EXEC of a prepared statement wants, where a transaction is open or none is. The statement is that of the
 /// request's number, if there is one. Takes no memory.
-pub fn wanted_by_exec(inside: bool, statement: Option<Prepared>, params: &[Value]) -> Wanted
-    ensures { meant params.now result ≡ rules.asks_exec inside statement params.now }
+pub(crate) fn wanted_by_exec(inside: bool, statement: Option<Prepared>, params: &[Value]) -> Wanted
+    ensures wants { meant params.now result ≡ rules.asks_exec inside statement params.now }
+    ensures runs { CanRun params.now result }
 {
     match statement {
         Some(prepared) => wanted_by_one(inside, prepared, params),
@@ -95,7 +96,7 @@ pub fn wanted_by_exec(inside: bool, statement: Option<Prepared>, params: &[Value
 }
 
 /// What a QUERY of a prepared statement wants. Takes no memory.
-pub fn wanted_by_query(statement: Option<Prepared>, params: &[Value]) -> Wanted
+pub(crate) fn wanted_by_query(statement: Option<Prepared>, params: &[Value]) -> Wanted
     ensures { meant params.now result ≡ rules.asks_prepared_query statement params.now }
 {
     match statement {
@@ -105,7 +106,7 @@ pub fn wanted_by_query(statement: Option<Prepared>, params: &[Value]) -> Wanted
 }
 
 /// What a FINALIZE wants of the statement of a number. Takes no memory.
-pub fn wanted_by_finalize(session: &Session, id: u32) -> Wanted
+pub(crate) fn wanted_by_finalize(session: &Session, id: u32) -> Wanted
     ensures wants { meant [] result ≡ rules.asks_finalize (statements.prepared_at session.now.statements.items id) id }
     ensures can { CanBeDone session.now.statements.items [] result }
 {

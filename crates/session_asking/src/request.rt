@@ -1,20 +1,31 @@
-//! What any request wants. **Still to come**: `wanted_by`, `all_names` and `pages_full` answer want of memory for now.
+//! What any request wants.
 
-ghost use Rattle.std.specs.Prelude.{◌≡◌, ℕ, IfOk, nat_lt};
+ghost use Rattle.std.specs.Prelude.{◌≡◌, ℕ, List, [], false, IfOk};
+ghost use Rattle.dq_base.specs.Names.{has_nul};
+ghost use Rattle.page_apply.specs.declared.database.Database.{Database};
 ghost use Rattle.session_rules.specs.Asking as rules;
-ghost use Rattle.session_rules.specs.Limits as limits;
 ghost use Rattle.session_rules.specs.Machine.{machine_of};
 ghost use Rattle.session_table.specs.Table.{AreApart, session_of, table_of};
 ghost use Rattle.session_asking.specs.Meant.{meant, params_of, NameHasNoNul, CanBeDone};
 
+use crate::cluster::{
+    wanted_by_change, wanted_by_cluster, wanted_by_connect, wanted_by_describe, wanted_by_leader,
+    wanted_by_transfer,
+};
+use crate::databases::{wanted_by_dump, wanted_by_open};
+use crate::statements::{
+    executes, executes_text, finalizes, interrupts, prepares, queries, queries_text,
+};
 use crate::view::View;
-use crate::wanted::Wanted;
-use dq_base::Name;
+use crate::wanted::{Effect, Wanted};
 use page_apply::Machine;
-use session_table::Session;
+use session_table::{Cause, Session};
 use std::alloc::{AllocError, Global};
-use wire_msgs::Request;
+use wire_msgs::{Request, Response};
 use wire_words::Value;
+
+/// For how many milliseconds a client may be silent.
+const HEARTBEAT_TIMEOUT: u64 = 15_000;
 
 /// The parameters of a request; none where it has no place for them. Takes no memory.
 pub fn params_of(request: &Request) -> &[Value]
@@ -29,32 +40,44 @@ pub fn params_of(request: &Request) -> &[Value]
     }
 }
 
-/// The names of the databases that there are and of those that are proposed, ascending by their bytes. Looks at each session.
-/// `Err` is want of memory.
-pub fn all_names(
+/// What OPEN wants by a name that holds no NUL. `Err` is want of memory.
+fn opens(
     alloc: Global,
+    view: &View,
     machine: &Machine,
     sessions: &[Session],
-) -> Result<Vec<Name>, AllocError>
-    requires { AreApart sessions.now }
-    ensures { (weight : ℕ) → IfOk result (λ names. names.items ≡ limits.all_names (machine_of machine.now) (table_of machine.now sessions.now weight)) }
+    session: &Session,
+    name: &str,
+) -> Result<Wanted, AllocError>
+    requires apart { AreApart sessions.now }
+    requires text { has_nul name.now ≡ false }
+    ensures { (weight : ℕ) → IfOk result (λ wanted. meant [] wanted ≡ rules.at_leader view.now (rules.asks_open view.now (machine_of machine.now) (table_of machine.now sessions.now weight) (session_of machine.now session.now) name.now)) }
 {
-    Err(AllocError)
+    if !view.serving {
+        return Ok(Wanted::Never(Cause::NotLeader));
+    }
+    wanted_by_open(alloc, view, machine, sessions, session, name)
 }
 
-/// Whether all databases would have more than 16,384 pages together, those that are proposed counted, if the one of a name had
-/// so many. Looks at each session for each database. `Err` is want of memory.
-pub fn pages_full(
-    alloc: Global,
-    machine: &Machine,
-    sessions: &[Session],
-    name: &str,
-    pages: u64,
-) -> Result<bool, AllocError>
+/// What ADD, ASSIGN and REMOVE want.
+fn changes_servers(view: &View, sessions: &[Session]) -> Wanted
     requires { AreApart sessions.now }
-    ensures { (weight : ℕ) → IfOk result (λ full. full ≡ nat_lt 16384 (limits.pages_with (machine_of machine.now) (table_of machine.now sessions.now weight) name.now pages)) }
+    ensures { (databases : List Database) (weight : ℕ) → meant [] result ≡ rules.at_leader view.now (rules.asks_change (table_of databases sessions.now weight)) }
 {
-    Err(AllocError)
+    if !view.serving {
+        return Wanted::Never(Cause::NotLeader);
+    }
+    wanted_by_change(sessions)
+}
+
+/// What TRANSFER wants.
+fn transfers(view: &View, id: u64) -> Wanted
+    ensures { meant [] result ≡ rules.at_leader view.now (rules.asks_transfer view.now id) }
+{
+    if !view.serving {
+        return Wanted::Never(Cause::NotLeader);
+    }
+    wanted_by_transfer(view, id)
 }
 
 /// What a request wants of a session, at a node with this view, these databases, these sessions and this weight: its refusal,
@@ -63,6 +86,7 @@ pub fn pages_full(
 ///
 /// Costs in the order of the request's bytes and of the sessions; for a prepared statement also in that of its text, which is
 /// copied, and for the files of a database in that of the files. `Err` is want of memory.
+#[tactic(auto, unfolding(session_rules::specs::Asking::asked_by))]
 pub fn wanted_by(
     alloc: Global,
     view: &View,
@@ -77,5 +101,57 @@ pub fn wanted_by(
     ensures wants { IfOk result (λ wanted. meant (params_of request.now) wanted ≡ rules.asked_by view.now (machine_of machine.now) (table_of machine.now sessions.now weight) (session_of machine.now session.now) request.now) }
     ensures can { IfOk result (CanBeDone session.now.statements.items (params_of request.now)) }
 {
-    Err(AllocError)
+    match request {
+        Request::Leader => wanted_by_leader(alloc, view),
+        Request::Client { .. } => Ok(Wanted::Tells(Response::Welcome {
+            heartbeat_timeout: HEARTBEAT_TIMEOUT,
+        })),
+        Request::Open { name, .. } => {
+            opens(alloc, view, machine, sessions, session, name.as_str())
+        }
+        Request::Prepare { db, sql, wide } => {
+            prepares(alloc, view, session, *db, sql.as_str(), *wide)
+        }
+        Request::Exec {
+            db,
+            statement,
+            params,
+            ..
+        } => {
+            let db = *db as u64;
+            executes(alloc, view, session, db, *statement, params.as_slice())
+        }
+        Request::Query {
+            db,
+            statement,
+            params,
+            ..
+        } => {
+            let db = *db as u64;
+            queries(alloc, view, session, db, *statement, params.as_slice())
+        }
+        Request::Finalize { db, statement } => { Ok(finalizes(session, *db as u64, *statement)) }
+        Request::ExecSql {
+            db,
+            sql,
+            params,
+            ..
+        } => executes_text(alloc, view, session, *db, sql.as_str(), params.as_slice()),
+        Request::QuerySql {
+            db,
+            sql,
+            params,
+            ..
+        } => queries_text(alloc, view, session, *db, sql.as_str(), params.as_slice()),
+        Request::Interrupt { db } => Ok(interrupts(session, *db)),
+        Request::Connect { id, .. } => Ok(wanted_by_connect(view, *id)),
+        Request::Add { .. } | Request::Assign { .. } | Request::Remove { .. } => {
+            Ok(changes_servers(view, sessions))
+        }
+        Request::Dump { name } => wanted_by_dump(alloc, machine, name.as_str()),
+        Request::Cluster { format } => wanted_by_cluster(alloc, view, *format),
+        Request::Transfer { id } => Ok(transfers(view, *id)),
+        Request::Describe { format } => Ok(wanted_by_describe(weight, *format)),
+        Request::Weight { weight } => Ok(Wanted::Sets(Effect::Weighs(*weight))),
+    }
 }
