@@ -1,12 +1,17 @@
 //! The clients of a node: from the bytes of a connection to its requests, in order and one at a time, and from what comes
 //! of them to the bytes of its replies.
+//!
+//! **Most bodies are still to come.** The contracts stand, so that what is above can be built: `connect`, `receive`, `next`,
+//! `on_applied`, `on_lost` and `close` answer want of memory for now.
 #![tactic(auto)]
 
 mod act;
+mod clients;
 mod joining;
 mod laws;
 mod sending;
 
 pub use act::Act;
+pub use clients::Clients;
 pub use joining::Joining;
-pub use laws::{clients_stay_sound, offers_are_first};
+pub use laws::{clients_stay_sound, commands_keep_clients, offers_are_first};
