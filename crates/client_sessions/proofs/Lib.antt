@@ -1,8 +1,12 @@
 pub mod Asking
+pub mod Hearing
+pub mod Landing
 pub mod Offers
 pub mod Requests
+pub mod Serving
 pub mod Soundness
 pub mod Standing
+pub mod Taking
 pub mod Telling
 pub mod Turns
 pub mod Whole

@@ -1,8 +1,9 @@
 -- The clients that code holds, as the rules see them, and that they stand over a machine.
-use Rattle.std.proofs.Common.{◌≡◌, ℕ, ◌<◌, Bool, true, false, cond, eqb, ltb, ◌==◌, List, [], ◌∷◌, ◌++◌, Option, Some, None, is_none, is_some, not, refl, sym, ap, subst, ◌∙◌, arith}
+use Rattle.std.proofs.Common.{◌≡◌, ℕ, ◌<◌, Bool, true, false, cond, eqb, ltb, ◌==◌, List, [], ◌∷◌, ◌++◌, Option, Some, None, is_none, is_some, not, Result, Ok, Err, OnErr, refl, sym, ap, subst, ◌∙◌, arith}
 use Rattle.std.specs.Ordering.{nat_cmp, is_eq}
 use Rattle.std.specs.BTreeMap.{BTreeMap, get, is_at}
-use Rattle.std.specs.Map.{lookup}
+use Rattle.std.specs.Map.{lookup, set_value}
+use Rattle.std.proofs.lemmas.Map.Steps.{set_value_same}
 use Rattle.std.proofs.lemmas.Bool.{ltb-true, eqb-true, eqb-false, ne_eqb, eq-eqb}
 use Rattle.client_connection.specs.Connection.{Conn}
 use Rattle.frame_commands.specs.declared.command.Command.{Command}
@@ -34,6 +35,20 @@ pub sound_as : (j k : Clients) → j.sessions ≡ k.sessions → ((conn : ℕ) �
 sound_as j k sessions streams sound =
     let same : j ≡ record { sessions = k.sessions; streams = k.streams; turns = j.turns } = alike j _ sessions streams refl in
     subst Sound (sym same) (record { fits = sound.fits; sends = sound.sends })
+
+-- the same of maps with the same entries
+pub entries_alike : (old new : Held) (before after : List Database) → seen new.gateway after ≡ seen old.gateway before → new.connections.entries ≡ old.connections.entries
+    → new.turns.items ≡ old.turns.items → clients_of new after ≡ clients_of old before
+entries_alike old new before after sessions entries turns =
+    held_alike old new before after sessions (λ q. ap (λ (es : List (ℕ × Conn)). lookup (is_at (nat_cmp q)) es) entries) turns
+
+-- what was found and put back changes no entry
+pub put_back : (old new : List (ℕ × Conn)) (conn : ℕ) (found back : Conn) → new ≡ set_value (is_at (nat_cmp conn)) old back → Some found ≡ lookup (is_at (nat_cmp conn)) old → back ≡ found → new ≡ old
+put_back old new conn found back put is same = put ∙ set_value_same (is_at (nat_cmp conn)) old back (sym is ∙ ap (λ (c : Conn). Some c) (sym same))
+
+pub on_err : {A E : Type 0} (r : Result A E) (P : Type 0) → P → OnErr r P
+on_err (Ok x) P p = tt
+on_err (Err e) P p = p
 
 -- ---- none
 

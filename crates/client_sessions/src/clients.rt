@@ -1,24 +1,27 @@
 //! The clients of a node, and their calls.
 
-ghost use Rattle.std.specs.Prelude.{◌≡◌, ◌≤◌, not, is_none, List, IfOk, OnOk, OnErr};
+ghost use Rattle.std.specs.Prelude.{◌≡◌, ◌≤◌, not, is_none, List, ℕ, ◌++◌, IfOk, OnOk, OnErr};
 ghost use Rattle.page_apply.specs.declared.database.Database.{Database};
 ghost use Rattle.session_rules.specs.Machine.{machine_of};
 ghost use Rattle.session_rules.specs.Events as events;
 ghost use Rattle.gateway.specs.Calls.{HasShortTerm, FlownIn, all_told};
 ghost use Rattle.client_sessions.specs.Sending.{HasPlainAddresses};
 ghost use Rattle.client_sessions.specs.Clients.{no_clients, joining, joined, hung_up, closing, closed, heard, freed};
-ghost use Rattle.client_sessions.specs.Calls.{TookTurn, told_conns, sent};
+ghost use Rattle.client_sessions.specs.Calls.{TookFrom, TookNext, TookTurn, told_conns, sent};
 ghost use Rattle.client_sessions.specs.Seen.{clients_of, StandOver, HasNoMarks};
 
 use crate::act::Act;
+use crate::answering::come;
 use crate::joining::Joining;
+use crate::sending::messages_to;
 use client_connection::{CloseReason, Connection};
 use gateway::{Gateway, View};
 use page_apply::Machine;
 use sql_engine::Engine;
 use std::alloc::{AllocError, Global};
 use std::collections::{BTreeMap, VecDeque};
-use wire_words::WireBytes;
+use wire_msgs::Response;
+use wire_words::{Message, WireBytes};
 
 /// All clients of a node: their sessions, and the streams of their open connections.
 ///
@@ -31,6 +34,16 @@ pub struct Clients {
     gateway: Gateway,
     connections: BTreeMap<u64, Connection>,
     turns: VecDeque<u64>,
+}
+
+// Gives the connections that are told something a turn behind the others.
+fn give_turns(turns: &mut VecDeque<u64>, told: &[(u64, Response)]) -> Result<(), AllocError>
+    ensures { OnOk result (turns.new.items ≡ turns.old.items ++ told_conns told.now) }
+{
+    for item in told {
+        turns.push_back(item.0)?;
+    }
+    Ok(())
 }
 
 impl Clients {
@@ -73,7 +86,13 @@ impl Clients {
         ensures stand { (databases : List Database) → StandOver self.old databases → StandOver self.new databases }
         ensures failed { OnErr result ((databases : List Database) → clients_of self.new databases ≡ clients_of self.old databases) }
     {
-        Err(AllocError)
+        let Some(stream) = self.connections.get_mut(&conn) else {
+            return Ok(());
+        };
+        self.turns.reserve(1)?;
+        stream.receive(bytes)?;
+        self.turns.push_back(conn)?;
+        Ok(())
     }
 
     /// Takes the message whose turn it is, and answers what the node has to do for it; `None` where no message's turn is left.
@@ -102,7 +121,19 @@ impl Clients {
         ensures kind { E.kind engine.new ≡ E.kind engine.old }
         ensures openings { E.refused_openings engine.old ≤ E.refused_openings engine.new }
     {
-        Err(AllocError)
+        let Some((conn, message)) = self.take_next() else {
+            return Ok(None);
+        };
+        let act = come(
+            self.alloc,
+            &mut self.gateway,
+            conn,
+            &message,
+            view,
+            machine,
+            engine,
+        )?;
+        Ok(Some(act))
     }
 
     /// An entry of a term is applied: the proposal that ends with it is done. Answers the messages that tell its client so, if
@@ -124,7 +155,9 @@ impl Clients {
         ensures stands { StandOver self.new machine.new }
         ensures files { machine_of machine.new ≡ machine_of machine.old }
     {
-        Err(AllocError)
+        let told = self.gateway.on_applied(index, term, machine)?;
+        give_turns(&mut self.turns, told.as_slice())?;
+        messages_to(self.alloc, told.as_slice())
     }
 
     /// The node no longer leads the term of the proposals in flight: they and all transactions end. Answers the messages that
@@ -141,7 +174,9 @@ impl Clients {
         ensures stands { StandOver self.new machine.new }
         ensures files { machine_of machine.new ≡ machine_of machine.old }
     {
-        Err(AllocError)
+        let told = self.gateway.on_lost(machine)?;
+        give_turns(&mut self.turns, told.as_slice())?;
+        messages_to(self.alloc, told.as_slice())
     }
 
     /// The client of a connection hangs up: its session goes with its transaction and with the messages that wait. A proposal
@@ -173,6 +208,48 @@ impl Clients {
         ensures stands { StandOver self.new machine.new }
         ensures files { machine_of machine.new ≡ machine_of machine.old }
     {
-        Err(AllocError)
+        let Some(reason) = self.reason(conn)? else {
+            return Ok(None);
+        };
+        self.hang_up(conn, machine);
+        Ok(Some(reason))
+    }
+
+    // Why a connection is to be closed, where it is open and is to be. Nothing changes.
+    fn reason(&mut self, conn: u64) -> Result<Option<CloseReason>, AllocError>
+        ensures same { (databases : List Database) → clients_of self.new databases ≡ clients_of self.old databases }
+        ensures gateway { self.new.gateway ≡ self.old.gateway }
+        ensures reason { IfOk result (λ reason. (databases : List Database) → reason ≡ closing ((clients_of self.old databases).streams conn)) }
+    {
+        match self.connections.get_mut(&conn) {
+            Some(stream) => stream.close_reason(),
+            None => Ok(None),
+        }
+    }
+
+    // Takes the first message that waits on a connection, where it is open and its session isn't busy.
+    fn take_from(&mut self, conn: u64) -> Option<Message>
+        ensures took { (databases : List Database) (turns : List ℕ) → TookFrom (clients_of self.old databases) (clients_of self.new databases) conn turns result }
+        ensures gateway { self.new.gateway ≡ self.old.gateway }
+        ensures turns { self.new.turns.items ≡ self.old.turns.items }
+    {
+        if self.gateway.busy(conn) {
+            return None;
+        }
+        self.connections.get_mut(&conn)?.next()
+    }
+
+    // Takes the message whose turn it is, with its connection.
+    fn take_next(&mut self) -> Option<(u64, Message)>
+        ensures took { (databases : List Database) → TookNext (clients_of self.old databases) (clients_of self.new databases) result }
+        ensures gateway { self.new.gateway ≡ self.old.gateway }
+    {
+        while let Some(&conn) = self.turns.front() {
+            if let Some(message) = self.take_from(conn) {
+                return Some((conn, message));
+            }
+            self.turns.pop_front();
+        }
+        None
     }
 }

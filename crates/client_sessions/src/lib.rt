@@ -1,11 +1,11 @@
 //! The clients of a node: from the bytes of a connection to its requests, in order and one at a time, and from what comes
 //! of them to the bytes of its replies.
 //!
-//! **Most bodies are still to come.** The contracts stand, so that what is above can be built: `connect`, `receive`, `next`,
-//! `on_applied`, `on_lost` and `close` answer want of memory for now.
+//! **The body of `connect` is still to come**: it answers want of memory for now, and so there is never a client.
 #![tactic(auto)]
 
 mod act;
+mod answering;
 mod clients;
 mod joining;
 mod laws;
