@@ -1,5 +1,5 @@
 -- What a call of the gateway did: the definitions' outcome, as code tells it.
-use Rattle.std.specs.Prelude.{◌≡◌, ℕ, ◌≤◌, ◌<◌, Bool, true, false, List, [], ◌∷◌, map, flat_map, Option, Some, None}
+use Rattle.std.specs.Prelude.{◌≡◌, ℕ, ◌≤◌, ◌<◌, Bool, true, false, List, [], ◌∷◌, length, map, flat_map, Option, Some, None}
 use Rattle.std.specs.List.{AllByRecursion}
 use Rattle.dq_base.specs.Names.{has_nul}
 use Rattle.wire_msgs.specs.declared.request.Request.{Request}
@@ -11,7 +11,8 @@ use Rattle.sql_engine.specs.Meanings.{Meaning, Told}
 use Rattle.session_rules.specs.Causes.{failure}
 use Rattle.session_rules.specs.Entries.{written}
 use Rattle.session_rules.specs.Machine.{Machine}
-use Rattle.session_rules.specs.Engines.{Answer, AllowsFor}
+use Rattle.session_rules.specs.Seen.{HasSpelling}
+use Rattle.session_rules.specs.Engines.{Answer, AllowsFor, used_for}
 use Rattle.session_rules.specs.Sessions.{Reply, responses_of, Gateway, View, Flight, Session, Effect, HandsOver, JoinsPeer, Weighs, Turned, Refused, Lacks, Answers, Proposes, Affects}
 use Rattle.session_rules.specs.Requests.{on_request, handed, with_session, affected_by}
 use Rattle.statement_runs.specs.Running.{TellsAll}
@@ -25,20 +26,21 @@ act_for (JoinsPeer id) = acts.Peer id
 act_for (Weighs weight) = acts.Reply (responses.Empty ∷ [])
 
 -- What comes of a request, as code tells it: the sessions after it, and the act. A refusal leaves all as it was; no answer
--- of the engine is ever missing.
+-- of the engine is ever missing; and what is proposed reads back.
 abbrev pub Is : View → Gateway → ℕ → Turned → Gateway → Act → Type 0
 Is v g conn (Refused cause) now act = (now ≡ g) × (act ≡ acts.Reply (failure cause ∷ []))
 Is v g conn Lacks now act = ⊥
 Is v g conn (Answers session reply note) now act = (now ≡ with_session g conn session) × (act ≡ acts.Reply (responses_of reply))
-Is v g conn (Proposes session contents note) now act = (now ≡ with_session g conn session) × (act ≡ acts.Propose (written v.term contents))
+Is v g conn (Proposes session contents note) now act = (now ≡ with_session g conn session) × (act ≡ acts.Propose (written v.term contents)) × AllByRecursion HasSpelling contents
 Is v g conn (Affects effect) now act = (now ≡ affected_by g effect) × (act ≡ act_for effect)
 
--- There are answers that the engine may give to what the request hands it, and which it told one after the other; by them
--- the request comes to this act and these sessions.
+-- There are answers that the engine may give to what the request hands it, and which it told one after the other. The
+-- request uses all of them, and by them it comes to this act and these sessions.
 pub record TurnedBy (m : Meaning) (kind : EngineKind) (v : View) (machine : Machine) (g : Gateway) (conn : ℕ) (request : Request) (told_before told_now : Option Told) (now : Gateway) (act : Act) : Type 0 where
   pub answers : List Answer
   pub allowed : AllowsFor m kind (handed v machine g conn request) answers
   pub told : TellsAll answers told_before told_now
+  pub exact : used_for (handed v machine g conn request) answers ≡ length answers
   pub is : Is v g conn (on_request v machine g conn request answers) now act
 
 -- a reply to a connection, in the responses that it is told in

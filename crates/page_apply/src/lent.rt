@@ -3,15 +3,17 @@
 ghost use Rattle.std.specs.Prelude.{◌≡◌, length};
 ghost use Rattle.dq_base.specs.Images.{page_at};
 ghost use Rattle.checkpoint_core.specs.Store.{newest_image};
+ghost use Rattle.page_apply.specs.Machines.{IsMachine};
 
 use crate::database::Database;
 use crate::machine::Machine;
 use dq_base::{Lengths, Name, Page};
 
 impl Machine {
-    /// The databases, lent by the bytes of their names. Takes no memory.
+    /// The databases, lent by the bytes of their names; what is true of those of every machine. Takes no memory.
     pub fn databases(&self) -> &[Database]
-        ensures { result.now ≡ self.now }
+        ensures all { result.now ≡ self.now }
+        ensures stand { IsMachine self.now }
     {
         self.databases.as_slice()
     }

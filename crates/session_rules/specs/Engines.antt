@@ -1,5 +1,5 @@
 -- What an engine answers to the statements of a request, and statements that run one after another by its answers.
-use Rattle.std.specs.Prelude.{ℕ, Bool, true, false, ◌||◌, List, [], ◌∷◌, is_none, Option, Some, None, Result, Ok, Err, if◌then◌else◌}
+use Rattle.std.specs.Prelude.{ℕ, suc, Bool, true, false, ◌||◌, List, [], ◌∷◌, is_none, Option, Some, None, Result, Ok, Err, if◌then◌else◌}
 use Rattle.dq_base.specs.declared.images.Image.{Image}
 use Rattle.dq_base.specs.declared.pages.NumberedPage.{NumberedPage}
 use Rattle.dq_base.specs.Applying.{page_fault}
@@ -42,6 +42,13 @@ runs image last (s ∷ ss) [] = Lacking
 runs image last (s ∷ ss) (Ok ran ∷ answers) = if takes ran.after.pages then runs (image_after image ran.after.pages) ran ss answers else TooLarge ran
 runs image last (s ∷ ss) (Err fault ∷ answers) = Stopped fault
 
+-- how many of these answers the statements use
+unfoldable pub used : Image → List Statement → List Answer → ℕ
+used image [] answers = 0
+used image (s ∷ ss) [] = 0
+used image (s ∷ ss) (Ok ran ∷ answers) = suc (if takes ran.after.pages then used (image_after image ran.after.pages) ss answers else 0)
+used image (s ∷ ss) (Err fault ∷ answers) = 1
+
 -- ---- what an engine may answer
 
 -- What an engine of a kind, with this meaning, may answer to a statement on an image.
@@ -70,3 +77,8 @@ pub record Handed : Type 0 where
 abbrev pub AllowsFor : Meaning → EngineKind → Option Handed → List Answer → Type 0
 AllowsFor m kind None answers = Unit {0}
 AllowsFor m kind (Some handed) answers = AllowsAll m kind handed.image handed.statements answers
+
+-- how many of these answers are used for what was handed over
+abbrev pub used_for : Option Handed → List Answer → ℕ
+used_for None answers = 0
+used_for (Some handed) answers = used handed.image handed.statements answers

@@ -1,9 +1,9 @@
 -- One voter that never stops.
 use Rattle.std.proofs.Common.{◌≡◌, ℕ, zero, suc, ◌+◌, ◌-◌, ◌<◌, true, false, List, [], ◌∷◌, ◌++◌, length, refl, sym, ap, ◌∙◌, subst, arith, length-append}
-use Rattle.std.specs.Prelude.{nat_le, map, Option, Some, None}
+use Rattle.std.specs.Prelude.{nat_le, Bool, map, Option, Some, None, if◌then◌else◌}
 use Rattle.std.specs.List.{filter}
 use Rattle.std.proofs.lemmas.List.{take_all}
-use Rattle.std.proofs.lemmas.Bool.{cond_both}
+use Rattle.std.proofs.lemmas.Bool.{cond_both, cond-true}
 use Rattle.wire_msgs.specs.declared.request.Request.{Request}
 use Rattle.frame_commands.specs.declared.command.Command.TheVariants.{Checkpoint}
 use Rattle.sql_engine.specs.declared.kind.EngineKind.{EngineKind}
@@ -32,12 +32,14 @@ record Rests (mean : Meaning) (w : Node) : Type 0 where
   all : w.applied ≡ length w.log
   same : w.leads ≡ w.serving
   empty : w.leads ≡ false → w.log ≡ []
+  term : w.term ≡ (if w.leads then 1 else 0)
 
 -- a node in the midst of a turn
 record Works (mean : Meaning) (w : Node) : Type 0 where
   node : NodeOk mean w
   leads : w.leads ≡ true
   serves : w.serving ≡ true
+  term : w.term ≡ 1
 
 -- it works, and all is applied
 record Settled (mean : Meaning) (w : Node) : Type 0 where
@@ -49,16 +51,17 @@ pub record Same (w v : Node) : Type 0 where
   pub leads : v.leads ≡ w.leads
   pub serving : v.serving ≡ w.serving
   pub applied : v.applied ≡ w.applied
+  pub term : v.term ≡ w.term
 
 same_refl : (w : Node) → Same w w
-same_refl w = record { leads = refl; serving = refl; applied = refl }
+same_refl w = record { leads = refl; serving = refl; applied = refl; term = refl }
 
 called_same : (w : Node) (c : ℕ) (t : Turned) → Same w (called w c t)
-called_same w c (Refused why) = record { leads = refl; serving = refl; applied = refl }
+called_same w c (Refused why) = record { leads = refl; serving = refl; applied = refl; term = refl }
 called_same w c Lacks = same_refl w
-called_same w c (Answers s r note) = record { leads = refl; serving = refl; applied = refl }
-called_same w c (Affects effect) = record { leads = refl; serving = refl; applied = refl }
-called_same w c (Proposes s contents note) = record { leads = refl; serving = refl; applied = refl }
+called_same w c (Answers s r note) = record { leads = refl; serving = refl; applied = refl; term = refl }
+called_same w c (Affects effect) = record { leads = refl; serving = refl; applied = refl; term = refl }
+called_same w c (Proposes s contents note) = record { leads = refl; serving = refl; applied = refl; term = refl }
 
 pub call_same : (w : Node) (c : ℕ) (standing : Standing) (r : Request) (answers : List Answer) → Same w (happens w (Call c standing r answers))
 unfolding happens
@@ -108,11 +111,11 @@ no_pending log k n l e = subst (λ xs. (base_at (xs ++ entries_of 1 (Other ∷ [
 
 join_same : (w : Node) (c : ℕ) → Same w (happens w (Connect c)) × ((happens w (Connect c)).log ≡ w.log)
 unfolding happens
-join_same w c = cond_both (connects w.gate c) _ w (λ v. Same w v × (v.log ≡ w.log)) (λ e. (record { leads = refl; serving = refl; applied = refl }, refl)) (λ e. (same_refl w, refl))
+join_same w c = cond_both (connects w.gate c) _ w (λ v. Same w v × (v.log ≡ w.log)) (λ e. (record { leads = refl; serving = refl; applied = refl; term = refl }, refl)) (λ e. (same_refl w, refl))
 
 leave_same : (w : Node) (c : ℕ) → Same w (happens w (Hangup c)) × ((happens w (Hangup c)).log ≡ w.log)
 unfolding happens
-leave_same w c = (record { leads = refl; serving = refl; applied = refl }, refl)
+leave_same w c = (record { leads = refl; serving = refl; applied = refl; term = refl }, refl)
 
 no_entries : Woven []
 no_entries = record { at = λ i name tx term b pages pos x. absurd (none_some x.is) }
@@ -122,14 +125,14 @@ no_entries = record { at = λ i name tx term b pages pos x. absurd (none_some x.
 
 module _ (mean : Meaning) (kind : EngineKind) where
   rests_of : (w : Node) → Settled mean w → Rests mean w
-  rests_of w s = record { node = s.works.node; all = s.all; same = s.works.leads ∙ sym s.works.serves; empty = λ e. no (sym e ∙ s.works.leads) }
+  rests_of w s = record { node = s.works.node; all = s.all; same = s.works.leads ∙ sym s.works.serves; empty = λ e. no (sym e ∙ s.works.leads); term = s.works.term ∙ sym (cond-true w.leads 1 0 s.works.leads) }
 
   works_call : (w : Node) (c : ℕ) (standing : Standing) (r : Request) (answers : List Answer) → Fits mean kind w (Call c standing r answers) → Works mean w → Works mean (happens w (Call c standing r answers))
-  works_call w c standing r answers h a = let s = call_same w c standing r answers in record { node = happens_ok mean kind w (Call c standing r answers) h a.node; leads = s.leads ∙ a.leads; serves = s.serving ∙ a.serves }
+  works_call w c standing r answers h a = let s = call_same w c standing r answers in record { node = happens_ok mean kind w (Call c standing r answers) h a.node; leads = s.leads ∙ a.leads; serves = s.serving ∙ a.serves; term = s.term ∙ a.term }
 
   works_apply : (w : Node) → w.applied < length w.log → Works mean w → Works mean (happens w Apply)
   unfolding happens
-  works_apply w h a = record { node = happens_ok mean kind w Apply h a.node; leads = a.leads; serves = a.serves }
+  works_apply w h a = record { node = happens_ok mean kind w Apply h a.node; leads = a.leads; serves = a.serves; term = a.term }
 
   settle : (k : ℕ) (w : Node) → w.applied + k ≡ length w.log → Works mean w → AllFit mean kind w (applies k) × Settled mean (run_from w (applies k))
   settle zero w e a = (tt, record { works = a; all = omega arith })
@@ -149,7 +152,7 @@ module _ (mean : Meaning) (kind : EngineKind) where
 
   works_due : (w : Node) → Works mean w → Works mean (checkpointed w)
   unfolding happens
-  works_due w a = record { node = happens_ok mean kind w (Append (due (databases w))) (due_fits w a) a.node; leads = a.leads; serves = a.serves }
+  works_due w a = record { node = happens_ok mean kind w (Append (due (databases w))) (due_fits w a) a.node; leads = a.leads; serves = a.serves; term = a.term }
 
   fit_append : (w : Node) (xs ys : List Event) → AllFit mean kind w xs → AllFit mean kind (run_from w xs) ys → AllFit mean kind w (xs ++ ys)
   fit_append w [] ys a b = b
@@ -170,6 +173,7 @@ module _ (mean : Meaning) (kind : EngineKind) where
     all = s.applied ∙ a.all ∙ sym (ap length l);
     same = s.leads ∙ a.same ∙ sym s.serving;
     empty = λ e. l ∙ a.empty (sym s.leads ∙ e);
+    term = s.term ∙ a.term ∙ ap (λ (b : Bool). if b then 1 else 0) (sym s.leads);
   }
 
   elected : (w : Node) → w.leads ≡ false → Rests mean w → Rests mean (run_from w (Lead 1 ∷ Append (Other ∷ []) ∷ Apply ∷ Serve ∷ []))
@@ -186,6 +190,7 @@ module _ (mean : Meaning) (kind : EngineKind) where
         all = full;
         same = refl;
         empty = λ e. no (sym e);
+        term = refl;
       }
 
   turn_ok : (w : Node) (t : Turn) → AllowsTurn mean kind w t → Rests mean w → Rests mean (takes_turn w t)
@@ -193,27 +198,36 @@ module _ (mean : Meaning) (kind : EngineKind) where
   turn_ok w (Join c) h a = let s = join_same w c in still_rests w (happens w (Connect c)) a (happens_ok mean kind w (Connect c) tt a.node) s.0 s.1
   turn_ok w (Leave c) h a = let s = leave_same w c in still_rests w (happens w (Hangup c)) a (happens_ok mean kind w (Hangup c) tt a.node) s.0 s.1
   turn_ok w (Ask c standing r answers) h a = cond_both w.leads _ (Call c standing r answers ∷ []) (λ es. Rests mean (run_from w es))
-      (λ e. rests_of _ (ask_leading w c standing r answers h (record { node = a.node; leads = e; serves = sym a.same ∙ e })))
+      (λ e. rests_of _ (ask_leading w c standing r answers h (record { node = a.node; leads = e; serves = sym a.same ∙ e; term = a.term ∙ cond-true w.leads 1 0 e })))
       (λ e. still_rests w (happens w (Call c standing r answers)) a (happens_ok mean kind w (Call c standing r answers) h a.node) (call_same w c standing r answers) (call_log w c standing r answers (sym a.same ∙ e)))
 
   turns_ok : (ts : List Turn) (w : Node) → AllowsTurns mean kind w ts → Rests mean w → Rests mean (alone_from w ts)
   turns_ok [] w h a = a
   turns_ok (t ∷ ts) w h a = turns_ok ts (takes_turn w t) h.1 (turn_ok w t h.0 a)
 
+  rests_alone : (ts : List Turn) → AllowsTurns mean kind (started [] 0 0) ts → Rests mean (alone ts)
+  unfolding alone
+  rests_alone ts h = turns_ok ts (started [] 0 0) h (record { node = started_ok mean kind [] 0 0 (omega arith) no_entries; all = refl; same = refl; empty = λ e. refl; term = refl })
+
+  -- what every event keeps is so after each turn
+  pub alone_ok : (ts : List Turn) → AllowsTurns mean kind (started [] 0 0) ts → NodeOk mean (alone ts)
+  alone_ok ts h = (rests_alone ts h).node
+
   no_flight : (log : List Entry) (applied term : ℕ) (t : Trail) (o : Option Flight) → applied ≡ length log → FlightIs mean log applied term t o → o ≡ None
   no_flight log applied term t None e a = refl
   no_flight log applied term t (Some f) e a = let x = a.ahead in let y = a.within in absurd (omega arith)
 
   pub alone_is_safe_holds : AloneIsSafe mean kind
-  unfolding alone
   alone_is_safe_holds ts h =
-      let w = alone_from (started [] 0 0) ts in
-      let r = turns_ok ts (started [] 0 0) h (record { node = started_ok mean kind [] 0 0 (omega arith) no_entries; all = refl; same = refl; empty = λ e. refl }) in
+      let w = alone ts in
+      let r = rests_alone ts h in
       let full = r.all in
       record {
         applied = r.all;
         said = subst (λ l. AllSaid mean l w.said) (take_all w.applied w.log (omega arith)) r.node.said;
         woven = r.node.woven;
+        serves = sym r.same;
+        term = r.term;
         answered = λ c. no_flight w.log w.applied w.term (w.trail c) (w.gate.session c).flight r.all (r.node.sessions c).flight;
       }
 

@@ -1,17 +1,14 @@
 -- One voter that never stops: what is proposed is applied in the same step. Its run, turn by turn, and that of a script with
 -- its journal.
-use Rattle.std.specs.Prelude.{◌≡◌, ℕ, zero, suc, ◌-◌, Bool, true, false, ◌&&◌, nat_le, List, [], ◌∷◌, ◌++◌, length, drop, map, Option, Some, None, Ok, Err, if◌then◌else◌}
+use Rattle.std.specs.Prelude.{◌≡◌, ℕ, zero, suc, ◌-◌, Bool, true, false, ◌&&◌, nat_le, List, [], ◌∷◌, ◌++◌, length, drop, map, None, if◌then◌else◌}
 use Rattle.std.specs.List.{filter}
-use Rattle.dq_base.specs.declared.images.Image.{Image}
 use Rattle.wire_msgs.specs.declared.request.Request.{Request}
 use Rattle.frame_commands.specs.declared.command.Command.TheVariants.{Checkpoint}
 use Rattle.sql_engine.specs.declared.kind.EngineKind.{EngineKind}
-use Rattle.sql_engine.specs.Replies.{Statement}
 use Rattle.sql_engine.specs.Meanings.{Meaning}
-use Rattle.page_apply.specs.Files.{image_after}
 use Rattle.session_rules.specs.Entries.{Content, Does, Other}
 use Rattle.session_rules.specs.Machine.{Machine}
-use Rattle.session_rules.specs.Engines.{Answer, takes, Handed, AllowsFor}
+use Rattle.session_rules.specs.Engines.{Answer, used_for, AllowsFor}
 use Rattle.session_rules.specs.Sessions.{Turned, Refused, Lacks, Answers, Proposes, Affects, may_ask}
 use Rattle.session_rules.specs.Requests.{on_request, handed}
 use Rattle.session_world.specs.Woven.{Woven}
@@ -78,29 +75,20 @@ AllowsTurns m kind w [] = Unit {0}
 AllowsTurns m kind w (t ∷ ts) = AllowsTurn m kind w t × AllowsTurns m kind (takes_turn w t) ts
 
 -- The one node has applied its whole log; each reply is right by it; the entries of each transaction stand in one piece; and
--- no request waits for its answer.
+-- no request waits for its answer. Where it leads, it serves, in term 1.
 pub record SafeAlone (m : Meaning) (w : Node) : Type 0 where
   pub applied : w.applied ≡ length w.log
   pub said : AllSaid m w.log w.said
   pub woven : Woven w.log
   pub answered : (conn : ℕ) → (w.gate.session conn).flight ≡ None
+  pub serves : w.serving ≡ w.leads
+  pub term : w.term ≡ (if w.leads then 1 else 0)
 
 -- So it is after each list of turns.
 abbrev pub AloneIsSafe : Meaning → EngineKind → Type 0
 AloneIsSafe m kind = (ts : List Turn) → AllowsTurns m kind (started [] 0 0) ts → SafeAlone m (alone ts)
 
 -- ---- scripts
-
--- how many answers of a journal the statements of a request use
-unfoldable pub used : Image → List Statement → List Answer → ℕ
-used image [] answers = 0
-used image (s ∷ ss) [] = 0
-used image (s ∷ ss) (Ok ran ∷ answers) = suc (if takes ran.after.pages then used (image_after image ran.after.pages) ss answers else 0)
-used image (s ∷ ss) (Err fault ∷ answers) = 1
-
-abbrev pub used_for : Option Handed → List Answer → ℕ
-used_for None answers = 0
-used_for (Some x) answers = used x.image x.statements answers
 
 -- an answer that is needed is missing
 abbrev pub lacks : Turned → Bool

@@ -1,5 +1,5 @@
 -- Statements that ran so far, and how running them ends.
-use Rattle.std.proofs.Common.{◌≡◌, ◌<◌, ◌^◌, ℕ, Bool, true, false, cond, List, [], ◌∷◌, ◌++◌, length, Option, Some, None, is_none, Ok, Err, ◌⊎◌, inl, inr, refl, sym, ap, subst, ◌∙◌, append_assoc, append-nil, arith}
+use Rattle.std.proofs.Common.{◌≡◌, ◌<◌, ◌+◌, ◌^◌, ℕ, suc, Bool, true, false, cond, List, [], ◌∷◌, ◌++◌, length, Option, Some, None, is_none, Ok, Err, ◌⊎◌, inl, inr, refl, sym, ap, subst, ◌∙◌, append_assoc, append-nil, length-append, arith}
 use Rattle.std.proofs.lemmas.Bool.{cases_Bool, cond-true, cond-false}
 use Rattle.dq_base.specs.declared.images.Image.{Image}
 use Rattle.dq_base.specs.declared.pages.NumberedPage.{NumberedPage}
@@ -15,7 +15,7 @@ use Rattle.sql_engine.specs.Meanings.{Meaning, Answers, Faults, IsShort, Told, T
 use Rattle.sql_engine.proofs.ChangeLists.{changed_none}
 use Rattle.sql_engine.proofs.Leading.{leads_on}
 use Rattle.statement_runs.proofs.Changing.{change_leads}
-use Rattle.session_rules.specs.Engines.{Answer, Ending, TooLarge, Stopped, Ended, no_pages, takes, no_answer, runs, AllowsRest, AllowsAll}
+use Rattle.session_rules.specs.Engines.{Answer, Ending, TooLarge, Stopped, Ended, no_pages, takes, no_answer, runs, used, AllowsRest, AllowsAll}
 use Rattle.statement_runs.specs.declared.ending.AllRan.{AllRan}
 use Rattle.statement_runs.specs.declared.ending.Ending.{Ending as CodeEnding}
 use Rattle.statement_runs.specs.declared.ending.Ending.TheVariants as codes
@@ -26,6 +26,7 @@ pub record Reached (m : Meaning) (kind : EngineKind) (base : Image) (statements 
   pub answers : List Answer
   pub told : TellsAll answers told_before told_now
   pub runs_on : (more : List Answer) → runs base no_answer statements (answers ++ more) ≡ runs cur last rest more
+  pub uses_on : (more : List Answer) → used base statements (answers ++ more) ≡ length answers + used cur rest more
   pub allows_on : (more : List Answer) → AllowsAll m kind cur rest more → AllowsAll m kind base statements (answers ++ more)
   pub short : (cur ≡ base) ⊎ IsShort cur
 
@@ -35,6 +36,7 @@ reached_start m kind base statements told = record {
   answers = [];
   told = refl;
   runs_on = λ more. refl;
+  uses_on = λ more. omega arith;
   allows_on = λ more h. h;
   short = inl refl;
 }
@@ -61,6 +63,15 @@ runs_one cur to last s rest ran more taken image =
     cond-true (takes ran.after.pages) (runs (image_after cur ran.after.pages) ran rest more) (TooLarge ran) taken
     ∙ ap (λ (i : Image). runs i ran rest more) (after_is cur ran.after.pages taken ∙ sym image)
 
+uses_one : (cur to : Image) (s : Statement) (rest : List Statement) (ran : Ran) (more : List Answer) → takes ran.after.pages ≡ true → to ≡ applied cur ran.after.pages → used cur (s ∷ rest) (Ok ran ∷ more) ≡ suc (used to rest more)
+unfolding used
+uses_one cur to s rest ran more taken image =
+    ap suc (cond-true (takes ran.after.pages) (used (image_after cur ran.after.pages) rest more) 0 taken
+    ∙ ap (λ (i : Image). used i rest more) (after_is cur ran.after.pages taken ∙ sym image))
+
+counts_more : (answers : List Answer) (a : Answer) (n : ℕ) → length answers + suc n ≡ length (answers ++ a ∷ []) + n
+counts_more answers a n = let long = length-append answers (a ∷ []) in omega arith
+
 allows_one : (m : Meaning) (kind : EngineKind) (tx : ℕ) (cur to : Image) (s : Statement) (rest : List Statement) (ran : Ran) (more : List Answer) → Answers m cur s tx ran → takes ran.after.pages ≡ true → to ≡ applied cur ran.after.pages
     → AllowsAll m kind to rest more → AllowsAll m kind cur (s ∷ rest) (Ok ran ∷ more)
 allows_one m kind tx cur to s rest ran more a taken image h =
@@ -79,18 +90,20 @@ reached_more m kind tx base statements s rest before now next cur to last ran r 
   answers = r.answers ++ Ok ran ∷ [];
   told = tells_more r.answers (Ok ran) before now next r.told w.told;
   runs_on = λ more. ap (runs base no_answer statements) (append_assoc r.answers (Ok ran ∷ []) more) ∙ r.runs_on (Ok ran ∷ more) ∙ runs_one cur to last s rest ran more w.taken w.image;
+  uses_on = λ more. ap (used base statements) (append_assoc r.answers (Ok ran ∷ []) more) ∙ r.uses_on (Ok ran ∷ more) ∙ ap (λ (n : ℕ). length r.answers + n) (uses_one cur to s rest ran more w.taken w.image) ∙ counts_more r.answers (Ok ran) (used to rest more);
   allows_on = λ more h. subst (λ (told : List Answer). AllowsAll m kind base statements told) (sym (append_assoc r.answers (Ok ran ∷ []) more)) (r.allows_on (Ok ran ∷ more) (allows_one m kind tx cur to s rest ran more w.answers w.taken w.image h));
   short = inr (reached_short m tx cur to s ran w.answers w.image);
 }
 
 -- Where what is reached ends with these answers more, all of it does.
 ran_to : (m : Meaning) (kind : EngineKind) (tx : ℕ) (base : Image) (statements rest : List Statement) (before now next : Option Told) (cur : Image) (last : Ran) (more : List Answer) (ending : CodeEnding)
-    → (r : Reached m kind base statements rest before now cur last) → TellsAll (r.answers ++ more) before next → AllowsAll m kind cur rest more → Shows tx base (runs cur last rest more) ending
+    → (r : Reached m kind base statements rest before now cur last) → TellsAll (r.answers ++ more) before next → AllowsAll m kind cur rest more → used cur rest more ≡ length more → Shows tx base (runs cur last rest more) ending
     → RanTo m kind tx base statements before next ending
-ran_to m kind tx base statements rest before now next cur last more ending r told allowed shows = record {
+ran_to m kind tx base statements rest before now next cur last more ending r told allowed exact shows = record {
   answers = r.answers ++ more;
   allowed = r.allows_on more allowed;
   told = told;
+  exact = r.uses_on more ∙ ap (λ (n : ℕ). length r.answers + n) exact ∙ sym (length-append r.answers more);
   ends = subst (λ (e : Ending). Shows tx base e ending) (sym (r.runs_on more)) shows;
 }
 
@@ -107,20 +120,22 @@ change_shown base cur short =
 
 pub reached_end : (m : Meaning) (kind : EngineKind) (tx : ℕ) (base : Image) (statements : List Statement) (before now : Option Told) (cur : Image) (last : Ran) (ran : AllRan)
     → Reached m kind base statements [] before now cur last → ran.answer ≡ last → change_in ran ≡ record { tx = tx; pages = changed base cur } → RanTo m kind tx base statements before now (codes.Ended ran)
-unfolding runs
+unfolding runs used
 reached_end m kind tx base statements before now cur last ran r answer change =
     ran_to m kind tx base statements [] before now now cur last [] (codes.Ended ran) r
     (subst (λ (rest : List Answer). TellsAll rest before now) (sym (append-nil r.answers)) r.told)
     tt
+    refl
     (ran, refl, answer, change, change_shown base cur r.short)
 
 pub reached_fault : (m : Meaning) (kind : EngineKind) (tx : ℕ) (base : Image) (statements : List Statement) (s : Statement) (rest : List Statement) (before now next : Option Told) (cur : Image) (last : Ran) (fault : EngineFault)
     → Reached m kind base statements (s ∷ rest) before now cur last → Failed m kind cur s now next fault → RanTo m kind tx base statements before next (codes.Stopped fault)
-unfolding runs
+unfolding runs used
 reached_fault m kind tx base statements s rest before now next cur last fault r f =
     ran_to m kind tx base statements (s ∷ rest) before now next cur last (Err fault ∷ []) (codes.Stopped fault) r
     (tells_more r.answers (Err fault) before now next r.told f.told)
     f.faults
+    refl
     refl
 
 too_large : (cur : Image) (last : Ran) (s : Statement) (rest : List Statement) (ran : Ran) → takes ran.after.pages ≡ false → runs cur last (s ∷ rest) (Ok ran ∷ []) ≡ TooLarge ran
@@ -132,12 +147,17 @@ allows_last m kind tx cur s rest ran a refused =
     let gate : AllowsRest (takes ran.after.pages) (AllowsAll m kind (image_after cur ran.after.pages) rest []) = subst (λ (b : Bool). AllowsRest b (AllowsAll m kind (image_after cur ran.after.pages) rest [])) (sym refused) tt in
     ((tx, a), gate)
 
+uses_last : (cur : Image) (s : Statement) (rest : List Statement) (ran : Ran) → takes ran.after.pages ≡ false → used cur (s ∷ rest) (Ok ran ∷ []) ≡ 1
+unfolding used
+uses_last cur s rest ran refused = ap suc (cond-false (takes ran.after.pages) (used (image_after cur ran.after.pages) rest []) 0 refused)
+
 pub reached_too_far : (m : Meaning) (kind : EngineKind) (tx : ℕ) (base : Image) (statements : List Statement) (s : Statement) (rest : List Statement) (before now next : Option Told) (cur : Image) (last ran : Ran)
     → Reached m kind base statements (s ∷ rest) before now cur last → WentTooFar m tx cur s now next ran → RanTo m kind tx base statements before next (codes.TooLarge ran)
 reached_too_far m kind tx base statements s rest before now next cur last ran r w =
     ran_to m kind tx base statements (s ∷ rest) before now next cur last (Ok ran ∷ []) (codes.TooLarge ran) r
     (tells_more r.answers (Ok ran) before now next r.told w.told)
     (allows_last m kind tx cur s rest ran w.answers w.refused)
+    (uses_last cur s rest ran w.refused)
     (subst (λ (e : Ending). Shows tx base e (codes.TooLarge ran)) (sym (too_large cur last s rest ran w.refused)) refl)
 
 abbrev the_set : ℕ → List NumberedPage → PageSet

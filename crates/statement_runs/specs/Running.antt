@@ -1,5 +1,5 @@
 -- What running statements one after another came to.
-use Rattle.std.specs.Prelude.{◌≡◌, ℕ, Bool, true, false, List, [], ◌∷◌, unwrap_or, Option, Some, None, Result, Ok, Err, if◌then◌else◌}
+use Rattle.std.specs.Prelude.{◌≡◌, ℕ, Bool, true, false, List, [], ◌∷◌, length, unwrap_or, Option, Some, None, Result, Ok, Err, if◌then◌else◌}
 use Rattle.dq_base.specs.declared.images.Image.{Image}
 use Rattle.dq_base.specs.declared.pages.PageSet.{PageSet}
 use Rattle.dq_base.specs.Applying.{applied}
@@ -10,7 +10,7 @@ use Rattle.sql_engine.specs.declared.fault.EngineFault.{EngineFault}
 use Rattle.sql_engine.specs.declared.fault.EngineFault.TheVariants as faults
 use Rattle.sql_engine.specs.Replies.{Statement}
 use Rattle.sql_engine.specs.Meanings.{Meaning, Answers, Faults, Told, Tells}
-use Rattle.session_rules.specs.Engines.{Answer, Ending, Lacking, TooLarge, Stopped, Ended, takes, no_answer, runs, AllowsAll}
+use Rattle.session_rules.specs.Engines.{Answer, Ending, Lacking, TooLarge, Stopped, Ended, takes, no_answer, runs, used, AllowsAll}
 use Rattle.statement_runs.specs.declared.ending.AllRan.{AllRan}
 use Rattle.statement_runs.specs.declared.ending.Ending.{Ending as CodeEnding}
 use Rattle.statement_runs.specs.declared.ending.Ending.TheVariants as codes
@@ -31,11 +31,12 @@ Shows tx from (TooLarge answer) ending = ending ≡ codes.TooLarge answer
 Shows tx from (Stopped fault) ending = ending ≡ codes.Stopped fault
 Shows tx from (Ended to answer) ending = (ran : AllRan) × (ending ≡ codes.Ended ran) × (ran.answer ≡ answer) × (change_in ran ≡ record { tx = tx; pages = changed from to }) × (applied from (changed from to) ≡ to)
 
--- What running came to: there are answers that the engine may give and told, and by them it ends so.
+-- What running came to: there are answers that the engine may give and told, all of them are used, and by them it ends so.
 pub record RanTo (m : Meaning) (kind : EngineKind) (tx : ℕ) (image : Image) (statements : List Statement) (told_before told_now : Option Told) (ending : CodeEnding) : Type 0 where
   pub answers : List Answer
   pub allowed : AllowsAll m kind image statements answers
   pub told : TellsAll answers told_before told_now
+  pub exact : used image statements answers ≡ length answers
   pub ends : Shows tx image (runs image no_answer statements answers) ending
 
 abbrev pub is_unopened : EngineFault → Bool
