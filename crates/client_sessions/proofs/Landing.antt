@@ -9,7 +9,7 @@ use Rattle.page_apply.specs.declared.database.Database.{Database}
 use Rattle.page_apply.specs.Pins.{Pinning, IsPinned}
 use Rattle.session_rules.specs.Sessions.{Gateway}
 use Rattle.session_rules.specs.Events.{on_applied, on_lost, told_applied, told_lost}
-use Rattle.gateway.specs.Calls.{all_told, FlownIn}
+use Rattle.gateway.specs.Calls.{all_told}
 use Rattle.gateway.specs.Pins.{AreMarks}
 use Rattle.gateway.specs.Seen.{seen, pins_of, PinsOf}
 use Rattle.client_sessions.specs.declared.clients.Clients.{Clients as Held}
@@ -52,10 +52,6 @@ applied_told held databases index told is = is
 pub lost_told : (held : Held) (databases : List Database) (told : List (ℕ × Response)) → told ≡ all_told (told_lost (seen held.gateway databases)) → told ≡ all_told (told_lost (clients_of held databases).sessions)
 unfolding clients_of
 lost_told held databases told is = is
-
-pub flown_held : (held : Held) (databases : List Database) (term : ℕ) → FlownIn term (clients_of held databases).sessions → FlownIn term (seen held.gateway databases)
-unfolding clients_of
-flown_held held databases term flown = flown
 
 pub on_ok : {A E : Type 0} (r : Result A E) (P : Type 0) → P → OnOk r P
 on_ok (Ok x) P p = p

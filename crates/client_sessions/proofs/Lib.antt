@@ -1,4 +1,5 @@
 pub mod Asking
+pub mod Connecting
 pub mod Hearing
 pub mod Landing
 pub mod Offers

@@ -1,12 +1,15 @@
 //! The clients of a node, and their calls.
 
-ghost use Rattle.std.specs.Prelude.{◌≡◌, ◌≤◌, not, is_none, List, ℕ, ◌++◌, IfOk, OnOk, OnErr};
+ghost use Rattle.std.specs.Prelude.{◌≡◌, ◌≤◌, false, not, is_none, None, List, ℕ, ◌++◌, IfOk, OnOk, OnErr, if◌then◌else◌};
+ghost use Rattle.std.specs.Ordering.{nat_cmp};
+ghost use Rattle.std.specs.BTreeMap.{get};
 ghost use Rattle.page_apply.specs.declared.database.Database.{Database};
 ghost use Rattle.session_rules.specs.Machine.{machine_of};
 ghost use Rattle.session_rules.specs.Events as events;
-ghost use Rattle.gateway.specs.Calls.{HasShortTerm, FlownIn, all_told};
+ghost use Rattle.gateway.specs.Calls.{HasShortTerm, all_told};
+ghost use Rattle.gateway.specs.Seen.{pins_of};
 ghost use Rattle.client_sessions.specs.Sending.{HasPlainAddresses};
-ghost use Rattle.client_sessions.specs.Clients.{no_clients, joining, joined, hung_up, closing, closed, heard, freed};
+ghost use Rattle.client_sessions.specs.Clients.{no_clients, joining, joined, joined_as, hung_up, closing, closed, heard, freed};
 ghost use Rattle.client_sessions.specs.Calls.{TookFrom, TookNext, TookTurn, told_conns, sent};
 ghost use Rattle.client_sessions.specs.Seen.{clients_of, StandOver, HasNoMarks};
 
@@ -75,7 +78,14 @@ impl Clients {
         ensures stand { (databases : List Database) → StandOver self.old databases → StandOver self.new databases }
         ensures failed { OnErr result ((databases : List Database) → clients_of self.new databases ≡ clients_of self.old databases) }
     {
-        Err(AllocError)
+        if self.is_taken(conn) {
+            return Ok(Joining::Taken);
+        }
+        if self.join(conn)? {
+            Ok(Joining::Joined)
+        } else {
+            Ok(Joining::Full)
+        }
     }
 
     /// Bytes come on a connection: they are cut into messages, which wait behind those that wait already, and the connection
@@ -137,8 +147,7 @@ impl Clients {
     }
 
     /// An entry of a term is applied: the proposal that ends with it is done. Answers the messages that tell its client so, if
-    /// it is there, with the number of its connection, which gets a turn behind the others. All proposals in flight are of
-    /// that term. The machine has the entry applied.
+    /// it is there, with the number of its connection, which gets a turn behind the others. The machine has the entry applied.
     ///
     /// `Err` is want of memory. The proposal may be done then and its reply be lost; the clients stand over the machine as
     /// ever.
@@ -149,7 +158,6 @@ impl Clients {
         machine: &mut Machine,
     ) -> Result<Vec<(u64, WireBytes)>, AllocError>
         requires stand { StandOver self.old machine.old }
-        requires term { FlownIn term (clients_of self.old machine.old).sessions }
         ensures landed { OnOk result (clients_of self.new machine.new ≡ freed (clients_of self.old machine.old) (events.on_applied index (clients_of self.old machine.old).sessions) (told_conns (all_told (events.told_applied index (clients_of self.old machine.old).sessions)))) }
         ensures told { IfOk result (λ told. told.items ≡ sent (all_told (events.told_applied index (clients_of self.old machine.old).sessions))) }
         ensures stands { StandOver self.new machine.new }
@@ -213,6 +221,37 @@ impl Clients {
         };
         self.hang_up(conn, machine);
         Ok(Some(reason))
+    }
+
+    // Whether a number is that of a connection that is open, or of one that hung up while its proposal is in flight.
+    fn is_taken(&self, conn: u64) -> bool
+        ensures there { (databases : List Database) → StandOver self.now databases → result ≡ ((clients_of self.now databases).sessions.session conn).there }
+        ensures closed { result ≡ false → get nat_cmp self.now.connections conn ≡ None }
+    {
+        self.connections.contains_key(&conn) || self.gateway.busy(conn)
+    }
+
+    // Gives a connection that isn't open a session and a stream; false where it gets no session. Then, and at an `Err`,
+    // nothing has changed.
+    fn join(&mut self, conn: u64) -> Result<bool, AllocError>
+        requires { get nat_cmp self.old.connections conn ≡ None }
+        ensures told { IfOk result (λ new. (databases : List Database) → new ≡ events.connects (clients_of self.old databases).sessions conn) }
+        ensures joined { IfOk result (λ new. (databases : List Database) → clients_of self.new databases ≡ (if new then joined_as (clients_of self.old databases) conn Joining.Joined else clients_of self.old databases)) }
+        ensures pins { pins_of self.new.gateway ≡ pins_of self.old.gateway }
+        ensures failed { OnErr result ((databases : List Database) → clients_of self.new databases ≡ clients_of self.old databases) }
+    {
+        self.connections.insert(conn, Connection::new(self.alloc))?;
+        match self.gateway.connect(conn) {
+            Ok(true) => Ok(true),
+            Ok(false) => {
+                self.connections.remove(&conn);
+                Ok(false)
+            }
+            Err(error) => {
+                self.connections.remove(&conn);
+                Err(error)
+            }
+        }
     }
 
     // Why a connection is to be closed, where it is open and is to be. Nothing changes.

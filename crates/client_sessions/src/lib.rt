@@ -1,7 +1,5 @@
 //! The clients of a node: from the bytes of a connection to its requests, in order and one at a time, and from what comes
 //! of them to the bytes of its replies.
-//!
-//! **The body of `connect` is still to come**: it answers want of memory for now, and so there is never a client.
 #![tactic(auto)]
 
 mod act;

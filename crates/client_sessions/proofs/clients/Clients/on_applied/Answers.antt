@@ -1,11 +1,8 @@
 use Rattle.std.proofs.Common.{List, ℕ, refl, ap, ◌∙◌}
 use Rattle.std.proofs.lemmas.Result.{IfOk-weaker}
 use Rattle.client_sessions.specs.Calls.{sent}
-use Rattle.client_sessions.proofs.Landing.{applied_can, applied_held, applied_told, applied_stand, failed_stand, flown_held, on_ok}
+use Rattle.client_sessions.proofs.Landing.{applied_can, applied_held, applied_told, applied_stand, failed_stand, on_ok}
 use Rattle.client_sessions.proofs.clients.Clients.on_applied.Goals as goal
-
-pub on_applied-requires-clause-term : goal.on_applied-requires-clause-term
-on_applied-requires-clause-term c = flown_held c.args.self.now c.args.machine.now c.args.term c.requires.term
 
 pub returns-in_err-told-clause-stands : goal.returns-in_err-told-clause-stands
 returns-in_err-told-clause-stands c =
