@@ -37,10 +37,9 @@ impl Gateway {
         Gateway { alloc }
     }
 
-    /// Gives a connection a session; false exactly where 64 are there, hung-up ones counted. No session of this gateway has
-    /// the connection's number. `Err` is want of memory; nothing has changed then.
+    /// Gives a connection a session; false exactly where it has one, or where 64 are there, hung-up ones counted. Nothing has
+    /// changed at false. `Err` is want of memory; nothing has changed then either.
     pub fn connect(&mut self, conn: u64) -> Result<bool, AllocError>
-        requires { (databases : List Database) → ((seen self.old databases).session conn).there ≡ false }
         ensures connected { OnOk result ((databases : List Database) → seen self.new databases ≡ (if events.connects (seen self.old databases) conn then events.connected (seen self.old databases) conn else seen self.old databases)) }
         ensures told { IfOk result (λ new. (databases : List Database) → new ≡ events.connects (seen self.old databases) conn) }
         ensures pins { pins_of self.new ≡ pins_of self.old }
@@ -94,7 +93,6 @@ impl Gateway {
         machine: &mut Machine,
     ) -> Result<Vec<(u64, Response)>, AllocError>
         requires pins { PinsOf self.old machine.old }
-        requires term { FlownIn term (seen self.old machine.old) }
         ensures landed { OnOk result (seen self.new machine.new ≡ events.on_applied index (seen self.old machine.old)) }
         ensures told { IfOk result (λ told. told.items ≡ all_told (events.told_applied index (seen self.old machine.old))) }
         ensures failed { OnErr result (seen self.new machine.new ≡ seen self.old machine.old) }
