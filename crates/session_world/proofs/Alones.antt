@@ -100,7 +100,7 @@ request_log : (w : Node) (c : ℕ) (standing : Standing) (r : Request) (answers 
 unfolding on_request
 request_log w c standing r answers off = idle_log w c standing (asked_by (view_of w standing) (databases w) w.gate (w.gate.session c) r) answers (request_idle (view_of w standing) (databases w) w.gate (w.gate.session c) off r)
 
-call_log : (w : Node) (c : ℕ) (standing : Standing) (r : Request) (answers : List Answer) → w.serving ≡ false → (happens w (Call c standing r answers)).log ≡ w.log
+pub call_log : (w : Node) (c : ℕ) (standing : Standing) (r : Request) (answers : List Answer) → w.serving ≡ false → (happens w (Call c standing r answers)).log ≡ w.log
 unfolding happens
 call_log w c standing r answers off = cond_both (may_ask (w.gate.session c)) _ w (λ v. v.log ≡ w.log) (λ e. request_log w c standing r answers off) (λ e. refl)
 
