@@ -8,7 +8,8 @@ use Rattle.sql_scan.specs.Places.{StandsIn}
 use Rattle.session_rules.specs.Asking as rules
 use Rattle.session_rules.specs.Asking.{Asked}
 use Rattle.session_rules.specs.Sessions as sessions
-use Rattle.session_rules.specs.Sessions.{Prepared, Effect as RuleEffect}
+use Rattle.session_rules.specs.Sessions.{Prepared, Effect as RuleEffect, View}
+use Rattle.session_rules.specs.Limits.{log_full}
 use Rattle.session_rules.specs.Statements.{prepared_from, prepared_at, free_id, with_params, with_all}
 use Rattle.statement_runs.specs.Texts.{cut_at, wants, assigned}
 use Rattle.session_table.specs.Named.{cause_named}
@@ -62,10 +63,19 @@ abbrev pub NameHasNoNul : Request → Type 0
 NameHasNoNul (requests.Open name flags vfs) = has_nul name ≡ false
 NameHasNoNul request = Unit {0}
 
--- What is wanted can be done at a session with these statements: a statement that is let go is there, there is room for
--- one that is prepared, and statements of a text can run with these parameters.
-abbrev pub CanBeDone : List (Option Prepared) → List Value → Wanted → Type 0
-CanBeDone statements params (wanted.Prepares prepared tail) = free_id statements < 64
-CanBeDone statements params (wanted.Drops id) = IsSome (prepared_at statements id)
-CanBeDone statements params (wanted.RunsAll script) = CanRun params (wanted.RunsAll script)
-CanBeDone statements params wanted = Unit {0}
+-- What is wanted of a session's statements fits them: one that is let go is there, there is room for one that is prepared,
+-- and statements of a text can run with these parameters. No database is wanted.
+abbrev pub FitsStatements : List (Option Prepared) → List Value → Wanted → Type 0
+FitsStatements statements params (wanted.Prepares prepared tail) = free_id statements < 64
+FitsStatements statements params (wanted.Drops id) = IsSome (prepared_at statements id)
+FitsStatements statements params (wanted.RunsAll script) = CanRun params (wanted.RunsAll script)
+FitsStatements statements params (wanted.Creates name) = ⊥
+FitsStatements statements params wanted = Unit {0}
+
+-- What is wanted can be done: it fits the session's statements, and for a new database the log has room.
+abbrev pub CanBeDone : View → List (Option Prepared) → List Value → Wanted → Type 0
+CanBeDone v statements params (wanted.Prepares prepared tail) = free_id statements < 64
+CanBeDone v statements params (wanted.Drops id) = IsSome (prepared_at statements id)
+CanBeDone v statements params (wanted.RunsAll script) = CanRun params (wanted.RunsAll script)
+CanBeDone v statements params (wanted.Creates name) = log_full v ≡ false
+CanBeDone v statements params wanted = Unit {0}

@@ -99,7 +99,7 @@ pub fn wanted_by(
     requires apart { AreApart sessions.now }
     requires name { NameHasNoNul request.now }
     ensures wants { IfOk result (λ wanted. meant (params_of request.now) wanted ≡ rules.asked_by view.now (machine_of machine.now) (table_of machine.now sessions.now weight) (session_of machine.now session.now) request.now) }
-    ensures can { IfOk result (CanBeDone session.now.statements.items (params_of request.now)) }
+    ensures can { IfOk result (CanBeDone view.now session.now.statements.items (params_of request.now)) }
 {
     match request {
         Request::Leader => wanted_by_leader(alloc, view),

@@ -1,4 +1,4 @@
-use Rattle.std.proofs.Common.{◌≡◌, ℕ, List, [], subst}
+use Rattle.std.proofs.Common.{◌≡◌, ℕ, List, [], subst, sym, ap, ◌∙◌}
 use Rattle.std.specs.Prelude.{IfOk}
 use Rattle.std.proofs.lemmas.Result.{IfOk-weaker}
 use Rattle.wire_words.specs.declared.value.Value.{Value}
@@ -10,9 +10,9 @@ use Rattle.session_rules.specs.Sessions.{in_tx}
 use Rattle.session_rules.specs.Statements.{prepared_at}
 use Rattle.session_table.specs.Table.{session_of, table_of}
 use Rattle.session_asking.specs.declared.wanted.Wanted.{Wanted}
-use Rattle.session_asking.specs.Meant.{meant, params_of}
+use Rattle.session_asking.specs.Meant.{meant, params_of, FitsStatements}
 use Rattle.session_asking.proofs.Asked.{of_request, of_result}
-use Rattle.session_asking.proofs.Plain.{plain_can, open_plain, change_plain, interrupt_plain}
+use Rattle.session_asking.proofs.Plain.{plain_can, fit_can, open_plain, change_plain, interrupt_plain}
 use Rattle.session_asking.proofs.request.wanted_by.Goals as goal
 
 pub returns-in-Open-clause-wants : goal.returns-in-Open-clause-wants
@@ -23,7 +23,7 @@ returns-in-Open-clause-wants c =
 
 pub returns-in-Open-clause-can : goal.returns-in-Open-clause-can
 returns-in-Open-clause-can c =
-    IfOk-weaker c.opens.result _ _ (λ w e. plain_can c.args.session.now.statements.items (params_of c.args.request.now) [] w _ e (open_plain c.args.view.now (machine_of c.args.machine.now) (table_of c.args.machine.now c.args.sessions.now c.args.weight) (session_of c.args.machine.now c.args.session.now) c.as_str.result.now)) (c.opens.ensures c.args.weight)
+    IfOk-weaker c.opens.result _ _ (λ w e. plain_can c.args.view.now c.args.session.now.statements.items (params_of c.args.request.now) [] w _ e (open_plain c.args.view.now (machine_of c.args.machine.now) (table_of c.args.machine.now c.args.sessions.now c.args.weight) (session_of c.args.machine.now c.args.session.now) c.as_str.result.now)) (c.opens.ensures c.args.weight)
 
 pub returns-in-Prepare-clause-wants : goal.returns-in-Prepare-clause-wants
 unfolding asked_by
@@ -67,7 +67,7 @@ returns-in-Interrupt-clause-wants c = of_request c.args.view.now (machine_of c.a
 
 pub returns-in-Interrupt-clause-can : goal.returns-in-Interrupt-clause-can
 returns-in-Interrupt-clause-can c =
-    plain_can c.args.session.now.statements.items (params_of c.args.request.now) [] c.interrupts.result _ (c.interrupts.ensures c.args.machine.now) (interrupt_plain (session_of c.args.machine.now c.args.session.now) c.in-Interrupt.db)
+    plain_can c.args.view.now c.args.session.now.statements.items (params_of c.args.request.now) [] c.interrupts.result _ (c.interrupts.ensures c.args.machine.now) (interrupt_plain c.args.view.now (session_of c.args.machine.now c.args.session.now) c.in-Interrupt.db)
 
 pub returns-in-Describe-clause-wants : goal.returns-in-Describe-clause-wants
 unfolding asked_by table_of
@@ -75,4 +75,24 @@ returns-in-Describe-clause-wants c = of_request c.args.view.now (machine_of c.ar
 
 pub returns-in-Add-clause-can : goal.returns-in-Add-clause-can
 returns-in-Add-clause-can c =
-    plain_can c.args.session.now.statements.items (params_of c.args.request.now) [] c.changes_servers.result _ (c.changes_servers.ensures c.args.machine.now c.args.weight) (change_plain c.args.view.now (table_of c.args.machine.now c.args.sessions.now c.args.weight))
+    plain_can c.args.view.now c.args.session.now.statements.items (params_of c.args.request.now) [] c.changes_servers.result _ (c.changes_servers.ensures c.args.machine.now c.args.weight) (change_plain c.args.view.now (table_of c.args.machine.now c.args.sessions.now c.args.weight))
+
+pub returns-in-Prepare-clause-can : goal.returns-in-Prepare-clause-can
+returns-in-Prepare-clause-can c =
+    IfOk-weaker c.prepares.result _ _ (λ w h. fit_can c.args.view.now c.args.session.now.statements.items (params_of c.args.request.now) w (subst (λ (ps : List Value). FitsStatements c.args.session.now.statements.items ps w) (sym (ap params_of c.in-Prepare.is)) h)) c.prepares.ensures.can
+
+pub returns-in-Exec-clause-can : goal.returns-in-Exec-clause-can
+returns-in-Exec-clause-can c =
+    IfOk-weaker c.executes.result _ _ (λ w h. fit_can c.args.view.now c.args.session.now.statements.items (params_of c.args.request.now) w (subst (λ (ps : List Value). FitsStatements c.args.session.now.statements.items ps w) (c.as_slice.ensures ∙ sym (ap params_of c.in-Exec.is)) h)) c.executes.ensures.can
+
+pub returns-in-Query-clause-can : goal.returns-in-Query-clause-can
+returns-in-Query-clause-can c =
+    IfOk-weaker c.queries.result _ _ (λ w h. fit_can c.args.view.now c.args.session.now.statements.items (params_of c.args.request.now) w (subst (λ (ps : List Value). FitsStatements c.args.session.now.statements.items ps w) (c.as_slice-in-Query.ensures ∙ sym (ap params_of c.in-Query.is)) h)) c.queries.ensures.can
+
+pub returns-in-ExecSql-clause-can : goal.returns-in-ExecSql-clause-can
+returns-in-ExecSql-clause-can c =
+    IfOk-weaker c.executes_text.result _ _ (λ w h. fit_can c.args.view.now c.args.session.now.statements.items (params_of c.args.request.now) w (subst (λ (ps : List Value). FitsStatements c.args.session.now.statements.items ps w) (c.as_slice-in-ExecSql.ensures ∙ sym (ap params_of c.in-ExecSql.is)) h)) c.executes_text.ensures.can
+
+pub returns-in-QuerySql-clause-can : goal.returns-in-QuerySql-clause-can
+returns-in-QuerySql-clause-can c =
+    IfOk-weaker c.queries_text.result _ _ (λ w h. fit_can c.args.view.now c.args.session.now.statements.items (params_of c.args.request.now) w (subst (λ (ps : List Value). FitsStatements c.args.session.now.statements.items ps w) (c.as_slice-in-QuerySql.ensures ∙ sym (ap params_of c.in-QuerySql.is)) h)) c.queries_text.ensures.can
