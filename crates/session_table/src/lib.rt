@@ -2,6 +2,8 @@
 //! for the others.
 #![tactic(auto)]
 
+mod bases;
+mod beginning;
 mod cause;
 mod change;
 mod laws;
@@ -13,6 +15,8 @@ mod sweep;
 mod table;
 mod told;
 
+pub use bases::{name_of, newest, newest_image};
+pub use beginning::begin;
 pub use cause::Cause;
 pub use change::{Change, make_change};
 pub use laws::{commands_make_no_marks, marks_change_no_database, released_marks_are_spent};
