@@ -7,7 +7,7 @@ use Rattle.page_apply.specs.declared.database.Database.{Database}
 use Rattle.page_apply.specs.Pins.{Pinning}
 use Rattle.session_rules.specs.Sessions.{Session, Gateway, is_busy}
 use Rattle.session_rules.specs.Events.{connects, connected}
-use Rattle.gateway.specs.Pins.{AreMarks}
+use Rattle.session_table.specs.Marks.{AreMarks}
 use Rattle.gateway.specs.Seen.{seen, pins_of, PinsOf}
 use Rattle.client_sessions.specs.declared.clients.Clients.{Clients as Held}
 use Rattle.client_sessions.specs.declared.joining.Joining.{Joining}

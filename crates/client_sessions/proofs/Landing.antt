@@ -9,8 +9,8 @@ use Rattle.page_apply.specs.declared.database.Database.{Database}
 use Rattle.page_apply.specs.Pins.{Pinning, IsPinned}
 use Rattle.session_rules.specs.Sessions.{Gateway}
 use Rattle.session_rules.specs.Events.{on_applied, on_lost, told_applied, told_lost}
-use Rattle.gateway.specs.Calls.{all_told}
-use Rattle.gateway.specs.Pins.{AreMarks}
+use Rattle.session_table.specs.Sweeping.{all_told}
+use Rattle.session_table.specs.Marks.{AreMarks}
 use Rattle.gateway.specs.Seen.{seen, pins_of, PinsOf}
 use Rattle.client_sessions.specs.declared.clients.Clients.{Clients as Held}
 use Rattle.client_sessions.specs.Clients.{Clients, freed, Sound}

@@ -12,7 +12,7 @@ use Rattle.page_apply.specs.Databases.{act}
 use Rattle.page_apply.specs.Pins.{Pinning, StillPinned}
 use Rattle.session_rules.specs.Sessions.{Gateway, no_sessions}
 use Rattle.session_rules.specs.Events.{on_hangup}
-use Rattle.gateway.specs.Pins.{AreMarks}
+use Rattle.session_table.specs.Marks.{AreMarks}
 use Rattle.gateway.specs.Seen.{seen, pins_of, PinsOf}
 use Rattle.gateway.proofs.Keeping.{marks_stay, sessions_stay}
 use Rattle.client_sessions.specs.declared.clients.Clients.{Clients as Held}

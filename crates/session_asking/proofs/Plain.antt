@@ -7,7 +7,7 @@ use Rattle.session_rules.specs.Machine.{Machine}
 use Rattle.session_rules.specs.Sessions.{Prepared, Session, Gateway, View}
 use Rattle.session_asking.specs.declared.wanted.Wanted.{Wanted}
 use Rattle.session_asking.specs.declared.wanted.Wanted.TheVariants as wanted
-use Rattle.session_asking.specs.Meant.{meant, CanBeDone}
+use Rattle.session_asking.specs.Meant.{meant, FitsStatements}
 
 -- nothing of statements is asked
 abbrev pub Plain : Asked → Type 0
@@ -25,7 +25,7 @@ Plain (Changes servers) = ⊥
 Plain (Runs ss) = ⊥
 Plain (Reads s) = ⊥
 
-pub plain_can : (statements : List (Option Prepared)) (params none : List Value) (w : Wanted) (asked : Asked) → meant none w ≡ asked → Plain asked → CanBeDone statements params w
+pub plain_can : (statements : List (Option Prepared)) (params none : List Value) (w : Wanted) (asked : Asked) → meant none w ≡ asked → Plain asked → FitsStatements statements params w
 plain_can statements params none (wanted.Never cause) asked e h = tt
 plain_can statements params none (wanted.Tells response) asked e h = tt
 plain_can statements params none (wanted.Sets effect) asked e h = tt

@@ -4,7 +4,7 @@ ghost use Rattle.std.specs.Prelude.{◌≡◌, [], ◌∷◌};
 ghost use Rattle.session_rules.specs.Asking as rules;
 ghost use Rattle.session_rules.specs.Statements as statements;
 ghost use Rattle.session_rules.specs.Statements.{with_all};
-ghost use Rattle.session_asking.specs.Meant.{meant, CanRun, CanBeDone};
+ghost use Rattle.session_asking.specs.Meant.{meant, CanRun, FitsStatements};
 
 use crate::wanted::Wanted;
 use session_table::{Cause, Prepared, Session, prepared_at};
@@ -108,7 +108,7 @@ pub(crate) fn wanted_by_query(statement: Option<Prepared>, params: &[Value]) -> 
 /// What a FINALIZE wants of the statement of a number. Takes no memory.
 pub(crate) fn wanted_by_finalize(session: &Session, id: u32) -> Wanted
     ensures wants { meant [] result ≡ rules.asks_finalize (statements.prepared_at session.now.statements.items id) id }
-    ensures can { CanBeDone session.now.statements.items [] result }
+    ensures can { FitsStatements session.now.statements.items [] result }
 {
     match prepared_at(session.statements.as_slice(), id) {
         Some(_prepared) => Wanted::Drops(id),

@@ -7,7 +7,7 @@ ghost use Rattle.sql_scan.specs.Statements.{scan_of};
 ghost use Rattle.session_rules.specs.Asking as rules;
 ghost use Rattle.session_rules.specs.Statements as statements;
 ghost use Rattle.session_table.specs.Table.{session_of};
-ghost use Rattle.session_asking.specs.Meant.{meant, CanBeDone};
+ghost use Rattle.session_asking.specs.Meant.{meant, FitsStatements};
 
 use crate::texts::prepared_from;
 use crate::wanted::Wanted;
@@ -22,7 +22,7 @@ const MOST_STATEMENTS: usize = 64;
 /// What preparing a statement wants, with the place of the rest of its text where that is told.
 fn with_room(session: &Session, prepared: Prepared, tail: Option<u64>) -> Wanted
     ensures wants { (databases : List Database) → meant [] result ≡ rules.with_room (session_of databases session.now) prepared tail }
-    ensures can { CanBeDone session.now.statements.items [] result }
+    ensures can { FitsStatements session.now.statements.items [] result }
 {
     if prepared_count(session.statements.as_slice()) >= MOST_STATEMENTS {
         Wanted::Never(Cause::TooManyStatements)
@@ -48,7 +48,7 @@ fn wanted_by_first(
 ) -> Result<Wanted, AllocError>
     requires { StandsIn sql.now piece.now }
     ensures wants { (databases : List Database) → IfOk result (λ wanted. meant [] wanted ≡ rules.with_room (session_of databases session.now) (statements.prepared_from sql.now piece.now) (rules.tail_of wide piece.now)) }
-    ensures can { IfOk result (CanBeDone session.now.statements.items []) }
+    ensures can { IfOk result (FitsStatements session.now.statements.items []) }
 {
     let tail = tail_of(wide, piece);
     let prepared = prepared_from(alloc, sql, piece)?;
@@ -65,7 +65,7 @@ fn wanted_by_only(
 ) -> Result<Wanted, AllocError>
     requires { StandsIn sql.now piece.now }
     ensures wants { (databases : List Database) → IfOk result (λ wanted. meant [] wanted ≡ rules.asks_prepare_pieces (session_of databases session.now) sql.now wide (piece.now ∷ [])) }
-    ensures can { IfOk result (CanBeDone session.now.statements.items []) }
+    ensures can { IfOk result (FitsStatements session.now.statements.items []) }
 {
     if is_left_out(piece.word) {
         return Ok(Wanted::Never(Cause::NotAllowed));
@@ -84,7 +84,7 @@ fn wanted_by_several(
     requires stand { All (StandsIn sql.now) pieces.now }
     requires several { 1 < length pieces.now }
     ensures wants { (databases : List Database) → IfOk result (λ wanted. meant [] wanted ≡ rules.asks_prepare_pieces (session_of databases session.now) sql.now wide pieces.now) }
-    ensures can { IfOk result (CanBeDone session.now.statements.items []) }
+    ensures can { IfOk result (FitsStatements session.now.statements.items []) }
 {
     if any_barred(pieces) {
         return Ok(Wanted::Never(Cause::NotAllowed));
@@ -105,7 +105,7 @@ fn wanted_by_pieces(
 ) -> Result<Wanted, AllocError>
     requires { All (StandsIn sql.now) pieces.now }
     ensures wants { (databases : List Database) → IfOk result (λ wanted. meant [] wanted ≡ rules.asks_prepare_pieces (session_of databases session.now) sql.now wide pieces.now) }
-    ensures can { IfOk result (CanBeDone session.now.statements.items []) }
+    ensures can { IfOk result (FitsStatements session.now.statements.items []) }
 {
     match pieces {
         [] => Ok(Wanted::Never(Cause::OneStatementWanted)),
@@ -122,7 +122,7 @@ pub(crate) fn wanted_by_prepare(
     wide: bool,
 ) -> Result<Wanted, AllocError>
     ensures wants { (databases : List Database) → IfOk result (λ wanted. meant [] wanted ≡ rules.asks_prepare (session_of databases session.now) sql.now wide (scan_of sql.now)) }
-    ensures can { IfOk result (CanBeDone session.now.statements.items []) }
+    ensures can { IfOk result (FitsStatements session.now.statements.items []) }
 {
     match scan(alloc, sql) {
         Ok(scan) => {

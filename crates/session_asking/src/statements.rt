@@ -9,7 +9,7 @@ ghost use Rattle.session_rules.specs.Sessions.{in_tx};
 ghost use Rattle.session_rules.specs.Statements as statements;
 ghost use Rattle.session_table.specs.Table.{session_of};
 ghost use Rattle.wire_msgs.specs.declared.response.Response.TheVariants as responses;
-ghost use Rattle.session_asking.specs.Meant.{meant, refused_by, CanBeDone};
+ghost use Rattle.session_asking.specs.Meant.{meant, refused_by, FitsStatements};
 
 use crate::databases::has_database;
 use crate::prepared::{wanted_by_exec, wanted_by_finalize, wanted_by_query};
@@ -91,7 +91,7 @@ pub(crate) fn prepares(
     wide: bool,
 ) -> Result<Wanted, AllocError>
     ensures wants { (databases : List Database) → IfOk result (λ wanted. meant [] wanted ≡ rules.at_leader view.now (rules.in_database (session_of databases session.now) db (rules.asks_prepare (session_of databases session.now) sql.now wide (scan_of sql.now)))) }
-    ensures can { IfOk result (CanBeDone session.now.statements.items []) }
+    ensures can { IfOk result (FitsStatements session.now.statements.items []) }
 {
     match hindrance_at_leader(view, session, db) {
         Some(cause) => Ok(Wanted::Never(cause)),
@@ -109,7 +109,7 @@ pub(crate) fn executes(
     params: &[Value],
 ) -> Result<Wanted, AllocError>
     ensures wants { (databases : List Database) → IfOk result (λ wanted. meant params.now wanted ≡ rules.at_leader view.now (rules.in_database (session_of databases session.now) db (rules.asks_exec (in_tx (session_of databases session.now)) (statements.prepared_at session.now.statements.items id) params.now))) }
-    ensures can { IfOk result (CanBeDone session.now.statements.items params.now) }
+    ensures can { IfOk result (FitsStatements session.now.statements.items params.now) }
 {
     match hindrance_at_leader(view, session, db) {
         Some(cause) => Ok(Wanted::Never(cause)),
@@ -130,7 +130,7 @@ pub(crate) fn queries(
     params: &[Value],
 ) -> Result<Wanted, AllocError>
     ensures wants { (databases : List Database) → IfOk result (λ wanted. meant params.now wanted ≡ rules.at_leader view.now (rules.in_database (session_of databases session.now) db (rules.asks_prepared_query (statements.prepared_at session.now.statements.items id) params.now))) }
-    ensures can { IfOk result (CanBeDone session.now.statements.items params.now) }
+    ensures can { IfOk result (FitsStatements session.now.statements.items params.now) }
 {
     match hindrance_at_leader(view, session, db) {
         Some(cause) => Ok(Wanted::Never(cause)),
@@ -151,7 +151,7 @@ pub(crate) fn executes_text(
     params: &[Value],
 ) -> Result<Wanted, AllocError>
     ensures wants { (databases : List Database) → IfOk result (λ wanted. meant params.now wanted ≡ rules.at_leader view.now (rules.in_database (session_of databases session.now) db (rules.asks_text (in_tx (session_of databases session.now)) sql.now (scan_of sql.now) params.now))) }
-    ensures can { IfOk result (CanBeDone session.now.statements.items params.now) }
+    ensures can { IfOk result (FitsStatements session.now.statements.items params.now) }
 {
     match hindrance_at_leader(view, session, db) {
         Some(cause) => Ok(Wanted::Never(cause)),
@@ -169,7 +169,7 @@ pub(crate) fn queries_text(
     params: &[Value],
 ) -> Result<Wanted, AllocError>
     ensures wants { (databases : List Database) → IfOk result (λ wanted. meant params.now wanted ≡ rules.at_leader view.now (rules.in_database (session_of databases session.now) db (rules.asks_rows sql.now (scan_of sql.now) params.now))) }
-    ensures can { IfOk result (CanBeDone session.now.statements.items params.now) }
+    ensures can { IfOk result (FitsStatements session.now.statements.items params.now) }
 {
     match hindrance_at_leader(view, session, db) {
         Some(cause) => Ok(Wanted::Never(cause)),
@@ -180,7 +180,7 @@ pub(crate) fn queries_text(
 /// What FINALIZE wants.
 pub(crate) fn finalizes(session: &Session, db: u64, id: u32) -> Wanted
     ensures wants { (databases : List Database) → meant [] result ≡ rules.in_database (session_of databases session.now) db (rules.asks_finalize (statements.prepared_at session.now.statements.items id) id) }
-    ensures can { CanBeDone session.now.statements.items [] result }
+    ensures can { FitsStatements session.now.statements.items [] result }
 {
     match hindrance(session, db) {
         Some(cause) => Wanted::Never(cause),

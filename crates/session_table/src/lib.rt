@@ -2,6 +2,8 @@
 //! for the others.
 #![tactic(auto)]
 
+mod bases;
+mod beginning;
 mod cause;
 mod change;
 mod laws;
@@ -13,12 +15,14 @@ mod sweep;
 mod table;
 mod told;
 
+pub use bases::{name_of, newest, newest_image};
+pub use beginning::begin;
 pub use cause::Cause;
 pub use change::{Change, make_change};
 pub use laws::{commands_make_no_marks, marks_change_no_database, released_marks_are_spent};
 pub use limits::{flown, other_holds};
 pub use reply::{Reply, ToldRows};
 pub use session::{Flight, FlightKind, Prepared, Session, Transaction};
-pub use statements::{finalize, prepare, prepared_at, prepared_count};
+pub use statements::{finalize, free_id, prepare, prepared_at, prepared_count};
 pub use sweep::{applied, ended, left, lost};
 pub use table::{find, join};
