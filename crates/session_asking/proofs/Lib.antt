@@ -9,3 +9,4 @@ pub mod Refused
 pub mod Plain
 pub mod Asked
 pub mod Opening
+pub mod Allowed

@@ -1,14 +1,14 @@
 -- What code asks for, as the rules have it, with the parameters of the request.
-use Rattle.std.specs.Prelude.{◌≡◌, ◌<◌, ℕ, Bool, false, List, [], ◌∷◌, length, All, Option, Some, None, IsSome, map}
+use Rattle.std.specs.Prelude.{◌≡◌, ◌<◌, ℕ, Bool, true, false, List, [], ◌∷◌, length, All, Option, Some, None, IsSome, map}
 use Rattle.dq_base.specs.Names.{has_nul}
 use Rattle.wire_words.specs.declared.value.Value.{Value}
 use Rattle.wire_msgs.specs.declared.request.Request.{Request}
 use Rattle.wire_msgs.specs.declared.request.Request.TheVariants as requests
 use Rattle.sql_scan.specs.Places.{StandsIn}
 use Rattle.session_rules.specs.Asking as rules
-use Rattle.session_rules.specs.Asking.{Asked}
+use Rattle.session_rules.specs.Asking.{Asked, has_database}
 use Rattle.session_rules.specs.Sessions as sessions
-use Rattle.session_rules.specs.Sessions.{Prepared, Effect as RuleEffect, View}
+use Rattle.session_rules.specs.Sessions.{Prepared, Effect as RuleEffect, View, Session, in_tx}
 use Rattle.session_rules.specs.Limits.{log_full}
 use Rattle.session_rules.specs.Statements.{prepared_from, prepared_at, free_id, with_params, with_all}
 use Rattle.statement_runs.specs.Texts.{cut_at, wants, assigned}
@@ -64,18 +64,30 @@ NameHasNoNul (requests.Open name flags vfs) = has_nul name ≡ false
 NameHasNoNul request = Unit {0}
 
 -- What is wanted of a session's statements fits them: one that is let go is there, there is room for one that is prepared,
--- and statements of a text can run with these parameters. No database is wanted.
+-- and statements of a text can run with these parameters.
 abbrev pub FitsStatements : List (Option Prepared) → List Value → Wanted → Type 0
 FitsStatements statements params (wanted.Prepares prepared tail) = free_id statements < 64
 FitsStatements statements params (wanted.Drops id) = IsSome (prepared_at statements id)
 FitsStatements statements params (wanted.RunsAll script) = CanRun params (wanted.RunsAll script)
-FitsStatements statements params (wanted.Creates name) = ⊥
 FitsStatements statements params wanted = Unit {0}
 
--- What is wanted can be done: it fits the session's statements, and for a new database the log has room.
-abbrev pub CanBeDone : View → List (Option Prepared) → List Value → Wanted → Type 0
-CanBeDone v statements params (wanted.Prepares prepared tail) = free_id statements < 64
-CanBeDone v statements params (wanted.Drops id) = IsSome (prepared_at statements id)
-CanBeDone v statements params (wanted.RunsAll script) = CanRun params (wanted.RunsAll script)
-CanBeDone v statements params (wanted.Creates name) = log_full v ≡ false
-CanBeDone v statements params wanted = Unit {0}
+-- the node serves as leader, and the session has opened a database
+pub record IsServed (v : View) (s : Session) : Type 0 where
+  pub serves : v.serving ≡ true
+  pub opened : has_database s ≡ true
+
+-- What the rules ask for is asked only where this holds: of a new database, that the log has room; of what is done in the
+-- session's database, that it is served; and of a transaction, that none is open where it begins, and one where it ends with
+-- its changes.
+abbrev pub IsAllowed : View → Session → Asked → Type 0
+IsAllowed v s (rules.Creates name) = log_full v ≡ false
+IsAllowed v s (rules.Begins at_once) = IsServed v s × (in_tx s ≡ false)
+IsAllowed v s rules.Commits = IsServed v s × (in_tx s ≡ true)
+IsAllowed v s (rules.Runs statements) = IsServed v s
+IsAllowed v s (rules.Reads statement) = IsServed v s
+IsAllowed v s asked = Unit {0}
+
+-- What is wanted can be done.
+pub record CanBeDone (v : View) (s : Session) (params : List Value) (w : Wanted) : Type 0 where
+  pub allowed : IsAllowed v s (meant params w)
+  pub fits : FitsStatements s.statements params w

@@ -6,7 +6,7 @@ ghost use Rattle.page_apply.specs.declared.database.Database.{Database};
 ghost use Rattle.session_rules.specs.Asking as rules;
 ghost use Rattle.session_rules.specs.Machine.{machine_of};
 ghost use Rattle.session_table.specs.Table.{AreApart, session_of, table_of};
-ghost use Rattle.session_asking.specs.Meant.{meant, params_of, NameHasNoNul, CanBeDone};
+ghost use Rattle.session_asking.specs.Meant.{meant, params_of, NameHasNoNul, FitsStatements, CanBeDone};
 
 use crate::cluster::{
     wanted_by_change, wanted_by_cluster, wanted_by_connect, wanted_by_describe, wanted_by_leader,
@@ -80,14 +80,9 @@ fn transfers(view: &View, id: u64) -> Wanted
     wanted_by_transfer(view, id)
 }
 
-/// What a request wants of a session, at a node with this view, these databases, these sessions and this weight: its refusal,
-/// where one of those that need no engine comes, the first of them; or what is to be done. The name of a database that it
-/// opens holds no NUL.
-///
-/// Costs in the order of the request's bytes and of the sessions; for a prepared statement also in that of its text, which is
-/// copied, and for the files of a database in that of the files. `Err` is want of memory.
+/// The same as `wanted_by`, by the type of the request.
 #[tactic(auto, unfolding(session_rules::specs::Asking::asked_by))]
-pub fn wanted_by(
+fn ask(
     alloc: Global,
     view: &View,
     machine: &Machine,
@@ -99,7 +94,7 @@ pub fn wanted_by(
     requires apart { AreApart sessions.now }
     requires name { NameHasNoNul request.now }
     ensures wants { IfOk result (λ wanted. meant (params_of request.now) wanted ≡ rules.asked_by view.now (machine_of machine.now) (table_of machine.now sessions.now weight) (session_of machine.now session.now) request.now) }
-    ensures can { IfOk result (CanBeDone view.now session.now.statements.items (params_of request.now)) }
+    ensures fits { IfOk result (FitsStatements session.now.statements.items (params_of request.now)) }
 {
     match request {
         Request::Leader => wanted_by_leader(alloc, view),
@@ -154,4 +149,27 @@ pub fn wanted_by(
         Request::Describe { format } => Ok(wanted_by_describe(weight, *format)),
         Request::Weight { weight } => Ok(Wanted::Sets(Effect::Weighs(*weight))),
     }
+}
+
+/// What a request wants of a session, at a node with this view, these databases, these sessions and this weight: its refusal,
+/// where one of those that need no engine comes, the first of them; or what is to be done. The name of a database that it
+/// opens holds no NUL.
+///
+/// Costs in the order of the request's bytes and of the sessions; for a prepared statement also in that of its text, which is
+/// copied, and for the files of a database in that of the files. `Err` is want of memory.
+pub fn wanted_by(
+    alloc: Global,
+    view: &View,
+    machine: &Machine,
+    sessions: &[Session],
+    weight: u64,
+    session: &Session,
+    request: &Request,
+) -> Result<Wanted, AllocError>
+    requires apart { AreApart sessions.now }
+    requires name { NameHasNoNul request.now }
+    ensures wants { IfOk result (λ wanted. meant (params_of request.now) wanted ≡ rules.asked_by view.now (machine_of machine.now) (table_of machine.now sessions.now weight) (session_of machine.now session.now) request.now) }
+    ensures can { IfOk result (CanBeDone view.now (session_of machine.now session.now) (params_of request.now)) }
+{
+    ask(alloc, view, machine, sessions, weight, session, request)
 }
