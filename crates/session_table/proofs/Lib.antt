@@ -11,3 +11,5 @@ pub mod Walking
 pub mod Waits
 pub mod Kept
 pub mod Placing
+pub mod Gaining
+pub mod Starting
