@@ -52,7 +52,7 @@ found_all test P (x ∷ ds) d all e = elim (cases_Bool (test x)) [
 ]
 
 -- where no two have one place, the one that was found by a test is found by its place
-own_place : (test : Database → Bool) (ds : List Database) (d : Database) → machines.AreApart ds → find test ds ≡ Some d → at_place d.place ds ≡ Some d
+pub own_place : (test : Database → Bool) (ds : List Database) (d : Database) → machines.AreApart ds → find test ds ≡ Some d → at_place d.place ds ≡ Some d
 own_place test [] d apart e = absurd (none_found d e)
 own_place test (x ∷ ds) d apart e = elim (cases_Bool (test x)) [
   | inl here ↦

@@ -13,3 +13,4 @@ pub mod Kept
 pub mod Placing
 pub mod Gaining
 pub mod Starting
+pub mod Roomy

@@ -1,5 +1,5 @@
 -- Read marks in a machine: which are live, and what it is to release some of them.
-use Rattle.std.specs.Prelude.{◌≡◌, ◌≢◌, ℕ, List, [], ◌∷◌, ◌⊎◌}
+use Rattle.std.specs.Prelude.{◌≡◌, ◌≢◌, ◌<◌, ℕ, List, [], ◌∷◌, length, ◌⊎◌}
 use Rattle.std.specs.List.{AllByRecursion, Contains}
 use Rattle.page_apply.specs.declared.database.Database.{Database}
 use Rattle.page_apply.specs.Pins.{Pinning, IsPinned, StillPinned}
@@ -35,3 +35,7 @@ pub record Gained (gained : List Pinning) (old new : List Database) : Type 0 whe
   pub live : AllByRecursion (IsPinned new) gained
   pub apart : AreDifferent gained
   pub only : (pin : Pinning) → IsPinned new pin → IsPinned old pin ⊎ Contains gained pin
+
+-- fewer marks are live than a database can have
+abbrev pub HasRoom : List Database → Type 0
+HasRoom databases = (pins : List Pinning) × AreMarks pins databases × (length pins < 64)

@@ -5,12 +5,12 @@ ghost use Rattle.session_rules.specs.Machine.{machine_of};
 ghost use Rattle.session_rules.specs.Requests.{with_session, begun_over, begun};
 ghost use Rattle.session_table.specs.declared.session.Session.{Session};
 ghost use Rattle.session_table.specs.Table.{image_pinned, transaction_of, mark_of, pin_of, table_of, pins_of, IsTable};
-ghost use Rattle.session_table.specs.Marks.{AreMarks, Gained};
+ghost use Rattle.session_table.specs.Marks.{AreMarks, Gained, HasRoom};
 ghost use Rattle.session_table.specs.Changing.{StandsAt, with_transaction};
 
 use crate::session::{Session, Transaction};
 use dq_base::{Image, Name};
-use page_apply::{Machine, Pin, PinFault};
+use page_apply::{Machine, Pin};
 use std::alloc::{AllocError, Global};
 
 /// The newest image of a database, copied; the empty one where the machine has no such database.
@@ -33,18 +33,16 @@ fn commits_of(machine: &Machine, name: &Name) -> u64
     }
 }
 
-/// A read mark of the newest image of a database; none where the machine has no such database. `Err` leaves the machine as it
-/// is.
-fn pin_of_name(machine: &mut Machine, name: &Name) -> Result<Option<Pin>, AllocError>
-    ensures shows { IfOk result (λ pin. image_pinned machine.new pin ≡ ((machine_of machine.old).base name.now).image) }
-    ensures gained { IfOk result (λ pin. Gained (mark_of pin) machine.old machine.new) }
-    ensures kept { OnErr result (machine.new ≡ machine.old) }
+/// A read mark of the newest image of a database; none where the machine has no such database.
+fn pin_of_name(machine: &mut Machine, name: &Name) -> Option<Pin>
+    requires { HasRoom machine.old }
+    ensures shows { image_pinned machine.new result ≡ ((machine_of machine.old).base name.now).image }
+    ensures gained { Gained (mark_of result) machine.old machine.new }
 {
     let _ = machine.databases();
     match machine.pin(name.as_str()) {
-        Ok(pin) => Ok(Some(pin)),
-        Err(PinFault::Unknown) => Ok(None),
-        Err(PinFault::Full(_)) => Err(AllocError),
+        Ok(pin) => Some(pin),
+        Err(_) => None,
     }
 }
 
@@ -55,6 +53,7 @@ fn transaction_over(
     name: &Name,
     turn: bool,
 ) -> Result<Transaction, AllocError>
+    requires { HasRoom machine.old }
     ensures begun { IfOk result (λ x. transaction_of machine.new x ≡ begun_over name.now ((machine_of machine.old).base name.now) turn) }
     ensures gained { IfOk result (λ x. Gained (pin_of (Some x)) machine.old machine.new) }
     ensures kept { OnErr result (machine.new ≡ machine.old) }
@@ -62,7 +61,7 @@ fn transaction_over(
     let own_name = name.try_clone(alloc)?;
     let working = image_of(alloc, machine, name)?;
     let mark = commits_of(machine, name);
-    let pin = pin_of_name(machine, name)?;
+    let pin = pin_of_name(machine, name);
     Ok(Transaction {
         name: own_name,
         mark,
@@ -79,7 +78,8 @@ fn transaction_of_session(
     session: &Session,
     turn: bool,
 ) -> Result<Transaction, AllocError>
-    requires { IsSome session.now.database }
+    requires open { IsSome session.now.database }
+    requires room { HasRoom machine.old }
     ensures begun { IfOk result (λ x. (name : List ℕ) → session.now.database ≡ Some name → transaction_of machine.new x ≡ begun_over name ((machine_of machine.old).base name) turn) }
     ensures gained { IfOk result (λ x. Gained (pin_of (Some x)) machine.old machine.new) }
     ensures kept { OnErr result (machine.new ≡ machine.old) }

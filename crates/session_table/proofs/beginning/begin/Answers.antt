@@ -1,6 +1,7 @@
 use Rattle.std.proofs.Common.{ap, subst, sym}
 use Rattle.std.specs.Prelude.{IsSome}
 use Rattle.session_table.specs.declared.session.Session.{Session}
+use Rattle.session_table.proofs.Roomy.{has_room}
 use Rattle.session_table.proofs.Starting.{begun_table, begun_marks, begun_fits}
 use Rattle.session_table.proofs.beginning.begin.Goals as goal
 
@@ -20,3 +21,8 @@ pub returns-clause-fit : goal.returns-clause-fit
 returns-clause-fit c =
     let s = c.index.result.now in
     begun_fits c.args.sessions.now.items c.put.new.sessions.items c.args.place c.args.conn c.in_ok-transaction.transaction s c.requires.table c.requires.place (c.put.ensures s)
+
+pub transaction_of_session-requires-clause-room : goal.transaction_of_session-requires-clause-room
+transaction_of_session-requires-clause-room c =
+    let s = c.index.result.now in
+    has_room c.args.sessions.now.items c.args.place s c.args.machine.now c.requires.table c.requires.place.within (c.requires.idle s) c.requires.marks
