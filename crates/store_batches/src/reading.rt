@@ -1,8 +1,8 @@
-ghost use Rattle.std.specs.Prelude.{◌≡◌, ◌≤◌, ◌+◌, ◌-◌, ◌==◌, ◌&&◌, cond, length, take, drop, nat_lt, IfOk};
+ghost use Rattle.std.specs.Prelude.{◌≡◌, ◌≤◌, ◌+◌, ◌-◌, ◌==◌, ◌&&◌, length, IfOk};
 ghost use Rattle.std.specs.Str.{bytes_eq};
-ghost use Rattle.wire_words.specs.Reading.{Finds, unread};
+ghost use Rattle.wire_words.specs.Reading.{Finds};
 ghost use Rattle.byteorder.specs.Endian.{little_bytes};
-ghost use Rattle.store_batches.specs.Batches.{sum_size, sums_size, batch_sum, body_at, is_sound, batch_in, read_of, read_of_found, no_read};
+ghost use Rattle.store_batches.specs.Batches.{sum_size, sums_size, batch_sum, body_at, is_sound, batch_in, read_of_found};
 
 use byteorder::{ByteOrder, LittleEndian};
 use dq_base::Items;

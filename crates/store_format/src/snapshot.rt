@@ -1,5 +1,5 @@
-ghost use Rattle.std.specs.Prelude.{◌≡◌, ◌≤◌, ◌==◌, ◌++◌, true, false, length, take, drop, IfOk, MatchOption};
-ghost use Rattle.store_format.specs.Snapshots.{fills, head_fits, is_snapshot, size_in, summed, snap_of, snap_of_found, snapshot_bytes};
+ghost use Rattle.std.specs.Prelude.{◌≡◌, ◌≤◌, ◌==◌, true, false, length, take, drop, IfOk, MatchOption};
+ghost use Rattle.store_format.specs.Snapshots.{fills, head_fits, is_snapshot, size_in, snap_of, snap_of_found, snapshot_bytes};
 
 use crate::sums::{have_sum, sum8_of_both};
 use crate::words::{front, is_known, word_from};

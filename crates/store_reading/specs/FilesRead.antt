@@ -1,7 +1,7 @@
 -- What is read of all files of a node, and what they stand for by it.
-use Rattle.std.specs.Prelude.{◌≡◌, ℕ, suc, Bool, true, false, cond, ◌&&◌, ◌==◌, nat_lt, List, [], ◌∷◌, Option, Some, None, is_some, Result, Ok, Err}
+use Rattle.std.specs.Prelude.{◌≡◌, suc, Bool, true, cond, ◌&&◌, ◌==◌, nat_lt, Option, Some, None, is_some, Result, Ok, Err}
 use Rattle.raft_vote.specs.declared.message.Snapshot.{Snapshot as SnapshotOf}
-use Rattle.store_laws.specs.Store.{Format, Meta, Snap, no_meta, no_snap, newest, Kept, Outcome, Loaded, Damaged, NoMeta, Gap, behind}
+use Rattle.store_laws.specs.Store.{Meta, Snap, no_meta, no_snap, newest, Kept, Outcome, Loaded, Damaged, NoMeta, Gap, behind}
 use Rattle.store_reading.specs.SegmentLog.{SegmentsRead, none_read}
 use Rattle.store_reading.specs.declared.segment_log.Damage.{Damage as DamageOf}
 use Rattle.store_reading.specs.declared.fault.FilesFault.{FilesFault}

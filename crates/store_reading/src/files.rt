@@ -6,7 +6,7 @@ ghost use Rattle.store_format.specs.Metadata.{meta_in, meta_of_found};
 ghost use Rattle.store_format.specs.Snapshots.{snap_of, snap_of_found};
 ghost use Rattle.store_batches.specs.Files.{node_format};
 ghost use Rattle.store_reading.specs.SegmentLog.{with_segment, FitsNumber};
-ghost use Rattle.store_reading.specs.FilesRead.{nothing_read, snap_kept, newer_snap, with_meta, with_snap, with_segment_read, lacks, judged, kept_by, Judges};
+ghost use Rattle.store_reading.specs.FilesRead.{nothing_read, snap_kept, with_meta, with_snap, with_segment_read, lacks, judged, kept_by, Judges};
 
 use crate::fault::FilesFault;
 use crate::kept::Kept;

@@ -1,7 +1,5 @@
 // One segment: its first word, and its batches one behind the other.
-ghost use Rattle.std.specs.Prelude.{◌≡◌, ◌≢◌, ◌≤◌, ◌<◌, ◌+◌, ℕ, cond, length, drop, MatchOption, IfOk, OnOk};
-ghost use Rattle.store_laws.specs.Store.{opens, put_batch};
-ghost use Rattle.store_laws.specs.Damage.{good_end};
+ghost use Rattle.std.specs.Prelude.{◌≡◌, ◌≤◌, ◌<◌, ◌+◌, length, MatchOption, IfOk};
 ghost use Rattle.store_batches.specs.Batches.{batch_in};
 ghost use Rattle.store_batches.specs.Files.{node_format};
 ghost use Rattle.store_reading.specs.Batches.{Steps, ReadsAll, InLog};
