@@ -1,4 +1,4 @@
-ghost use Rattle.std.specs.Prelude.{◌≡◌, ◌≤◌, ◌+◌, ◌-◌, ◌==◌, ◌&&◌, length, IfOk};
+ghost use Rattle.std.specs.Prelude.{◌≡◌, ◌≤◌, ◌<◌, ◌+◌, ◌-◌, ◌==◌, ◌&&◌, length, IfOk, MatchOption};
 ghost use Rattle.std.specs.Str.{bytes_eq};
 ghost use Rattle.wire_words.specs.Reading.{Finds};
 ghost use Rattle.byteorder.specs.Endian.{little_bytes};
@@ -97,7 +97,8 @@ pub fn read_batch(
     format: u64,
     bytes: &[u8],
 ) -> Result<Option<FoundBatch>, AllocError>
-    ensures { IfOk result (λ found. read_of_found found ≡ batch_in format bytes.now) }
+    ensures found { IfOk result (λ found. read_of_found found ≡ batch_in format bytes.now) }
+    ensures some { IfOk result (λ found. MatchOption found (Unit {0}) (λ batch. 0 < batch.size)) }
 {
     let size = sum_size(format) * 2;
     if bytes.len() < size {

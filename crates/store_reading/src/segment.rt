@@ -10,14 +10,11 @@ use store_batches::{FoundBatch, read_batch};
 use store_format::format_in;
 
 // The batch that bytes begin with, if any. It has some bytes.
+#[tactic(auto, using(crate::proofs::Runs::found_or_none))]
 fn next_batch(alloc: Global, format: u64, bytes: &[u8]) -> Result<Option<FoundBatch>, AllocError>
     ensures { IfOk result (λ found. MatchOption found ((batch_in format bytes.now).size ≡ 0) (λ b. (batch_in format bytes.now ≡ record { batch = record { first = b.first; entries = b.entries }; size = b.size }) × (0 < b.size))) }
 {
-    let found = read_batch(alloc, format, bytes)?;
-    match found {
-        Some(batch) if batch.size > 0 => Ok(Some(batch)),
-        _ => Ok(None),
-    }
+    read_batch(alloc, format, bytes)
 }
 
 // Takes the batch at a place into the log, and answers whether there is one.
