@@ -1,5 +1,6 @@
 ghost use Rattle.std.specs.Prelude.{◌≡◌, ◌≤◌, ℕ, false, length, IfOk};
 ghost use Rattle.dq_base.specs.Faults.{Rose};
+ghost use Rattle.disk_model.specs.declared.faults.DiskFault;
 ghost use Rattle.dir_disk.specs.Untold.{no_states};
 
 use disk_model::{Disk, DiskFault};
@@ -17,7 +18,7 @@ use std::{fs, io};
 /// It tells nothing of what is on it: that real files follow what the trait says is trusted, and with it that an `Ok` of
 /// a sync after one that failed makes all sure, which some systems break. A name that has a `/`, or is `.` or `..`, is
 /// none of the folder: each call with it answers `Failed` and does nothing. Each call opens the file anew and makes its
-/// path, which takes memory in the order of its name. Its count of faults rises at each `Err`, and stays at
+/// path, which takes memory in the order of its name. Its count of faults rises at each `Failed`, and stays at
 /// 18,446,744,073,709,551,615.
 #[derive(Drop)]
 pub struct DirDisk<R: Files<File = File> + AllocGlobal + Clone + Drop> {
@@ -94,22 +95,22 @@ impl<R: Files<File = File> + AllocGlobal + Clone + Drop> DirDisk<R> {
         })
     }
 
-    /// How often a call answered an `Err`.
+    /// How often a call answered `Failed`.
     pub fn faults(&self) -> u64
         ensures { result ≡ self.now }
     {
         self.faults
     }
 
-    /// Counts a fault.
+    /// Counts a fault, and not want of memory.
     fn fault(&mut self, error: io::Error) -> DiskFault
         ensures never_falls { self.old ≤ self.new }
-        ensures rose { Rose self.old self.new }
+        ensures rose { result ≡ DiskFault.Failed → Rose self.old self.new }
     {
-        self.faults = self.faults.saturating_add(1);
         if error.kind() == ErrorKind::OutOfMemory {
             return DiskFault::NoMemory;
         }
+        self.faults = self.faults.saturating_add(1);
         DiskFault::Failed
     }
 

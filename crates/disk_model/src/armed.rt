@@ -109,13 +109,13 @@ impl Armed {
     }
 
     /// Counts a fault.
-    pub(crate) fn fault(&mut self, fault: DiskFault) -> DiskFault
-        ensures fault { result ≡ fault }
+    pub(crate) fn fault(&mut self) -> DiskFault
+        ensures fault { result ≡ DiskFault.Failed }
         ensures count { self.new ≡ record self.old { faults = one_more self.old.faults } }
         ensures never_falls { self.old.faults ≤ self.new.faults }
     {
         self.faults = self.faults.saturating_add(1);
-        fault
+        DiskFault::Failed
     }
 
     /// Whether the next call does nothing: the disk is stopped, or that call is to fail.
@@ -129,7 +129,7 @@ impl Armed {
     /// and the disk stops in it or not.
     #[tactic(auto, using(crate::proofs::Counts::caused, crate::proofs::Counts::spared))]
     pub(crate) fn start(&mut self) -> Result<Turn, DiskFault>
-        ensures counted { Counted self.old self.new result }
+        ensures counted { Counted self.old self.new }
         ensures turn { IfOk result (IsTurn (fails_next self.old)) }
         ensures cause { HasCause self.old.faults self.new.faults result }
     {
@@ -137,7 +137,7 @@ impl Armed {
         self.made = self.made.saturating_add(1);
         self.stopped = stopped_at(self.stopped, self.stop, self.made);
         if is_idle {
-            return Err(self.fault(DiskFault::Failed));
+            return Err(self.fault());
         }
         if self.stopped.is_some() {
             return Ok(Turn::Stops);
@@ -156,10 +156,10 @@ impl Armed {
         ensures never_falls { self.old.faults ≤ self.new.faults }
     {
         match done {
-            Err(_) => Err(self.fault(DiskFault::NoMemory)),
+            Err(_) => Err(DiskFault::NoMemory),
             Ok(()) => match turn {
                 Turn::Goes => Ok(()),
-                Turn::Stops => Err(self.fault(DiskFault::Failed)),
+                Turn::Stops => Err(self.fault()),
             },
         }
     }
@@ -167,13 +167,13 @@ impl Armed {
     /// Starts the next call, which is not done where the disk stops in it.
     #[tactic(auto, using(crate::proofs::Counts::caused, crate::proofs::Counts::counted_more))]
     pub(crate) fn start_whole(&mut self) -> Result<(), DiskFault>
-        ensures counted { Counted self.old self.new result }
+        ensures counted { Counted self.old self.new }
         ensures goes { OnOk result (fails_next self.old ≡ false) }
         ensures cause { HasCause self.old.faults self.new.faults result }
     {
         match self.start()? {
             Turn::Goes => Ok(()),
-            Turn::Stops => Err(self.fault(DiskFault::Failed)),
+            Turn::Stops => Err(self.fault()),
         }
     }
 }

@@ -11,10 +11,10 @@ use dq_base::{Items, Name};
 /// removed since the last `sync_names` may be there or not; all else stays. So after `Ok` of `sync` and `sync_names` a
 /// crash leaves what a read gives.
 ///
-/// A disk counts its faults: a call answers an `Err` only where that count rose in the call. What is on the disk is told
+/// A disk counts its faults: a call answers `Failed` only where that count rose in the call. What is on the disk is told
 /// only by disks that know it, as one over memory; clauses on content hold where it is told. After an `Err` a call that
-/// changes the disk may have been done in any part, but a failed `sync` or `sync_names` makes nothing sure. Want of the
-/// disk's memory is an `Err` like a failure, and counts as one.
+/// changes the disk may have been done in any part, but a failed `sync` or `sync_names` makes nothing sure. Want of
+/// memory is an `Err` like a failure, without a fault.
 ///
 /// A crash inside a call is that call over a disk whose calls fail from that moment on. So it is enough to know, at each
 /// answer, what a crash may leave.
@@ -31,7 +31,7 @@ pub trait Disk {
     /// The states that the disk may be said to be in; none where it tells nothing.
     ghost states: { Self → Disk Text → Type 0 };
 
-    /// How often a call of the disk answered an `Err`.
+    /// How often the disk has failed.
     ghost faults: { Self → ℕ };
 
     /// The names of the files that are there, each once, in any order.

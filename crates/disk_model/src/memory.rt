@@ -70,7 +70,7 @@ impl MemDisk {
         self.calls.stopped.is_some()
     }
 
-    /// How often a call answered an `Err`. Takes no memory.
+    /// How often a call failed. Takes no memory.
     pub fn faults(&self) -> u64
         ensures { result ≡ self.now.calls.faults }
     {
@@ -105,12 +105,12 @@ impl Disk for MemDisk {
     fn list(&mut self) -> Result<Items<Name>, DiskFault>
         ensures told { Looks (states_of self.old) (states_of self.new) result Lists }
         ensures cause { HasCause self.old.calls.faults self.new.calls.faults result }
-        ensures counted { Counted self.old.calls self.new.calls result }
+        ensures counted { Counted self.old.calls self.new.calls }
     {
         self.calls.start_whole()?;
         match self.storage.names() {
             Ok(names) => Ok(Items::new(names)),
-            Err(_) => Err(self.calls.fault(DiskFault::NoMemory)),
+            Err(_) => Err(DiskFault::NoMemory),
         }
     }
 
@@ -121,7 +121,7 @@ impl Disk for MemDisk {
         ensures bound { IfOk result (λ count. count ≤ length into.new) }
         ensures told { Looks (states_of self.old) (states_of self.new) result (λ d. Reads (d.read name.now).bytes at into.old into.new) }
         ensures cause { HasCause self.old.calls.faults self.new.calls.faults result }
-        ensures counted { Counted self.old.calls self.new.calls result }
+        ensures counted { Counted self.old.calls self.new.calls }
     {
         self.calls.start_whole()?;
         Ok(self.storage.read_at(name, at, into))
@@ -133,7 +133,7 @@ impl Disk for MemDisk {
         requires { IsName name.now }
         ensures told { Known true (states_of self.old) (MayWrite name.now at) → Steps (WriteAt name.now at bytes.now) (states_of self.old) (states_of self.new) result }
         ensures cause { HasCause self.old.calls.faults self.new.calls.faults result }
-        ensures counted { Counted self.old.calls self.new.calls result }
+        ensures counted { Counted self.old.calls self.new.calls }
     {
         let turn = self.calls.start()?;
         let done = self.storage.write(name, at, bytes);
@@ -145,7 +145,7 @@ impl Disk for MemDisk {
         requires { IsName name.now }
         ensures told { Steps (CutTo name.now length) (states_of self.old) (states_of self.new) result }
         ensures cause { HasCause self.old.calls.faults self.new.calls.faults result }
-        ensures counted { Counted self.old.calls self.new.calls result }
+        ensures counted { Counted self.old.calls self.new.calls }
     {
         let turn = self.calls.start()?;
         let done = self.storage.cut(name, length);
@@ -158,12 +158,12 @@ impl Disk for MemDisk {
         requires { IsName name.now }
         ensures told { Steps (Sync name.now) (states_of self.old) (states_of self.new) result }
         ensures cause { HasCause self.old.calls.faults self.new.calls.faults result }
-        ensures counted { Counted self.old.calls self.new.calls result }
+        ensures counted { Counted self.old.calls self.new.calls }
     {
         self.calls.start_whole()?;
         match self.storage.sync(name) {
             Ok(()) => Ok(()),
-            Err(_) => Err(self.calls.fault(DiskFault::NoMemory)),
+            Err(_) => Err(DiskFault::NoMemory),
         }
     }
 
@@ -172,7 +172,7 @@ impl Disk for MemDisk {
         requires { IsName name.now }
         ensures told { Steps (Remove name.now) (states_of self.old) (states_of self.new) result }
         ensures cause { HasCause self.old.calls.faults self.new.calls.faults result }
-        ensures counted { Counted self.old.calls self.new.calls result }
+        ensures counted { Counted self.old.calls self.new.calls }
     {
         let turn = self.calls.start()?;
         let done = self.storage.remove(name);
@@ -184,7 +184,7 @@ impl Disk for MemDisk {
     fn sync_names(&mut self) -> Result<(), DiskFault>
         ensures told { Steps SyncNames (states_of self.old) (states_of self.new) result }
         ensures cause { HasCause self.old.calls.faults self.new.calls.faults result }
-        ensures counted { Counted self.old.calls self.new.calls result }
+        ensures counted { Counted self.old.calls self.new.calls }
     {
         self.calls.start_whole()?;
         self.storage.sync_names();

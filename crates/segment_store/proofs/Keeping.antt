@@ -40,7 +40,7 @@ pub cause_none : {T : Type 0} (n : ℕ) → DiskCause {T = T} n n (Err NoMemory)
 cause_none n = record { never_falls = omega arith; failed = λ q. absurd cc }
 
 pub cause_disk : {S T : Type 0} (before now : ℕ) (x : DiskFaultOf) → HasCause {T = S} before now (Err x) → DiskCause {T = T} before now (Err (of_disk x))
-cause_disk before now disk.Failed h = record { never_falls = h.never_falls; failed = λ q. h.failed }
+cause_disk before now disk.Failed h = record { never_falls = h.never_falls; failed = λ q. h.failed refl }
 cause_disk before now disk.NoMemory h = record { never_falls = h.never_falls; failed = λ q. absurd cc }
 
 pub cause_ok : {S T : Type 0} (before now : ℕ) (x : S) (y : T) → HasCause before now (Ok x) → DiskCause before now (Ok y)

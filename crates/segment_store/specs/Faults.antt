@@ -1,5 +1,5 @@
 -- Faults of the store, with their cause in a count of the disk's.
-use Rattle.std.specs.Prelude.{◌≡◌, ◌≤◌, ◌⊎◌, ℕ, Result, Err, OnErr}
+use Rattle.std.specs.Prelude.{◌≡◌, ◌≤◌, ℕ, Result, Err}
 use Rattle.dq_base.specs.Faults.{Rose}
 use Rattle.disk_model.specs.declared.faults.DiskFault.{DiskFault as DiskFaultOf}
 use Rattle.disk_model.specs.declared.faults.DiskFault.TheVariants as disk
@@ -15,8 +15,3 @@ of_disk disk.NoMemory = NoMemory
 pub record DiskCause {T : Type 0} (before now : ℕ) (result : Result T StoreFault) : Type 0 where
   pub never_falls : before ≤ now
   pub failed : result ≡ Err DiskFault → Rose before now
-
--- After an Err a call of the disk has answered an Err, or the disk is as it was: want of the store's own memory comes
--- before the first call.
-abbrev pub StaysUnlessFailed : {D T E : Type 0} → D → D → ℕ → ℕ → Result T E → Type 0
-StaysUnlessFailed was now before after result = OnErr result ((now ≡ was) ⊎ Rose before after)
