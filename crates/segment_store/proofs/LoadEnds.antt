@@ -1,24 +1,21 @@
 -- What a load and a look answer, by what was read.
-use Rattle.std.proofs.Common.{◌≡◌, ℕ, ◌^◌, ◌<◌, List, Option, Some, None, Result, Ok, Err, refl, sym, ap, ◌∙◌, subst}
-use Rattle.dq_base.specs.Faults.{Rose}
+use Rattle.std.proofs.Common.{◌≡◌, ℕ, Option, Some, Ok, Err, refl, sym, ap, ◌∙◌, subst}
 use Rattle.disk_model.specs.Disk.{Disk}
 use Rattle.disk_model.specs.Trait.{Text}
-use Rattle.store_laws.specs.Names.{Name, NodeDisk}
-use Rattle.store_laws.specs.Store.{Kept, Loaded, Damaged, NoMeta, Gap}
+use Rattle.store_laws.specs.Names.{NodeDisk}
+use Rattle.store_laws.specs.Store.{Kept, Loaded}
 use Rattle.store_reading.specs.declared.fault.FilesFault.{FilesFault}
 use Rattle.store_reading.specs.declared.fault.FilesFault.TheVariants as files
 use Rattle.store_reading.specs.declared.segment_log.Damage.{Damage}
-use Rattle.store_reading.specs.FilesRead.{FilesRead, judged, kept_by, Judges}
+use Rattle.store_reading.specs.FilesRead.{FilesRead, kept_by, Judges}
 use Rattle.store_reading.specs.SegmentLog.{place_of}
 use Rattle.segment_store.specs.declared.fault.StoreFault.{StoreFault}
 use Rattle.segment_store.specs.declared.fault.StoreFault.TheVariants as store
-use Rattle.segment_store.specs.declared.load_fault.LoadFault.{LoadFault}
-use Rattle.segment_store.specs.declared.load_fault.LoadFault.TheVariants as fault
 use Rattle.segment_store.specs.Faults.{DiskCause}
 use Rattle.segment_store.specs.Keeps.{folder, HasNew}
 use Rattle.segment_store.specs.Listed.{FolderList, IsListed}
 use Rattle.segment_store.specs.LoadFaults.{of_store, of_files}
-use Rattle.segment_store.specs.Loading.{kept_in, damage_in, IsSeen, IsPlain, StaysSeen, LoadLeaves, Loads, LookShows, LooksAt, LoadCause, Sees}
+use Rattle.segment_store.specs.Loading.{damage_in, IsSeen, IsPlain, StaysSeen, LoadLeaves, Loads, LookShows, LooksAt, LoadCause, Sees}
 use Rattle.segment_store.specs.Open.{Open}
 use Rattle.segment_store.specs.Reads.{ReadsAll}
 use Rattle.segment_store.specs.Settling.{Settles}

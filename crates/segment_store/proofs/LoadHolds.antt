@@ -1,28 +1,26 @@
 -- A whole load of a folder whose files stand for a state.
-use Rattle.std.proofs.Common.{◌≡◌, ◌≢◌, inl, inr, ℕ, zero, suc, ◌+◌, ◌-◌, ◌^◌, ◌<◌, ◌≤◌, Bool, true, false, cond, List, [], ◌∷◌, ◌++◌, length, refl, sym, ap, ◌∙◌, subst, arith, append_assoc}
+use Rattle.std.proofs.Common.{◌≡◌, inl, inr, ℕ, suc, ◌^◌, ◌<◌, ◌≤◌, Bool, true, false, cond, List, [], ◌∷◌, ◌++◌, sym, ap, ◌∙◌, subst, arith, append_assoc}
 use Rattle.std.specs.Prelude.{nat_lt}
 use Rattle.std.proofs.lemmas.List.{append-nil}
 use Rattle.std.proofs.lemmas.Bool.{cases_Bool, cases_eq, cond-true, cond-false}
-use Rattle.disk_model.specs.Disk.{Found, Leaves}
-use Rattle.disk_model.specs.Calls.{Call, WriteAt, CutTo, Sync, Remove, SyncNames, Done, Until}
+use Rattle.disk_model.specs.Disk.{Found}
+use Rattle.disk_model.specs.Calls.{WriteAt, CutTo, Sync, Remove, SyncNames, Done, Until}
 use Rattle.disk_model.specs.Rest.{Rest}
 use Rattle.disk_model.specs.SyncAll.{sync_all, Names}
-use Rattle.disk_model.proofs.Rests.{rest_only}
 use Rattle.disk_model.proofs.Names.{Apart, same, apart}
-use Rattle.store_laws.specs.Names.{Name, First, Second, Segment, Snapshot, NodeFiles, NodeDisk, NodeCall}
-use Rattle.store_laws.specs.Store.{Kept, Loaded, Log, Snap, kept, meta_of, snap_in, is_whole, segments}
-use Rattle.store_laws.specs.Chance.{NoChance}
+use Rattle.store_laws.specs.Names.{Name, Segment, NodeDisk, NodeCall}
+use Rattle.store_laws.specs.Store.{Kept, Loaded, Log, kept, snap_in, is_whole, segments}
 use Rattle.store_laws.specs.Settled.{Settled, Steady, file_log}
 use Rattle.store_laws.specs.Append.{append_calls, Writes}
-use Rattle.store_laws.specs.Load.{Loadable, LoadEnds, repair_calls}
+use Rattle.store_laws.specs.Load.{Loadable, repair_calls}
 use Rattle.store_laws.specs.Laws.{Comes}
-use Rattle.store_laws.specs.WholeLoad.{is_stale, empty_calls, load_calls}
+use Rattle.store_laws.specs.WholeLoad.{is_stale, load_calls}
 use Rattle.store_laws.proofs.Tells.{tell}
 use Rattle.store_laws.proofs.Loads.{load_holds}
 use Rattle.store_laws.proofs.WholeLoads.{whole_load_holds, whole_load_seen}
 use Rattle.store_laws.proofs.Answers.{settled_images}
 use Rattle.store_batches.specs.Batches.{batch_bytes}
-use Rattle.store_batches.specs.Written.{segment_word, Fits}
+use Rattle.store_batches.specs.Written.{segment_word}
 use Rattle.store_batches.specs.Files.{node_format}
 use Rattle.store_batches.proofs.Lawfully.{is_lawful}
 use Rattle.store_batches.proofs.Written.{batches_read_back}

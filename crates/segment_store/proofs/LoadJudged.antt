@@ -1,15 +1,14 @@
 -- What was read says what the files stand for, and what the last segment wants.
-use Rattle.std.proofs.Common.{◌≡◌, ◌≢◌, inl, inr, ℕ, zero, suc, ◌+◌, ◌-◌, ◌<◌, ◌≤◌, Bool, true, false, cond, not, List, [], ◌∷◌, ◌++◌, length, take, drop, Option, Some, None, refl, sym, ap, ◌∙◌, subst, arith, length-append, length-drop}
+use Rattle.std.proofs.Common.{◌≡◌, inl, inr, ℕ, zero, suc, ◌+◌, ◌-◌, ◌<◌, ◌≤◌, Bool, true, false, cond, not, List, [], ◌∷◌, ◌++◌, length, take, drop, Option, Some, None, refl, sym, ap, ◌∙◌, subst, arith, length-append, length-drop}
 use Rattle.std.specs.Prelude.{◌&&◌, ◌==◌, nat_lt, is_some}
 use Rattle.std.proofs.lemmas.List.{append-nil, take_at}
-use Rattle.std.proofs.lemmas.Bool.{cases_Bool, cases_eq, cases_lt, cond-true, cond-false, eqb-true, eqb-false, eq-eqb, ne_eqb}
+use Rattle.std.proofs.lemmas.Bool.{cases_Bool, cases_eq, cases_lt, cond-true, cond-false, eq-eqb, ne_eqb}
 use Rattle.disk_model.specs.Disk.{Found}
 use Rattle.disk_model.specs.Calls.{CutTo, Sync, Remove, SyncNames}
-use Rattle.store_laws.specs.Names.{Segment, Snapshot, NodeFiles, NodeDisk, NodeCall}
+use Rattle.store_laws.specs.Names.{Segment, NodeDisk, NodeCall}
 use Rattle.store_laws.specs.Store.{Reader, Meta, Snap, Log, Kept, meta_of, snap_in, has_any, all_batches, Outcome, Loaded, Damaged, NoMeta, Gap, answer, kept, opens, reader, torn, is_empty, is_whole, behind, segments, sound}
-use Rattle.store_laws.specs.Chance.{LawfulReader}
 use Rattle.store_laws.specs.Settled.{file_log}
-use Rattle.store_laws.specs.Damage.{numbered, good_end}
+use Rattle.store_laws.specs.Damage.{good_end}
 use Rattle.store_laws.specs.Load.{repair_calls}
 use Rattle.store_laws.proofs.Fronts.{stop_torn, go_torn}
 use Rattle.store_batches.specs.Files.{node_format}
@@ -24,7 +23,7 @@ use Rattle.segment_store.specs.Reads.{ReadsAll}
 use Rattle.segment_store.specs.Repairs.{repairs, repairs_of, last_number}
 use Rattle.segment_store.specs.Settling.{left_after}
 use Rattle.segment_store.proofs.LoadNumbers.{one_more, numbers_next}
-use Rattle.segment_store.proofs.LoadRooms.{EndsWith, IsLast, ends_with, numbers_up}
+use Rattle.segment_store.proofs.LoadRooms.{EndsWith, ends_with, numbers_up}
 
 -- ---- what the files stand for
 

@@ -1,18 +1,17 @@
 -- The files of a node among the names of a folder.
 use Rattle.std.proofs.Common.{◌≡◌, ◌≢◌, inl, inr, ℕ, zero, suc, ◌+◌, ◌<◌, ◌≤◌, Bool, true, false, cond, List, [], ◌∷◌, ◌++◌, length, take, drop, get_or, Option, Some, None, Result, Ok, Err, refl, sym, ap, ◌∙◌, subst, arith, append_assoc, ◌⊎◌}
-use Rattle.std.specs.Prelude.{OnOk, ◌&&◌, ◌||◌, ◌==◌, nat_lt, slice_index_or}
-use Rattle.std.specs.List.{insert, list_any}
+use Rattle.std.specs.Prelude.{OnOk, ◌||◌, ◌==◌, nat_lt}
+use Rattle.std.specs.List.{insert}
 use Rattle.std.specs.Str.{bytes_eq}
-use Rattle.std.proofs.lemmas.Bool.{cases_Bool, cases_eq, cases_lt, cond-true, cond-false, eqb-true, eq-eqb, ne_eqb, ltb-true, ltb-false, le-ltb, lt-ltb}
+use Rattle.std.proofs.lemmas.Bool.{cases_Bool, cases_eq, cases_lt, cond-true, cond-false, eqb-true, eq-eqb, ne_eqb, ltb-true, ltb-false}
 use Rattle.std.proofs.lemmas.List.{append-nil, take_more, take_all}
 use Rattle.std.proofs.lemmas.List.Folds.{list_any-append}
 use Rattle.std.proofs.lemmas.Slice.Eq.{bytes_eq-Decides}
 use Rattle.dq_base.specs.Names.{IsName}
-use Rattle.disk_model.specs.Disk.{Disk, Found}
+use Rattle.disk_model.specs.Disk.{Disk}
 use Rattle.disk_model.specs.SyncAll.{Among}
 use Rattle.disk_model.specs.Trait.{Text, Lists}
 use Rattle.store_laws.specs.Names.{Name, First, Second, Segment, Snapshot, NodeFiles}
-use Rattle.store_laws.proofs.Tells.{tell}
 use Rattle.segment_store.specs.declared.names.File.{File}
 use Rattle.segment_store.specs.declared.names.File.TheVariants as files
 use Rattle.segment_store.specs.FileNames.{file_name, name_of, number_of}

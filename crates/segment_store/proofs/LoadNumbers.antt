@@ -1,8 +1,6 @@
 -- Which segments are there after a load.
-use Rattle.std.proofs.Common.{◌≡◌, inl, inr, ℕ, zero, suc, ◌<◌, ◌≤◌, Bool, true, false, cond, List, [], ◌∷◌, ◌++◌, length, Option, Some, None, refl, sym, ap, ◌∙◌, subst, arith}
-use Rattle.std.specs.Prelude.{◌&&◌, nat_lt}
-use Rattle.std.proofs.lemmas.List.{append-nil}
-use Rattle.std.proofs.lemmas.Bool.{cases_Bool, cond-true, cond-false}
+use Rattle.std.proofs.Common.{◌≡◌, ℕ, suc, ◌<◌, Bool, true, false, cond, List, [], ◌∷◌, ◌++◌, refl, sym, ap, ◌∙◌, subst, arith}
+use Rattle.std.specs.Prelude.{◌&&◌}
 use Rattle.disk_model.specs.Disk.{Found}
 use Rattle.disk_model.specs.Calls.{CutTo, Sync, Remove, SyncNames, Done}
 use Rattle.disk_model.specs.SyncAll.{sync_all}
@@ -14,7 +12,7 @@ use Rattle.store_laws.specs.Append.{append_calls}
 use Rattle.store_batches.specs.Files.{node_format}
 use Rattle.segment_store.specs.Open.{segment_numbers}
 use Rattle.segment_store.proofs.Listing.{same_numbers}
-use Rattle.segment_store.proofs.LoadHolds.{Spares, spared, spares_sync, spares_repair, spares_append}
+use Rattle.segment_store.proofs.LoadHolds.{spared, spares_sync, spares_repair, spares_append}
 
 abbrev pub one_more : ℕ → Bool → List ℕ
 one_more k b = cond b (k ∷ []) []

@@ -1,16 +1,16 @@
 -- All files of a folder, read in turn.
-use Rattle.std.proofs.Common.{◌≡◌, ℕ, ◌<◌, Bool, true, false, cond, List, Option, Result, Ok, Err, refl, sym, ap, ◌∙◌, subst, arith}
+use Rattle.std.proofs.Common.{◌≡◌, ℕ, Bool, true, false, List, Option, Result, Ok, Err, sym, ap, ◌∙◌, subst, arith}
 use Rattle.std.specs.Prelude.{map}
 use Rattle.disk_model.specs.Disk.{Disk}
 use Rattle.disk_model.specs.Trait.{Text}
-use Rattle.store_laws.specs.Names.{Name, First, Second, Segment, Snapshot, NodeDisk}
-use Rattle.store_laws.specs.Store.{Meta, Snap, no_meta, no_snap, newest}
-use Rattle.store_laws.specs.Damage.{Numbered, numbered}
+use Rattle.store_laws.specs.Names.{First, Second, Snapshot, NodeDisk}
+use Rattle.store_laws.specs.Store.{no_meta, no_snap, newest}
+use Rattle.store_laws.specs.Damage.{numbered}
 use Rattle.store_format.specs.Metadata.{meta_in}
 use Rattle.store_batches.specs.Files.{node_format}
 use Rattle.store_batches.proofs.Lawfully.{is_lawful}
-use Rattle.store_reading.specs.SegmentLog.{SegmentsRead, none_read, all_read, IsRead}
-use Rattle.store_reading.specs.FilesRead.{FilesRead, nothing_read, with_meta}
+use Rattle.store_reading.specs.SegmentLog.{none_read, all_read, IsRead}
+use Rattle.store_reading.specs.FilesRead.{FilesRead, nothing_read}
 use Rattle.store_reading.proofs.Segments.{is_read}
 use Rattle.segment_store.specs.declared.fault.StoreFault.{StoreFault}
 use Rattle.segment_store.specs.Keeps.{folder}

@@ -1,9 +1,8 @@
 -- Bounds on the numbers of segments, and what the last one is.
 use Rattle.std.proofs.Common.{◌≡◌, inl, inr, ℕ, zero, suc, ◌<◌, ◌≤◌, Bool, true, false, cond, List, [], ◌∷◌, ◌++◌, length, Option, Some, None, refl, sym, ap, ◌∙◌, subst, arith}
-use Rattle.std.specs.Prelude.{◌&&◌, map}
+use Rattle.std.specs.Prelude.{map}
 use Rattle.std.proofs.lemmas.List.{append-nil}
-use Rattle.std.proofs.lemmas.Bool.{cases_Bool, cases_eq, cond-true, cond-false, and_parts}
-use Rattle.disk_model.specs.Disk.{Found}
+use Rattle.std.proofs.lemmas.Bool.{cases_Bool, cases_eq, and_parts}
 use Rattle.store_laws.specs.Names.{Segment, NodeFiles}
 use Rattle.store_laws.specs.Store.{Format, kept, answer, meta_of, snap_in, segments, sound, all_batches, is_whole, log_of, empty_log}
 use Rattle.store_laws.specs.Settled.{file_log}

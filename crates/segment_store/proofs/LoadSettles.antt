@@ -1,38 +1,33 @@
 -- Which store is open after a load, and what is left where it failed.
-use Rattle.std.proofs.Common.{◌≡◌, ◌≢◌, inl, inr, ℕ, zero, suc, ◌+◌, ◌^◌, ◌<◌, ◌≤◌, Bool, true, false, cond, List, [], ◌∷◌, ◌++◌, length, Option, Some, None, Result, Ok, Err, refl, sym, ap, ◌∙◌, subst, arith}
+use Rattle.std.proofs.Common.{◌≡◌, inr, ℕ, suc, ◌^◌, ◌<◌, true, false, List, [], ◌∷◌, ◌++◌, Option, None, sym, ap, ◌∙◌, subst}
 use Rattle.std.specs.Prelude.{◌&&◌}
-use Rattle.disk_model.specs.Disk.{Disk, Found, Leaves, Sure, Absent}
+use Rattle.disk_model.specs.Disk.{Disk, Found}
 use Rattle.disk_model.specs.Calls.{Call, Done, Until}
-use Rattle.disk_model.specs.Rest.{Rest}
-use Rattle.disk_model.specs.Trait.{Text, Known, told}
+use Rattle.disk_model.specs.Trait.{Text}
 use Rattle.disk_model.specs.Spelled.{all_spelled}
 use Rattle.disk_model.specs.SyncAll.{sync_all}
 use Rattle.disk_model.proofs.Spelling.{done_under, until_under}
 use Rattle.store_laws.specs.Names.{Name, First, Second, Segment, Snapshot, NodeDisk, NodeCall}
-use Rattle.store_laws.specs.Store.{Kept, Loaded, Log, Snap, Meta, opens, meta_of, snap_in}
+use Rattle.store_laws.specs.Store.{Loaded, Log, opens, meta_of}
 use Rattle.store_laws.specs.Meta.{next_stamp}
 use Rattle.store_laws.specs.Append.{append_calls}
-use Rattle.store_laws.specs.Load.{repair_calls}
 use Rattle.store_laws.specs.Laws.{Comes}
 use Rattle.store_laws.specs.Settled.{file_log}
 use Rattle.store_laws.specs.WholeLoad.{is_stale}
 use Rattle.store_laws.proofs.Answers.{meta_same}
-use Rattle.store_laws.proofs.Loads.{load_holds}
 use Rattle.store_batches.specs.Batches.{batch_bytes}
 use Rattle.store_batches.specs.Written.{segment_word}
 use Rattle.store_batches.specs.Files.{node_format}
-use Rattle.store_batches.proofs.Lawfully.{is_lawful}
-use Rattle.store_reading.specs.declared.segment_log.LastSegment.{LastSegment}
 use Rattle.store_reading.specs.FilesRead.{FilesRead, judged, kept_by}
 use Rattle.segment_store.specs.FileNames.{file_name}
-use Rattle.segment_store.specs.Grow.{begin_calls, IsFree}
-use Rattle.segment_store.specs.Keeps.{folder, HasNew, Went}
+use Rattle.segment_store.specs.Grow.{IsFree}
+use Rattle.segment_store.specs.Keeps.{folder, HasNew}
 use Rattle.segment_store.specs.Listed.{FolderList, named, IsListed}
 use Rattle.segment_store.specs.Loading.{kept_in, IsSeen, StaysSeen}
-use Rattle.segment_store.specs.Open.{Open, HasSize, HasSnapshots, segment_numbers}
+use Rattle.segment_store.specs.Open.{HasSize, HasSnapshots, segment_numbers}
 use Rattle.segment_store.specs.Reads.{ReadsAll}
-use Rattle.segment_store.specs.Repairs.{repairs_of, last_number}
-use Rattle.segment_store.specs.Settling.{front_calls, emptying_calls, left_after, Settles}
+use Rattle.segment_store.specs.Repairs.{last_number}
+use Rattle.segment_store.specs.Settling.{front_calls, emptying_calls, left_after}
 use Rattle.segment_store.proofs.NoTwoAlike.{no_two_alike}
 use Rattle.segment_store.proofs.LoadHolds.{front, all_calls, stale, front_moments, all_moments, front_ends, all_ends, front_others, all_others, none_after}
 use Rattle.segment_store.proofs.LoadJudged.{judged_is, Last, last_is}

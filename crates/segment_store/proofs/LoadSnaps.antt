@@ -1,9 +1,8 @@
 -- The newest of the snapshots that are there.
-use Rattle.std.proofs.Common.{◌≡◌, ◌≢◌, ◌⊎◌, inl, inr, ℕ, zero, suc, ◌<◌, ◌≤◌, Bool, true, false, cond, List, [], ◌∷◌, ◌++◌, length, drop, Option, None, refl, sym, ap, ◌∙◌, subst, arith}
-use Rattle.std.specs.Prelude.{◌||◌, ◌==◌, nat_lt}
-use Rattle.std.proofs.lemmas.Bool.{cases_Bool, cases_eq, cases_lt, cond-true, cond-false, eqb-true, eq-eqb, ne_eqb}
-use Rattle.disk_model.specs.Disk.{Found}
-use Rattle.store_laws.specs.Names.{Name, First, Second, Snapshot, NodeFiles, NodeDisk}
+use Rattle.std.proofs.Common.{◌≡◌, ◌≢◌, ◌⊎◌, inl, inr, ℕ, zero, suc, ◌<◌, ◌≤◌, Bool, true, false, List, [], ◌∷◌, None, refl, sym, ap, ◌∙◌, subst, arith}
+use Rattle.std.specs.Prelude.{◌||◌, ◌==◌}
+use Rattle.std.proofs.lemmas.Bool.{cases_Bool, cases_eq, cases_lt, cond-true, cond-false, eqb-true, eq-eqb}
+use Rattle.store_laws.specs.Names.{First, Second, Snapshot, NodeDisk}
 use Rattle.store_laws.specs.Store.{Meta, Snap, no_meta, no_snap, newest, newest_snap, snap_in, meta_of}
 use Rattle.store_laws.proofs.Newest.{newest_left, newest_right}
 use Rattle.store_format.specs.Metadata.{meta_in}

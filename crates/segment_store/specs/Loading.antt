@@ -1,5 +1,5 @@
 -- What a load answers and leaves.
-use Rattle.std.specs.Prelude.{◌≡◌, ◌⊎◌, ℕ, ◌≤◌, Bool, true, false, List, [], Option, Some, None, Result, Ok, Err, IfOk}
+use Rattle.std.specs.Prelude.{◌≡◌, ℕ, ◌≤◌, false, [], Option, Some, Result, Ok, Err, IfOk}
 use Rattle.dq_base.specs.Faults.{Rose}
 use Rattle.disk_model.specs.Disk.{Disk, Leaves}
 use Rattle.disk_model.specs.Trait.{Text}

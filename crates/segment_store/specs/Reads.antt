@@ -1,5 +1,5 @@
 -- What is read of a folder's files.
-use Rattle.std.specs.Prelude.{◌≡◌, ◌⊎◌, ℕ, suc, ◌+◌, ◌<◌, ◌≤◌, Bool, true, false, List, [], ◌∷◌, length, take, map, Option}
+use Rattle.std.specs.Prelude.{◌≡◌, ◌⊎◌, ℕ, ◌<◌, ◌≤◌, Bool, true, false, List, [], length, take, map, Option}
 use Rattle.store_laws.specs.Names.{First, Second, Segment, Snapshot, NodeFiles, NodeDisk}
 use Rattle.store_laws.specs.Store.{Snap, no_snap, meta_of, snap_in}
 use Rattle.store_laws.specs.Meta.{file_of}
@@ -8,7 +8,7 @@ use Rattle.store_format.specs.Metadata.{meta_in}
 use Rattle.store_format.specs.Snapshots.{snap_of}
 use Rattle.store_batches.specs.Files.{node_format}
 use Rattle.store_reading.specs.SegmentLog.{all_read, IsRead}
-use Rattle.store_reading.specs.FilesRead.{FilesRead, with_meta, with_snap}
+use Rattle.store_reading.specs.FilesRead.{FilesRead, with_meta}
 use Rattle.segment_store.specs.Open.{HasSize, is_listed}
 
 -- more bytes of a file were read behind a front of it, or there are no more

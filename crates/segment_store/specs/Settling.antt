@@ -1,10 +1,10 @@
 -- How a load leaves the disk at rest, and which store is then open.
-use Rattle.std.specs.Prelude.{◌≡◌, ◌⊎◌, ℕ, suc, ◌-◌, ◌<◌, ◌==◌, cond, List, [], ◌∷◌, ◌++◌, length, take, Option, Some, None, Result, Bool, IfOk, OnOk, OnErr}
+use Rattle.std.specs.Prelude.{◌≡◌, ◌⊎◌, ℕ, ◌-◌, ◌<◌, ◌==◌, cond, List, [], ◌++◌, length, take, Option, Some, None, Result, Bool, IfOk, OnOk, OnErr}
 use Rattle.disk_model.specs.Disk.{Disk}
 use Rattle.disk_model.specs.Calls.{Call, Done, Until}
 use Rattle.disk_model.specs.SyncAll.{sync_all}
 use Rattle.disk_model.specs.Trait.{Text, Known}
-use Rattle.store_laws.specs.Names.{Name, Segment, NodeCall}
+use Rattle.store_laws.specs.Names.{Segment, NodeCall}
 use Rattle.store_laws.specs.Store.{Loaded}
 use Rattle.store_batches.specs.Batches.{batch_bytes}
 use Rattle.store_batches.specs.Written.{segment_word}

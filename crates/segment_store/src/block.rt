@@ -1,4 +1,3 @@
-ghost use Rattle.std.specs.Prelude.{◌≡◌};
 ghost use Rattle.dq_base.specs.Names.{IsName};
 ghost use Rattle.disk_model.specs.Calls.{MayWrite};
 ghost use Rattle.disk_model.specs.Trait.{Known, Ran, HasCause};

@@ -9,10 +9,10 @@ ghost use Rattle.segment_store.specs.FileNames.{file_name};
 ghost use Rattle.segment_store.specs.Faults.{DiskCause};
 ghost use Rattle.segment_store.specs.Grow.{IsFree};
 ghost use Rattle.segment_store.specs.Keeps.{folder, Went};
-ghost use Rattle.segment_store.specs.Listed.{FilesBelow, Below, IsListed};
+ghost use Rattle.segment_store.specs.Listed.{Below, IsListed};
 ghost use Rattle.segment_store.specs.Loading.{Sees, IsPlain, Loads, LooksAt, LoadCause};
 ghost use Rattle.segment_store.specs.Reads.{ReadsAll};
-ghost use Rattle.segment_store.specs.Repairs.{repairs_of, last_number};
+ghost use Rattle.segment_store.specs.Repairs.{last_number};
 ghost use Rattle.segment_store.specs.Settling.{front_calls, emptying_calls, left_after, Empties, Settles};
 
 use crate::fault::StoreFault;

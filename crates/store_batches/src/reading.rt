@@ -1,8 +1,8 @@
-ghost use Rattle.std.specs.Prelude.{◌≡◌, ◌≤◌, ◌+◌, ◌-◌, ◌==◌, ◌&&◌, cond, length, take, drop, nat_lt, IfOk};
+ghost use Rattle.std.specs.Prelude.{◌≡◌, ◌≤◌, ◌<◌, ◌+◌, ◌-◌, ◌==◌, ◌&&◌, length, IfOk, MatchOption};
 ghost use Rattle.std.specs.Str.{bytes_eq};
-ghost use Rattle.wire_words.specs.Reading.{Finds, unread};
+ghost use Rattle.wire_words.specs.Reading.{Finds};
 ghost use Rattle.byteorder.specs.Endian.{little_bytes};
-ghost use Rattle.store_batches.specs.Batches.{sum_size, sums_size, batch_sum, body_at, is_sound, batch_in, read_of, read_of_found, no_read};
+ghost use Rattle.store_batches.specs.Batches.{sum_size, sums_size, batch_sum, body_at, is_sound, batch_in, read_of_found};
 
 use byteorder::{ByteOrder, LittleEndian};
 use dq_base::Items;
@@ -97,7 +97,8 @@ pub fn read_batch(
     format: u64,
     bytes: &[u8],
 ) -> Result<Option<FoundBatch>, AllocError>
-    ensures { IfOk result (λ found. read_of_found found ≡ batch_in format bytes.now) }
+    ensures found { IfOk result (λ found. read_of_found found ≡ batch_in format bytes.now) }
+    ensures some { IfOk result (λ found. MatchOption found (Unit {0}) (λ batch. 0 < batch.size)) }
 {
     let size = sum_size(format) * 2;
     if bytes.len() < size {

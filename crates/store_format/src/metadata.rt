@@ -1,6 +1,4 @@
-ghost use Rattle.std.specs.Prelude.{◌≡◌, ◌≤◌, ◌==◌, length, drop, IfOk};
-ghost use Rattle.std.specs.Str.{bytes_eq};
-ghost use Rattle.store_format.specs.Sums.{sum_bytes};
+ghost use Rattle.std.specs.Prelude.{◌≡◌, ◌==◌, IfOk};
 ghost use Rattle.store_format.specs.Metadata.{fits_side, is_block, meta_in, meta_of_found, block_bytes};
 
 use crate::sums::{has_sum, sum8};

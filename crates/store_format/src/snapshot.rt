@@ -1,5 +1,5 @@
-ghost use Rattle.std.specs.Prelude.{◌≡◌, ◌≤◌, ◌==◌, ◌++◌, true, false, length, take, drop, IfOk, MatchOption};
-ghost use Rattle.store_format.specs.Snapshots.{fills, head_fits, is_snapshot, size_in, summed, snap_of, snap_of_found, snapshot_bytes};
+ghost use Rattle.std.specs.Prelude.{◌≡◌, ◌≤◌, ◌<◌, ◌==◌, true, false, length, take, drop, IfOk, MatchOption};
+ghost use Rattle.store_format.specs.Snapshots.{fills, head_fits, is_snapshot, size_in, snap_of, snap_of_found, snapshot_bytes};
 
 use crate::sums::{have_sum, sum8_of_both};
 use crate::words::{front, is_known, word_from};
@@ -21,6 +21,7 @@ pub struct SnapshotFile<'a> {
 fn head_fits(number: u64, bytes: &[u8]) -> bool
     ensures fits { result ≡ head_fits number bytes.now }
     ensures long { result ≡ true → 40 ≤ length bytes.now }
+    ensures some { result ≡ true → 0 < number }
 {
     if bytes.len() < 40 || number == 0 {
         return false;
@@ -76,7 +77,8 @@ fn whole_content(number: u64, bytes: &[u8]) -> Option<&[u8]>
 /// Takes no memory.
 #[tactic(auto, unfolding(crate::specs::Snapshots::snap_of, crate::specs::Snapshots::is_snapshot))]
 pub fn read_snapshot(number: u64, bytes: &[u8]) -> Option<SnapshotFile<'_>>
-    ensures { snap_of_found result ≡ snap_of number bytes.now }
+    ensures found { snap_of_found result ≡ snap_of number bytes.now }
+    ensures index { MatchOption result (Unit {0}) (λ found. 0 < found.index) }
 {
     if !head_fits(number, bytes) {
         return None;

@@ -1,4 +1,4 @@
-ghost use Rattle.std.specs.Prelude.{◌≡◌, ◌++◌, take, bit_xor};
+ghost use Rattle.std.specs.Prelude.{◌≡◌, ◌++◌};
 ghost use Rattle.std.specs.Str.{bytes_eq};
 ghost use Rattle.byteorder.specs.Endian.{little_bytes};
 ghost use Rattle.store_format.specs.Sums.{crc_bit, crc_bits, crc_from, crc_byte, crc32_of, sum8_of, sum_bytes};

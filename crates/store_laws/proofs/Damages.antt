@@ -1,27 +1,24 @@
 -- Damage has a place.
 use Rattle.std.proofs.Common.{◌≡◌, ℕ, zero, suc, cond, Bool, true, false, not, List, [], ◌∷◌, ◌++◌, Option, Some, None, refl, sym, ap, ◌∙◌}
 use Rattle.std.specs.Prelude.{◌&&◌, map, is_some}
+use Rattle.std.proofs.lemmas.List.{map-append}
 use Rattle.store_laws.specs.Names.{Segment, NodeFiles}
 use Rattle.store_laws.specs.Store.{Format, Meta, Snap, Log, Kept, Loaded, Damaged, NoMeta, Gap, answer, lacks_meta, kept, meta_of, snap_in, segments, sound, all_batches, is_whole}
 use Rattle.store_laws.specs.Damage.{Numbered, numbered, first_damage, good_end, damage, DamagePlaces}
 
-abbrev bytes_of : Numbered → List ℕ
+abbrev pub bytes_of : Numbered → List ℕ
 bytes_of x = x.bytes
-
-map_append : (xs ys : List Numbered) → map bytes_of (xs ++ ys) ≡ map bytes_of xs ++ map bytes_of ys
-map_append [] ys = refl
-map_append (x ∷ xs) ys = ap (λ (l : List (List ℕ)). x.bytes ∷ l) (map_append xs ys)
 
 one : (b : Bool) (n : ℕ) (bytes : List ℕ) → cond b (bytes ∷ []) [] ≡ map bytes_of (cond b (record { number = n; bytes = bytes } ∷ []) [])
 one true n bytes = refl
 one false n bytes = refl
 
-same_segments : (top : ℕ) (g : NodeFiles) → segments top g ≡ map bytes_of (numbered top g)
+pub same_segments : (top : ℕ) (g : NodeFiles) → segments top g ≡ map bytes_of (numbered top g)
 unfolding segments numbered
 same_segments zero g = refl
 same_segments (suc n) g =
     let x = g (Segment n) in
-    (λ i. same_segments n g i ++ one x.there n x.bytes i) ∙ sym (map_append (numbered n g) (cond x.there (record { number = n; bytes = x.bytes } ∷ []) []))
+    (λ i. same_segments n g i ++ one x.there n x.bytes i) ∙ sym (map-append bytes_of (numbered n g) (cond x.there (record { number = n; bytes = x.bytes } ∷ []) []))
 
 step : (b s : Bool) (rest : Option (ℕ × ℕ)) (here : ℕ × ℕ) → s ≡ not (is_some rest) → (b && s) ≡ not (is_some (cond b rest (Some here)))
 step true s rest here e = e

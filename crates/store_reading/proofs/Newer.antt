@@ -1,5 +1,6 @@
 -- The newer snapshot.
-use Rattle.std.proofs.Common.{◌≡◌, ℕ, ◌≤◌, ◌<◌, Bool, true, false, cond, List, take, drop, Option, Some, sym, ap, ◌∙◌, arith}
+use Rattle.std.proofs.Common.{◌≡◌, ℕ, ◌≤◌, ◌<◌, Bool, true, false, cond, List, take, drop, Option, Some, sym, ap, ◌∙◌, subst, arith}
+use Rattle.std.specs.Prelude.{MatchOption}
 use Rattle.std.proofs.lemmas.Bool.{cond-true, cond-false, lt-ltb, le-ltb}
 use Rattle.raft_vote.specs.declared.message.Snapshot.{Snapshot}
 use Rattle.store_laws.specs.Store.{Meta, Snap, Log, no_snap}
@@ -32,6 +33,13 @@ copy_fits number bytes o found s small reads is copy =
     let same : s.index ≡ (snap_of number bytes).index = ap (λ (x : Snap). x.index) copy ∙ ap (λ (x : Option SnapshotFile). (snap_of_found x).index) (sym is) ∙ ap (λ (x : Snap). x.index) reads in
     let low : (snap_of number bytes).index ≤ number = snap_index number bytes in
     omega (arith, same, low, small)
+
+-- a copy of a snapshot that was found has its index
+pub copy_some : (o : Option SnapshotFile) (found : SnapshotFile) (s : Snapshot) → MatchOption o (Unit {0}) (λ f. 0 < f.index) → o ≡ Some found → snap_kept (Some s) ≡ snap_of_found (Some found) → 0 < s.index
+copy_some o found s all is copy =
+    let same : s.index ≡ found.index = ap (λ (x : Snap). x.index) copy in
+    let some : 0 < found.index = subst (λ (x : Option SnapshotFile). MatchOption x (Unit {0}) (λ f. 0 < f.index)) is all in
+    omega (arith, same, some)
 
 -- whether the log is stale, by the fields
 pub stale_is : (r : FilesRead) (m : Meta) (o : Option Snapshot) (s : SegmentsRead) (l : Log) (index term : ℕ) (b : Bool) → record { meta = m; snap = snap_kept o; segments = s } ≡ r → l ≡ s.log → index ≡ (snap_kept o).index → term ≡ (snap_kept o).term

@@ -7,7 +7,7 @@ use Rattle.wire_words.specs.declared.fault.WordFault.{WordFault}
 use Rattle.wire_words.specs.Reading.{Unread, unread}
 use Rattle.raft_rules.specs.Log.{Entry}
 use Rattle.store_laws.specs.Names.{NodeFiles}
-use Rattle.store_laws.specs.Store.{Format, Reader, Read, Log, empty_log, put_batch, log_of, batches, batches_in, all_batches, opens, reader, segments}
+use Rattle.store_laws.specs.Store.{Read, Log, empty_log, put_batch, log_of, batches, batches_in, all_batches, opens, reader, segments}
 use Rattle.store_laws.specs.Settled.{file_log}
 use Rattle.store_laws.proofs.Fronts.{stop_batches, not_zero}
 use Rattle.store_batches.specs.declared.reading.Body.{Body}

@@ -1,10 +1,11 @@
 -- The run through the batches of one segment.
-use Rattle.std.proofs.Common.{◌≡◌, ◌≢◌, ℕ, zero, suc, ◌+◌, ◌-◌, ◌≤◌, ◌<◌, Bool, true, false, cond, List, [], ◌∷◌, ◌++◌, length, drop, refl, sym, ap, ◌∙◌, subst, arith, append_assoc, length-drop}
+use Rattle.std.proofs.Common.{◌≡◌, ◌≢◌, ℕ, zero, suc, ◌+◌, ◌-◌, ◌≤◌, ◌<◌, true, false, cond, List, [], ◌∷◌, ◌++◌, length, drop, refl, sym, ap, ◌∙◌, subst, arith, append_assoc, length-drop}
 use Rattle.std.specs.Prelude.{nat_lt, Option, Some, None, MatchOption, Result, Ok, Err, IfOk}
 use Rattle.std.proofs.lemmas.List.{append-nil}
 use Rattle.std.proofs.lemmas.Bool.{cond-true, cond-false, lt-ltb}
+use Rattle.std.specs.declared.alloc.AllocError.{AllocError}
 use Rattle.store_format.specs.Words.{format_in}
-use Rattle.store_batches.specs.Batches.{batch_in}
+use Rattle.store_batches.specs.Batches.{batch_in, read_of_found}
 use Rattle.store_batches.specs.Files.{node_format}
 use Rattle.store_batches.proofs.Lawfully.{is_lawful}
 use Rattle.store_batches.specs.declared.reading.FoundBatch.{FoundBatch}
@@ -14,6 +15,13 @@ use Rattle.store_laws.specs.Damage.{good_end}
 use Rattle.store_laws.proofs.Fronts.{stop_batches, stop_torn, go_torn, not_zero}
 use Rattle.store_laws.proofs.Logs.{log_push}
 use Rattle.store_reading.specs.Batches.{Steps, ReadsAll, InLog}
+
+-- what is found, by cases
+pub found_or_none : (r : Result (Option FoundBatch) AllocError) (x : Read) → IfOk r (λ f. read_of_found f ≡ x) → IfOk r (λ f. MatchOption f (Unit {0}) (λ b. 0 < b.size))
+    → IfOk r (λ f. MatchOption f (x.size ≡ 0) (λ b. (x ≡ record { batch = record { first = b.first; entries = b.entries }; size = b.size }) × (0 < b.size)))
+found_or_none (Err e) x is some = tt
+found_or_none (Ok None) x is some = sym (ap (λ (r : Read). r.size) is)
+found_or_none (Ok (Some b)) x is some = (sym is, some)
 
 go_batches : (rd : Reader) (n : ℕ) (ys : List ℕ) → (rd ys).size ≢ 0 → batches rd (suc n) ys ≡ (rd ys).batch ∷ batches rd n (drop (rd ys).size ys)
 unfolding batches

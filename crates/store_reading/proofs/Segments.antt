@@ -1,15 +1,15 @@
 -- What is read of the segments is what their files stand for.
-use Rattle.std.proofs.Common.{◌≡◌, inl, inr, ℕ, zero, suc, ◌-◌, ◌+◌, ◌≤◌, ◌<◌, Bool, true, false, cond, not, List, [], ◌∷◌, ◌++◌, length, drop, Option, Some, None, refl, sym, ap, ◌∙◌, subst, arith, append_assoc}
+use Rattle.std.proofs.Common.{◌≡◌, inl, inr, ℕ, suc, ◌-◌, ◌≤◌, Bool, true, false, cond, not, List, [], ◌∷◌, ◌++◌, length, drop, Option, Some, None, refl, sym, ap, ◌∙◌, subst, arith, append_assoc}
 use Rattle.std.specs.Prelude.{◌&&◌, ◌||◌, ◌==◌, nat_lt, map, is_some}
-use Rattle.std.proofs.lemmas.List.{append-nil}
+use Rattle.std.proofs.lemmas.List.{append-nil, map-append}
 use Rattle.std.proofs.lemmas.Bool.{cases_Bool, cond-true, cond-false, lt-ltb, ne_eqb, eq-eqb}
-use Rattle.store_laws.specs.Names.{Segment, NodeFiles}
-use Rattle.store_laws.specs.Store.{Format, Log, empty_log, log_of, opens, reader, batches_in, torn, is_whole, is_empty, has_any, segments, sound, all_batches}
-use Rattle.store_laws.specs.Damage.{Numbered, numbered, first_damage, good_end, damage}
+use Rattle.store_laws.specs.Names.{NodeFiles}
+use Rattle.store_laws.specs.Store.{Format, Log, empty_log, log_of, opens, reader, batches_in, torn, is_whole, is_empty, has_any, all_batches}
+use Rattle.store_laws.specs.Damage.{Numbered, numbered, first_damage, good_end}
 use Rattle.store_laws.proofs.Logs.{log_append}
 use Rattle.store_laws.specs.Chance.{Lawful}
 use Rattle.store_laws.proofs.Folders.{all_append, all_one}
-use Rattle.store_laws.proofs.Damages.{damage_places}
+use Rattle.store_laws.proofs.Damages.{bytes_of, same_segments, damage_places}
 use Rattle.store_reading.specs.declared.segment_log.Damage.{Damage}
 use Rattle.store_reading.specs.declared.segment_log.LastSegment.{LastSegment}
 use Rattle.store_reading.specs.Batches.{InLog}
@@ -49,26 +49,6 @@ whole_is f law x = which (opens f x.bytes) refl
     which : (o : Bool) → opens f x.bytes ≡ o → (opens f x.bytes && is_empty left) ≡ (nat_lt 0 (cond (opens f x.bytes) (length x.bytes - length left) 0) && (cond (opens f x.bytes) (length x.bytes - length left) 0 == length x.bytes))
     which true o = (λ i. o i && is_empty left) ∙ ends left (law.opens_long x.bytes o) ∙ sym (λ i. nat_lt 0 (cond (o i) (length x.bytes - length left) 0) && (cond (o i) (length x.bytes - length left) 0 == length x.bytes))
     which false o = (λ i. o i && is_empty left) ∙ sym (λ i. nat_lt 0 (cond (o i) (length x.bytes - length left) 0) && (cond (o i) (length x.bytes - length left) 0 == length x.bytes))
-
--- ---- lists of segments
-
-abbrev bytes_of : Numbered → List ℕ
-bytes_of x = x.bytes
-
-map_append : (xs ys : List Numbered) → map bytes_of (xs ++ ys) ≡ map bytes_of xs ++ map bytes_of ys
-map_append [] ys = refl
-map_append (x ∷ xs) ys = ap (λ (l : List (List ℕ)). x.bytes ∷ l) (map_append xs ys)
-
-one : (b : Bool) (n : ℕ) (bytes : List ℕ) → cond b (bytes ∷ []) [] ≡ map bytes_of (cond b (record { number = n; bytes = bytes } ∷ []) [])
-one true n bytes = refl
-one false n bytes = refl
-
-same_segments : (top : ℕ) (g : NodeFiles) → segments top g ≡ map bytes_of (numbered top g)
-unfolding segments numbered
-same_segments zero g = refl
-same_segments (suc n) g =
-    let x = g (Segment n) in
-    (λ i. same_segments n g i ++ one x.there n x.bytes i) ∙ sym (map_append (numbered n g) (cond x.there (record { number = n; bytes = x.bytes } ∷ []) []))
 
 -- ---- one more segment
 
@@ -118,7 +98,7 @@ module _ (f : Format) (law : Lawful f) where
   more : (xs : List Numbered) (x : Numbered) (s : SegmentsRead) → Holds xs s → Holds (xs ++ x ∷ []) (with_segment f x s)
   unfolding with_segment
   more xs x s h =
-      let all : all_batches f (map bytes_of (xs ++ x ∷ [])) ≡ all_batches f (map bytes_of xs) ++ batches_in f x.bytes = ap (all_batches f) (map_append xs (x ∷ [])) ∙ all_append f (map bytes_of xs) (x.bytes ∷ []) ∙ ap (λ (l : List Log). all_batches f (map bytes_of xs) ++ l) (all_one f x.bytes) in
+      let all : all_batches f (map bytes_of (xs ++ x ∷ [])) ≡ all_batches f (map bytes_of xs) ++ batches_in f x.bytes = ap (all_batches f) (map-append bytes_of xs (x ∷ [])) ∙ all_append f (map bytes_of xs) (x.bytes ∷ []) ∙ ap (λ (l : List Log). all_batches f (map bytes_of xs) ++ l) (all_one f x.bytes) in
       record {
         log = ap (λ (l : Log). log_of l (batches_in f x.bytes)) h.log ∙ sym (log_append empty_log (all_batches f (map bytes_of xs)) (batches_in f x.bytes)) ∙ ap (log_of empty_log) (sym all);
         any = ap (λ (b : Bool). b || has_any (batches_in f x.bytes)) h.any ∙ sym (any_append (all_batches f (map bytes_of xs)) (batches_in f x.bytes)) ∙ ap has_any (sym all);

@@ -1,5 +1,5 @@
 -- The batches of one segment, taken into a log one behind the other.
-use Rattle.std.specs.Prelude.{◌≡◌, ℕ, ◌+◌, ◌<◌, ◌≤◌, Bool, true, false, nat_lt, List, ◌++◌, length, drop}
+use Rattle.std.specs.Prelude.{◌≡◌, ℕ, ◌+◌, ◌<◌, ◌≤◌, Bool, true, false, nat_lt, List, length, drop}
 use Rattle.store_laws.specs.Store.{Format, Reader, Log, put_batch, log_of, batches, torn, batches_in, has_any}
 use Rattle.store_laws.specs.Damage.{good_end}
 

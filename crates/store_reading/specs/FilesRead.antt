@@ -1,7 +1,7 @@
 -- What is read of all files of a node, and what they stand for by it.
-use Rattle.std.specs.Prelude.{◌≡◌, ℕ, suc, Bool, true, false, cond, ◌&&◌, ◌==◌, nat_lt, List, [], ◌∷◌, Option, Some, None, is_some, Result, Ok, Err}
+use Rattle.std.specs.Prelude.{◌≡◌, ◌<◌, suc, Bool, true, cond, ◌&&◌, ◌==◌, nat_lt, Option, Some, None, is_some, Result, Ok, Err}
 use Rattle.raft_vote.specs.declared.message.Snapshot.{Snapshot as SnapshotOf}
-use Rattle.store_laws.specs.Store.{Format, Meta, Snap, no_meta, no_snap, newest, Kept, Outcome, Loaded, Damaged, NoMeta, Gap, behind}
+use Rattle.store_laws.specs.Store.{Meta, Snap, no_meta, no_snap, newest, Kept, Outcome, Loaded, Damaged, NoMeta, Gap, behind}
 use Rattle.store_reading.specs.SegmentLog.{SegmentsRead, none_read}
 use Rattle.store_reading.specs.declared.segment_log.Damage.{Damage as DamageOf}
 use Rattle.store_reading.specs.declared.fault.FilesFault.{FilesFault}
@@ -20,6 +20,11 @@ nothing_read = record { meta = no_meta; snap = no_snap; segments = none_read }
 abbrev pub snap_kept : Option SnapshotOf → Snap
 snap_kept None = no_snap
 snap_kept (Some s) = record { index = s.index; term = s.term; bytes = s.bytes }
+
+-- a snapshot that is there has an index of at least 1
+abbrev pub HasIndex : Option SnapshotOf → Type 0
+HasIndex None = Unit {0}
+HasIndex (Some s) = 0 < s.index
 
 -- the one of the greater index
 unfoldable pub newer_snap : Snap → Snap → Snap

@@ -1,5 +1,5 @@
 -- What is read of the segments, one after another.
-use Rattle.std.specs.Prelude.{◌≡◌, ◌<◌, ℕ, Bool, false, cond, ◌||◌, ◌&&◌, ◌==◌, nat_lt, not, List, [], ◌∷◌, ◌++◌, length, Option, Some, None, is_some}
+use Rattle.std.specs.Prelude.{◌≡◌, ◌<◌, ℕ, Bool, false, cond, ◌||◌, ◌&&◌, ◌==◌, nat_lt, not, List, [], ◌∷◌, length, Option, Some, None, is_some}
 use Rattle.store_laws.specs.Names.{NodeFiles}
 use Rattle.store_laws.specs.Store.{Format, Log, empty_log, log_of, batches_in, has_any, segments, sound, all_batches}
 use Rattle.store_laws.specs.Chance.{Lawful}

@@ -6,7 +6,7 @@ ghost use Rattle.store_format.specs.Metadata.{meta_in, meta_of_found};
 ghost use Rattle.store_format.specs.Snapshots.{snap_of, snap_of_found};
 ghost use Rattle.store_batches.specs.Files.{node_format};
 ghost use Rattle.store_reading.specs.SegmentLog.{with_segment, FitsNumber};
-ghost use Rattle.store_reading.specs.FilesRead.{nothing_read, snap_kept, newer_snap, with_meta, with_snap, with_segment_read, lacks, judged, kept_by, Judges};
+ghost use Rattle.store_reading.specs.FilesRead.{nothing_read, snap_kept, with_meta, with_snap, with_segment_read, lacks, judged, kept_by, Judges};
 
 use crate::fault::FilesFault;
 use crate::kept::Kept;
@@ -29,14 +29,14 @@ pub struct FilesRead {
 impl Model for FilesRead {
     ghost use Rattle.std.specs.Prelude.{◌<◌};
     ghost use Rattle.store_format.specs.Metadata.{meta_of_found};
-    ghost use Rattle.store_reading.specs.FilesRead.{FilesRead as FilesValue, snap_kept};
+    ghost use Rattle.store_reading.specs.FilesRead.{FilesRead as FilesValue, snap_kept, HasIndex};
 
     ghost Value = { FilesValue };
 
     ghost view = { λ r. record { meta = meta_of_found r.metadata; snap = snap_kept r.snapshot; segments = r.segments } };
 
-    // Indices of snapshots have sixteen digits.
-    ghost invariant = { λ r. (snap_kept r.snapshot).index < 10000000000000000 };
+    // Indices of snapshots have sixteen digits, and are at least 1.
+    ghost invariant = { λ r. ((snap_kept r.snapshot).index < 10000000000000000) × HasIndex r.snapshot };
 }
 
 #[tactic(auto, unfolding(store_laws::specs::Store::newest))]

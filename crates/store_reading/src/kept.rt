@@ -8,7 +8,7 @@ pub struct Kept {
     pub term: u64,
     /// The node that got the vote in that term; 0 for none.
     pub vote: u64,
-    /// The newest snapshot.
+    /// The newest snapshot; its index is at least 1.
     pub snapshot: Option<Snapshot>,
     /// The index of the first entry: where there is none, that of the snapshot plus 1, or 1 without a snapshot.
     pub first: u64,
@@ -18,9 +18,11 @@ pub struct Kept {
 
 impl Model for Kept {
     ghost use Rattle.store_laws.specs.Store.{Kept as KeptValue};
-    ghost use Rattle.store_reading.specs.FilesRead.{snap_kept};
+    ghost use Rattle.store_reading.specs.FilesRead.{snap_kept, HasIndex};
 
     ghost Value = { KeptValue };
 
     ghost view = { λ k. record { term = k.term; vote = k.vote; snap = snap_kept k.snapshot; log = record { first = k.first; entries = k.entries } } };
+
+    ghost invariant = { λ k. HasIndex k.snapshot };
 }

@@ -17,7 +17,6 @@ pub use segment_log::{Damage, LastSegment};
 
 /// What is read of segments, in turn, is what their files stand for: the log, the first damage with its place, and the
 /// last one.
-
 pub fn segments_are_read()
     ensures { SegmentsAreRead }
 {}

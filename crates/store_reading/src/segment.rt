@@ -1,7 +1,5 @@
 // One segment: its first word, and its batches one behind the other.
-ghost use Rattle.std.specs.Prelude.{◌≡◌, ◌≢◌, ◌≤◌, ◌<◌, ◌+◌, ℕ, cond, length, drop, MatchOption, IfOk, OnOk};
-ghost use Rattle.store_laws.specs.Store.{opens, put_batch};
-ghost use Rattle.store_laws.specs.Damage.{good_end};
+ghost use Rattle.std.specs.Prelude.{◌≡◌, ◌≤◌, ◌<◌, ◌+◌, length, MatchOption, IfOk};
 ghost use Rattle.store_batches.specs.Batches.{batch_in};
 ghost use Rattle.store_batches.specs.Files.{node_format};
 ghost use Rattle.store_reading.specs.Batches.{Steps, ReadsAll, InLog};
@@ -12,14 +10,11 @@ use store_batches::{FoundBatch, read_batch};
 use store_format::format_in;
 
 // The batch that bytes begin with, if any. It has some bytes.
+#[tactic(auto, using(crate::proofs::Runs::found_or_none))]
 fn next_batch(alloc: Global, format: u64, bytes: &[u8]) -> Result<Option<FoundBatch>, AllocError>
     ensures { IfOk result (λ found. MatchOption found ((batch_in format bytes.now).size ≡ 0) (λ b. (batch_in format bytes.now ≡ record { batch = record { first = b.first; entries = b.entries }; size = b.size }) × (0 < b.size))) }
 {
-    let found = read_batch(alloc, format, bytes)?;
-    match found {
-        Some(batch) if batch.size > 0 => Ok(Some(batch)),
-        _ => Ok(None),
-    }
+    read_batch(alloc, format, bytes)
 }
 
 // Takes the batch at a place into the log, and answers whether there is one.

@@ -1,4 +1,4 @@
-use Rattle.std.proofs.Common.{◌<◌, arith}
+use Rattle.std.proofs.Common.{arith}
 use Rattle.std.proofs.lemmas.Result.{err_from_is_err_and}
 use Rattle.segment_store.proofs.LoadOpens.{empties_stop, empties_err, empties_ok}
 use Rattle.segment_store.proofs.loading.empty_log.Goals as goal

@@ -1,4 +1,4 @@
-use Rattle.std.proofs.Common.{Ok, Err, ◌≤◌, arith, length}
+use Rattle.std.proofs.Common.{◌≤◌, arith, length}
 use Rattle.std.proofs.lemmas.Result.{err_from_is_err_and}
 use Rattle.segment_store.proofs.LoadRuns.{synced_none, synced_more, sync_fails, names_fail, names_done}
 use Rattle.segment_store.proofs.loading_calls.sync_files.Goals as goal

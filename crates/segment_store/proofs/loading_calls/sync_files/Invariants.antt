@@ -1,6 +1,4 @@
-use Rattle.std.proofs.Common.{◌≤◌, take, Ok}
-use Rattle.segment_store.specs.Keeps.{Went}
-use Rattle.segment_store.proofs.LoadCalls.{syncs}
+use Rattle.std.proofs.Common.{◌≤◌, take}
 use Rattle.segment_store.proofs.LoadRuns.{Synced}
 use Rattle.segment_store.proofs.loading_calls.sync_files.Given as goal
 

@@ -1,4 +1,4 @@
-use Rattle.std.proofs.Common.{◌≡◌, ◌≤◌, ◌<◌, ◌+◌, suc, drop, length, arith}
+use Rattle.std.proofs.Common.{◌≡◌, ◌+◌, suc, drop, arith}
 use Rattle.segment_store.specs.Listed.{place_for}
 use Rattle.segment_store.proofs.LoadPlaces.{place_more, place_stop, place_none}
 use Rattle.segment_store.proofs.loading_list.place_for.Goals as goal

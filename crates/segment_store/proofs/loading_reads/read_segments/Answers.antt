@@ -1,4 +1,4 @@
-use Rattle.std.proofs.Common.{◌≤◌, length, sym, arith}
+use Rattle.std.proofs.Common.{sym, arith}
 use Rattle.std.proofs.lemmas.Result.{err_from_is_err_and}
 use Rattle.segment_store.proofs.LoadRuns.{segments_none, segments_more, segments_done, segments_fail}
 use Rattle.segment_store.proofs.loading_reads.read_segments.Goals as goal

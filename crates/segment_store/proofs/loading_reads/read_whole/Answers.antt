@@ -1,4 +1,4 @@
-use Rattle.std.proofs.Common.{◌≤◌, arith}
+use Rattle.std.proofs.Common.{arith}
 use Rattle.std.proofs.lemmas.Result.{err_from_is_err_and}
 use Rattle.segment_store.proofs.LoadSees.{reading_none, reading_more, reading_all, reading_err, reading_stop}
 use Rattle.segment_store.proofs.loading_reads.read_whole.Goals as goal

@@ -1,8 +1,8 @@
 use Rattle.store_batches.specs.Batches.{batch_in}
 use Rattle.store_batches.proofs.Lawfully.{is_lawful}
-use Rattle.std.proofs.Common.{◌≤◌, ◌<◌, length, arith, subst, Bool, true, false}
+use Rattle.std.proofs.Common.{arith, subst, Bool}
 use Rattle.store_reading.specs.Batches.{Steps}
-use Rattle.store_reading.proofs.Runs.{Came, came_none, came_more, came_all}
+use Rattle.store_reading.proofs.Runs.{came_none, came_more, came_all}
 use Rattle.store_reading.proofs.segment.take_batches.Goals as goal
 
 pub batches-init : goal.batches-init

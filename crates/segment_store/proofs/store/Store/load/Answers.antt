@@ -1,8 +1,8 @@
 use Rattle.std.proofs.Common.{Err, sym, subst}
 use Rattle.std.proofs.lemmas.Result.{err_from_is_err_and}
 use Rattle.segment_store.specs.declared.load_fault.LoadFault.{LoadFault}
-use Rattle.segment_store.specs.Loading.{Loads, LoadCause}
-use Rattle.segment_store.proofs.LoadEnds.{loads_refused, loads_failed, loads_opened, cause_store, cause_files}
+use Rattle.segment_store.specs.Loading.{Loads}
+use Rattle.segment_store.proofs.LoadEnds.{loads_refused, loads_failed, loads_opened}
 use Rattle.segment_store.proofs.store.Store.load.Goals as goal
 
 pub returns-in_err-check-clause-loads : goal.returns-in_err-check-clause-loads

@@ -1,8 +1,8 @@
 use Rattle.std.proofs.Common.{Err, sym, subst}
 use Rattle.std.proofs.lemmas.Result.{err_from_is_err_and}
 use Rattle.segment_store.specs.declared.load_fault.LoadFault.{LoadFault}
-use Rattle.segment_store.specs.Loading.{LooksAt, LoadCause}
-use Rattle.segment_store.proofs.LoadEnds.{looks_unread, looks_refused, looks_shown, cause_store, cause_files}
+use Rattle.segment_store.specs.Loading.{LooksAt}
+use Rattle.segment_store.proofs.LoadEnds.{looks_unread, looks_refused, looks_shown}
 use Rattle.segment_store.proofs.store.Store.look.Goals as goal
 
 pub returns-in_err-read_folder-clause-looks : goal.returns-in_err-read_folder-clause-looks
