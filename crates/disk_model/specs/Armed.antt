@@ -1,5 +1,5 @@
 -- Calls that are counted, of which one is to fail, and one is to stop the disk.
-use Rattle.std.specs.Prelude.{◌≡◌, ℕ, Bool, true, false, ◌||◌, ◌==◌, if◌then◌else◌, Option, Some, None, is_some, Result, Ok, Err, OnOk, OnErr}
+use Rattle.std.specs.Prelude.{◌≡◌, ℕ, Bool, true, false, ◌||◌, ◌==◌, if◌then◌else◌, Option, Some, None, is_some, Result, Ok, Err}
 use Rattle.std.specs.declared.alloc.AllocError.{AllocError}
 use Rattle.dq_base.specs.Faults.{one_more}
 use Rattle.disk_model.specs.declared.faults.DiskFault.{DiskFault}
@@ -31,16 +31,13 @@ is_idle_next a = is_some a.stopped || is_number a.fail (one_more a.made)
 abbrev pub fails_next : Armed → Bool
 fails_next a = is_some (stopped_next a) || is_number a.fail (one_more a.made)
 
--- What a call made of the counts: one more call, maybe a stop, and one fault more exactly where it answered an Err. It
--- answers Failed only where it was to.
-pub record Counted {T : Type 0} (old new : Armed) (result : Result T DiskFault) : Type 0 where
+-- What a call made of the counts: one more call, maybe a stop, and a fault at most where the call was to answer Failed.
+pub record Counted (old new : Armed) : Type 0 where
   pub made : new.made ≡ one_more old.made
   pub stop : new.stop ≡ old.stop
   pub fail : new.fail ≡ old.fail
   pub stopped : new.stopped ≡ stopped_next old
-  pub fine : OnOk result (new.faults ≡ old.faults)
-  pub fault : OnErr result (new.faults ≡ one_more old.faults)
-  pub failed : fails_next old ≡ false → result ≡ Err Failed → ⊥
+  pub faults : fails_next old ≡ false → new.faults ≡ old.faults
 
 -- how the call goes on
 abbrev pub IsTurn : Bool → Turn → Type 0
@@ -53,23 +50,23 @@ finished turn (Err e) = Err NoMemory
 finished Goes (Ok x) = Ok x
 finished Stops (Ok x) = Err Failed
 
--- the counts after it: want of memory and the stop are faults
+-- the counts after it: the stop is a fault, and want of memory is counted apart
 abbrev pub with_end : Turn → Result Unit AllocError → Armed → Armed
-with_end turn (Err e) a = record a { faults = one_more a.faults }
+with_end turn (Err e) a = record a { wants = one_more a.wants }
 with_end Goes (Ok x) a = a
 with_end Stops (Ok x) a = record a { faults = one_more a.faults }
 
 -- the calls are counted anew, and these are to stop and to fail; a stop that came stands
 abbrev pub armed_with : Option Stop → Option ℕ → Armed → Armed
-armed_with stop fail a = record { made = 0; faults = a.faults; stop = stop; fail = fail; stopped = a.stopped }
+armed_with stop fail a = record { made = 0; faults = a.faults; wants = a.wants; stop = stop; fail = fail; stopped = a.stopped }
 
 -- nothing is to stop or to fail
 abbrev pub disarmed : Armed → Armed
-disarmed a = record { made = 0; faults = a.faults; stop = None; fail = None; stopped = None }
+disarmed a = record { made = 0; faults = a.faults; wants = a.wants; stop = None; fail = None; stopped = None }
 
 -- before the first call
 abbrev pub unarmed : Armed
-unarmed = record { made = 0; faults = 0; stop = None; fail = None; stopped = None }
+unarmed = record { made = 0; faults = 0; wants = 0; stop = None; fail = None; stopped = None }
 
 -- a pick of its own, or else another one
 abbrev pub picked : Option ℕ → ℕ → ℕ

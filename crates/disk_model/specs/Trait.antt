@@ -1,11 +1,12 @@
 -- What a call of a disk does to the states that the disk may be said to be in.
-use Rattle.std.specs.Prelude.{◌≡◌, ◌≤◌, ℕ, ◌-◌, ◌++◌, min, Bool, true, false, List, [], ◌∷◌, length, take, drop, Result, IfOk, OnOk, OnErr}
+use Rattle.std.specs.Prelude.{◌≡◌, ◌≤◌, ℕ, ◌-◌, ◌++◌, min, Bool, true, false, List, [], ◌∷◌, length, take, drop, Result, Err, IfOk, OnOk, OnErr}
 use Rattle.dq_base.specs.Faults.{Rose}
 use Rattle.disk_model.specs.Disk.{Disk}
 use Rattle.disk_model.specs.Calls.{Call, Done, Until, Does, Fails}
 use Rattle.disk_model.specs.Rest.{AfterCrash}
 use Rattle.disk_model.specs.SyncAll.{Among}
 use Rattle.disk_model.specs.declared.faults.DiskFault.{DiskFault}
+use Rattle.disk_model.specs.declared.faults.DiskFault.TheVariants.{Failed, NoMemory}
 
 -- names of files are texts
 abbrev pub Text : Type 0
@@ -49,7 +50,12 @@ pub record Reads (bytes : List ℕ) (at : ℕ) (before after : List ℕ) (n : �
   pub count : n ≡ min (length before) (length bytes - at)
   pub buffer : after ≡ take n (drop at bytes) ++ drop n before
 
--- the count did not fall, and an Err has its cause in it: the count rose
+-- the count did not fall, and a disk that failed has its cause in it: the count rose
 pub record HasCause {T : Type 0} (before now : ℕ) (result : Result T DiskFault) : Type 0 where
   pub never_falls : before ≤ now
-  pub failed : OnErr result (Rose before now)
+  pub failed : result ≡ Err Failed → Rose before now
+
+-- the count of wants did not fall, and a disk that answers want of memory has counted it: the count rose
+pub record HasWant {T : Type 0} (before now : ℕ) (result : Result T DiskFault) : Type 0 where
+  pub never_falls : before ≤ now
+  pub wanted : result ≡ Err NoMemory → Rose before now

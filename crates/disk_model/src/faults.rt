@@ -9,7 +9,7 @@ pub enum DiskFault {
     /// The disk failed, and has counted it.
     #[error("the disk failed")]
     Failed,
-    /// Memory ran out, and the disk has counted it.
+    /// Memory ran out.
     #[error("out of memory")]
     NoMemory,
 }

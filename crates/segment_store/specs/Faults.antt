@@ -16,7 +16,7 @@ pub record DiskCause {T : Type 0} (before now : ℕ) (result : Result T StoreFau
   pub never_falls : before ≤ now
   pub failed : result ≡ Err DiskFault → Rose before now
 
--- After an Err a call of the disk has answered an Err, or the disk is as it was: want of the store's own memory comes
--- before the first call.
-abbrev pub StaysUnlessFailed : {D T E : Type 0} → D → D → ℕ → ℕ → Result T E → Type 0
-StaysUnlessFailed was now before after result = OnErr result ((now ≡ was) ⊎ Rose before after)
+-- After an Err the disk has failed, or has wanted memory, or is as it was: want of the store's own memory comes before the
+-- first call. Its faults are counted before and after, and its wants.
+abbrev pub StaysUnlessFailed : {D T E : Type 0} → D → D → ℕ → ℕ → ℕ → ℕ → Result T E → Type 0
+StaysUnlessFailed was now faults faults_after wants wants_after result = OnErr result ((now ≡ was) ⊎ (Rose faults faults_after ⊎ Rose wants wants_after))
