@@ -1,4 +1,4 @@
-ghost use Rattle.std.specs.Prelude.{◌≡◌, ◌≤◌, ℕ, false, length, IfOk};
+ghost use Rattle.std.specs.Prelude.{◌≡◌, ◌≤◌, false, length, IfOk};
 ghost use Rattle.dq_base.specs.Faults.{Rose};
 ghost use Rattle.disk_model.specs.declared.faults.DiskFault;
 ghost use Rattle.dir_disk.specs.Untold.{no_states};
@@ -18,21 +18,22 @@ use std::{fs, io};
 /// It tells nothing of what is on it: that real files follow what the trait says is trusted, and with it that an `Ok` of
 /// a sync after one that failed makes all sure, which some systems break. A name that has a `/`, or is `.` or `..`, is
 /// none of the folder: each call with it answers `Failed` and does nothing. Each call opens the file anew and makes its
-/// path, which takes memory in the order of its name. Its count of faults rises at each `Failed`, and stays at
-/// 18,446,744,073,709,551,615.
+/// path, which takes memory in the order of its name. Its count of faults rises at each `Failed`, and that of wants
+/// at each `NoMemory`; both stay at 18,446,744,073,709,551,615.
 #[derive(Drop)]
 pub struct DirDisk<R: Files<File = File> + AllocGlobal + Clone + Drop> {
     rt: R,
     folder: String,
     faults: u64,
+    wants: u64,
 }
 
 impl<R: Files<File = File> + AllocGlobal + Clone + Drop> Model for DirDisk<R> {
-    ghost use Rattle.std.specs.Prelude.{ℕ};
+    ghost use Rattle.dir_disk.specs.Untold.{Counts};
 
-    ghost Value = { ℕ };
+    ghost Value = { Counts };
 
-    ghost view = { λ a. a.faults };
+    ghost view = { λ a. record { faults = a.faults; wants = a.wants } };
 }
 
 /// Refuses a name that isn't one of a flat folder.
@@ -78,36 +79,40 @@ fn fill(file: &File, at: u64, into: &mut [u8]) -> io::Result<usize>
 impl<R: Files<File = File> + AllocGlobal + Clone + Drop> DirDisk<R> {
     /// A disk over the working folder, with no fault so far. `Err` is want of memory.
     pub fn new(rt: R) -> Result<DirDisk<R>, AllocError>
-        ensures { IfOk result (λ disk. disk ≡ 0) }
+        ensures { IfOk result (λ disk. disk ≡ record { faults = 0; wants = 0 }) }
     {
         DirDisk::in_folder(rt, ".")
     }
 
     /// A disk over the folder of a path, which is there. `Err` is want of memory.
     pub fn in_folder(rt: R, folder: &str) -> Result<DirDisk<R>, AllocError>
-        ensures { IfOk result (λ disk. disk ≡ 0) }
+        ensures { IfOk result (λ disk. disk ≡ record { faults = 0; wants = 0 }) }
     {
         let folder = String::from_str(rt.alloc(), folder)?;
         Ok(DirDisk {
             rt,
             folder,
             faults: 0,
+            wants: 0,
         })
     }
 
     /// How often a call answered `Failed`.
     pub fn faults(&self) -> u64
-        ensures { result ≡ self.now }
+        ensures { result ≡ self.now.faults }
     {
         self.faults
     }
 
-    /// Counts a fault, and not want of memory.
+    /// Counts a fault or a want of memory.
     fn fault(&mut self, error: io::Error) -> DiskFault
-        ensures never_falls { self.old ≤ self.new }
-        ensures rose { result ≡ DiskFault.Failed → Rose self.old self.new }
+        ensures never_falls { self.old.faults ≤ self.new.faults }
+        ensures rose { result ≡ DiskFault.Failed → Rose self.old.faults self.new.faults }
+        ensures wants_never_fall { self.old.wants ≤ self.new.wants }
+        ensures wanted { result ≡ DiskFault.NoMemory → Rose self.old.wants self.new.wants }
     {
         if error.kind() == ErrorKind::OutOfMemory {
+            self.wants = self.wants.saturating_add(1);
             return DiskFault::NoMemory;
         }
         self.faults = self.faults.saturating_add(1);
@@ -192,7 +197,9 @@ impl<R: Files<File = File> + AllocGlobal + Clone + Drop> Disk for DirDisk<R> {
 
     ghost states = { λ disk. no_states };
 
-    ghost faults = { λ disk. disk };
+    ghost faults = { λ disk. disk.faults };
+
+    ghost wants = { λ disk. disk.wants };
 
     /// The files of the folder whose names are names of a `Name`; folders and links aren't listed.
     #[tactic(auto, using(crate::proofs::Telling::looks_untold))]

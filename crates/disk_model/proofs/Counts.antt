@@ -1,8 +1,8 @@
 -- Counts of faults that rose.
-use Rattle.std.proofs.Common.{◌≡◌, ℕ, ◌≤◌, true, false, sym, ◌∙◌, Result, Ok, Err, arith}
+use Rattle.std.proofs.Common.{◌≡◌, ℕ, ◌≤◌, true, false, refl, sym, ◌∙◌, Result, Ok, Err, arith}
 use Rattle.std.specs.declared.alloc.AllocError.{AllocError}
 use Rattle.dq_base.specs.Faults.{one_more, Rose}
-use Rattle.disk_model.specs.Trait.{HasCause}
+use Rattle.disk_model.specs.Trait.{HasCause, HasWant}
 use Rattle.disk_model.specs.Armed.{Counted, IsTurn, fails_next, finished, with_end}
 use Rattle.disk_model.specs.declared.armed.Armed.{Armed}
 use Rattle.disk_model.specs.declared.armed.Turn.{Turn}
@@ -41,3 +41,16 @@ pub ended_cause : (old : ℕ) (mid new : Armed) (turn : Turn) (done : Result Uni
 ended_cause old mid new turn (Err x) l k e = spared old new.faults (Err NoMemory) (omega (arith, l, k)) (λ q. absurd cc)
 ended_cause old mid new Goes (Ok x) l k e = spared old new.faults (Ok x) (omega (arith, l, k)) (λ q. absurd cc)
 ended_cause old mid new Stops (Ok x) l k e = caused old mid.faults new.faults (Err Failed) l k (λ i. (e i).faults)
+
+-- a failure is no want
+pub not_wanted : {T : Type 0} (old new : ℕ) (x : DiskFault) → old ≤ new → x ≡ Failed → HasWant {T = T} old new (Err x)
+not_wanted old new x l is = record { never_falls = l; wanted = λ q. let z : x ≡ NoMemory = cc in let w : Failed ≡ NoMemory = sym is ∙ z in absurd cc }
+
+-- one want more
+pub wanted_more : {T : Type 0} (old mid new : ℕ) (x : DiskFault) → old ≤ mid → mid ≤ new → new ≡ one_more mid → HasWant {T = T} old new (Err x)
+wanted_more old mid new x l k e = record { never_falls = omega (arith, l, k); wanted = λ q. rises old mid new l e }
+
+pub ended_want : (old : ℕ) (mid new : Armed) (turn : Turn) (done : Result Unit AllocError) → old ≤ mid.wants → mid.wants ≤ new.wants → new ≡ with_end turn done mid → HasWant old new.wants (finished turn done)
+ended_want old mid new turn (Err x) l k e = wanted_more old mid.wants new.wants NoMemory l k (λ i. (e i).wants)
+ended_want old mid new Goes (Ok x) l k e = record { never_falls = omega (arith, l, k); wanted = λ q. absurd cc }
+ended_want old mid new Stops (Ok x) l k e = not_wanted old new.wants Failed (omega (arith, l, k)) refl

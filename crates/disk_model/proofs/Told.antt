@@ -3,7 +3,7 @@ use Rattle.std.proofs.Common.{◌≡◌, ◌≤◌, ℕ, true, List, refl, sym, 
 use Rattle.std.specs.declared.alloc.AllocError.{AllocError}
 use Rattle.disk_model.specs.Disk.{Disk, Found, Held, LeavesFile, no_files}
 use Rattle.disk_model.specs.Calls.{Call, WriteAt, CutTo, Sync, Remove, SyncNames, Does, Fails, Turns, Breaks, MayWrite}
-use Rattle.disk_model.specs.Trait.{Text, Known, told, untold, Steps, Looks, Lists, Reads, HasCause, Crashes}
+use Rattle.disk_model.specs.Trait.{Text, Known, told, untold, Steps, Looks, Lists, Reads, HasCause, HasWant, Crashes}
 use Rattle.disk_model.specs.Memory.{Memory, no_memory, effects_on, wrote, truncated, removed, synced, names_synced, crashed}
 use Rattle.disk_model.specs.Folder.{ListsFiles}
 use Rattle.disk_model.specs.Stored.{Contents, OverMemory, memory_of, states_of}
@@ -13,7 +13,7 @@ use Rattle.disk_model.specs.declared.armed.Armed.{Armed}
 use Rattle.disk_model.specs.declared.armed.Turn.{Turn}
 use Rattle.disk_model.specs.declared.armed.Turn.TheVariants.{Goes, Stops}
 use Rattle.disk_model.specs.declared.faults.DiskFault.{DiskFault}
-use Rattle.disk_model.proofs.Counts.{ended_cause}
+use Rattle.disk_model.proofs.Counts.{ended_cause, ended_want}
 use Rattle.disk_model.proofs.Fitting.{read_left}
 use Rattle.disk_model.proofs.Stepping.{holds_none, Writable, writable, write_does, write_fails, cut_does, cut_fails, remove_does, remove_fails, sync_does, names_does, crash_does}
 
@@ -124,3 +124,9 @@ pub ended_cause_at : (now : OverMemory) (s : Contents) (a mid new : Armed) (turn
 ended_cause_at now s a mid new turn done result view cause later e is =
     subst (λ (r : Result Unit DiskFault). HasCause now.calls.faults new.faults r) (sym is)
     (ended_cause now.calls.faults mid new turn done (subst (λ (z : OverMemory). z.calls.faults ≤ mid.faults) view cause.never_falls) later e)
+
+pub ended_want_at : (now : OverMemory) (s : Contents) (a mid new : Armed) (turn : Turn) (done : Result Unit AllocError) (result : Result Unit DiskFault) → record { contents = s; calls = a } ≡ now → HasWant {T = Turn} a.wants mid.wants (Ok turn) → mid.wants ≤ new.wants → new ≡ with_end turn done mid → result ≡ finished turn done
+    → HasWant now.calls.wants new.wants result
+ended_want_at now s a mid new turn done result view want later e is =
+    subst (λ (r : Result Unit DiskFault). HasWant now.calls.wants new.wants r) (sym is)
+    (ended_want now.calls.wants mid new turn done (subst (λ (z : OverMemory). z.calls.wants ≤ mid.wants) view want.never_falls) later e)

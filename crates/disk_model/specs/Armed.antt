@@ -50,23 +50,23 @@ finished turn (Err e) = Err NoMemory
 finished Goes (Ok x) = Ok x
 finished Stops (Ok x) = Err Failed
 
--- the counts after it: the stop is a fault
+-- the counts after it: the stop is a fault, and want of memory is counted apart
 abbrev pub with_end : Turn → Result Unit AllocError → Armed → Armed
-with_end turn (Err e) a = a
+with_end turn (Err e) a = record a { wants = one_more a.wants }
 with_end Goes (Ok x) a = a
 with_end Stops (Ok x) a = record a { faults = one_more a.faults }
 
 -- the calls are counted anew, and these are to stop and to fail; a stop that came stands
 abbrev pub armed_with : Option Stop → Option ℕ → Armed → Armed
-armed_with stop fail a = record { made = 0; faults = a.faults; stop = stop; fail = fail; stopped = a.stopped }
+armed_with stop fail a = record { made = 0; faults = a.faults; wants = a.wants; stop = stop; fail = fail; stopped = a.stopped }
 
 -- nothing is to stop or to fail
 abbrev pub disarmed : Armed → Armed
-disarmed a = record { made = 0; faults = a.faults; stop = None; fail = None; stopped = None }
+disarmed a = record { made = 0; faults = a.faults; wants = a.wants; stop = None; fail = None; stopped = None }
 
 -- before the first call
 abbrev pub unarmed : Armed
-unarmed = record { made = 0; faults = 0; stop = None; fail = None; stopped = None }
+unarmed = record { made = 0; faults = 0; wants = 0; stop = None; fail = None; stopped = None }
 
 -- a pick of its own, or else another one
 abbrev pub picked : Option ℕ → ℕ → ℕ

@@ -6,7 +6,7 @@ use Rattle.disk_model.specs.Calls.{Call, Done, Until, Does, Fails}
 use Rattle.disk_model.specs.Rest.{AfterCrash}
 use Rattle.disk_model.specs.SyncAll.{Among}
 use Rattle.disk_model.specs.declared.faults.DiskFault.{DiskFault}
-use Rattle.disk_model.specs.declared.faults.DiskFault.TheVariants.{Failed}
+use Rattle.disk_model.specs.declared.faults.DiskFault.TheVariants.{Failed, NoMemory}
 
 -- names of files are texts
 abbrev pub Text : Type 0
@@ -54,3 +54,8 @@ pub record Reads (bytes : List ℕ) (at : ℕ) (before after : List ℕ) (n : �
 pub record HasCause {T : Type 0} (before now : ℕ) (result : Result T DiskFault) : Type 0 where
   pub never_falls : before ≤ now
   pub failed : result ≡ Err Failed → Rose before now
+
+-- the count of wants did not fall, and a disk that answers want of memory has counted it: the count rose
+pub record HasWant {T : Type 0} (before now : ℕ) (result : Result T DiskFault) : Type 0 where
+  pub never_falls : before ≤ now
+  pub wanted : result ≡ Err NoMemory → Rose before now

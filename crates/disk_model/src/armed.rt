@@ -1,6 +1,6 @@
 ghost use Rattle.std.specs.Prelude.{◌≡◌, ◌≤◌, false, is_some, if◌then◌else◌, IfOk, OnOk};
 ghost use Rattle.dq_base.specs.Faults.{one_more};
-ghost use Rattle.disk_model.specs.Trait.{HasCause};
+ghost use Rattle.disk_model.specs.Trait.{HasCause, HasWant};
 ghost use Rattle.disk_model.specs.Armed.{pick_at, is_number, is_idle_next, fails_next, Counted, IsTurn, finished, with_end, unarmed, armed_with, disarmed, picked};
 
 use crate::faults::DiskFault;
@@ -13,12 +13,13 @@ pub struct Stop {
     pub pick: u64,
 }
 
-/// Calls that are counted, of which one may be told to fail and one to stop the disk. Both counts stay at
-/// 18,446,744,073,709,551,615.
+/// Calls that are counted, of which one may be told to fail and one to stop the disk; faults and wants of memory are
+/// counted too. All counts stay at 18,446,744,073,709,551,615.
 #[derive(Clone, Copy, Debug)]
 pub struct Armed {
     pub(crate) made: u64,
     pub(crate) faults: u64,
+    pub(crate) wants: u64,
     pub(crate) stop: Option<Stop>,
     pub(crate) fail: Option<u64>,
     pub(crate) stopped: Option<u64>,
@@ -73,6 +74,7 @@ impl Armed {
         Armed {
             made: 0,
             faults: 0,
+            wants: 0,
             stop: None,
             fail: None,
             stopped: None,
@@ -118,6 +120,16 @@ impl Armed {
         DiskFault::Failed
     }
 
+    /// Counts a want of memory.
+    pub(crate) fn want(&mut self) -> DiskFault
+        ensures fault { result ≡ DiskFault.NoMemory }
+        ensures count { self.new ≡ record self.old { wants = one_more self.old.wants } }
+        ensures never_falls { self.old.wants ≤ self.new.wants }
+    {
+        self.wants = self.wants.saturating_add(1);
+        DiskFault::NoMemory
+    }
+
     /// Whether the next call does nothing: the disk is stopped, or that call is to fail.
     fn is_idle_next(&self) -> bool
         ensures { result ≡ is_idle_next self.now }
@@ -127,11 +139,12 @@ impl Armed {
 
     /// Starts the next call. It fails at once where the disk is stopped or the call is to fail; else the call goes on,
     /// and the disk stops in it or not.
-    #[tactic(auto, using(crate::proofs::Counts::caused, crate::proofs::Counts::spared))]
+    #[tactic(auto, using(crate::proofs::Counts::caused, crate::proofs::Counts::spared, crate::proofs::Counts::not_wanted))]
     pub(crate) fn start(&mut self) -> Result<Turn, DiskFault>
         ensures counted { Counted self.old self.new }
         ensures turn { IfOk result (IsTurn (fails_next self.old)) }
         ensures cause { HasCause self.old.faults self.new.faults result }
+        ensures want { HasWant self.old.wants self.new.wants result }
     {
         let is_idle = self.is_idle_next();
         self.made = self.made.saturating_add(1);
@@ -154,9 +167,10 @@ impl Armed {
         ensures answer { result ≡ finished turn done }
         ensures count { self.new ≡ with_end turn done self.old }
         ensures never_falls { self.old.faults ≤ self.new.faults }
+        ensures wants_never_fall { self.old.wants ≤ self.new.wants }
     {
         match done {
-            Err(_) => Err(DiskFault::NoMemory),
+            Err(_) => Err(self.want()),
             Ok(()) => match turn {
                 Turn::Goes => Ok(()),
                 Turn::Stops => Err(self.fault()),
@@ -165,11 +179,12 @@ impl Armed {
     }
 
     /// Starts the next call, which is not done where the disk stops in it.
-    #[tactic(auto, using(crate::proofs::Counts::caused, crate::proofs::Counts::counted_more))]
+    #[tactic(auto, using(crate::proofs::Counts::caused, crate::proofs::Counts::counted_more, crate::proofs::Counts::not_wanted))]
     pub(crate) fn start_whole(&mut self) -> Result<(), DiskFault>
         ensures counted { Counted self.old self.new }
         ensures goes { OnOk result (fails_next self.old ≡ false) }
         ensures cause { HasCause self.old.faults self.new.faults result }
+        ensures want { HasWant self.old.wants self.new.wants result }
     {
         match self.start()? {
             Turn::Goes => Ok(()),

@@ -14,7 +14,7 @@ use dq_base::{Items, Name};
 /// A disk counts its faults: a call answers `Failed` only where that count rose in the call. What is on the disk is told
 /// only by disks that know it, as one over memory; clauses on content hold where it is told. After an `Err` a call that
 /// changes the disk may have been done in any part, but a failed `sync` or `sync_names` makes nothing sure. Want of
-/// memory is an `Err` like a failure, without a fault.
+/// memory is an `Err` like a failure, without a fault; it has a count of its own, which rose where `NoMemory` is answered.
 ///
 /// A crash inside a call is that call over a disk whose calls fail from that moment on. So it is enough to know, at each
 /// answer, what a crash may leave.
@@ -23,7 +23,7 @@ pub trait Disk {
     ghost use Rattle.dq_base.specs.Names.{IsName};
     ghost use Rattle.disk_model.specs.Disk.{Disk};
     ghost use Rattle.disk_model.specs.Calls.{WriteAt, CutTo, Sync, Remove, SyncNames, MayWrite};
-    ghost use Rattle.disk_model.specs.Trait.{Text, Known, Steps, Looks, Lists, Reads, HasCause};
+    ghost use Rattle.disk_model.specs.Trait.{Text, Known, Steps, Looks, Lists, Reads, HasCause, HasWant};
 
     /// Whether disks of this kind tell what is on them.
     ghost tells: { Bool };
@@ -34,10 +34,14 @@ pub trait Disk {
     /// How often the disk has failed.
     ghost faults: { Self → ℕ };
 
+    /// How often a call wanted memory of the disk's own.
+    ghost wants: { Self → ℕ };
+
     /// The names of the files that are there, each once, in any order.
     fn list(&mut self) -> Result<Items<Name>, DiskFault>
         ensures told { Looks (states self.old) (states self.new) result Lists }
-        ensures cause { HasCause (faults self.old) (faults self.new) result };
+        ensures cause { HasCause (faults self.old) (faults self.new) result }
+        ensures want { HasWant (wants self.old) (wants self.new) result };
 
     /// Reads the bytes of a file from `at` on into the front of `into`, as many as there are and fit, and answers their
     /// number. 0 for an `into` with room is the end.
@@ -45,7 +49,8 @@ pub trait Disk {
         requires { IsName name.now }
         ensures bound { IfOk result (λ count. count ≤ length into.new) }
         ensures told { Looks (states self.old) (states self.new) result (λ d. Reads (d.read name.now).bytes at into.old into.new) }
-        ensures cause { HasCause (faults self.old) (faults self.new) result };
+        ensures cause { HasCause (faults self.old) (faults self.new) result }
+        ensures want { HasWant (wants self.old) (wants self.new) result };
 
     /// Writes the bytes over those of a file from `at` on, and past its end. It makes the file where it isn't there.
     ///
@@ -54,28 +59,33 @@ pub trait Disk {
     fn write_at(&mut self, name: &str, at: u64, bytes: &[u8]) -> Result<(), DiskFault>
         requires { IsName name.now }
         ensures told { Known tells (states self.old) (MayWrite name.now at) → Steps (WriteAt name.now at bytes.now) (states self.old) (states self.new) result }
-        ensures cause { HasCause (faults self.old) (faults self.new) result };
+        ensures cause { HasCause (faults self.old) (faults self.new) result }
+        ensures want { HasWant (wants self.old) (wants self.new) result };
 
     /// Keeps the first `length` bytes of a file. A shorter file stays as it is.
     fn cut(&mut self, name: &str, length: u64) -> Result<(), DiskFault>
         requires { IsName name.now }
         ensures told { Steps (CutTo name.now length) (states self.old) (states self.new) result }
-        ensures cause { HasCause (faults self.old) (faults self.new) result };
+        ensures cause { HasCause (faults self.old) (faults self.new) result }
+        ensures want { HasWant (wants self.old) (wants self.new) result };
 
     /// Puts the bytes of a file on the disk; whether its name is there is up to `sync_names`.
     fn sync(&mut self, name: &str) -> Result<(), DiskFault>
         requires { IsName name.now }
         ensures told { Steps (Sync name.now) (states self.old) (states self.new) result }
-        ensures cause { HasCause (faults self.old) (faults self.new) result };
+        ensures cause { HasCause (faults self.old) (faults self.new) result }
+        ensures want { HasWant (wants self.old) (wants self.new) result };
 
     /// Removes a file.
     fn remove(&mut self, name: &str) -> Result<(), DiskFault>
         requires { IsName name.now }
         ensures told { Steps (Remove name.now) (states self.old) (states self.new) result }
-        ensures cause { HasCause (faults self.old) (faults self.new) result };
+        ensures cause { HasCause (faults self.old) (faults self.new) result }
+        ensures want { HasWant (wants self.old) (wants self.new) result };
 
     /// Puts the names on the disk: those of files that were made are sure from now on, and removed ones are gone.
     fn sync_names(&mut self) -> Result<(), DiskFault>
         ensures told { Steps SyncNames (states self.old) (states self.new) result }
-        ensures cause { HasCause (faults self.old) (faults self.new) result };
+        ensures cause { HasCause (faults self.old) (faults self.new) result }
+        ensures want { HasWant (wants self.old) (wants self.new) result };
 }

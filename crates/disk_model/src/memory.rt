@@ -2,7 +2,7 @@ ghost use Rattle.std.specs.Prelude.{◌≡◌, ◌≤◌, true, length, is_some,
 ghost use Rattle.dq_base.specs.Names.{IsName};
 ghost use Rattle.disk_model.specs.Disk.{no_files};
 ghost use Rattle.disk_model.specs.Calls.{WriteAt, CutTo, Sync, Remove, SyncNames, MayWrite};
-ghost use Rattle.disk_model.specs.Trait.{Known, Steps, Looks, Lists, Reads, HasCause, Crashes};
+ghost use Rattle.disk_model.specs.Trait.{Known, Steps, Looks, Lists, Reads, HasCause, HasWant, Crashes};
 ghost use Rattle.disk_model.specs.Memory.{no_memory, crashed};
 ghost use Rattle.disk_model.specs.Armed.{armed_with, disarmed, unarmed, Counted};
 ghost use Rattle.disk_model.specs.Stored.{memory_of, states_of, pick_of};
@@ -101,16 +101,19 @@ impl Disk for MemDisk {
 
     ghost faults = { λ disk. disk.calls.faults };
 
+    ghost wants = { λ disk. disk.calls.wants };
+
     #[tactic(auto, using(crate::proofs::Told::list_told, crate::proofs::Told::looks_none))]
     fn list(&mut self) -> Result<Items<Name>, DiskFault>
         ensures told { Looks (states_of self.old) (states_of self.new) result Lists }
         ensures cause { HasCause self.old.calls.faults self.new.calls.faults result }
+        ensures want { HasWant self.old.calls.wants self.new.calls.wants result }
         ensures counted { Counted self.old.calls self.new.calls }
     {
         self.calls.start_whole()?;
         match self.storage.names() {
             Ok(names) => Ok(Items::new(names)),
-            Err(_) => Err(DiskFault::NoMemory),
+            Err(_) => Err(self.calls.want()),
         }
     }
 
@@ -121,6 +124,7 @@ impl Disk for MemDisk {
         ensures bound { IfOk result (λ count. count ≤ length into.new) }
         ensures told { Looks (states_of self.old) (states_of self.new) result (λ d. Reads (d.read name.now).bytes at into.old into.new) }
         ensures cause { HasCause self.old.calls.faults self.new.calls.faults result }
+        ensures want { HasWant self.old.calls.wants self.new.calls.wants result }
         ensures counted { Counted self.old.calls self.new.calls }
     {
         self.calls.start_whole()?;
@@ -128,11 +132,12 @@ impl Disk for MemDisk {
     }
 
     /// Copies the bytes twice.
-    #[tactic(auto, using(crate::proofs::Told::ended_cause_at))]
+    #[tactic(auto, using(crate::proofs::Told::ended_cause_at, crate::proofs::Told::ended_want_at))]
     fn write_at(&mut self, name: &str, at: u64, bytes: &[u8]) -> Result<(), DiskFault>
         requires { IsName name.now }
         ensures told { Known true (states_of self.old) (MayWrite name.now at) → Steps (WriteAt name.now at bytes.now) (states_of self.old) (states_of self.new) result }
         ensures cause { HasCause self.old.calls.faults self.new.calls.faults result }
+        ensures want { HasWant self.old.calls.wants self.new.calls.wants result }
         ensures counted { Counted self.old.calls self.new.calls }
     {
         let turn = self.calls.start()?;
@@ -140,11 +145,12 @@ impl Disk for MemDisk {
         self.calls.finish(turn, done)
     }
 
-    #[tactic(auto, using(crate::proofs::Told::cut_told, crate::proofs::Told::cut_idle, crate::proofs::Told::ended_cause_at))]
+    #[tactic(auto, using(crate::proofs::Told::cut_told, crate::proofs::Told::cut_idle, crate::proofs::Told::ended_cause_at, crate::proofs::Told::ended_want_at))]
     fn cut(&mut self, name: &str, length: u64) -> Result<(), DiskFault>
         requires { IsName name.now }
         ensures told { Steps (CutTo name.now length) (states_of self.old) (states_of self.new) result }
         ensures cause { HasCause self.old.calls.faults self.new.calls.faults result }
+        ensures want { HasWant self.old.calls.wants self.new.calls.wants result }
         ensures counted { Counted self.old.calls self.new.calls }
     {
         let turn = self.calls.start()?;
@@ -158,20 +164,22 @@ impl Disk for MemDisk {
         requires { IsName name.now }
         ensures told { Steps (Sync name.now) (states_of self.old) (states_of self.new) result }
         ensures cause { HasCause self.old.calls.faults self.new.calls.faults result }
+        ensures want { HasWant self.old.calls.wants self.new.calls.wants result }
         ensures counted { Counted self.old.calls self.new.calls }
     {
         self.calls.start_whole()?;
         match self.storage.sync(name) {
             Ok(()) => Ok(()),
-            Err(_) => Err(DiskFault::NoMemory),
+            Err(_) => Err(self.calls.want()),
         }
     }
 
-    #[tactic(auto, using(crate::proofs::Told::remove_told, crate::proofs::Told::remove_idle, crate::proofs::Told::ended_cause_at))]
+    #[tactic(auto, using(crate::proofs::Told::remove_told, crate::proofs::Told::remove_idle, crate::proofs::Told::ended_cause_at, crate::proofs::Told::ended_want_at))]
     fn remove(&mut self, name: &str) -> Result<(), DiskFault>
         requires { IsName name.now }
         ensures told { Steps (Remove name.now) (states_of self.old) (states_of self.new) result }
         ensures cause { HasCause self.old.calls.faults self.new.calls.faults result }
+        ensures want { HasWant self.old.calls.wants self.new.calls.wants result }
         ensures counted { Counted self.old.calls self.new.calls }
     {
         let turn = self.calls.start()?;
@@ -184,6 +192,7 @@ impl Disk for MemDisk {
     fn sync_names(&mut self) -> Result<(), DiskFault>
         ensures told { Steps SyncNames (states_of self.old) (states_of self.new) result }
         ensures cause { HasCause self.old.calls.faults self.new.calls.faults result }
+        ensures want { HasWant self.old.calls.wants self.new.calls.wants result }
         ensures counted { Counted self.old.calls self.new.calls }
     {
         self.calls.start_whole()?;

@@ -1,9 +1,10 @@
 -- From lists of calls to what is kept.
-use Rattle.std.proofs.Common.{◌≡◌, inl, ℕ, suc, ◌%◌, ◌^◌, ◌<◌, Bool, true, false, List, [], ◌∷◌, Option, Result, Ok, Err, refl, sym, ◌∙◌, subst, arith}
-use Rattle.std.specs.Prelude.{◌==◌, OnOk, OnErr}
+use Rattle.std.proofs.Common.{◌≡◌, inl, inr, ℕ, suc, ◌%◌, ◌^◌, ◌<◌, Bool, true, false, List, [], ◌∷◌, Option, Result, Ok, Err, refl, sym, ◌∙◌, subst, arith}
+use Rattle.std.specs.Prelude.{◌⊎◌, ◌==◌, OnOk, OnErr}
+use Rattle.dq_base.specs.Faults.{Rose}
 use Rattle.disk_model.specs.Disk.{Disk}
 use Rattle.disk_model.specs.Calls.{Call, Done, Until, MayWrite}
-use Rattle.disk_model.specs.Trait.{Text, Known, told, untold, Ran, HasCause}
+use Rattle.disk_model.specs.Trait.{Text, Known, told, untold, Ran, HasCause, HasWant}
 use Rattle.disk_model.proofs.Runs.{known_map}
 use Rattle.disk_model.specs.declared.faults.DiskFault.{DiskFault as DiskFaultOf}
 use Rattle.disk_model.specs.declared.faults.DiskFault.TheVariants as disk
@@ -45,6 +46,12 @@ cause_disk before now disk.NoMemory h = record { never_falls = h.never_falls; fa
 
 pub cause_ok : {S T : Type 0} (before now : ℕ) (x : S) (y : T) → HasCause before now (Ok x) → DiskCause before now (Ok y)
 cause_ok before now x y h = record { never_falls = h.never_falls; failed = λ q. absurd cc }
+
+-- a fault of the disk is counted, and so is a want
+pub counted : {T D : Type 0} (was now : D) (faults faults_after wants wants_after : ℕ) (x : DiskFaultOf) → HasCause {T = T} faults faults_after (Err x) → HasWant {T = T} wants wants_after (Err x)
+    → (now ≡ was) ⊎ (Rose faults faults_after ⊎ Rose wants wants_after)
+counted was now faults faults_after wants wants_after disk.Failed cause want = inr (inl (cause.failed refl))
+counted was now faults faults_after wants wants_after disk.NoMemory cause want = inr (inr (want.wanted refl))
 
 -- ---- an open store
 

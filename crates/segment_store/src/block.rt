@@ -1,6 +1,6 @@
 ghost use Rattle.dq_base.specs.Names.{IsName};
 ghost use Rattle.disk_model.specs.Calls.{MayWrite};
-ghost use Rattle.disk_model.specs.Trait.{Known, Ran, HasCause};
+ghost use Rattle.disk_model.specs.Trait.{Known, Ran, HasCause, HasWant};
 ghost use Rattle.segment_store.specs.Keeps.{over_calls, block_calls};
 
 use disk_model::{Disk, DiskFault, replace};
@@ -13,6 +13,7 @@ fn write_over<D: Disk>(disk: &mut D, name: &str, block: &[u8]) -> Result<(), Dis
     requires { IsName name.now }
     ensures ran { Known D.tells (D.states disk.old) (MayWrite name.now 0) → Ran (over_calls name.now block.now) (D.states disk.old) (D.states disk.new) result }
     ensures cause { HasCause (D.faults disk.old) (D.faults disk.new) result }
+    ensures want { HasWant (D.wants disk.old) (D.wants disk.new) result }
 {
     disk.write_at(name, 0, block)?;
     disk.sync(name)?;
@@ -30,6 +31,7 @@ pub(crate) fn write_block<D: Disk>(
     requires { IsName name.now }
     ensures ran { Known D.tells (D.states disk.old) (MayWrite name.now 0) → Ran (block_calls name.now block.now size) (D.states disk.old) (D.states disk.new) result }
     ensures cause { HasCause (D.faults disk.old) (D.faults disk.new) result }
+    ensures want { HasWant (D.wants disk.old) (D.wants disk.new) result }
 {
     match size {
         None => replace(disk, name, block, false),

@@ -1,7 +1,7 @@
 ghost use Rattle.std.specs.Prelude.{true};
 ghost use Rattle.dq_base.specs.Names.{IsName};
 ghost use Rattle.disk_model.specs.Calls.{MayWrite};
-ghost use Rattle.disk_model.specs.Trait.{Known, Ran, HasCause};
+ghost use Rattle.disk_model.specs.Trait.{Known, Ran, HasCause, HasWant};
 ghost use Rattle.segment_store.specs.Keeping.{file_calls, removal_calls, loose_removal_calls};
 ghost use Rattle.segment_store.specs.Plans.{old_calls, plan_calls, MayKeep};
 
@@ -15,6 +15,7 @@ fn write_anew<D: Disk>(disk: &mut D, name: &str, bytes: &[u8]) -> Result<(), Dis
     requires { IsName name.now }
     ensures ran { Known D.tells (D.states disk.old) (MayWrite name.now 0) → Ran (file_calls name.now true bytes.now) (D.states disk.old) (D.states disk.new) result }
     ensures cause { HasCause (D.faults disk.old) (D.faults disk.new) result }
+    ensures want { HasWant (D.wants disk.old) (D.wants disk.new) result }
 {
     disk.cut(name, 0)?;
     replace(disk, name, bytes, false)
@@ -30,6 +31,7 @@ fn write_snapshot<D: Disk>(
     requires { IsName name.now }
     ensures ran { Known D.tells (D.states disk.old) (MayWrite name.now 0) → Ran (file_calls name.now is_there bytes.now) (D.states disk.old) (D.states disk.new) result }
     ensures cause { HasCause (D.faults disk.old) (D.faults disk.new) result }
+    ensures want { HasWant (D.wants disk.old) (D.wants disk.new) result }
 {
     if is_there {
         write_anew(disk, name, bytes)
@@ -42,6 +44,7 @@ fn write_snapshot<D: Disk>(
 fn remove_synced<D: Disk>(disk: &mut D, names: &[Name]) -> Result<(), DiskFault>
     ensures ran { Ran (removal_calls names.now) (D.states disk.old) (D.states disk.new) result }
     ensures cause { HasCause (D.faults disk.old) (D.faults disk.new) result }
+    ensures want { HasWant (D.wants disk.old) (D.wants disk.new) result }
 {
     for name in names {
         disk.remove(name.as_str())?;
@@ -53,6 +56,7 @@ fn remove_synced<D: Disk>(disk: &mut D, names: &[Name]) -> Result<(), DiskFault>
 fn remove_loose<D: Disk>(disk: &mut D, names: &[Name]) -> Result<(), DiskFault>
     ensures ran { Ran (loose_removal_calls names.now) (D.states disk.old) (D.states disk.new) result }
     ensures cause { HasCause (D.faults disk.old) (D.faults disk.new) result }
+    ensures want { HasWant (D.wants disk.old) (D.wants disk.new) result }
 {
     for name in names {
         disk.remove(name.as_str())?;
@@ -63,6 +67,7 @@ fn remove_loose<D: Disk>(disk: &mut D, names: &[Name]) -> Result<(), DiskFault>
 fn remove_old<D: Disk>(disk: &mut D, old: &OldFiles) -> Result<(), DiskFault>
     ensures ran { Ran (old_calls old.now) (D.states disk.old) (D.states disk.new) result }
     ensures cause { HasCause (D.faults disk.old) (D.faults disk.new) result }
+    ensures want { HasWant (D.wants disk.old) (D.wants disk.new) result }
 {
     remove_synced(disk, old.segments.as_slice())?;
     remove_loose(disk, old.snapshots.as_slice())
@@ -72,6 +77,7 @@ fn remove_old<D: Disk>(disk: &mut D, old: &OldFiles) -> Result<(), DiskFault>
 pub(crate) fn follow<D: Disk>(disk: &mut D, plan: &KeepPlan) -> Result<(), DiskFault>
     ensures ran { Known D.tells (D.states disk.old) (MayKeep plan.now) → Ran (plan_calls plan.now) (D.states disk.old) (D.states disk.new) result }
     ensures cause { HasCause (D.faults disk.old) (D.faults disk.new) result }
+    ensures want { HasWant (D.wants disk.old) (D.wants disk.new) result }
 {
     let snapshot = &plan.snapshot;
     let segment = &plan.segment;

@@ -11,7 +11,7 @@ ghost use Rattle.store_batches.specs.Batches.{batch_bytes};
 ghost use Rattle.store_batches.specs.Written.{segment_word, Fits};
 ghost use Rattle.segment_store.specs.FileNames.{file_name};
 ghost use Rattle.segment_store.specs.Grow.{grow_calls, begin_calls, IsFree, room_in, appended_to, with_appended};
-ghost use Rattle.segment_store.specs.Faults.{DiskCause};
+ghost use Rattle.segment_store.specs.Faults.{DiskCause, StaysUnlessFailed};
 ghost use Rattle.segment_store.specs.Open.{HaveDigits, size_for, with_version};
 ghost use Rattle.segment_store.specs.Keeps.{Keeps, Went, block_calls};
 ghost use Rattle.segment_store.specs.Keeping.{CanKeep, KeepsSnapshot, kept_calls, later_than, snap_value, with_kept};
@@ -35,7 +35,8 @@ use store_format::{Metadata, metadata_bytes};
 /// that it was loaded from, which nobody else changes.
 ///
 /// After an `Err` of a call the store has to be loaded again. What was kept is then the state before the call or the one
-/// after it, also where a crash came inside the call.
+/// after it, also where a crash came inside the call. Where no call of the disk answered an `Err` the disk is as it was:
+/// all memory of the store's own is there before the first of them.
 #[derive(Debug, Drop)]
 pub struct Store {
     alloc: Global,
@@ -76,6 +77,7 @@ fn write_metadata<D: Disk>(
 ) -> Result<(), StoreFault>
     ensures went { Known D.tells (D.states disk.old) (MayWrite (file_name (file_of (metadata.now.version % 2 == 1))) 0) → Went (block_calls (file_name (file_of (metadata.now.version % 2 == 1))) (block_bytes metadata.now) size) (D.states disk.old) (D.states disk.new) result }
     ensures cause { DiskCause (D.faults disk.old) (D.faults disk.new) result }
+    ensures stays { StaysUnlessFailed disk.old disk.new (D.faults disk.old) (D.faults disk.new) (D.wants disk.old) (D.wants disk.new) result }
 {
     let block = metadata_bytes(alloc, metadata)?;
     let name = file_name(alloc, metadata_file(metadata.version))?;
@@ -94,6 +96,7 @@ fn grow_batch<D: Disk>(
     requires { number < 10000000000000000 }
     ensures went { Known D.tells (D.states disk.old) (MayWrite (file_name (Segment number)) size) → Went (grow_calls (file_name (Segment number)) size batch.now) (D.states disk.old) (D.states disk.new) result }
     ensures cause { DiskCause (D.faults disk.old) (D.faults disk.new) result }
+    ensures stays { StaysUnlessFailed disk.old disk.new (D.faults disk.old) (D.faults disk.new) (D.wants disk.old) (D.wants disk.new) result }
 {
     let name = file_name(alloc, File::Segment(number))?;
     grow_segment(disk, name.as_str(), size, batch)?;
@@ -110,6 +113,7 @@ pub(crate) fn begin_batch<D: Disk>(
     requires { number < 10000000000000000 }
     ensures went { Known D.tells (D.states disk.old) (IsFree (file_name (Segment number))) → Went (begin_calls (file_name (Segment number)) segment_word batch.now) (D.states disk.old) (D.states disk.new) result }
     ensures cause { DiskCause (D.faults disk.old) (D.faults disk.new) result }
+    ensures stays { StaysUnlessFailed disk.old disk.new (D.faults disk.old) (D.faults disk.new) (D.wants disk.old) (D.wants disk.new) result }
 {
     let name = file_name(alloc, File::Segment(number))?;
     begin_segment(disk, name.as_str(), batch)?;
@@ -188,6 +192,7 @@ impl Store {
         ensures kept { (k : Kept) → Keeps D.tells (D.states disk.old) (D.states disk.new) self.old self.new self.old.next k (with_vote term vote k) result }
         ensures calls { (k : Kept) → Makes D.tells (D.states disk.old) (D.states disk.new) self.old k (version_calls (suc self.old.version) self.old term vote) result }
         ensures cause { DiskCause (D.faults disk.old) (D.faults disk.new) result }
+        ensures stays { StaysUnlessFailed disk.old disk.new (D.faults disk.old) (D.faults disk.new) (D.wants disk.old) (D.wants disk.new) result }
     {
         let Some(version) = self.next_version() else {
             return Err(StoreFault::NoMemory);
@@ -253,6 +258,7 @@ impl Store {
             Keeps D.tells (D.states disk.old) (D.states disk.new) self.old self.new (with_appended (length (batch_bytes b)) self.old).next k (with_batch b k) result }
         ensures calls { (k : Kept) → room_in self.old.size ≡ Some size → Makes D.tells (D.states disk.old) (D.states disk.new) self.old k (batch_calls_in (Some size) self.old batch.now) result }
         ensures cause { DiskCause (D.faults disk.old) (D.faults disk.new) result }
+        ensures stays { StaysUnlessFailed disk.old disk.new (D.faults disk.old) (D.faults disk.new) (D.wants disk.old) (D.wants disk.new) result }
     {
         grow_batch(self.alloc, disk, self.last(), size, batch)?;
         self.note_grown(size, batch);
@@ -265,6 +271,7 @@ impl Store {
             Keeps D.tells (D.states disk.old) (D.states disk.new) self.old self.new (with_appended (length (batch_bytes b)) self.old).next k (with_batch b k) result }
         ensures calls { (k : Kept) → Makes D.tells (D.states disk.old) (D.states disk.new) self.old k (batch_calls_in None self.old batch.now) result }
         ensures cause { DiskCause (D.faults disk.old) (D.faults disk.new) result }
+        ensures stays { StaysUnlessFailed disk.old disk.new (D.faults disk.old) (D.faults disk.new) (D.wants disk.old) (D.wants disk.new) result }
     {
         let Some(number) = self.new_number() else {
             return Err(StoreFault::NoMemory);
@@ -291,6 +298,7 @@ impl Store {
             Keeps D.tells (D.states disk.old) (D.states disk.new) self.old self.new (with_appended (length (batch_bytes (record { first = first; entries = entries.now }))) self.old).next k (with_batch (record { first = first; entries = entries.now }) k) result }
         ensures calls { (k : Kept) → Makes D.tells (D.states disk.old) (D.states disk.new) self.old k (batch_calls_in (room_in self.old.size) self.old (batch_bytes (record { first = first; entries = entries.now }))) result }
         ensures cause { DiskCause (D.faults disk.old) (D.faults disk.new) result }
+        ensures stays { StaysUnlessFailed disk.old disk.new (D.faults disk.old) (D.faults disk.new) (D.wants disk.old) (D.wants disk.new) result }
     {
         let batch = batch_bytes(self.alloc, first, entries)?;
         match self.room() {
@@ -360,6 +368,7 @@ impl Store {
         ensures calls { (k : Kept) → CanKeep k (snap_value snapshot.now) (record { first = first; entries = rest.now }) →
             Makes D.tells (D.states disk.old) (D.states disk.new) self.old k (kept_calls self.old snapshot.now.index (snapshot_bytes snapshot.now.index snapshot.now.term snapshot.now.bytes) (batch_bytes (record { first = first; entries = rest.now }))) result }
         ensures cause { DiskCause (D.faults disk.old) (D.faults disk.new) result }
+        ensures stays { StaysUnlessFailed disk.old disk.new (D.faults disk.old) (D.faults disk.new) (D.wants disk.old) (D.wants disk.new) result }
     {
         let plan = self.plan(snapshot, first, rest)?;
         let segments = with_number(self.alloc, &[], self.next)?;

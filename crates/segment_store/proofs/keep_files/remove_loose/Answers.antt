@@ -11,5 +11,5 @@ returns-in_err-remove-clause-ran g c =
 pub loop-name-preserved : goal.loop-name-preserved
 loop-name-preserved g c = (
   went_loose c.args.names.now c.loop-name.name-index _ c.as_str.result.now (c.as_str.ensures.value ∙ c.name-item.is) c.loop-name-test.true _ _ tt c.loop-name.invariant.0 _ c.in_ok-remove.field-0 c.in_ok-remove.ensures.told,
-  no_fewer _ _ _ c.loop-name.invariant.1 c.in_ok-remove.ensures.cause.never_falls,
+  (no_fewer _ _ _ c.loop-name.invariant.1.0 c.in_ok-remove.ensures.cause.never_falls, no_fewer _ _ _ c.loop-name.invariant.1.1 c.in_ok-remove.ensures.want.never_falls),
 )

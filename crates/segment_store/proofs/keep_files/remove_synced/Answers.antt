@@ -16,5 +16,8 @@ returns-in_err-sync_names-clause-ran g c =
 pub loop-name-preserved : goal.loop-name-preserved
 loop-name-preserved g c = (
   went_synced c.args.names.now c.loop-name.name-index _ c.as_str.result.now (c.as_str.ensures.value ∙ c.name-item.is) c.loop-name-test.true _ _ tt c.loop-name.invariant.0 _ _ c.in_ok-remove.field-0 c.in_ok-sync_names.field-0 c.in_ok-remove.ensures.told c.in_ok-sync_names.ensures.told,
-  no_fewer _ _ _ c.loop-name.invariant.1 (no_fewer _ _ _ c.in_ok-remove.ensures.cause.never_falls c.in_ok-sync_names.ensures.cause.never_falls),
+  (
+    no_fewer _ _ _ c.loop-name.invariant.1.0 (no_fewer _ _ _ c.in_ok-remove.ensures.cause.never_falls c.in_ok-sync_names.ensures.cause.never_falls),
+    no_fewer _ _ _ c.loop-name.invariant.1.1 (no_fewer _ _ _ c.in_ok-remove.ensures.want.never_falls c.in_ok-sync_names.ensures.want.never_falls),
+  ),
 )

@@ -5,7 +5,7 @@ use Rattle.store_batches.specs.Batches.{batch_bytes}
 use Rattle.segment_store.specs.declared.fault.StoreFault.{StoreFault}
 use Rattle.segment_store.specs.Keeping.{snap_value, kept_calls, with_kept}
 use Rattle.segment_store.specs.Plans.{plan_calls}
-use Rattle.segment_store.proofs.Keeping.{went_err, went_ok}
+use Rattle.segment_store.proofs.Keeping.{went_err, went_ok, counted}
 use Rattle.segment_store.proofs.CallsMade.{none_made}
 use Rattle.segment_store.proofs.KeptLaw.{nothing_kept}
 use Rattle.segment_store.proofs.KeepStore.{plan_made, plan_kept}
@@ -71,3 +71,8 @@ returns-clause-calls g c =
     let q = c.in_ok-plan.plan in
     λ k can. plan_made c.args.self.now (snap_value c.args.snapshot.now) (record { first = c.args.first; entries = c.args.rest.now }) q c.in_ok-plan.ensures g.D.Disk.tells (g.D.Disk.states c.args.disk.now) (g.D.Disk.states c.follow.new.disk) k (Ok tt)
     (λ may. went_ok (plan_calls q) _ _ c.in_ok-follow.field-0 tt (c.in_ok-follow.ensures.ran may)) can
+
+pub returns-in_err-follow-clause-stays : goal.returns-in_err-follow-clause-stays
+returns-in_err-follow-clause-stays g c =
+    let p = err_from_is_err_and c.from_residual-in_err-follow.result c.from_residual-in_err-follow.ensures.1 in
+    rw p.1 (counted _ _ _ _ _ _ c.in_err-follow.field-0.0 c.in_err-follow.ensures.cause c.in_err-follow.ensures.want)
