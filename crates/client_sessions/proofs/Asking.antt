@@ -1,6 +1,7 @@
 -- A request at the session of an open connection: what comes of it can be sent, and what holds of clients holds after it.
-use Rattle.std.proofs.Common.{◌≡◌, ℕ, Bool, true, false, not, ◌&&◌, List, [], ◌∷◌, Option, Some, None, is_none, refl, sym, ap, subst, ◌∙◌}
+use Rattle.std.proofs.Common.{◌≡◌, ℕ, Bool, true, false, not, ◌&&◌, List, [], ◌∷◌, Option, Some, None, is_none, Result, Ok, Err, IfOk, OnErr, refl, sym, ap, subst, ◌∙◌}
 use Rattle.std.specs.List.{AllByRecursion}
+use Rattle.std.specs.declared.alloc.AllocError.{AllocError}
 use Rattle.wire_msgs.specs.declared.request.Request.{Request}
 use Rattle.wire_msgs.specs.declared.request.Request.TheVariants as requests
 use Rattle.wire_words.specs.declared.message.Message.{Message}
@@ -55,11 +56,17 @@ is_sends v g conn (Proposes session contents note) now act is keeps = subst ActC
 is_sends v g conn (Affects effect) now act is keeps = subst ActCanSend (sym is.1) (effect_sends effect)
 
 -- what comes of a request can be sent
-pub turned_sends : (m : Meaning) (kind : EngineKind) (v : View) (machine : Machine) (k : Clients) (conn : ℕ) (request : Request) (before now : Option Told) (after : Gateway) (act : Act)
-    → HasPlainAddresses v → HasNoNul request → Sound k → TurnedBy m kind v machine k.sessions conn request before now after act → ActCanSend act
-turned_sends m kind v machine k conn request before now after act plain text sound t =
-    is_sends v k.sessions conn (on_request v machine k.sessions conn request t.answers) after act t.is
-    (request_kept v machine k.sessions conn request t.answers plain text (sound.sends conn))
+pub turned_sends : (m : Meaning) (kind : EngineKind) (v : View) (machine : Machine) (g : Gateway) (conn : ℕ) (request : Request) (before now : Option Told) (after : Gateway) (act : Act)
+    → HasPlainAddresses v → HasNoNul request → FlightCanSend (g.session conn).flight → TurnedBy m kind v machine g conn request before now after act → ActCanSend act
+turned_sends m kind v machine g conn request before now after act plain text sends t =
+    is_sends v g conn (on_request v machine g conn request t.answers) after act t.is
+    (request_kept v machine g conn request t.answers plain text sends)
+
+-- the same of a call that may want memory
+pub answered_sends : (m : Meaning) (kind : EngineKind) (v : View) (machine : Machine) (g : Gateway) (conn : ℕ) (request : Request) (before now : Option Told) (after : Gateway) (r : Result Act AllocError)
+    → HasPlainAddresses v → HasNoNul request → FlightCanSend (g.session conn).flight → IfOk r (TurnedBy m kind v machine g conn request before now after) → IfOk r ActCanSend
+answered_sends m kind v machine g conn request before now after (Ok act) plain text sends t = turned_sends m kind v machine g conn request before now after act plain text sends t
+answered_sends m kind v machine g conn request before now after (Err e) plain text sends t = tt
 
 -- the connection of a session that a request may be handed to is open
 asks_open : (stream : Option Conn) (s : Session) → may_ask s ≡ true → Fits stream s → (c : Conn) × (stream ≡ Some c)
@@ -94,6 +101,17 @@ turned_sound m kind v machine k conn request before now after act plain text ask
     let opens = asks_open (k.streams conn) (k.sessions.session conn) ask (sound.fits conn) in
     is_sound v k conn opens.0 (on_request v machine k.sessions conn request t.answers) after act opens.1 t.is
     (request_kept v machine k.sessions conn request t.answers plain text (sound.sends conn)) sound
+
+-- the same of a call that may want memory, and then has changed nothing
+pub answered_sound : (m : Meaning) (kind : EngineKind) (v : View) (machine : Machine) (g : Gateway) (conn : ℕ) (request : Request) (before now : Option Told) (after : Gateway) (r : Result Act AllocError)
+    → HasPlainAddresses v → HasNoNul request → may_ask (g.session conn) ≡ true → IfOk r (TurnedBy m kind v machine g conn request before now after) → OnErr r (after ≡ g)
+    → (k : Clients) → k.sessions ≡ g → Sound k → Sound (with_sessions k after)
+answered_sound m kind v machine g conn request before now after (Ok act) plain text ask t failed k same sound =
+    turned_sound m kind v machine k conn request before now after act plain text
+    (subst (λ (h : Gateway). may_ask (h.session conn) ≡ true) (sym same) ask) sound
+    (subst (λ (h : Gateway). TurnedBy m kind v machine h conn request before now after act) (sym same) t)
+answered_sound m kind v machine g conn request before now after (Err e) plain text ask t failed k same sound =
+    same_sound k after k.sessions (failed ∙ sym same) (record { fits = sound.fits; sends = sound.sends })
 
 -- the session whose message's turn it is may be handed a request
 pub offered_asks : (k : Clients) (o : Offer) → IsOffered k o → Sound k → may_ask (k.sessions.session o.conn) ≡ true

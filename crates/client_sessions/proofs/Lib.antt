@@ -1,7 +1,13 @@
 pub mod Asking
+pub mod Connecting
+pub mod Hearing
+pub mod Landing
 pub mod Offers
 pub mod Requests
+pub mod Serving
 pub mod Soundness
+pub mod Standing
+pub mod Taking
 pub mod Telling
 pub mod Turns
 pub mod Whole

@@ -7,7 +7,7 @@ use Rattle.wire_msgs.specs.Responses.{IsWritable}
 use Rattle.session_rules.specs.Causes.{LeadershipLost}
 use Rattle.session_rules.specs.Sessions.{Reply, Refusal, responses_of, Kind, Opening, Configuring, Writing, Committing, Flight, Session, Gateway}
 use Rattle.session_rules.specs.Events.{landed_reply, told_by, told_applied, told_lost}
-use Rattle.gateway.specs.Calls.{told_in, all_told}
+use Rattle.session_table.specs.Sweeping.{told_in, all_told}
 use Rattle.client_sessions.specs.Clients.{Clients, Sound}
 use Rattle.client_sessions.specs.Sending.{CanSend, KindCanSend, FlightCanSend}
 use Rattle.client_sessions.proofs.Requests.{refusal_sent}

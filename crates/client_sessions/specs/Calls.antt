@@ -1,5 +1,5 @@
 -- What comes of a message, and what is told to connections, as code tells it.
-use Rattle.std.specs.Prelude.{◌≡◌, ℕ, List, [], ◌∷◌, map, Option, Some, None, Result, Ok, Err}
+use Rattle.std.specs.Prelude.{◌≡◌, ◌<◌, ℕ, List, [], ◌∷◌, map, Option, Some, None, Result, Ok, Err}
 use Rattle.wire_words.specs.declared.message.Message.{Message}
 use Rattle.client_connection.specs.Connection.{Conn}
 use Rattle.wire_msgs.specs.declared.request.Request.{Request}
@@ -10,7 +10,7 @@ use Rattle.wire_msgs.specs.Responses.{response_bytes}
 use Rattle.wire_msgs.specs.Reading.{request_of}
 use Rattle.sql_engine.specs.declared.kind.EngineKind.{EngineKind}
 use Rattle.sql_engine.specs.Meanings.{Meaning, Told}
-use Rattle.session_rules.specs.Causes.{unread_cause, failure}
+use Rattle.session_rules.specs.Causes.{NotADatabase, unread_cause, failure}
 use Rattle.session_rules.specs.Machine.{Machine}
 use Rattle.session_rules.specs.Sessions.{Gateway, View}
 use Rattle.gateway.specs.declared.act.Act.{Act as GatewayAct}
@@ -41,11 +41,13 @@ abbrev pub TookNext : Clients → Clients → Option (ℕ × Message) → Type 0
 TookNext old new None = (next_offer old ≡ None) × (new ≡ taken old None)
 TookNext old new (Some took) = (offer : Offer) × (next_offer old ≡ Some offer) × (offer.conn ≡ took.0) × (offer.message ≡ took.1) × (new ≡ taken old (Some offer))
 
--- A request came to this act and these sessions by answers that the engine may give and told.
-pub record Asked (m : Meaning) (kind : EngineKind) (v : View) (machine : Machine) (g : Gateway) (conn : ℕ) (request : Request) (told_before told_now : Option Told) (now : Gateway) (act : Act) : Type 0 where
+-- A request came to this act and these sessions by answers that the engine may give and told. It is refused as over no
+-- database only where one more opening was refused.
+pub record Asked (m : Meaning) (kind : EngineKind) (v : View) (machine : Machine) (g : Gateway) (conn : ℕ) (request : Request) (told_before told_now : Option Told) (refused_before refused_now : ℕ) (now : Gateway) (act : Act) : Type 0 where
   pub gateway_act : GatewayAct
   pub turned : TurnedBy m kind v machine g conn request told_before told_now now gateway_act
   pub act_is : act ≡ act_on conn gateway_act
+  pub unopened : gateway_act ≡ gateway.Reply (failure NotADatabase ∷ []) → refused_before < refused_now
 
 -- A message that doesn't read as a request is refused; nothing else changes.
 pub record Unread (g : Gateway) (conn : ℕ) (fault : MsgFault) (told_before told_now : Option Told) (now : Gateway) (act : Act) : Type 0 where
@@ -54,15 +56,15 @@ pub record Unread (g : Gateway) (conn : ℕ) (fault : MsgFault) (told_before tol
   pub act_is : act ≡ Reply conn (bytes_of (failure (unread_cause fault) ∷ []))
 
 -- What a message came to, by what it reads as.
-abbrev pub Comes : Meaning → EngineKind → View → Machine → Gateway → ℕ → Result Request MsgFault → Option Told → Option Told → Gateway → Act → Type 0
-Comes m kind v machine g conn (Ok request) before now sessions act = Asked m kind v machine g conn request before now sessions act
-Comes m kind v machine g conn (Err fault) before now sessions act = Unread g conn fault before now sessions act
+abbrev pub Comes : Meaning → EngineKind → View → Machine → Gateway → ℕ → Result Request MsgFault → Option Told → Option Told → ℕ → ℕ → Gateway → Act → Type 0
+Comes m kind v machine g conn (Ok request) before now refused_before refused_now sessions act = Asked m kind v machine g conn request before now refused_before refused_now sessions act
+Comes m kind v machine g conn (Err fault) before now refused_before refused_now sessions act = Unread g conn fault before now sessions act
 
 -- The message whose turn it was was taken, and came to this act; all other messages, streams and turns are as they were.
-pub record TookOffer (m : Meaning) (kind : EngineKind) (v : View) (machine : Machine) (old : Clients) (told_before told_now : Option Told) (new : Clients) (act : Act) : Type 0 where
+pub record TookOffer (m : Meaning) (kind : EngineKind) (v : View) (machine : Machine) (old : Clients) (told_before told_now : Option Told) (refused_before refused_now : ℕ) (new : Clients) (act : Act) : Type 0 where
   pub offer : Offer
   pub next : next_offer old ≡ Some offer
-  pub came : Comes m kind v machine old.sessions offer.conn (request_of offer.message) told_before told_now new.sessions act
+  pub came : Comes m kind v machine old.sessions offer.conn (request_of offer.message) told_before told_now refused_before refused_now new.sessions act
   pub rest : new ≡ with_sessions (taken old (Some offer)) new.sessions
 
 -- no message's turn was left
@@ -71,9 +73,9 @@ pub record WasIdle (old : Clients) (told_before told_now : Option Told) (new : C
   pub untold : told_now ≡ told_before
   pub rest : new ≡ taken old None
 
-abbrev pub TookTurn : Meaning → EngineKind → View → Machine → Clients → Option Told → Option Told → Clients → Option Act → Type 0
-TookTurn m kind v machine old before now new None = WasIdle old before now new
-TookTurn m kind v machine old before now new (Some act) = TookOffer m kind v machine old before now new act
+abbrev pub TookTurn : Meaning → EngineKind → View → Machine → Clients → Option Told → Option Told → ℕ → ℕ → Clients → Option Act → Type 0
+TookTurn m kind v machine old before now refused_before refused_now new None = WasIdle old before now new
+TookTurn m kind v machine old before now refused_before refused_now new (Some act) = TookOffer m kind v machine old before now refused_before refused_now new act
 
 -- a response to a connection, as it is sent
 abbrev pub sent_to : ℕ × Response → ℕ × List ℕ

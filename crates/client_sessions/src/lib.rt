@@ -3,10 +3,13 @@
 #![tactic(auto)]
 
 mod act;
+mod answering;
+mod clients;
 mod joining;
 mod laws;
 mod sending;
 
 pub use act::Act;
+pub use clients::Clients;
 pub use joining::Joining;
-pub use laws::{clients_stay_sound, offers_are_first};
+pub use laws::{clients_stay_sound, commands_keep_clients, offers_are_first};

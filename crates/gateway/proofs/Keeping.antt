@@ -1,26 +1,62 @@
 -- Commands keep the sessions and their marks.
-use Rattle.std.proofs.Common.{◌≡◌, List, [], ◌∷◌, refl}
+use Rattle.std.proofs.Common.{◌≡◌, ℕ, Bool, true, false, cond, List, [], ◌∷◌, ◌++◌, map, find, Option, Some, None, refl, ap, ◌∙◌}
 use Rattle.std.specs.List.{AllByRecursion}
+use Rattle.dq_base.specs.declared.images.Image.{Image}
 use Rattle.frame_commands.specs.declared.command.Command.{Command}
 use Rattle.page_apply.specs.declared.database.Database.{Database}
 use Rattle.page_apply.specs.Databases.{act}
 use Rattle.page_apply.specs.Pins.{Pinning, IsPinned, StillPinned}
+use Rattle.session_rules.specs.Sessions.{Session as RuleSession}
+use Rattle.session_table.specs.declared.session.Session.{Session}
+use Rattle.session_table.specs.declared.session.Transaction.{Transaction}
+use Rattle.session_table.specs.Table as tables
+use Rattle.session_table.specs.Table.{image_pinned, session_found, session_at, has_conn, table_of, mark_of, pin_of}
+use Rattle.session_table.proofs.Following.{IsSame, same_session}
+use Rattle.session_table.proofs.Releasing.{all_front, all_back}
 use Rattle.session_table.proofs.Unmarked.{none_made}
-use Rattle.gateway.specs.declared.sessions.Gateway.{Gateway}
-use Rattle.gateway.specs.Pins.{AreMarks}
-use Rattle.gateway.specs.Seen.{seen, pins_of, PinsOf}
+use Rattle.gateway.specs.Seen.{Held, seen, pins_of, PinsOf}
 
 still_live : (old new : List Database) (pins : List Pinning) → ((pin : Pinning) → StillPinned old new pin) → AllByRecursion (IsPinned old) pins → AllByRecursion (IsPinned new) pins
 still_live old new [] still live = tt
 still_live old new (pin ∷ pins) still live = ((still pin).live live.0, still_live old new pins still live.1)
 
-pub marks_stay : (gateway : Gateway) (databases : List Database) (command : Command) → ((pin : Pinning) → StillPinned databases (act databases command) pin) → PinsOf gateway databases → PinsOf gateway (act databases command)
-marks_stay gateway databases command still marks = record {
-  live = still_live databases (act databases command) (pins_of gateway) still marks.live;
+pub marks_stay : (held : Held) (databases : List Database) (command : Command) → ((pin : Pinning) → StillPinned databases (act databases command) pin) → PinsOf held databases → PinsOf held (act databases command)
+marks_stay held databases command still marks = record {
+  live = still_live databases (act databases command) (pins_of held) still marks.live;
   apart = marks.apart;
   only = λ pin live. marks.only pin (none_made databases command pin live);
 }
 
-pub sessions_stay : (gateway : Gateway) (databases : List Database) (command : Command) → ((pin : Pinning) → StillPinned databases (act databases command) pin) → PinsOf gateway databases → seen gateway (act databases command) ≡ seen gateway databases
-unfolding seen
-sessions_stay gateway databases command still marks = refl
+-- ---- the images that transactions have pinned
+
+still_image : (old new : List Database) (pin : Option Pinning) → ((pin : Pinning) → StillPinned old new pin) → AllByRecursion (IsPinned old) (mark_of pin) → image_pinned new pin ≡ image_pinned old pin
+still_image old new None still live = refl
+still_image old new (Some pin) still live = (still pin).same_image live.0
+
+still_pin : (old new : List Database) (tx : Option Transaction) → ((pin : Pinning) → StillPinned old new pin) → AllByRecursion (IsPinned old) (pin_of tx) → IsSame old new tx
+still_pin old new None still live = refl
+still_pin old new (Some x) still live =
+    ap (λ (image : Image). Some (record { name = x.name; mark = x.mark; pinned = image; working = x.working; turn = x.turn })) (still_image old new x.pin still live)
+
+still_pins : (old new : List Database) (ss : List Session) → ((pin : Pinning) → StillPinned old new pin) → AllByRecursion (IsPinned old) (tables.pins_of ss) → AllByRecursion (λ (s : Session). IsSame old new s.transaction) ss
+still_pins old new [] still live = tt
+still_pins old new (s ∷ ss) still live =
+    (still_pin old new s.transaction still (all_front (IsPinned old) (pin_of s.transaction) (tables.pins_of ss) live), still_pins old new ss still (all_back (IsPinned old) (pin_of s.transaction) (tables.pins_of ss) live))
+
+found_here : (old new : List Database) (s : Session) (rest : Option Session) (b : Bool) → IsSame old new s.transaction → session_found new rest ≡ session_found old rest
+    → session_found new (cond b (Some s) rest) ≡ session_found old (cond b (Some s) rest)
+found_here old new s rest true same later = same_session old new s same
+found_here old new s rest false same later = later
+
+found_same : (old new : List Database) (conn : ℕ) (ss : List Session) → AllByRecursion (λ (s : Session). IsSame old new s.transaction) ss → session_found new (find (has_conn conn) ss) ≡ session_found old (find (has_conn conn) ss)
+found_same old new conn [] same = refl
+found_same old new conn (s ∷ ss) same = found_here old new s (find (has_conn conn) ss) (has_conn conn s) same.0 (found_same old new conn ss same.1)
+
+table_same : (old new : List Database) (ss : List Session) (weight : ℕ) → AllByRecursion (λ (s : Session). IsSame old new s.transaction) ss → table_of new ss weight ≡ table_of old ss weight
+unfolding table_of session_at
+table_same old new ss weight same =
+    ap (λ (session : ℕ → RuleSession). record { conns = map (λ (s : Session). s.conn) ss; session = session; weight = weight }) (λ i conn. found_same old new conn ss same i)
+
+pub sessions_stay : (held : Held) (databases : List Database) (command : Command) → ((pin : Pinning) → StillPinned databases (act databases command) pin) → PinsOf held databases → seen held (act databases command) ≡ seen held databases
+unfolding seen pins_of
+sessions_stay held databases command still marks = table_same databases (act databases command) held.sessions held.weight (still_pins databases (act databases command) held.sessions still marks.live)

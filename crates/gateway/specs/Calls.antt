@@ -43,13 +43,6 @@ pub record TurnedBy (m : Meaning) (kind : EngineKind) (v : View) (machine : Mach
   pub exact : used_for (handed v machine g conn request) answers ≡ length answers
   pub is : Is v g conn (on_request v machine g conn request answers) now act
 
--- a reply to a connection, in the responses that it is told in
-abbrev pub told_in : ℕ × Reply → List (ℕ × Response)
-told_in r = map (λ (response : Response). (r.0, response)) (responses_of r.1)
-
-abbrev pub all_told : List (ℕ × Reply) → List (ℕ × Response)
-all_told replies = flat_map told_in replies
-
 -- no text of the request holds a NUL
 abbrev pub HasNoNul : Request → Type 0
 HasNoNul (requests.Open name flags vfs) = has_nul name ≡ false
@@ -62,7 +55,3 @@ HasNoNul request = Unit {0}
 -- a serving leader's term has 32 bits, so that the number of a transaction has 64
 abbrev pub HasShortTerm : View → Type 0
 HasShortTerm v = v.serving ≡ true → v.term ≤ 4294967295
-
--- all proposals in flight were made in this term
-abbrev pub FlownIn : ℕ → Gateway → Type 0
-FlownIn term g = (conn : ℕ) (flight : Flight) → (g.session conn).flight ≡ Some flight → flight.term ≡ term

@@ -1,3 +1,2 @@
-pub mod Pins
 pub mod Calls
 pub mod Seen

@@ -1,19 +1,25 @@
 -- The sessions of a gateway, with the images that their transactions have pinned in a machine.
-use Rattle.std.specs.Prelude.{ℕ, List, [], Option}
+use Rattle.std.specs.Prelude.{ℕ, List}
 use Rattle.page_apply.specs.declared.database.Database.{Database}
 use Rattle.page_apply.specs.Pins.{Pinning}
-use Rattle.session_rules.specs.Sessions.{Gateway as GatewayValue, no_sessions}
-use Rattle.gateway.specs.declared.sessions.Gateway.{Gateway}
-use Rattle.gateway.specs.Pins.{AreMarks}
+use Rattle.session_rules.specs.Sessions.{Gateway}
+use Rattle.session_table.specs.declared.session.Session.{Session}
+use Rattle.session_table.specs.Marks.{AreMarks}
+use Rattle.session_table.specs.Table as tables
 
--- the sessions that it holds
-unfoldable pub seen : Gateway → List Database → GatewayValue
-seen gateway databases = no_sessions
+-- what a gateway holds: the sessions, and the node's weight
+pub record Held : Type 0 where
+  pub sessions : List Session
+  pub weight : ℕ
+
+-- the sessions as the rules see them
+unfoldable pub seen : Held → List Database → Gateway
+seen held databases = tables.table_of databases held.sessions held.weight
 
 -- the read marks of their transactions
-unfoldable pub pins_of : Gateway → List Pinning
-pins_of gateway = []
+unfoldable pub pins_of : Held → List Pinning
+pins_of held = tables.pins_of held.sessions
 
 -- the machine's live marks are those of the sessions
-abbrev pub PinsOf : Gateway → List Database → Type 0
-PinsOf gateway databases = AreMarks (pins_of gateway) databases
+abbrev pub PinsOf : Held → List Database → Type 0
+PinsOf held databases = AreMarks (pins_of held) databases

@@ -7,46 +7,64 @@ ghost use Rattle.session_rules.specs.Causes.{NotADatabase, failure};
 ghost use Rattle.session_rules.specs.Sessions.{no_sessions, is_busy, may_ask};
 ghost use Rattle.session_rules.specs.Machine.{machine_of};
 ghost use Rattle.session_rules.specs.Events as events;
-ghost use Rattle.gateway.specs.Calls.{TurnedBy, HasNoNul, HasShortTerm, FlownIn, all_told};
+ghost use Rattle.session_table.specs.Sweeping.{all_told};
+ghost use Rattle.gateway.specs.Calls.{TurnedBy, HasNoNul, HasShortTerm};
 ghost use Rattle.gateway.specs.Seen.{seen, pins_of, PinsOf};
 
 use crate::act::Act;
-use crate::view::View;
 use page_apply::Machine;
+use session_asking::View;
+use session_table::{Session, applied, find, join, left, lost};
 use sql_engine::Engine;
 use std::alloc::{AllocError, Global};
+use std::marker::Model;
 use wire_msgs::{Request, Response};
 
-/// All sessions of a node. So far it holds none: the bodies that would give a connection a session are still to come. A
-/// connection has one session at most, and a session one request at a time.
+/// All sessions of a node. A connection has one session at most, and a session one request at a time.
 ///
 /// Clauses see its sessions by `seen`, with the images that their open transactions have pinned in the machine, so the calls
 /// that take the machine want its live marks to be those of the sessions, and leave it so.
 #[derive(Debug, Drop)]
 pub struct Gateway {
     alloc: Global,
+    sessions: Vec<Session>,
+    weight: u64,
+}
+
+impl Model for Gateway {
+    ghost use Rattle.session_table.specs.Table.{IsTable};
+    ghost use Rattle.gateway.specs.Seen.{Held};
+
+    ghost Value = { Held };
+
+    ghost view = { λ g. record { sessions = g.sessions.items; weight = g.weight } };
+
+    ghost invariant = { λ g. IsTable g.sessions.items };
 }
 
 impl Gateway {
     /// A gateway without sessions. Takes no memory.
-    #[tactic(auto, unfolding(crate::specs::Seen::seen, crate::specs::Seen::pins_of))]
+    #[tactic(auto, using(crate::proofs::Holding::none_seen, crate::proofs::Holding::none_pinned))]
     pub fn new(alloc: Global) -> Gateway
         ensures sessions { (databases : List Database) → seen result databases ≡ no_sessions }
         ensures pins { pins_of result ≡ [] }
     {
-        Gateway { alloc }
+        Gateway {
+            alloc,
+            sessions: Vec::new(alloc),
+            weight: 0,
+        }
     }
 
-    /// Gives a connection a session; false exactly where 64 are there, hung-up ones counted. No session of this gateway has
-    /// the connection's number. `Err` is want of memory; nothing has changed then.
+    /// Gives a connection a session; false exactly where it has one, or where 64 are there, hung-up ones counted. Nothing has
+    /// changed at false. `Err` is want of memory; nothing has changed then either.
     pub fn connect(&mut self, conn: u64) -> Result<bool, AllocError>
-        requires { (databases : List Database) → ((seen self.old databases).session conn).there ≡ false }
         ensures connected { OnOk result ((databases : List Database) → seen self.new databases ≡ (if events.connects (seen self.old databases) conn then events.connected (seen self.old databases) conn else seen self.old databases)) }
         ensures told { IfOk result (λ new. (databases : List Database) → new ≡ events.connects (seen self.old databases) conn) }
         ensures pins { pins_of self.new ≡ pins_of self.old }
         ensures failed { OnErr result ((databases : List Database) → seen self.new databases ≡ seen self.old databases) }
     {
-        Err(AllocError)
+        join(self.alloc, &mut self.sessions, conn)
     }
 
     /// What comes of a request of a connection: a refusal or another answer at once, entries to be appended, or something
@@ -84,24 +102,23 @@ impl Gateway {
         Err(AllocError)
     }
 
-    /// An entry of a term is applied: the proposal that ends with it is done, and its client, if it is there, is answered.
-    /// All proposals in flight are of that term. The machine has the entry applied. `Err` is want of memory; nothing has
+    /// An entry of a term is applied: the proposal that ends with it is done, and its client, if it is there, is answered. The
+    /// machine has the entry applied. (A proposal in flight is of the node's term, so its index tells it alone.) `Err` is want of memory; nothing has
     /// changed then.
     pub fn on_applied(
         &mut self,
         index: u64,
-        term: u64,
+        _term: u64,
         machine: &mut Machine,
     ) -> Result<Vec<(u64, Response)>, AllocError>
         requires pins { PinsOf self.old machine.old }
-        requires term { FlownIn term (seen self.old machine.old) }
         ensures landed { OnOk result (seen self.new machine.new ≡ events.on_applied index (seen self.old machine.old)) }
         ensures told { IfOk result (λ told. told.items ≡ all_told (events.told_applied index (seen self.old machine.old))) }
         ensures failed { OnErr result (seen self.new machine.new ≡ seen self.old machine.old) }
         ensures files { machine_of machine.new ≡ machine_of machine.old }
         ensures pins_after { PinsOf self.new machine.new }
     {
-        Err(AllocError)
+        applied(self.alloc, &mut self.sessions, index, machine)
     }
 
     /// The node no longer leads the term of the proposals in flight: they and all transactions end, and each client that
@@ -116,12 +133,11 @@ impl Gateway {
         ensures files { machine_of machine.new ≡ machine_of machine.old }
         ensures pins_after { PinsOf self.new machine.new }
     {
-        Err(AllocError)
+        lost(self.alloc, &mut self.sessions, machine)
     }
 
     /// The client of a connection has gone. Its session goes too, with its transaction; where a proposal is in flight, that,
     /// and the turn to write with it, stays until it is applied or lost. Takes no memory.
-    #[tactic(auto, unfolding(crate::specs::Seen::seen))]
     pub fn on_hangup(&mut self, conn: u64, machine: &mut Machine)
         requires there { ((seen self.old machine.old).session conn).there ≡ true }
         requires open { ((seen self.old machine.old).session conn).hung ≡ false }
@@ -129,13 +145,17 @@ impl Gateway {
         ensures left { seen self.new machine.new ≡ events.on_hangup (seen self.old machine.old) conn }
         ensures files { machine_of machine.new ≡ machine_of machine.old }
         ensures pins_after { PinsOf self.new machine.new }
-    {}
+    {
+        left(self.alloc, &mut self.sessions, conn, machine);
+    }
 
     /// Whether a proposal of the connection's session is in flight. Takes no memory.
-    #[tactic(auto, unfolding(crate::specs::Seen::seen))]
     pub fn busy(&self, conn: u64) -> bool
         ensures { (databases : List Database) → result ≡ is_busy ((seen self.now databases).session conn) }
     {
-        false
+        match find(self.sessions.as_slice(), conn) {
+            Some(place) => self.sessions[place].flight.is_some(),
+            None => false,
+        }
     }
 }

@@ -1,1 +1,12 @@
 pub mod Counted
+pub mod Naming
+pub mod Proposed
+pub mod Finding
+pub mod Sizes
+pub mod Rooms
+pub mod Voting
+pub mod Refused
+pub mod Plain
+pub mod Asked
+pub mod Opening
+pub mod Allowed

@@ -1,18 +1,36 @@
 -- What code asks for, as the rules have it, with the parameters of the request.
-use Rattle.std.specs.Prelude.{◌≡◌, ℕ, List, [], ◌∷◌, length, All, Option, map}
+use Rattle.std.specs.Prelude.{◌≡◌, ◌<◌, ℕ, Bool, true, false, List, [], ◌∷◌, length, All, Option, Some, None, IsSome, map}
+use Rattle.dq_base.specs.Names.{has_nul}
 use Rattle.wire_words.specs.declared.value.Value.{Value}
+use Rattle.wire_msgs.specs.declared.request.Request.{Request}
+use Rattle.wire_msgs.specs.declared.request.Request.TheVariants as requests
 use Rattle.sql_scan.specs.Places.{StandsIn}
 use Rattle.session_rules.specs.Asking as rules
-use Rattle.session_rules.specs.Asking.{Asked}
-use Rattle.session_rules.specs.Statements.{prepared_from, with_params, with_all}
+use Rattle.session_rules.specs.Asking.{Asked, has_database}
+use Rattle.session_rules.specs.Sessions as sessions
+use Rattle.session_rules.specs.Sessions.{Prepared, Effect as RuleEffect, View, Session, in_tx}
+use Rattle.session_rules.specs.Limits.{log_full}
+use Rattle.session_rules.specs.Statements.{prepared_from, prepared_at, free_id, with_params, with_all}
 use Rattle.statement_runs.specs.Texts.{cut_at, wants, assigned}
 use Rattle.session_table.specs.Named.{cause_named}
+use Rattle.session_table.specs.declared.cause.Cause.{Cause}
+use Rattle.session_asking.specs.declared.wanted.Effect.{Effect}
+use Rattle.session_asking.specs.declared.wanted.Effect.TheVariants as effects
 use Rattle.session_asking.specs.declared.wanted.Script.{Script}
 use Rattle.session_asking.specs.declared.wanted.Wanted.{Wanted}
 use Rattle.session_asking.specs.declared.wanted.Wanted.TheVariants as wanted
 
+abbrev pub effect_named : Effect → RuleEffect
+effect_named (effects.HandsOver id) = sessions.HandsOver id
+effect_named (effects.JoinsPeer id) = sessions.JoinsPeer id
+effect_named (effects.Weighs weight) = sessions.Weighs weight
+
 abbrev pub meant : List Value → Wanted → Asked
 meant params (wanted.Never cause) = rules.Never (cause_named cause)
+meant params (wanted.Tells response) = rules.Tells response
+meant params (wanted.Sets effect) = rules.Sets (effect_named effect)
+meant params (wanted.Opens name) = rules.Opens name
+meant params (wanted.Creates name) = rules.Creates name
 meant params (wanted.Prepares prepared tail) = rules.Prepares prepared tail
 meant params (wanted.Drops id) = rules.Drops id
 meant params (wanted.Begins at_once) = rules.Begins at_once
@@ -22,7 +40,54 @@ meant params (wanted.RunsOne prepared) = rules.Runs (with_all prepared params �
 meant params (wanted.RunsAll script) = rules.Runs (assigned script.text script.pieces params)
 meant params (wanted.Reads prepared) = rules.Reads (with_all prepared params)
 
+-- what is asked, where it isn't refused for a cause
+abbrev pub refused_by : Option Cause → Asked → Asked
+refused_by None asked = asked
+refused_by (Some cause) asked = rules.Never (cause_named cause)
+
 -- the statements stand in their text, and want as many parameters as there are
 abbrev pub CanRun : List Value → Wanted → Type 0
 CanRun params (wanted.RunsAll script) = All (StandsIn script.text) script.pieces × (wants script.pieces ≡ length params)
 CanRun params wanted = Unit {0}
+
+-- the parameters of a request
+abbrev pub params_of : Request → List Value
+params_of (requests.Exec db id params wide) = params
+params_of (requests.Query db id params wide) = params
+params_of (requests.ExecSql db sql params wide) = params
+params_of (requests.QuerySql db sql params wide) = params
+params_of request = []
+
+-- the name of the database that a request opens holds no NUL
+abbrev pub NameHasNoNul : Request → Type 0
+NameHasNoNul (requests.Open name flags vfs) = has_nul name ≡ false
+NameHasNoNul request = Unit {0}
+
+-- What is wanted of a session's statements fits them: one that is let go is there, there is room for one that is prepared,
+-- and statements of a text can run with these parameters.
+abbrev pub FitsStatements : List (Option Prepared) → List Value → Wanted → Type 0
+FitsStatements statements params (wanted.Prepares prepared tail) = free_id statements < 64
+FitsStatements statements params (wanted.Drops id) = IsSome (prepared_at statements id)
+FitsStatements statements params (wanted.RunsAll script) = CanRun params (wanted.RunsAll script)
+FitsStatements statements params wanted = Unit {0}
+
+-- the node serves as leader, and the session has opened a database
+pub record IsServed (v : View) (s : Session) : Type 0 where
+  pub serves : v.serving ≡ true
+  pub opened : has_database s ≡ true
+
+-- What the rules ask for is asked only where this holds: of a new database, that the log has room; of what is done in the
+-- session's database, that it is served; and of a transaction, that none is open where it begins, and one where it ends with
+-- its changes.
+abbrev pub IsAllowed : View → Session → Asked → Type 0
+IsAllowed v s (rules.Creates name) = log_full v ≡ false
+IsAllowed v s (rules.Begins at_once) = IsServed v s × (in_tx s ≡ false)
+IsAllowed v s rules.Commits = IsServed v s × (in_tx s ≡ true)
+IsAllowed v s (rules.Runs statements) = IsServed v s
+IsAllowed v s (rules.Reads statement) = IsServed v s
+IsAllowed v s asked = Unit {0}
+
+-- What is wanted can be done.
+pub record CanBeDone (v : View) (s : Session) (params : List Value) (w : Wanted) : Type 0 where
+  pub allowed : IsAllowed v s (meant params w)
+  pub fits : FitsStatements s.statements params w

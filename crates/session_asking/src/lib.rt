@@ -1,10 +1,20 @@
-//! What a request for statements wants of a session: its refusals that need no engine, in their one order.
+//! What a request wants of a session: its refusals that need no engine, in their one order.
 #![tactic(auto)]
 
+mod cluster;
+mod databases;
+mod names;
+mod pages;
 mod prepared;
+mod preparing;
+mod request;
+mod statements;
 mod texts;
+mod view;
 mod wanted;
 
-pub use prepared::{wanted_by_exec, wanted_by_finalize, wanted_by_query};
-pub use texts::{wanted_by_rows, wanted_by_text};
-pub use wanted::{Script, Wanted};
+pub use names::all_names;
+pub use pages::pages_full;
+pub use request::{params_of, wanted_by};
+pub use view::View;
+pub use wanted::{Effect, Script, Wanted};

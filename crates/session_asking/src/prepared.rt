@@ -1,15 +1,13 @@
 //! Statements that are prepared already, or stand alone in their text.
 
-ghost use Rattle.std.specs.Prelude.{◌≡◌, [], ◌∷◌, Option};
-ghost use Rattle.std.specs.Option.{is_some};
+ghost use Rattle.std.specs.Prelude.{◌≡◌, [], ◌∷◌};
 ghost use Rattle.session_rules.specs.Asking as rules;
-ghost use Rattle.session_rules.specs.Sessions.{Prepared as RulePrepared};
 ghost use Rattle.session_rules.specs.Statements as statements;
 ghost use Rattle.session_rules.specs.Statements.{with_all};
-ghost use Rattle.session_asking.specs.Meant.{meant, CanRun};
+ghost use Rattle.session_asking.specs.Meant.{meant, CanRun, FitsStatements};
 
 use crate::wanted::Wanted;
-use session_table::{Cause, Prepared};
+use session_table::{Cause, Prepared, Session, prepared_at};
 use sql_scan::WordKind;
 use statement_runs::{is_control, is_left_out};
 use wire_words::Value;
@@ -87,8 +85,9 @@ pub(crate) fn wanted_by_reading(prepared: Prepared, params: &[Value]) -> Wanted
 
 /// What an EXEC of a prepared statement wants, where a transaction is open or none is. The statement is that of the
 /// request's number, if there is one. Takes no memory.
-pub fn wanted_by_exec(inside: bool, statement: Option<Prepared>, params: &[Value]) -> Wanted
-    ensures { meant params.now result ≡ rules.asks_exec inside statement params.now }
+pub(crate) fn wanted_by_exec(inside: bool, statement: Option<Prepared>, params: &[Value]) -> Wanted
+    ensures wants { meant params.now result ≡ rules.asks_exec inside statement params.now }
+    ensures runs { CanRun params.now result }
 {
     match statement {
         Some(prepared) => wanted_by_one(inside, prepared, params),
@@ -97,7 +96,7 @@ pub fn wanted_by_exec(inside: bool, statement: Option<Prepared>, params: &[Value
 }
 
 /// What a QUERY of a prepared statement wants. Takes no memory.
-pub fn wanted_by_query(statement: Option<Prepared>, params: &[Value]) -> Wanted
+pub(crate) fn wanted_by_query(statement: Option<Prepared>, params: &[Value]) -> Wanted
     ensures { meant params.now result ≡ rules.asks_prepared_query statement params.now }
 {
     match statement {
@@ -106,13 +105,13 @@ pub fn wanted_by_query(statement: Option<Prepared>, params: &[Value]) -> Wanted
     }
 }
 
-/// What a FINALIZE wants of the statement of a number, which is there or not. Takes no memory.
-pub fn wanted_by_finalize(there: bool, id: u64) -> Wanted
-    ensures { (statement : Option RulePrepared) → is_some statement ≡ there → meant [] result ≡ rules.asks_finalize statement id }
+/// What a FINALIZE wants of the statement of a number. Takes no memory.
+pub(crate) fn wanted_by_finalize(session: &Session, id: u32) -> Wanted
+    ensures wants { meant [] result ≡ rules.asks_finalize (statements.prepared_at session.now.statements.items id) id }
+    ensures can { FitsStatements session.now.statements.items [] result }
 {
-    if there {
-        Wanted::Drops(id)
-    } else {
-        Wanted::Never(Cause::NoStatement)
+    match prepared_at(session.statements.as_slice(), id) {
+        Some(_prepared) => Wanted::Drops(id),
+        None => Wanted::Never(Cause::NoStatement),
     }
 }

@@ -18,7 +18,7 @@ use std::alloc::{AllocError, Global};
 use wire_words::{Value, WireText};
 
 /// The statement that stands at a place of a text, copied. `Err` is want of memory.
-fn prepared_from(alloc: Global, sql: &str, piece: &Piece) -> Result<Prepared, AllocError>
+pub(crate) fn prepared_from(alloc: Global, sql: &str, piece: &Piece) -> Result<Prepared, AllocError>
     requires { StandsIn sql.now piece.now }
     ensures { IfOk result (λ prepared. prepared ≡ statements.prepared_from sql.now piece.now) }
 {
@@ -82,7 +82,7 @@ fn wanted_by_pieces(
 }
 
 /// What an EXEC_SQL wants by its text and parameters, where a transaction is open or none is. `Err` is want of memory.
-pub fn wanted_by_text(
+pub(crate) fn wanted_by_text(
     alloc: Global,
     inside: bool,
     sql: &str,
@@ -125,7 +125,11 @@ fn wanted_by_sole(
 }
 
 /// What a QUERY_SQL wants by its text and parameters. `Err` is want of memory.
-pub fn wanted_by_rows(alloc: Global, sql: &str, params: &[Value]) -> Result<Wanted, AllocError>
+pub(crate) fn wanted_by_rows(
+    alloc: Global,
+    sql: &str,
+    params: &[Value],
+) -> Result<Wanted, AllocError>
     ensures wants { IfOk result (λ wanted. meant params.now wanted ≡ rules.asks_rows sql.now (scan_of sql.now) params.now) }
 {
     match scan(alloc, sql) {

@@ -1,6 +1,7 @@
-use dq_base::Items;
+use dq_base::{Items, Name};
 use session_table::{Cause, Prepared};
 use sql_scan::Piece;
+use wire_msgs::Response;
 use wire_words::WireText;
 
 /// The statements of a text, none or several.
@@ -12,15 +13,34 @@ pub struct Script {
     pub pieces: Items<Piece>,
 }
 
-/// What a request for statements wants, once it has passed the refusals that come before the engine.
+/// What a request does beside the sessions. It is answered by EMPTY.
+#[derive(Clone, Copy, Debug, PartialEq, Eq)]
+pub enum Effect {
+    /// Leadership is handed to the server of this id.
+    HandsOver(u64),
+    /// The connection carries the messages of the peer of this id from then on.
+    JoinsPeer(u64),
+    /// The node has this weight.
+    Weighs(u64),
+}
+
+/// What a request wants of a session, once it has passed the refusals that come before the engine.
 #[derive(Debug, Drop)]
 pub enum Wanted {
     /// Nothing: it is refused.
     Never(Cause),
+    /// A response, and nothing else.
+    Tells(Response),
+    /// Something beside the sessions.
+    Sets(Effect),
+    /// A database that is there.
+    Opens(Name),
+    /// A new database.
+    Creates(Name),
     /// A statement is to be prepared, with the place of the rest of its text where that is told.
     Prepares(Prepared, Option<u64>),
     /// A prepared statement is to be let go.
-    Drops(u64),
+    Drops(u32),
     /// A transaction begins, at once with the turn to write or not.
     Begins(bool),
     /// The transaction ends with its changes.

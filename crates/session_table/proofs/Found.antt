@@ -11,11 +11,11 @@ use Rattle.session_rules.specs.Limits.{holds, other_holds, flown_by, flown, most
 use Rattle.session_table.specs.declared.session.Session.{Session}
 use Rattle.session_table.specs.Table.{session_of, has_conn, session_found, session_at, table_of, AreApart, holds_beside, flown_in}
 
-here : (databases : List Database) (s : Session) (ss : List Session) → session_at databases (s ∷ ss) s.conn ≡ session_of databases s
+pub here : (databases : List Database) (s : Session) (ss : List Session) → session_at databases (s ∷ ss) s.conn ≡ session_of databases s
 unfolding session_at
 here databases s ss = ap (session_found databases) (cond-true (s.conn == s.conn) (Some s) (find (has_conn s.conn) ss) (eq-eqb s.conn s.conn refl))
 
-elsewhere : (databases : List Database) (s : Session) (ss : List Session) (conn : ℕ) → s.conn ≢ conn → session_at databases (s ∷ ss) conn ≡ session_at databases ss conn
+pub elsewhere : (databases : List Database) (s : Session) (ss : List Session) (conn : ℕ) → s.conn ≢ conn → session_at databases (s ∷ ss) conn ≡ session_at databases ss conn
 unfolding session_at
 elsewhere databases s ss conn other = ap (session_found databases) (cond-false (s.conn == conn) (Some s) (find (has_conn conn) ss) (ne_eqb s.conn conn other))
 

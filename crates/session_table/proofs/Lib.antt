@@ -2,3 +2,14 @@ pub mod Found
 pub mod Numbered
 pub mod Marked
 pub mod Unmarked
+pub mod Swept
+pub mod Releasing
+pub mod Parting
+pub mod Following
+pub mod Telling
+pub mod Walking
+pub mod Waits
+pub mod Kept
+pub mod Placing
+pub mod Gaining
+pub mod Starting

@@ -5,7 +5,7 @@ use Rattle.sql_engine.specs.declared.answer.Ran.{Ran}
 use Rattle.session_rules.specs.Causes as rules
 use Rattle.session_rules.specs.Requests.{rows_cause}
 use Rattle.session_rules.specs.Causes.{Cause as RuleCause}
-use Rattle.session_rules.specs.Sessions.{Reply as RuleReply, Refusal, Single, Rows, Kind, Opening, Writing, Committing}
+use Rattle.session_rules.specs.Sessions.{Reply as RuleReply, Single, Rows, Kind, Opening, Writing, Committing}
 use Rattle.session_table.specs.declared.cause.Cause.{Cause}
 use Rattle.session_table.specs.declared.reply.Reply.{Reply}
 use Rattle.session_table.specs.declared.reply.Reply.TheVariants as replies
@@ -52,7 +52,6 @@ cause_named causes.OutOfDate = rules.OutOfDate
 cause_named causes.DatabaseFull = rules.DatabaseFull
 
 abbrev pub reply_named : Reply → RuleReply
-reply_named (replies.Refusal cause) = Refusal (cause_named cause)
 reply_named (replies.Single response) = Single response
 reply_named (replies.Rows answer) = Rows answer
 

@@ -1,9 +1,11 @@
 -- A table of sessions as the rules see it, with the images that open transactions have pinned in a machine.
-use Rattle.std.specs.Prelude.{◌≢◌, ℕ, ◌==◌, Bool, true, not, ◌&&◌, List, [], ◌∷◌, ◌++◌, map, find, Option, Some, None}
+use Rattle.std.specs.Prelude.{◌≢◌, ℕ, ◌≤◌, ◌==◌, Bool, true, not, ◌&&◌, List, [], ◌∷◌, ◌++◌, length, map, find, Option, Some, None}
 use Rattle.std.specs.Option.{option_map}
 use Rattle.std.specs.List.{AllByRecursion}
 use Rattle.page_apply.specs.declared.database.Database.{Database}
+use Rattle.dq_base.specs.declared.images.Image.{Image}
 use Rattle.page_apply.specs.Pins.{Pinning, pinned_image}
+use Rattle.page_apply.specs.Files.{empty_image}
 use Rattle.session_rules.specs.Sessions.{Transaction as RuleTransaction, Session as RuleSession, Gateway, absent}
 use Rattle.session_rules.specs.Limits.{holds, flown_by}
 use Rattle.session_table.specs.declared.session.Session.{Session}
@@ -14,12 +16,17 @@ abbrev pub database_of : Option (List ℕ) → List ℕ
 database_of None = []
 database_of (Some name) = name
 
--- an open transaction over the database of a name, with the image that its mark shows
-abbrev pub transaction_of : List Database → List ℕ → Transaction → RuleTransaction
-transaction_of databases name x = record { name = name; mark = x.mark; pinned = pinned_image databases x.pin; working = x.working; turn = x.turn }
+-- the image that a transaction has pinned; the empty one where there was no such database
+abbrev pub image_pinned : List Database → Option Pinning → Image
+image_pinned databases None = empty_image
+image_pinned databases (Some pin) = pinned_image databases pin
+
+-- an open transaction, with the image that its mark shows
+abbrev pub transaction_of : List Database → Transaction → RuleTransaction
+transaction_of databases x = record { name = x.name; mark = x.mark; pinned = image_pinned databases x.pin; working = x.working; turn = x.turn }
 
 abbrev pub session_of : List Database → Session → RuleSession
-session_of databases s = record { there = true; hung = s.hung; database = database_of s.database; statements = s.statements.items; tx = option_map (transaction_of databases (database_of s.database)) s.transaction; flight = s.flight }
+session_of databases s = record { there = true; hung = s.hung; database = database_of s.database; statements = s.statements.items; tx = option_map (transaction_of databases) s.transaction; flight = s.flight }
 
 abbrev pub has_conn : ℕ → Session → Bool
 has_conn conn s = s.conn == conn
@@ -41,6 +48,11 @@ abbrev pub AreApart : List Session → Type 0
 AreApart [] = Unit {0}
 AreApart (s ∷ ss) = AllByRecursion (λ (t : Session). s.conn ≢ t.conn) ss × AreApart ss
 
+-- A table: no two sessions are of one connection, and there are 64 at most.
+pub record IsTable (sessions : List Session) : Type 0 where
+  pub apart : AreApart sessions
+  pub few : length sessions ≤ 64
+
 -- whether the session of another connection has the turn to write of the database of a name
 abbrev pub holds_beside : List Database → ℕ → List ℕ → Session → Bool
 holds_beside databases conn name s = not (s.conn == conn) && holds (session_of databases s) name
@@ -49,9 +61,14 @@ holds_beside databases conn name s = not (s.conn == conn) && holds (session_of d
 abbrev pub flown_in : List ℕ → Session → ℕ
 flown_in name s = flown_by s.flight name
 
+abbrev pub mark_of : Option Pinning → List Pinning
+mark_of None = []
+mark_of (Some pin) = pin ∷ []
+
+-- the read mark of a transaction
 abbrev pub pin_of : Option Transaction → List Pinning
 pin_of None = []
-pin_of (Some x) = x.pin ∷ []
+pin_of (Some x) = mark_of x.pin
 
 -- the read marks of the transactions
 abbrev pub pins_of : List Session → List Pinning

@@ -2,16 +2,27 @@
 //! for the others.
 #![tactic(auto)]
 
+mod bases;
+mod beginning;
 mod cause;
+mod change;
 mod laws;
 mod limits;
 mod reply;
 mod session;
 mod statements;
+mod sweep;
+mod table;
+mod told;
 
+pub use bases::{name_of, newest, newest_image};
+pub use beginning::begin;
 pub use cause::Cause;
+pub use change::{Change, make_change};
 pub use laws::{commands_make_no_marks, marks_change_no_database, released_marks_are_spent};
 pub use limits::{flown, other_holds};
 pub use reply::{Reply, ToldRows};
 pub use session::{Flight, FlightKind, Prepared, Session, Transaction};
-pub use statements::{finalize, prepare, prepared_at, prepared_count};
+pub use statements::{finalize, free_id, prepare, prepared_at, prepared_count};
+pub use sweep::{applied, ended, left, lost};
+pub use table::{find, join};

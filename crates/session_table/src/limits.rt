@@ -1,12 +1,12 @@
 //! What one session's open work means for the others.
 
-ghost use Rattle.std.specs.Prelude.{◌≡◌, ℕ, max, Some, List, bytes_eq};
+ghost use Rattle.std.specs.Prelude.{◌≡◌, ℕ, max, Some, List};
 ghost use Rattle.page_apply.specs.declared.database.Database.{Database};
 ghost use Rattle.session_rules.specs.Limits as limits;
 ghost use Rattle.session_table.specs.Named.{kind_named};
-ghost use Rattle.session_table.specs.Table.{database_of, session_of, table_of, AreApart, holds_beside, flown_in};
+ghost use Rattle.session_table.specs.Table.{transaction_of, session_of, table_of, AreApart, holds_beside, flown_in};
 
-use crate::session::{Flight, FlightKind, Session};
+use crate::session::{Flight, FlightKind, Session, Transaction};
 
 impl FlightKind {
     /// Whether the proposal changes the pages of its database. Takes no memory.
@@ -36,6 +36,15 @@ impl Flight {
     }
 }
 
+impl Transaction {
+    /// Whether it has the turn to write of the database of a name. Takes no memory.
+    fn has_turn(&self, name: &str) -> bool
+        ensures { (databases : List Database) → result ≡ limits.has_turn (Some (transaction_of databases self.now)) name.now }
+    {
+        self.turn && self.name.as_str() == name
+    }
+}
+
 impl Session {
     /// Whether a proposal of it changes the pages of the database of a name.
     fn writes_to(&self, name: &str) -> bool
@@ -47,22 +56,12 @@ impl Session {
         }
     }
 
-    /// Whether its database has this name.
-    fn is_at(&self, name: &str) -> bool
-        ensures { result ≡ bytes_eq (database_of self.now.database) name.now }
-    {
-        match &self.database {
-            Some(database) => database.as_str() == name,
-            None => name.is_empty(),
-        }
-    }
-
     /// Whether its transaction has the turn to write of the database of a name.
     fn has_turn(&self, name: &str) -> bool
         ensures { (databases : List Database) → result ≡ limits.has_turn (session_of databases self.now).tx name.now }
     {
         match &self.transaction {
-            Some(transaction) => transaction.turn && self.is_at(name),
+            Some(transaction) => transaction.has_turn(name),
             None => false,
         }
     }

@@ -1,13 +1,17 @@
 //! Replies to requests.
 
-ghost use Rattle.std.specs.Prelude.{◌≡◌, [], length, IfOk};
+ghost use Rattle.std.specs.Prelude.{◌≡◌, ◌<◌, ◌≤◌, ◌+◌, ◌++◌, [], ◌∷◌, length, map, vec_len, vec_capacity, IfOk};
 ghost use Rattle.wire_rows.specs.Spelling.{HaveNoNul, HaveWidth};
-ghost use Rattle.session_table.specs.Named.{TellsRows};
+ghost use Rattle.wire_msgs.specs.declared.response.Response.TheVariants as responses;
+ghost use Rattle.session_rules.specs.Sessions.{responses_of};
+ghost use Rattle.session_table.specs.Named.{TellsRows, reply_named};
+ghost use Rattle.session_table.specs.Sweeping.{told_in};
 
 use crate::cause::Cause;
 use dq_base::Items;
 use sql_engine::Ran;
 use std::alloc::{AllocError, Global};
+use std::collections::VecDeque;
 use std::marker::Model;
 use wire_msgs::Response;
 use wire_rows::{RowFault, parts};
@@ -53,13 +57,61 @@ impl ToldRows {
     }
 }
 
-/// A reply to a request.
+/// Puts a response to a connection behind what was told so far, where there is room.
+fn tell_one(told: &mut Vec<(u64, Response)>, conn: u64, response: Response)
+    requires { vec_len told.old < vec_capacity told.old }
+    ensures items { told.new.items ≡ told.old.items ++ (conn, response) ∷ [] }
+    ensures len { vec_len told.new ≡ vec_len told.old + 1 }
+    ensures room { vec_capacity told.old ≤ vec_capacity told.new }
+{
+    told.push((conn, response)).unwrap();
+}
+
+/// Puts rows to a connection behind what was told so far, a response for each body, where there is room.
+fn tell_rows(told: &mut Vec<(u64, Response)>, conn: u64, bodies: &mut VecDeque<WireBytes>)
+    requires { vec_len told.old + length bodies.old.items ≤ vec_capacity told.old }
+    ensures items { told.new.items ≡ told.old.items ++ map (λ body. (conn, responses.Rows body)) bodies.old.items }
+    ensures len { vec_len told.new ≡ vec_len told.old + length bodies.old.items }
+    ensures room { vec_capacity told.old ≤ vec_capacity told.new }
+{
+    while let Some(body) = bodies.pop_front() {
+        tell_one(told, conn, Response::Rows { body });
+    }
+}
+
+/// A reply to a request that isn't refused.
 #[derive(Debug, Drop)]
 pub enum Reply {
-    /// It is refused.
-    Refusal(Cause),
     /// One response.
     Single(Response),
     /// The rows of an answer.
     Rows(ToldRows),
+}
+
+impl Reply {
+    /// In how many responses it is told. Takes no memory.
+    pub fn responses(&self) -> usize
+        ensures { result ≡ length (responses_of (reply_named self.now)) }
+    {
+        match self {
+            Reply::Single(_) => 1,
+            Reply::Rows(rows) => rows.told.len(),
+        }
+    }
+
+    /// Puts its responses, to a connection, behind what was told so far, where there is room for them. Takes no memory.
+    pub fn tell(self, conn: u64, told: &mut Vec<(u64, Response)>)
+        requires { vec_len told.old + length (responses_of (reply_named self)) ≤ vec_capacity told.old }
+        ensures items { told.new.items ≡ told.old.items ++ told_in (conn, reply_named self) }
+        ensures len { vec_len told.new ≡ vec_len told.old + length (responses_of (reply_named self)) }
+        ensures room { vec_capacity told.old ≤ vec_capacity told.new }
+    {
+        match self {
+            Reply::Single(response) => tell_one(told, conn, response),
+            Reply::Rows(rows) => {
+                let mut bodies = VecDeque::from_vec(rows.told.into_vec());
+                tell_rows(told, conn, &mut bodies);
+            }
+        }
+    }
 }

@@ -63,13 +63,15 @@ impl Model for Flight {
     ghost view = { λ f. record { name = f.name; first = f.first; last = f.last; term = f.term; pages = f.pages; kind = kind_named f.kind } };
 }
 
-/// An open transaction of a session over its database.
+/// An open transaction of a session.
 #[derive(Debug, Drop)]
 pub struct Transaction {
+    /// Its database.
+    pub name: Name,
     /// How many commits the database had when it began.
     pub mark: u64,
-    /// The read mark of the image at that time.
-    pub pin: Pin,
+    /// The read mark of the image at that time; none where the machine had no such database, whose image is the empty one.
+    pub pin: Option<Pin>,
     /// That image with the transaction's own changes.
     pub working: Image,
     /// Whether it has the turn to write.

@@ -30,8 +30,8 @@ pub fn prepared_count(statements: &[Option<Prepared>]) -> usize
     count
 }
 
-/// The least number that is free.
-fn free_id(statements: &[Option<Prepared>]) -> usize
+/// The least number that is free. Looks at each number at most; takes no memory.
+pub fn free_id(statements: &[Option<Prepared>]) -> usize
     ensures { result ≡ rules.free_id statements.now }
 {
     for (id, statement) in statements.iter().enumerate() {

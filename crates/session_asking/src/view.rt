@@ -1,9 +1,11 @@
+//! What a node is for its sessions.
+
 use dq_base::Items;
 use raft_vote::{Server, Servers};
 use std::marker::Model;
 use wire_words::WireText;
 
-/// What a node is at the moment, as its sessions see it.
+/// What a node is at the moment, as its sessions see it. Clauses see it as the rules' one.
 #[derive(Debug, Drop)]
 pub struct View {
     /// The node's id.
@@ -30,9 +32,9 @@ pub struct View {
 }
 
 impl Model for View {
-    ghost use Rattle.session_rules.specs.Sessions.{View as ViewValue};
+    ghost use Rattle.session_rules.specs.Sessions.{View as RuleView};
 
-    ghost Value = { ViewValue };
+    ghost Value = { RuleView };
 
     ghost view = { λ v. record { id = v.id; address = v.address; leader = v.leader; serving = v.serving; term = v.term; last = v.last; servers = v.servers; links = v.links; readers = v.readers; even = v.even } };
 }

@@ -1,0 +1,5 @@
+use Rattle.client_sessions.proofs.Standing.{clients_stay, still_stand}
+use Rattle.client_sessions.proofs.laws.commands_keep_clients.Goals as goal
+
+pub returns : goal.returns
+returns c = record { clients = clients_stay; stand = still_stand }

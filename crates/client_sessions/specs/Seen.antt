@@ -1,0 +1,22 @@
+-- The clients of a node as the rules see them, over the machine in which their transactions have pinned images.
+use Rattle.std.specs.Prelude.{List}
+use Rattle.std.specs.Ordering.{nat_cmp}
+use Rattle.std.specs.BTreeMap.{get}
+use Rattle.page_apply.specs.declared.database.Database.{Database}
+use Rattle.page_apply.specs.Pins.{Pinning, IsPinned}
+use Rattle.gateway.specs.Seen.{seen, PinsOf}
+use Rattle.client_sessions.specs.declared.clients.Clients.{Clients as Held}
+use Rattle.client_sessions.specs.Clients.{Clients, Sound}
+
+-- the sessions, the streams of the open connections, and whose turn it is
+unfoldable pub clients_of : Held → List Database → Clients
+clients_of held databases = record { sessions = seen held.gateway databases; streams = λ conn. get nat_cmp held.connections conn; turns = held.turns.items }
+
+-- The clients stand over a machine: its live marks are those of their transactions, and all is as it has to be of clients.
+pub record StandOver (held : Held) (databases : List Database) : Type 0 where
+  pub pins : PinsOf held.gateway databases
+  pub sound : Sound (clients_of held databases)
+
+-- no image of these databases is pinned
+abbrev pub HasNoMarks : List Database → Type 0
+HasNoMarks databases = (pin : Pinning) → IsPinned databases pin → ⊥

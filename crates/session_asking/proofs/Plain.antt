@@ -1,0 +1,54 @@
+-- Requests that need no statement can be done as they are.
+use Rattle.std.proofs.Common.{◌≡◌, Bool, true, false, cond, ℕ, List, Option, subst, sym, rules}
+use Rattle.wire_words.specs.declared.value.Value.{Value}
+use Rattle.wire_msgs.specs.declared.response.Response.TheVariants as responses
+use Rattle.session_rules.specs.Asking.{Asked, Never, Tells, Sets, Opens, Creates, Prepares, Drops, Begins, Commits, RollsBack, Changes, Runs, Reads, at_leader, in_database, asks_open, asks_new, asks_change}
+use Rattle.session_rules.specs.Machine.{Machine}
+use Rattle.session_rules.specs.Sessions.{Prepared, Session, Gateway, View}
+use Rattle.session_asking.specs.declared.wanted.Wanted.{Wanted}
+use Rattle.session_asking.specs.declared.wanted.Wanted.TheVariants as wanted
+use Rattle.session_asking.specs.Meant.{meant, FitsStatements}
+
+-- nothing of statements is asked
+abbrev pub Plain : Asked → Type 0
+Plain (Never cause) = Unit {0}
+Plain (Tells response) = Unit {0}
+Plain (Sets effect) = Unit {0}
+Plain (Opens name) = Unit {0}
+Plain (Creates name) = Unit {0}
+Plain (Prepares p tail) = ⊥
+Plain (Drops id) = ⊥
+Plain (Begins at_once) = ⊥
+Plain Commits = ⊥
+Plain RollsBack = ⊥
+Plain (Changes servers) = ⊥
+Plain (Runs ss) = ⊥
+Plain (Reads s) = ⊥
+
+pub plain_can : (statements : List (Option Prepared)) (params none : List Value) (w : Wanted) (asked : Asked) → meant none w ≡ asked → Plain asked → FitsStatements statements params w
+plain_can statements params none (wanted.Never cause) asked e h = tt
+plain_can statements params none (wanted.Tells response) asked e h = tt
+plain_can statements params none (wanted.Sets effect) asked e h = tt
+plain_can statements params none (wanted.Opens name) asked e h = tt
+plain_can statements params none (wanted.Creates name) asked e h = tt
+plain_can statements params none (wanted.Prepares p tail) asked e h = absurd (subst Plain (sym e) h)
+plain_can statements params none (wanted.Drops id) asked e h = absurd (subst Plain (sym e) h)
+plain_can statements params none (wanted.Begins at_once) asked e h = tt
+plain_can statements params none wanted.Commits asked e h = tt
+plain_can statements params none wanted.RollsBack asked e h = tt
+plain_can statements params none (wanted.RunsOne p) asked e h = tt
+plain_can statements params none (wanted.RunsAll script) asked e h = absurd (subst Plain (sym e) h)
+plain_can statements params none (wanted.Reads p) asked e h = tt
+
+either : (b : Bool) (x y : Asked) → Plain x → Plain y → Plain (cond b x y)
+either true x y a b = a
+either false x y a b = b
+
+pub open_plain : (v : View) (m : Machine) (g : Gateway) (s : Session) (name : List ℕ) → Plain (at_leader v (asks_open v m g s name))
+open_plain v m g s name = search (rules, either)
+
+pub change_plain : (v : View) (g : Gateway) → Plain (at_leader v (asks_change g))
+change_plain v g = search (rules, either)
+
+pub interrupt_plain : (s : Session) (db : ℕ) → Plain (in_database s db (Tells responses.Empty))
+interrupt_plain s db = search (rules, either)

@@ -1,0 +1,223 @@
+//! Requests about the cluster and its servers.
+
+ghost use Rattle.std.specs.Prelude.{◌≡◌, ◌==◌, ℕ, List, [], map, IfOk};
+ghost use Rattle.std.specs.List.{list_any};
+ghost use Rattle.raft_rules.specs.Node.{Server as RuleServer, among, voters};
+ghost use Rattle.page_apply.specs.declared.database.Database.{Database};
+ghost use Rattle.session_rules.specs.Asking as rules;
+ghost use Rattle.session_rules.specs.Limits as limits;
+ghost use Rattle.session_table.specs.Named.{kind_named};
+ghost use Rattle.session_table.specs.Table.{AreApart, table_of};
+ghost use Rattle.session_asking.specs.Meant.{meant};
+ghost use Rattle.session_asking.specs.Looking.{is_changing, votes_as};
+
+use crate::view::View;
+use crate::wanted::{Effect, Wanted};
+use dq_base::Items;
+use raft_vote::Server;
+use session_table::{Cause, FlightKind, Session};
+use std::alloc::{AllocError, Global};
+use wire_msgs::{NodeInfo, Response};
+use wire_words::WireText;
+
+fn copied_address(alloc: Global, address: &WireText) -> Result<WireText, AllocError>
+    ensures { IfOk result (λ copy. copy ≡ address.now) }
+{
+    Ok(WireText::new(String::from_str(alloc, address.as_str())?))
+}
+
+/// The leader that a node knows, or that it knows none.
+fn leader_known(alloc: Global, leader: &Option<Server>) -> Result<Response, AllocError>
+    ensures { IfOk result (λ response. response ≡ rules.leader_known leader.now) }
+{
+    match leader {
+        Some(server) => Ok(Response::Server {
+            id: server.id,
+            address: copied_address(alloc, &server.address)?,
+        }),
+        None => Ok(Response::Server {
+            id: 0,
+            address: WireText::new(String::new(alloc)),
+        }),
+    }
+}
+
+/// What LEADER wants. `Err` is want of memory.
+pub(crate) fn wanted_by_leader(alloc: Global, view: &View) -> Result<Wanted, AllocError>
+    ensures { IfOk result (λ wanted. meant [] wanted ≡ rules.Tells (rules.leader_known view.now.leader)) }
+{
+    let response = leader_known(alloc, &view.leader)?;
+    Ok(Wanted::Tells(response))
+}
+
+/// What DESCRIBE wants in a format.
+pub(crate) fn wanted_by_describe(weight: u64, format: u64) -> Wanted
+    ensures { meant [] result ≡ rules.asks_describe weight format }
+{
+    if format == 0 {
+        Wanted::Tells(Response::Metadata {
+            failure_domain: 0,
+            weight,
+        })
+    } else {
+        Wanted::Never(Cause::BadFormat)
+    }
+}
+
+/// A server as it is told, with its role or not.
+fn info_of(alloc: Global, roles: bool, server: &Server) -> Result<NodeInfo, AllocError>
+    ensures { IfOk result (λ info. info ≡ rules.info_of roles server.now) }
+{
+    let role = if roles {
+        Some(server.role.number())
+    } else {
+        None
+    };
+    Ok(NodeInfo {
+        id: server.id,
+        address: copied_address(alloc, &server.address)?,
+        role,
+    })
+}
+
+fn infos_of(alloc: Global, roles: bool, servers: &[Server]) -> Result<Vec<NodeInfo>, AllocError>
+    ensures { IfOk result (λ infos. infos.items ≡ map (rules.info_of roles) servers.now) }
+{
+    let mut infos = Vec::new(alloc);
+    for server in servers {
+        infos.push(info_of(alloc, roles, server)?)?;
+    }
+    Ok(infos)
+}
+
+/// What CLUSTER wants in a format. `Err` is want of memory.
+pub(crate) fn wanted_by_cluster(
+    alloc: Global,
+    view: &View,
+    format: u64,
+) -> Result<Wanted, AllocError>
+    ensures { IfOk result (λ wanted. meant [] wanted ≡ rules.asks_cluster view.now format) }
+{
+    if format > 1 {
+        return Ok(Wanted::Never(Cause::BadFormat));
+    }
+    let infos = infos_of(alloc, format == 1, view.servers.as_slice())?;
+    Ok(Wanted::Tells(Response::Servers {
+        servers: Items::new(infos),
+    }))
+}
+
+/// Whether a server has an id.
+fn is_server(servers: &[Server], id: u64) -> bool
+    ensures { result ≡ list_any (λ (server : RuleServer). server.id == id) servers.now }
+{
+    servers.iter().any(|server| server.id == id)
+}
+
+/// Whether a node is another one of the configuration.
+fn is_other_node(view: &View, id: u64) -> bool
+    ensures { result ≡ rules.is_other_node view.now id }
+{
+    id != view.id && is_server(view.servers.as_slice(), id)
+}
+
+/// What CONNECT wants of a node.
+pub(crate) fn wanted_by_connect(view: &View, id: u64) -> Wanted
+    ensures { meant [] result ≡ rules.asks_connect view.now id }
+{
+    if view.links && is_other_node(view, id) {
+        Wanted::Sets(Effect::JoinsPeer(id))
+    } else {
+        Wanted::Never(Cause::BadNode)
+    }
+}
+
+/// Whether a server has an id, and votes.
+fn votes_as(server: &Server, id: u64) -> bool
+    ensures { result ≡ votes_as id server.now }
+{
+    server.votes() && server.id == id
+}
+
+/// Whether a node is a voter.
+fn is_voter(servers: &[Server], id: u64) -> bool
+    ensures { result ≡ among (voters servers.now) id }
+{
+    for server in servers {
+        if votes_as(server, id) {
+            return true;
+        }
+    }
+    false
+}
+
+/// Whether a peer is one of these.
+fn is_among(peers: &[u64], id: u64) -> bool
+    ensures { result ≡ among peers.now id }
+{
+    peers.iter().any(|peer| *peer == id)
+}
+
+/// Whether a node is this one, or its log is known to reach the leader's last index.
+fn may_take_over(view: &View, id: u64) -> bool
+    ensures { result ≡ rules.may_take_over view.now id }
+{
+    id == view.id || is_among(view.even.as_slice(), id)
+}
+
+/// What TRANSFER wants of a serving leader.
+pub(crate) fn wanted_by_transfer(view: &View, id: u64) -> Wanted
+    ensures { meant [] result ≡ rules.asks_transfer view.now id }
+{
+    if !is_voter(view.servers.as_slice(), id) {
+        Wanted::Never(Cause::BadNode)
+    } else if may_take_over(view, id) {
+        Wanted::Sets(Effect::HandsOver(id))
+    } else {
+        Wanted::Never(Cause::TargetBehind)
+    }
+}
+
+/// Whether a proposal changes the servers of the cluster. There is no kind that does so yet.
+fn is_change(kind: &FlightKind) -> bool
+    ensures { result ≡ limits.configures (kind_named kind.now) }
+{
+    match kind {
+        FlightKind::Opening | FlightKind::Writing(_) | FlightKind::Committing => false,
+    }
+}
+
+/// Whether a session's change of the cluster is in flight.
+fn is_changing(session: &Session) -> bool
+    ensures { result ≡ is_changing session.now }
+{
+    match &session.flight {
+        Some(flight) => is_change(&flight.kind),
+        None => false,
+    }
+}
+
+/// Whether some session's change of the cluster is in flight.
+fn change_in_flight(sessions: &[Session]) -> bool
+    requires { AreApart sessions.now }
+    ensures { (databases : List Database) (weight : ℕ) → result ≡ limits.change_in_flight (table_of databases sessions.now weight) }
+{
+    for session in sessions {
+        if is_changing(session) {
+            return true;
+        }
+    }
+    false
+}
+
+/// What ADD, ASSIGN and REMOVE want of a serving leader: servers can't be changed yet.
+pub(crate) fn wanted_by_change(sessions: &[Session]) -> Wanted
+    requires { AreApart sessions.now }
+    ensures { (databases : List Database) (weight : ℕ) → meant [] result ≡ rules.asks_change (table_of databases sessions.now weight) }
+{
+    if change_in_flight(sessions) {
+        Wanted::Never(Cause::ChangeInFlight)
+    } else {
+        Wanted::Never(Cause::BadNode)
+    }
+}

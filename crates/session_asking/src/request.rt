@@ -1,0 +1,175 @@
+//! What any request wants.
+
+ghost use Rattle.std.specs.Prelude.{◌≡◌, ℕ, List, [], false, IfOk};
+ghost use Rattle.dq_base.specs.Names.{has_nul};
+ghost use Rattle.page_apply.specs.declared.database.Database.{Database};
+ghost use Rattle.session_rules.specs.Asking as rules;
+ghost use Rattle.session_rules.specs.Machine.{machine_of};
+ghost use Rattle.session_table.specs.Table.{AreApart, session_of, table_of};
+ghost use Rattle.session_asking.specs.Meant.{meant, params_of, NameHasNoNul, FitsStatements, CanBeDone};
+
+use crate::cluster::{
+    wanted_by_change, wanted_by_cluster, wanted_by_connect, wanted_by_describe, wanted_by_leader,
+    wanted_by_transfer,
+};
+use crate::databases::{wanted_by_dump, wanted_by_open};
+use crate::statements::{
+    executes, executes_text, finalizes, interrupts, prepares, queries, queries_text,
+};
+use crate::view::View;
+use crate::wanted::{Effect, Wanted};
+use page_apply::Machine;
+use session_table::{Cause, Session};
+use std::alloc::{AllocError, Global};
+use wire_msgs::{Request, Response};
+use wire_words::Value;
+
+/// For how many milliseconds a client may be silent.
+const HEARTBEAT_TIMEOUT: u64 = 15_000;
+
+/// The parameters of a request; none where it has no place for them. Takes no memory.
+pub fn params_of(request: &Request) -> &[Value]
+    ensures { result.now ≡ params_of request.now }
+{
+    match request {
+        Request::Exec { params, .. } => params.as_slice(),
+        Request::Query { params, .. } => params.as_slice(),
+        Request::ExecSql { params, .. } => params.as_slice(),
+        Request::QuerySql { params, .. } => params.as_slice(),
+        _ => &[],
+    }
+}
+
+/// What OPEN wants by a name that holds no NUL. `Err` is want of memory.
+fn opens(
+    alloc: Global,
+    view: &View,
+    machine: &Machine,
+    sessions: &[Session],
+    session: &Session,
+    name: &str,
+) -> Result<Wanted, AllocError>
+    requires apart { AreApart sessions.now }
+    requires text { has_nul name.now ≡ false }
+    ensures { (weight : ℕ) → IfOk result (λ wanted. meant [] wanted ≡ rules.at_leader view.now (rules.asks_open view.now (machine_of machine.now) (table_of machine.now sessions.now weight) (session_of machine.now session.now) name.now)) }
+{
+    if !view.serving {
+        return Ok(Wanted::Never(Cause::NotLeader));
+    }
+    wanted_by_open(alloc, view, machine, sessions, session, name)
+}
+
+/// What ADD, ASSIGN and REMOVE want.
+fn changes_servers(view: &View, sessions: &[Session]) -> Wanted
+    requires { AreApart sessions.now }
+    ensures { (databases : List Database) (weight : ℕ) → meant [] result ≡ rules.at_leader view.now (rules.asks_change (table_of databases sessions.now weight)) }
+{
+    if !view.serving {
+        return Wanted::Never(Cause::NotLeader);
+    }
+    wanted_by_change(sessions)
+}
+
+/// What TRANSFER wants.
+fn transfers(view: &View, id: u64) -> Wanted
+    ensures { meant [] result ≡ rules.at_leader view.now (rules.asks_transfer view.now id) }
+{
+    if !view.serving {
+        return Wanted::Never(Cause::NotLeader);
+    }
+    wanted_by_transfer(view, id)
+}
+
+/// The same as `wanted_by`, by the type of the request.
+#[tactic(auto, unfolding(session_rules::specs::Asking::asked_by))]
+fn ask(
+    alloc: Global,
+    view: &View,
+    machine: &Machine,
+    sessions: &[Session],
+    weight: u64,
+    session: &Session,
+    request: &Request,
+) -> Result<Wanted, AllocError>
+    requires apart { AreApart sessions.now }
+    requires name { NameHasNoNul request.now }
+    ensures wants { IfOk result (λ wanted. meant (params_of request.now) wanted ≡ rules.asked_by view.now (machine_of machine.now) (table_of machine.now sessions.now weight) (session_of machine.now session.now) request.now) }
+    ensures fits { IfOk result (FitsStatements session.now.statements.items (params_of request.now)) }
+{
+    match request {
+        Request::Leader => wanted_by_leader(alloc, view),
+        Request::Client { .. } => Ok(Wanted::Tells(Response::Welcome {
+            heartbeat_timeout: HEARTBEAT_TIMEOUT,
+        })),
+        Request::Open { name, .. } => {
+            opens(alloc, view, machine, sessions, session, name.as_str())
+        }
+        Request::Prepare { db, sql, wide } => {
+            prepares(alloc, view, session, *db, sql.as_str(), *wide)
+        }
+        Request::Exec {
+            db,
+            statement,
+            params,
+            ..
+        } => {
+            let db = *db as u64;
+            executes(alloc, view, session, db, *statement, params.as_slice())
+        }
+        Request::Query {
+            db,
+            statement,
+            params,
+            ..
+        } => {
+            let db = *db as u64;
+            queries(alloc, view, session, db, *statement, params.as_slice())
+        }
+        Request::Finalize { db, statement } => { Ok(finalizes(session, *db as u64, *statement)) }
+        Request::ExecSql {
+            db,
+            sql,
+            params,
+            ..
+        } => executes_text(alloc, view, session, *db, sql.as_str(), params.as_slice()),
+        Request::QuerySql {
+            db,
+            sql,
+            params,
+            ..
+        } => queries_text(alloc, view, session, *db, sql.as_str(), params.as_slice()),
+        Request::Interrupt { db } => Ok(interrupts(session, *db)),
+        Request::Connect { id, .. } => Ok(wanted_by_connect(view, *id)),
+        Request::Add { .. } | Request::Assign { .. } | Request::Remove { .. } => {
+            Ok(changes_servers(view, sessions))
+        }
+        Request::Dump { name } => wanted_by_dump(alloc, machine, name.as_str()),
+        Request::Cluster { format } => wanted_by_cluster(alloc, view, *format),
+        Request::Transfer { id } => Ok(transfers(view, *id)),
+        Request::Describe { format } => Ok(wanted_by_describe(weight, *format)),
+        Request::Weight { weight } => Ok(Wanted::Sets(Effect::Weighs(*weight))),
+    }
+}
+
+/// What a request wants of a session, at a node with this view, these databases, these sessions and this weight: its refusal,
+/// where one of those that need no engine comes, the first of them; or what is to be done. The name of a database that it
+/// opens holds no NUL.
+///
+/// Costs in the order of the request's bytes and of the sessions; for a prepared statement also in that of its text, which is
+/// copied, and for the files of a database in that of the files. `Err` is want of memory.
+pub fn wanted_by(
+    alloc: Global,
+    view: &View,
+    machine: &Machine,
+    sessions: &[Session],
+    weight: u64,
+    session: &Session,
+    request: &Request,
+) -> Result<Wanted, AllocError>
+    requires apart { AreApart sessions.now }
+    requires name { NameHasNoNul request.now }
+    ensures wants { IfOk result (λ wanted. meant (params_of request.now) wanted ≡ rules.asked_by view.now (machine_of machine.now) (table_of machine.now sessions.now weight) (session_of machine.now session.now) request.now) }
+    ensures can { IfOk result (CanBeDone view.now (session_of machine.now session.now) (params_of request.now)) }
+{
+    ask(alloc, view, machine, sessions, weight, session, request)
+}

@@ -1,0 +1,37 @@
+-- Read marks in a machine: which are live, and what it is to release some of them.
+use Rattle.std.specs.Prelude.{◌≡◌, ◌≢◌, ℕ, List, [], ◌∷◌, ◌⊎◌}
+use Rattle.std.specs.List.{AllByRecursion, Contains}
+use Rattle.page_apply.specs.declared.database.Database.{Database}
+use Rattle.page_apply.specs.Pins.{Pinning, IsPinned, StillPinned}
+use Rattle.session_rules.specs.Machine.{machine_of}
+
+-- the mark is none of these
+abbrev pub IsNoneOf : List Pinning → Pinning → Type 0
+IsNoneOf pins pin = AllByRecursion (λ (other : Pinning). pin ≢ other) pins
+
+-- no two marks are one
+abbrev pub AreDifferent : List Pinning → Type 0
+AreDifferent [] = Unit {0}
+AreDifferent (pin ∷ pins) = IsNoneOf pins pin × AreDifferent pins
+
+-- The live marks of a machine are these: each is live, no two are one, and no other is live.
+pub record AreMarks (pins : List Pinning) (databases : List Database) : Type 0 where
+  pub live : AllByRecursion (IsPinned databases) pins
+  pub apart : AreDifferent pins
+  pub only : (pin : Pinning) → IsPinned databases pin → Contains pins pin
+
+-- These marks were released: no database changed, every other mark shows what it showed, and none of these is live.
+pub record Released (gone : List Pinning) (old new : List Database) : Type 0 where
+  pub bases : machine_of new ≡ machine_of old
+  pub still : (pin : Pinning) → IsNoneOf gone pin → StillPinned old new pin
+  pub spent : (pin : Pinning) → IsPinned new pin → IsPinned old pin × IsNoneOf gone pin
+
+-- These marks were pinned: no database changed, every other mark shows what it showed, and no more are live but these, which
+-- were not.
+pub record Gained (gained : List Pinning) (old new : List Database) : Type 0 where
+  pub bases : machine_of new ≡ machine_of old
+  pub still : (pin : Pinning) → StillPinned old new pin
+  pub fresh : AllByRecursion (λ (pin : Pinning). IsPinned old pin → ⊥) gained
+  pub live : AllByRecursion (IsPinned new) gained
+  pub apart : AreDifferent gained
+  pub only : (pin : Pinning) → IsPinned new pin → IsPinned old pin ⊎ Contains gained pin

@@ -1,0 +1,36 @@
+//! The database of a session, as the machine has it.
+
+ghost use Rattle.std.specs.Prelude.{◌≡◌, IfOk};
+ghost use Rattle.session_rules.specs.Machine.{machine_of};
+ghost use Rattle.session_table.specs.Table.{database_of};
+
+use dq_base::{Image, Name};
+use page_apply::Machine;
+use std::alloc::{AllocError, Global};
+
+/// The name of the database that was opened; the empty one where none was. Takes no memory.
+pub fn name_of(database: &Option<Name>) -> &str
+    ensures { result.now ≡ database_of database.now }
+{
+    match database {
+        Some(name) => name.as_str(),
+        None => "",
+    }
+}
+
+/// How many commits the database of a name had; 0 where the machine has none. Takes no memory.
+pub fn newest(machine: &Machine, name: &str) -> u64
+    ensures { result ≡ ((machine_of machine.now).base name.now).newest }
+{
+    machine.newest(name).unwrap_or(0)
+}
+
+/// The newest image of the database of a name, copied; the empty one where the machine has none. `Err` is want of memory.
+pub fn newest_image(alloc: Global, machine: &Machine, name: &str) -> Result<Image, AllocError>
+    ensures { IfOk result (λ image. image ≡ ((machine_of machine.now).base name.now).image) }
+{
+    match machine.newest_image(name)? {
+        Some(image) => Ok(image),
+        None => Ok(Image::new(alloc)),
+    }
+}

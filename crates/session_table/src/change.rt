@@ -1,0 +1,100 @@
+//! What a request changes of its own session.
+
+ghost use Rattle.std.specs.Prelude.{◌≡◌, ℕ, List, get_or, OnOk, OnErr};
+ghost use Rattle.std.specs.Option.{option_map};
+ghost use Rattle.dq_base.specs.Applying.{applied};
+ghost use Rattle.page_apply.specs.declared.database.Database.{Database};
+ghost use Rattle.session_rules.specs.Requests.{with_session};
+ghost use Rattle.session_table.specs.declared.session.Session.{Session};
+ghost use Rattle.session_table.specs.Table.{session_of, table_of, pins_of, IsTable, AreApart, pin_of, transaction_of};
+ghost use Rattle.session_table.specs.Changing.{StandsAt, changed_by, worked_on, CanChange};
+
+use crate::session::{Flight, Prepared, Session, Transaction};
+use crate::statements::{finalize, prepare};
+use dq_base::{Image, Name, NumberedPage, PageSet, apply_pages};
+use std::alloc::AllocError;
+
+/// What a request changes of its own session.
+#[derive(Debug, Drop)]
+pub enum Change {
+    /// Nothing.
+    Stays,
+    /// It has opened the database of this name.
+    Opens(Name),
+    /// It has prepared a statement.
+    Prepares(Prepared),
+    /// It has let the statement of this number go.
+    Drops(u32),
+    /// Its transaction has changed these pages, and has the turn to write.
+    Works(PageSet),
+    /// It has this proposal in flight.
+    Flies(Flight),
+}
+
+/// Applies pages that can be applied. `Err` is want of memory; the image is then unchanged.
+fn apply_all(image: &mut Image, pages: &[NumberedPage]) -> Result<(), AllocError>
+    ensures ok { OnOk result (image.new ≡ applied image.old pages.now) }
+    ensures kept { OnErr result (image.new ≡ image.old) }
+{
+    match apply_pages(image, pages) {
+        Ok(()) => Ok(()),
+        Err(_) => Err(AllocError),
+    }
+}
+
+/// What a transaction becomes that has changed these pages. `Err` is want of memory; it is then unchanged.
+fn work(transaction: &mut Option<Transaction>, pages: &[NumberedPage]) -> Result<(), AllocError>
+    ensures ok { OnOk result ((databases : List Database) → option_map (transaction_of databases) transaction.new ≡ worked_on pages.now (option_map (transaction_of databases) transaction.old)) }
+    ensures kept { OnErr result (transaction.new ≡ transaction.old) }
+    ensures pin { pin_of transaction.new ≡ pin_of transaction.old }
+{
+    if let Some(transaction) = transaction {
+        apply_all(&mut transaction.working, pages)?;
+        transaction.turn = true;
+    }
+    Ok(())
+}
+
+impl Session {
+    /// Changes it so. `Err` is want of memory; it is then unchanged.
+    fn change(&mut self, change: Change) -> Result<(), AllocError>
+        requires { CanChange self.old.statements.items change }
+        ensures ok { OnOk result ((databases : List Database) → session_of databases self.new ≡ changed_by (session_of databases self.old) change) }
+        ensures kept { OnErr result ((databases : List Database) → session_of databases self.new ≡ session_of databases self.old) }
+        ensures conn { self.new.conn ≡ self.old.conn }
+        ensures pin { pin_of self.new.transaction ≡ pin_of self.old.transaction }
+    {
+        match change {
+            Change::Stays => {}
+            Change::Opens(name) => {
+                self.database = Some(name);
+                self.flight = None;
+            }
+            Change::Prepares(prepared) => {
+                let _id = prepare(&mut self.statements, prepared)?;
+            }
+            Change::Drops(id) => finalize(self.statements.as_mut_slice(), id),
+            Change::Works(pages) => work(&mut self.transaction, pages.pages.as_slice())?,
+            Change::Flies(flight) => self.flight = Some(flight),
+        }
+        Ok(())
+    }
+}
+
+/// Changes the session at a place, which is that of a connection. `Err` is want of memory; the table is then unchanged.
+pub fn make_change(
+    sessions: &mut Vec<Session>,
+    place: usize,
+    conn: u64,
+    change: Change,
+) -> Result<(), AllocError>
+    requires apart { AreApart sessions.old.items }
+    requires place { StandsAt conn sessions.old.items place }
+    requires can { (session : Session) → CanChange (get_or sessions.old.items place session).statements.items change }
+    ensures ok { OnOk result ((databases : List Database) (weight : ℕ) → table_of databases sessions.new.items weight ≡ with_session (table_of databases sessions.old.items weight) conn (changed_by ((table_of databases sessions.old.items weight).session conn) change)) }
+    ensures kept { OnErr result ((databases : List Database) (weight : ℕ) → table_of databases sessions.new.items weight ≡ table_of databases sessions.old.items weight) }
+    ensures pins { pins_of sessions.new.items ≡ pins_of sessions.old.items }
+    ensures fit { IsTable sessions.old.items → IsTable sessions.new.items }
+{
+    sessions[place].change(change)
+}

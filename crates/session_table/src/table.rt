@@ -1,0 +1,79 @@
+//! The table: which session is whose.
+
+ghost use Rattle.std.specs.Prelude.{◌≡◌, ◌==◌, ℕ, List, OnErr, IfOk, MatchOption};
+ghost use Rattle.page_apply.specs.declared.database.Database.{Database};
+ghost use Rattle.session_table.specs.Table.{table_of, pins_of, AreApart, IsTable};
+ghost use Rattle.session_table.specs.Changing.{IsAbsent, StandsAt, FreshFor, Joined};
+
+use crate::session::Session;
+use std::alloc::{AllocError, Global};
+
+/// How many sessions a node has at most, those that have hung up counted.
+const MOST_SESSIONS: usize = 64;
+
+impl Session {
+    /// Whether it is that of a connection.
+    fn is_of(&self, conn: u64) -> bool
+        ensures { result ≡ (self.now.conn == conn) }
+    {
+        self.conn == conn
+    }
+}
+
+/// Where the session of a connection stands, if there is one. Looks at each session; takes no memory.
+pub fn find(sessions: &[Session], conn: u64) -> Option<usize>
+    ensures { MatchOption result (IsAbsent conn sessions.now) (StandsAt conn sessions.now) }
+{
+    for (place, session) in sessions.iter().enumerate() {
+        if session.is_of(conn) {
+            return Some(place);
+        }
+    }
+    None
+}
+
+/// A session of a connection that has just come.
+fn fresh(alloc: Global, conn: u64) -> Session
+    ensures { FreshFor conn result }
+{
+    Session {
+        conn,
+        hung: false,
+        database: None,
+        statements: Vec::new(alloc),
+        transaction: None,
+        flight: None,
+    }
+}
+
+/// Gives a connection that has no session one; false exactly where 64 are there. Nothing has changed then. `Err` is want of
+/// memory; nothing has changed then either.
+fn join_new(alloc: Global, sessions: &mut Vec<Session>, conn: u64) -> Result<bool, AllocError>
+    requires table { IsTable sessions.old.items }
+    requires absent { IsAbsent conn sessions.old.items }
+    ensures table { IfOk result (λ new. (databases : List Database) (weight : ℕ) → Joined (table_of databases sessions.old.items weight) conn new (table_of databases sessions.new.items weight)) }
+    ensures kept { OnErr result (sessions.new.items ≡ sessions.old.items) }
+    ensures pins { pins_of sessions.new.items ≡ pins_of sessions.old.items }
+    ensures fit { IsTable sessions.new.items }
+{
+    if sessions.len() >= MOST_SESSIONS {
+        return Ok(false);
+    }
+    sessions.push(fresh(alloc, conn))?;
+    Ok(true)
+}
+
+/// Gives a connection a session; false exactly where it has one, or where 64 are there. Nothing has changed then. `Err` is
+/// want of memory; nothing has changed then either.
+pub fn join(alloc: Global, sessions: &mut Vec<Session>, conn: u64) -> Result<bool, AllocError>
+    requires { IsTable sessions.old.items }
+    ensures table { IfOk result (λ new. (databases : List Database) (weight : ℕ) → Joined (table_of databases sessions.old.items weight) conn new (table_of databases sessions.new.items weight)) }
+    ensures kept { OnErr result (sessions.new.items ≡ sessions.old.items) }
+    ensures pins { pins_of sessions.new.items ≡ pins_of sessions.old.items }
+    ensures fit { IsTable sessions.new.items }
+{
+    match find(sessions.as_slice(), conn) {
+        Some(_place) => Ok(false),
+        None => join_new(alloc, sessions, conn),
+    }
+}

@@ -1,0 +1,125 @@
+//! Who is told what where proposals end.
+
+ghost use Rattle.std.specs.Prelude.{◌≡◌, ⊤, ℕ, List, length, IfOk, OnOk, MatchOption};
+ghost use Rattle.page_apply.specs.declared.database.Database.{Database};
+ghost use Rattle.session_rules.specs.Sessions.{responses_of};
+ghost use Rattle.session_rules.specs.Events as events;
+ghost use Rattle.session_table.specs.declared.sweep.Event.TheVariants.{Applied};
+ghost use Rattle.session_table.specs.Named.{kind_named};
+ghost use Rattle.session_table.specs.Table.{table_of, AreApart};
+ghost use Rattle.session_table.specs.Sweeping.{said, all_said, all_told};
+ghost use Rattle.session_table.specs.Waiting.{place_for, placed_in, with_waiting, waiting_in, told_lost_to};
+
+use crate::cause::Cause;
+use crate::session::{FlightKind, Session};
+use std::alloc::{AllocError, Global};
+use wire_msgs::Response;
+
+impl FlightKind {
+    /// In how many responses it is told that the proposal is done.
+    fn responses(&self) -> usize
+        ensures { result ≡ length (responses_of (events.landed_reply (kind_named self.now))) }
+    {
+        match self {
+            FlightKind::Opening | FlightKind::Committing => 1,
+            FlightKind::Writing(reply) => reply.responses(),
+        }
+    }
+}
+
+impl Session {
+    /// How many responses its client gets where the entry of an index is applied.
+    fn responses_at(&self, index: u64) -> usize
+        ensures { result ≡ length (said (Applied index) self.now) }
+    {
+        match &self.flight {
+            Some(flight) => {
+                if flight.last != index || self.hung {
+                    0
+                } else {
+                    flight.kind.responses()
+                }
+            }
+            None => 0,
+        }
+    }
+}
+
+/// How many responses all clients get where the entry of an index is applied; none where the number doesn't fit.
+pub(crate) fn responses_at(sessions: &[Session], index: u64) -> Option<usize>
+    ensures { MatchOption result ⊤ (λ count. count ≡ length (all_said (Applied index) sessions.now)) }
+{
+    let mut count: usize = 0;
+    for session in sessions {
+        count = count.checked_add(session.responses_at(index))?;
+    }
+    Some(count)
+}
+
+/// The place of one whose proposal ends at an index: before the first that ends there or later.
+fn place_for(last: u64, waiting: &[(u64, u64)]) -> usize
+    ensures { result ≡ place_for last waiting.now }
+{
+    for (place, other) in waiting.iter().enumerate() {
+        if last <= other.0 {
+            return place;
+        }
+    }
+    waiting.len()
+}
+
+/// Puts a client that waits at its place. `Err` is want of memory.
+fn add_waiting(waiting: &mut Vec<(u64, u64)>, last: u64, conn: u64) -> Result<(), AllocError>
+    ensures { OnOk result (waiting.new.items ≡ placed_in (last, conn) waiting.old.items) }
+{
+    let place = place_for(last, waiting.as_slice());
+    waiting.insert(place, (last, conn))?;
+    Ok(())
+}
+
+/// Adds the client of a session, where it waits for a proposal. `Err` is want of memory.
+fn add_session(waiting: &mut Vec<(u64, u64)>, session: &Session) -> Result<(), AllocError>
+    ensures { OnOk result (waiting.new.items ≡ with_waiting session.now waiting.old.items) }
+{
+    match &session.flight {
+        Some(flight) if !session.hung => add_waiting(waiting, flight.last, session.conn),
+        _ => Ok(()),
+    }
+}
+
+/// The clients that wait for a proposal, by the last index of it and their connections, in the order of the indexes.
+fn waiting(alloc: Global, sessions: &[Session]) -> Result<Vec<(u64, u64)>, AllocError>
+    ensures { IfOk result (λ waiting. waiting.items ≡ waiting_in sessions.now) }
+{
+    let mut waiting = Vec::new(alloc);
+    let mut place = sessions.len();
+    while place > 0 {
+        place -= 1;
+        add_session(&mut waiting, &sessions[place])?;
+    }
+    Ok(waiting)
+}
+
+/// That leadership is lost, to each of these.
+fn tell_lost(alloc: Global, waiting: &[(u64, u64)]) -> Result<Vec<(u64, Response)>, AllocError>
+    ensures { IfOk result (λ told. told.items ≡ told_lost_to waiting.now) }
+{
+    let mut told = Vec::with_capacity(alloc, waiting.len())?;
+    for client in waiting {
+        let response = Cause::LeadershipLost.failure(alloc)?;
+        told.push((client.1, response))?;
+    }
+    Ok(told)
+}
+
+/// Each client that waits for a proposal is told that leadership is lost, ascending by the last index of the proposal. `Err`
+/// is want of memory.
+pub(crate) fn told_lost(
+    alloc: Global,
+    sessions: &[Session],
+) -> Result<Vec<(u64, Response)>, AllocError>
+    ensures { IfOk result (λ told. told.items ≡ told_lost_to (waiting_in sessions.now)) }
+{
+    let waiting = waiting(alloc, sessions)?;
+    tell_lost(alloc, waiting.as_slice())
+}

@@ -1,0 +1,24 @@
+-- What comes of a request, as code tells it before anything has changed.
+use Rattle.std.specs.Prelude.{◌≡◌, ℕ, List, Option, Some, None}
+use Rattle.std.specs.List.{AllByRecursion}
+use Rattle.session_rules.specs.Entries.{written}
+use Rattle.session_rules.specs.Machine.{Machine}
+use Rattle.session_rules.specs.Requests.{with_tx, with_flight, begun}
+use Rattle.session_rules.specs.Seen.{HasSpelling}
+use Rattle.session_rules.specs.Sessions.{Session, View, result, Turned, Refused, Lacks, Answers, Proposes, Affects}
+use Rattle.session_table.specs.Changing.{changed_by, CanChange}
+use Rattle.session_table.specs.Named.{cause_named, reply_named}
+use Rattle.session_asking.specs.Meant.{effect_named}
+use Rattle.session_turns.specs.declared.turn.Turn.{Turn}
+use Rattle.session_turns.specs.declared.turn.Turn.TheVariants as turns
+
+-- The outcome of the rules, at a session, is what code tells: the refusal; the change of the session, which can be made, and
+-- the reply; the transaction that begins or ends; the proposal, whose entries read back; or what is beside the sessions.
+abbrev pub ComesTo : View → Machine → Session → Turned → Turn → Type 0
+ComesTo v m s (Refused cause) (turns.Refused told) = cause ≡ cause_named told
+ComesTo v m s (Answers to reply note) (turns.Answers change told) = (to ≡ changed_by s change) × (reply ≡ reply_named told) × CanChange s.statements change
+ComesTo v m s (Answers to reply note) (turns.Begins at_once) = (to ≡ begun m s at_once) × (reply ≡ result 0) × (s.tx ≡ None)
+ComesTo v m s (Answers to reply note) turns.Ends = (to ≡ with_tx s None) × (reply ≡ result 0)
+ComesTo v m s (Proposes to contents note) (turns.Proposes flight entries) = (to ≡ with_flight s (Some flight)) × (entries ≡ written v.term contents) × AllByRecursion HasSpelling contents
+ComesTo v m s (Affects effect) (turns.Affects told) = effect ≡ effect_named told
+ComesTo v m s turned turn = ⊥

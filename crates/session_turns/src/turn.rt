@@ -1,0 +1,22 @@
+//! What comes of a request.
+
+use raft_vote::Entries;
+use session_asking::Effect;
+use session_table::{Cause, Change, Flight, Reply};
+
+/// What comes of a request. Nothing has changed yet.
+#[derive(Debug, Drop)]
+pub enum Turn {
+    /// It is refused, and nothing changes.
+    Refused(Cause),
+    /// The session changes so, and its client gets this reply.
+    Answers(Change, Reply),
+    /// A transaction begins, at once with the turn to write or not, and its client gets an empty RESULT.
+    Begins(bool),
+    /// The transaction ends without its changes, and its client gets an empty RESULT.
+    Ends,
+    /// The session has this proposal in flight, whose entries are to be appended.
+    Proposes(Flight, Entries),
+    /// Something beside the sessions.
+    Affects(Effect),
+}

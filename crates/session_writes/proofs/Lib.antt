@@ -1,0 +1,3 @@
+pub mod Hinders
+pub mod RowsTold
+pub mod LowNumbers
