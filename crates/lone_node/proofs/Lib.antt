@@ -1,0 +1,16 @@
+pub mod Asking
+pub mod Calm
+pub mod Checkpoints
+pub mod Collecting
+pub mod Commands
+pub mod Entries
+pub mod Goings
+pub mod Journals
+pub mod Leaving
+pub mod Messages
+pub mod Offering
+pub mod Performing
+pub mod Safety
+pub mod Settling
+pub mod Shown
+pub mod Turning

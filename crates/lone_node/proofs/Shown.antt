@@ -1,0 +1,54 @@
+-- The files of a node's databases, from the map that they are.
+use Rattle.std.proofs.Common.{◌≡◌, ℕ, Bool, true, false, List, [], ◌∷◌, map, refl, sym, ap, ◌∙◌, Less, Equal}
+use Rattle.std.specs.Prelude.{bytes_eq, Option, Some}
+use Rattle.std.specs.List.{AllByRecursion}
+use Rattle.std.specs.List.Sorted.{IsStrictlySortedBy}
+use Rattle.std.proofs.lemmas.Bool.{cond-true, cond-false}
+use Rattle.page_apply.specs.declared.database.Database.{Database}
+use Rattle.page_apply.specs.ByName.{Ascend}
+use Rattle.page_apply.specs.Files.{Content}
+use Rattle.page_apply.specs.Machines.{names_of, IsMachine}
+use Rattle.page_apply.specs.Databases as databases
+use Rattle.page_apply.specs.Databases.{content_of, named}
+use Rattle.page_apply.proofs.Named.{compare, compare_same}
+use Rattle.session_rules.specs.Machine.{Base, Machine, base_of, machine_of}
+use Rattle.session_rules.proofs.Names.{same_name, name_is}
+use Rattle.lone_node.specs.Lone.{contents_of}
+
+abbrev content_in : List ℕ → Base → Content
+content_in name base = record { name = name; image = base.image; pending = base.pending }
+
+-- each of these is found by its name
+abbrev AreFound : List Database → List Database → Type 0
+AreFound all ds = AllByRecursion (λ (d : Database). named d.name all ≡ Some d) ds
+
+less_differs : (x y : List ℕ) → compare x y ≡ Less → bytes_eq y x ≡ true → ⊥
+less_differs x y less same = let e : Less ≡ Equal = sym less ∙ ap (compare x) (name_is y x same) ∙ compare_same x in absurd cc
+
+is_false : (b : Bool) → (b ≡ true → ⊥) → b ≡ false
+is_false true h = absurd (h refl)
+is_false false h = refl
+
+found_behind : (d : Database) (all ds : List Database) → AllByRecursion (λ (y : List ℕ). compare d.name y ≡ Less) (names_of ds) → AreFound all ds → AreFound (d ∷ all) ds
+found_behind d all [] above found = tt
+found_behind d all (e ∷ ds) above found =
+    let apart : bytes_eq e.name d.name ≡ false = is_false (bytes_eq e.name d.name) (less_differs d.name e.name above.0) in
+    (cond-false (bytes_eq e.name d.name) (Some d) (named e.name all) apart ∙ found.0, found_behind d all ds above.1 found.1)
+
+all_found : (ds : List Database) → Ascend (names_of ds) → AreFound ds ds
+unfolding IsStrictlySortedBy
+all_found [] order = tt
+all_found (d ∷ ds) order = (cond-true (bytes_eq d.name d.name) (Some d) (named d.name ds) (same_name d.name), found_behind d ds ds order.0 (all_found ds order.1))
+
+shown_by : (all ds : List Database) → AreFound all ds → map content_of ds ≡ map (λ (name : List ℕ). content_in name (base_of (named name all))) (names_of ds)
+shown_by all [] found = refl
+shown_by all (d ∷ ds) found =
+    ap (λ (o : Option Database). content_in d.name (base_of o) ∷ map content_of ds) (sym found.0)
+    ∙ ap (λ (cs : List Content). content_in d.name (base_of (named d.name all)) ∷ cs) (shown_by all ds found.1)
+
+-- so the map tells the files
+pub contents_shown : (ds : List Database) → Ascend (names_of ds) → databases.contents_of ds ≡ contents_of (machine_of ds)
+contents_shown ds order = shown_by ds ds (all_found ds order)
+
+pub lent_contents : (lent machine : List Database) (m : Machine) → lent ≡ machine → IsMachine machine → machine_of machine ≡ m → databases.contents_of lent ≡ contents_of m
+lent_contents lent machine m is stand seen = ap databases.contents_of is ∙ contents_shown machine stand.in_order ∙ ap contents_of seen

@@ -1,0 +1,5 @@
+pub mod Applying
+pub mod Lone
+pub mod Safe
+pub mod Shows
+pub mod Taking

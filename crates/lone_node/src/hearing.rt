@@ -1,0 +1,130 @@
+//! A client's bytes: its messages, what comes of them, and the end of its stream.
+
+ghost use Rattle.std.specs.Prelude.{◌≡◌, ◌++◌, ℕ, List, [], map, Some, None, OnOk, IfOk, MatchBool};
+ghost use Rattle.wire_words.specs.declared.message.Message.{Message};
+ghost use Rattle.client_connection.specs.Connection.{Conn};
+ghost use Rattle.lone_node.specs.declared.say.Say.{Say};
+ghost use Rattle.lone_node.specs.declared.say.Say.TheVariants as says;
+ghost use Rattle.lone_node.specs.Applying.{Performs};
+ghost use Rattle.lone_node.specs.Lone.{Lone};
+ghost use Rattle.lone_node.specs.Safe.{Allowed};
+ghost use Rattle.lone_node.specs.Shows.{IsSound, Shows};
+ghost use Rattle.lone_node.specs.Taking.{Waits, TakesOne, TakesNone, TakesAll, Empties, Closes, Heard};
+
+use crate::say::Say;
+use crate::voter::Voter;
+use client_sessions::Act;
+use dq_base::Items;
+use sql_engine::Engine;
+use std::alloc::{AllocError, Global};
+use wire_words::WireBytes;
+
+/// Puts messages to a connection behind what was said.
+fn reply(conn: u64, messages: Items<WireBytes>, said: &mut Vec<Say>) -> Result<(), AllocError>
+    ensures { OnOk result (said.new.items ≡ said.old.items ++ map (λ (message : List ℕ). says.Reply conn message) messages) }
+{
+    for message in messages.into_vec() {
+        said.push(Say::Reply { conn, message })?;
+    }
+    Ok(())
+}
+
+impl Voter {
+    /// Does what came of a message.
+    fn perform(&mut self, act: Act, said: &mut Vec<Say>) -> Result<(), AllocError>
+        requires sound { IsSound self.old }
+        ensures performs { OnOk result (Performs act self.old self.new said.old.items said.new.items) }
+        ensures sound { IsSound self.new }
+    {
+        match act {
+            Act::Reply { conn, messages } => reply(conn, messages, said),
+            Act::Propose { entries, .. } => {
+                self.apply_all(entries.as_slice(), said)?;
+                self.checkpoint(said)
+            }
+            Act::Transfer { conn, reply, .. } | Act::Peer { conn, reply, .. } => {
+                said.push(Say::Reply {
+                    conn,
+                    message: reply,
+                })?;
+                Ok(())
+            }
+        }
+    }
+
+    /// Takes the first message that waits, and does what comes of it. False where none was left.
+    fn take_message<E: Engine>(
+        &mut self,
+        engine: &mut E,
+        said: &mut Vec<Say>,
+    ) -> Result<bool, AllocError>
+        requires sound { IsSound self.old }
+        ensures took { IfOk result (λ took. (w : Lone) (conn : ℕ) (stream : Conn) (left : List Message) → Allowed (E.meaning (E.kind engine.old)) (E.kind engine.old) w.turns → Waits self.old w conn stream left
+            → MatchBool took (TakesOne (E.meaning (E.kind engine.old)) (E.kind engine.old) w conn stream left (E.told engine.old) (E.told engine.new) self.new said.old.items said.new.items)
+            (TakesNone w conn stream left (E.told engine.old) (E.told engine.new) self.new said.old.items said.new.items)) }
+        ensures kind { E.kind engine.new ≡ E.kind engine.old }
+        ensures sound { IsSound self.new }
+    {
+        match self.clients.next(&self.view, &mut self.machine, engine)? {
+            Some(act) => {
+                self.perform(act, said)?;
+                Ok(true)
+            }
+            None => Ok(false),
+        }
+    }
+
+    /// Takes all messages that wait.
+    fn take_messages<E: Engine>(
+        &mut self,
+        engine: &mut E,
+        said: &mut Vec<Say>,
+    ) -> Result<(), AllocError>
+        requires sound { IsSound self.old }
+        ensures took { OnOk result ((w : Lone) (conn : ℕ) (stream : Conn) (left : List Message) → Allowed (E.meaning (E.kind engine.old)) (E.kind engine.old) w.turns → Waits self.old w conn stream left
+            → TakesAll (E.meaning (E.kind engine.old)) (E.kind engine.old) w conn stream left (E.told engine.old) (E.told engine.new) self.new said.old.items said.new.items) }
+        ensures kind { E.kind engine.new ≡ E.kind engine.old }
+        ensures sound { IsSound self.new }
+    {
+        for _ in 0..u64::MAX {
+            if !self.take_message(engine, said)? {
+                return Ok(());
+            }
+        }
+        Err(AllocError)
+    }
+
+    /// Closes a connection whose stream is at its end.
+    fn close(&mut self, conn: u64, said: &mut Vec<Say>) -> Result<(), AllocError>
+        requires sound { IsSound self.old }
+        ensures closes { OnOk result ((w : Lone) (stream : Conn) → Empties self.old w conn stream → Closes self.new w conn stream said.old.items said.new.items) }
+        ensures sound { IsSound self.new }
+    {
+        if let Some(reason) = self.clients.close(conn, &mut self.machine)? {
+            said.push(Say::Closed { conn, reason })?;
+        }
+        Ok(())
+    }
+
+    /// A client's bytes, the next piece of its stream: each message that is whole with them comes, in order, and is done before
+    /// the next; then the connection closes, where its stream is at its end or there was no room for a byte. On a connection
+    /// that isn't open nothing happens. What is told is put behind what was said. After `Err`, want of memory, nothing is told
+    /// of the node.
+    ///
+    /// Costs what the requests cost at the gateway and what their statements cost in the engine.
+    pub fn hear<E: Engine>(
+        &mut self,
+        conn: u64,
+        bytes: &[u8],
+        engine: &mut E,
+        said: &mut Vec<Say>,
+    ) -> Result<(), AllocError>
+        requires sound { IsSound self.old }
+        ensures heard { OnOk result ((w : Lone) → Allowed (E.meaning (E.kind engine.old)) (E.kind engine.old) w.turns → Shows self.old w
+            → Heard (E.meaning (E.kind engine.old)) (E.kind engine.old) w conn bytes.now (E.told engine.old) (E.told engine.new) self.new said.old.items said.new.items) }
+        ensures kind { E.kind engine.new ≡ E.kind engine.old }
+        ensures sound { IsSound self.new }
+    {
+        Err(AllocError)
+    }
+}
