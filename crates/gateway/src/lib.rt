@@ -7,6 +7,7 @@
 mod act;
 mod laws;
 mod sessions;
+mod turning;
 
 pub use act::Act;
 pub use laws::commands_keep_sessions;

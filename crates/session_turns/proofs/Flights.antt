@@ -4,6 +4,7 @@ use Rattle.std.proofs.lemmas.Bool.{cond-true, cond-false}
 use Rattle.std.specs.Prelude.{is_none, nat_lt, ◌&&◌}
 use Rattle.frame_commands.specs.declared.command.Command.TheVariants.{OpenDb}
 use Rattle.page_apply.specs.Files.{empty_image}
+use Rattle.session_rules.specs.Asking.{has_database}
 use Rattle.session_rules.specs.Causes.{DatabaseFull, Locked}
 use Rattle.session_rules.specs.Entries.{Content, Does}
 use Rattle.session_rules.specs.Limits.{pages_with, pages_full, other_holds}
@@ -33,10 +34,10 @@ module _ (v : View) (m : Machine) (g : Gateway) (conn : ℕ) (s : Session) where
   is_locked true e o = subst (λ (t : Turned). ComesTo v m s t (turns.Refused causes.Locked)) (sym (cond-true (other_holds g conn s.database) (Refused Locked) (Answers (begun m s true) (result 0) Began) o)) refl
   is_locked false e o = (cc)
 
-  pub begins_at_once : (at_once : Bool) → at_once ≡ true → other_holds g conn s.database ≡ false → in_tx s ≡ false → ComesTo v m s (begins m g conn s at_once) (turns.Begins true)
-  begins_at_once true e o n = subst (λ (t : Turned). ComesTo v m s t (turns.Begins true)) (sym (cond-false (other_holds g conn s.database) (Refused Locked) (Answers (begun m s true) (result 0) Began) o)) (refl, refl, none_open s.tx n)
-  begins_at_once false e o n = (cc)
+  pub begins_at_once : (at_once : Bool) → at_once ≡ true → other_holds g conn s.database ≡ false → in_tx s ≡ false → has_database s ≡ true → ComesTo v m s (begins m g conn s at_once) (turns.Begins true)
+  begins_at_once true e o n h = subst (λ (t : Turned). ComesTo v m s t (turns.Begins true)) (sym (cond-false (other_holds g conn s.database) (Refused Locked) (Answers (begun m s true) (result 0) Began) o)) (refl, refl, none_open s.tx n, h)
+  begins_at_once false e o n h = (cc)
 
-  pub begins_later : (at_once : Bool) → at_once ≡ false → in_tx s ≡ false → ComesTo v m s (begins m g conn s at_once) (turns.Begins false)
-  begins_later true e n = (cc)
-  begins_later false e n = (refl, refl, none_open s.tx n)
+  pub begins_later : (at_once : Bool) → at_once ≡ false → in_tx s ≡ false → has_database s ≡ true → ComesTo v m s (begins m g conn s at_once) (turns.Begins false)
+  begins_later true e n h = (cc)
+  begins_later false e n h = (refl, refl, none_open s.tx n, h)

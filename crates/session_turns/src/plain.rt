@@ -1,6 +1,6 @@
 //! Requests that run no statement.
 
-ghost use Rattle.std.specs.Prelude.{◌≡◌, ◌+◌, ◌∷◌, ◌<◌, [], ℕ, List, false, None, IsSome, IfOk, OnOk};
+ghost use Rattle.std.specs.Prelude.{◌≡◌, ◌+◌, ◌∷◌, ◌<◌, [], ℕ, List, true, false, None, IsSome, IfOk, OnOk};
 ghost use Rattle.frame_commands.specs.declared.command.Command.TheVariants.{OpenDb};
 ghost use Rattle.page_apply.specs.declared.database.Database.{Database};
 ghost use Rattle.session_rules.specs.Asking as asking;
@@ -106,6 +106,7 @@ fn database_name(session: &Session) -> &str
 pub fn beginning(sessions: &[Session], conn: u64, session: &Session, at_once: bool) -> Turn
     requires apart { AreApart sessions.now }
     requires outside { (databases : List Database) → in_tx (session_of databases session.now) ≡ false }
+    requires open { (databases : List Database) → asking.has_database (session_of databases session.now) ≡ true }
     ensures { (v : RuleView) (databases : List Database) (weight : ℕ) (answers : List Answer) → ComesTo v (machine_of databases) (session_of databases session.now) (does v (machine_of databases) (table_of databases sessions.now weight) conn (session_of databases session.now) (asking.Begins at_once) answers) result }
 {
     if !at_once {

@@ -8,7 +8,7 @@ use Rattle.session_turns.proofs.plain.beginning.Goals as goal
 
 pub returns-then-not-at_once : goal.returns-then-not-at_once
 unfolding does
-returns-then-not-at_once c = λ v databases weight answers. begins_later v (machine_of databases) (table_of databases c.args.sessions.now weight) c.args.conn (session_of databases c.args.session.now) c.args.at_once c.if-not-at_once.true (c.requires.outside databases)
+returns-then-not-at_once c = λ v databases weight answers. begins_later v (machine_of databases) (table_of databases c.args.sessions.now weight) c.args.conn (session_of databases c.args.session.now) c.args.at_once c.if-not-at_once.true (c.requires.outside databases) (c.requires.open databases)
 
 pub returns-then-other_holds : goal.returns-then-other_holds
 unfolding does
@@ -21,4 +21,4 @@ unfolding does
 returns c = λ v databases weight answers.
     begins_at_once v (machine_of databases) (table_of databases c.args.sessions.now weight) c.args.conn (session_of databases c.args.session.now) c.args.at_once c.if-not-at_once.false
     (ap (other_holds (table_of databases c.args.sessions.now weight) c.args.conn) (sym c.database_name.ensures) ∙ sym (c.other_holds.ensures databases weight) ∙ c.if-other_holds.false)
-    (c.requires.outside databases)
+    (c.requires.outside databases) (c.requires.open databases)

@@ -1,0 +1,53 @@
+-- An outcome that is carried out is the rules' one.
+use Rattle.std.proofs.Common.{◌≡◌, ℕ, List, [], ◌∷◌, map, refl, sym, ap, ◌∙◌}
+use Rattle.wire_msgs.specs.declared.response.Response.{Response}
+use Rattle.session_rules.specs.Entries.{written}
+use Rattle.session_rules.specs.Machine.{Machine}
+use Rattle.session_rules.specs.Causes.{Cause, failure}
+use Rattle.session_rules.specs.Requests.{with_session, affected_by}
+use Rattle.session_rules.specs.Sessions.{Session, Gateway, View, Reply, responses_of, Effect, Turned, Refused, Lacks, Answers, Proposes, Affects}
+use Rattle.session_turns.specs.declared.turn.Turn.{Turn}
+use Rattle.session_turns.specs.declared.turn.Turn.TheVariants as turns
+use Rattle.session_turns.specs.Turning.{ComesTo}
+use Rattle.gateway.specs.declared.act.Act.{Act}
+use Rattle.gateway.specs.declared.act.Act.TheVariants as acts
+use Rattle.gateway.specs.Calls.{Is, act_for}
+use Rattle.gateway.specs.Carrying.{Carries}
+
+-- responses to a connection, without it
+pub stripped : (conn : ℕ) (rs : List Response) → map (λ (one : ℕ × Response). one.1) (map {B = ℕ × Response} (λ (r : Response). (conn, r)) rs) ≡ rs
+stripped conn [] = refl
+stripped conn (r ∷ rs) = ap (λ (ss : List Response). r ∷ ss) (stripped conn rs)
+
+module _ (v : View) (m : Machine) (g : Gateway) (conn : ℕ) (now : Gateway) (act : Act) where
+  pub carried : (turned : Turned) (turn : Turn) → ComesTo v m (g.session conn) turned turn → Carries m g conn turn now act → Is v g conn turned now act
+  carried (Refused cause) (turns.Refused told) e c = (c.0, c.1 ∙ ap (λ (cause : Cause). acts.Reply (failure cause ∷ [])) (sym e))
+  carried (Refused cause) (turns.Answers change reply) e c = absurd e
+  carried (Refused cause) (turns.Begins at_once) e c = absurd e
+  carried (Refused cause) turns.Ends e c = absurd e
+  carried (Refused cause) (turns.Proposes flight entries) e c = absurd e
+  carried (Refused cause) (turns.Affects effect) e c = absurd e
+  carried Lacks (turns.Refused told) e c = e
+  carried Lacks (turns.Answers change reply) e c = e
+  carried Lacks (turns.Begins at_once) e c = e
+  carried Lacks turns.Ends e c = e
+  carried Lacks (turns.Proposes flight entries) e c = e
+  carried Lacks (turns.Affects effect) e c = e
+  carried (Answers to reply note) (turns.Refused told) e c = absurd e
+  carried (Answers to reply note) (turns.Answers change told) e c = (c.0 ∙ ap (with_session g conn) (sym e.0), c.1 ∙ ap (λ (r : Reply). acts.Reply (responses_of r)) (sym e.1))
+  carried (Answers to reply note) (turns.Begins at_once) e c = (c.0 ∙ ap (with_session g conn) (sym e.0), c.1 ∙ ap (λ (r : Reply). acts.Reply (responses_of r)) (sym e.1))
+  carried (Answers to reply note) turns.Ends e c = (c.0 ∙ ap (with_session g conn) (sym e.0), c.1 ∙ ap (λ (r : Reply). acts.Reply (responses_of r)) (sym e.1))
+  carried (Answers to reply note) (turns.Proposes flight entries) e c = absurd e
+  carried (Answers to reply note) (turns.Affects effect) e c = absurd e
+  carried (Proposes to contents note) (turns.Refused told) e c = absurd e
+  carried (Proposes to contents note) (turns.Answers change reply) e c = absurd e
+  carried (Proposes to contents note) (turns.Begins at_once) e c = absurd e
+  carried (Proposes to contents note) turns.Ends e c = absurd e
+  carried (Proposes to contents note) (turns.Proposes flight entries) e c = (c.0 ∙ ap (with_session g conn) (sym e.0), c.1 ∙ ap acts.Propose e.1, e.2)
+  carried (Proposes to contents note) (turns.Affects effect) e c = absurd e
+  carried (Affects effect) (turns.Refused told) e c = absurd e
+  carried (Affects effect) (turns.Answers change reply) e c = absurd e
+  carried (Affects effect) (turns.Begins at_once) e c = absurd e
+  carried (Affects effect) turns.Ends e c = absurd e
+  carried (Affects effect) (turns.Proposes flight entries) e c = absurd e
+  carried (Affects effect) (turns.Affects told) e c = (c.0 ∙ ap (affected_by g) (sym e), c.1 ∙ ap act_for (sym e))

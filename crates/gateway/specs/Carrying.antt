@@ -1,0 +1,29 @@
+-- What carrying out an outcome is: the sessions after it, and the act.
+use Rattle.std.specs.Prelude.{◌≡◌, ℕ, List, [], ◌∷◌, Option, Some, None, IsSome}
+use Rattle.session_rules.specs.Causes.{failure}
+use Rattle.session_rules.specs.Machine.{Machine}
+use Rattle.session_rules.specs.Requests.{with_session, with_tx, with_flight, begun, affected_by}
+use Rattle.session_rules.specs.Sessions.{Gateway, responses_of, result}
+use Rattle.session_table.specs.declared.session.Session.{Session}
+use Rattle.session_table.specs.Named.{cause_named, reply_named}
+use Rattle.session_table.specs.Changing.{changed_by, CanChange}
+use Rattle.session_asking.specs.Meant.{effect_named}
+use Rattle.session_turns.specs.declared.turn.Turn.{Turn}
+use Rattle.session_turns.specs.declared.turn.Turn.TheVariants as turns
+use Rattle.gateway.specs.declared.act.Act.{Act}
+use Rattle.gateway.specs.declared.act.Act.TheVariants as acts
+use Rattle.gateway.specs.Calls.{act_for}
+
+abbrev pub Carries : Machine → Gateway → ℕ → Turn → Gateway → Act → Type 0
+Carries m g conn (turns.Refused cause) now act = (now ≡ g) × (act ≡ acts.Reply (failure (cause_named cause) ∷ []))
+Carries m g conn (turns.Answers change reply) now act = (now ≡ with_session g conn (changed_by (g.session conn) change)) × (act ≡ acts.Reply (responses_of (reply_named reply)))
+Carries m g conn (turns.Begins at_once) now act = (now ≡ with_session g conn (begun m (g.session conn) at_once)) × (act ≡ acts.Reply (responses_of (result 0)))
+Carries m g conn turns.Ends now act = (now ≡ with_session g conn (with_tx (g.session conn) None)) × (act ≡ acts.Reply (responses_of (result 0)))
+Carries m g conn (turns.Proposes flight entries) now act = (now ≡ with_session g conn (with_flight (g.session conn) (Some flight))) × (act ≡ acts.Propose entries)
+Carries m g conn (turns.Affects effect) now act = (now ≡ affected_by g (effect_named effect)) × (act ≡ act_for (effect_named effect))
+
+-- it can be carried out at this session
+abbrev pub CanCarry : Session → Turn → Type 0
+CanCarry s (turns.Answers change reply) = CanChange s.statements.items change
+CanCarry s (turns.Begins at_once) = (s.transaction ≡ None) × IsSome s.database
+CanCarry s turn = Unit {0}
