@@ -11,3 +11,6 @@ pub mod Walking
 pub mod Waits
 pub mod Kept
 pub mod Placing
+pub mod Gaining
+pub mod Starting
+pub mod Roomy

@@ -9,6 +9,7 @@ use Rattle.session_rules.specs.Statements.{with_prepared, without_prepared, prep
 use Rattle.session_rules.specs.Requests.{with_tx, with_flight, with_statements, with_database}
 use Rattle.session_rules.specs.Events.{connects, connected}
 use Rattle.session_table.specs.declared.session.Session.{Session}
+use Rattle.session_table.specs.declared.session.Transaction.{Transaction}
 use Rattle.session_table.specs.Table.{session_of, pin_of}
 use Rattle.session_table.specs.declared.change.Change.{Change}
 use Rattle.session_table.specs.declared.change.Change.TheVariants as changes
@@ -51,3 +52,7 @@ pub record FreshFor (conn : ℕ) (s : Session) : Type 0 where
 pub record Joined (g : Gateway) (conn : ℕ) (new : Bool) (now : Gateway) : Type 0 where
   pub told : new ≡ connects g conn
   pub table : now ≡ (if connects g conn then connected g conn else g)
+
+-- a session with an open transaction
+abbrev pub with_transaction : Session → Transaction → Session
+with_transaction s x = record { conn = s.conn; hung = s.hung; database = s.database; statements = s.statements; transaction = Some x; flight = s.flight }

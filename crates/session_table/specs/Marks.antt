@@ -1,5 +1,5 @@
 -- Read marks in a machine: which are live, and what it is to release some of them.
-use Rattle.std.specs.Prelude.{◌≡◌, ◌≢◌, ℕ, List, [], ◌∷◌}
+use Rattle.std.specs.Prelude.{◌≡◌, ◌≢◌, ◌<◌, ℕ, List, [], ◌∷◌, length, ◌⊎◌}
 use Rattle.std.specs.List.{AllByRecursion, Contains}
 use Rattle.page_apply.specs.declared.database.Database.{Database}
 use Rattle.page_apply.specs.Pins.{Pinning, IsPinned, StillPinned}
@@ -25,3 +25,17 @@ pub record Released (gone : List Pinning) (old new : List Database) : Type 0 whe
   pub bases : machine_of new ≡ machine_of old
   pub still : (pin : Pinning) → IsNoneOf gone pin → StillPinned old new pin
   pub spent : (pin : Pinning) → IsPinned new pin → IsPinned old pin × IsNoneOf gone pin
+
+-- These marks were pinned: no database changed, every other mark shows what it showed, and no more are live but these, which
+-- were not.
+pub record Gained (gained : List Pinning) (old new : List Database) : Type 0 where
+  pub bases : machine_of new ≡ machine_of old
+  pub still : (pin : Pinning) → StillPinned old new pin
+  pub fresh : AllByRecursion (λ (pin : Pinning). IsPinned old pin → ⊥) gained
+  pub live : AllByRecursion (IsPinned new) gained
+  pub apart : AreDifferent gained
+  pub only : (pin : Pinning) → IsPinned new pin → IsPinned old pin ⊎ Contains gained pin
+
+-- fewer marks are live than a database can have
+abbrev pub HasRoom : List Database → Type 0
+HasRoom databases = (pins : List Pinning) × AreMarks pins databases × (length pins < 64)

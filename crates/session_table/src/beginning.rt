@@ -1,20 +1,106 @@
 //! Transactions that begin.
 
-ghost use Rattle.std.specs.Prelude.{◌≡◌, ℕ, None, get_or, IsSome, OnOk, OnErr};
+ghost use Rattle.std.specs.Prelude.{◌≡◌, ◌<◌, ℕ, List, vec_len, None, Some, get_or, set, IsSome, OnOk, OnErr, IfOk};
 ghost use Rattle.session_rules.specs.Machine.{machine_of};
-ghost use Rattle.session_rules.specs.Requests.{with_session, begun};
+ghost use Rattle.session_rules.specs.Requests.{with_session, begun_over, begun};
 ghost use Rattle.session_table.specs.declared.session.Session.{Session};
-ghost use Rattle.session_table.specs.Table.{table_of, pins_of, IsTable};
-ghost use Rattle.session_table.specs.Marks.{AreMarks};
-ghost use Rattle.session_table.specs.Changing.{StandsAt};
+ghost use Rattle.session_table.specs.Table.{image_pinned, transaction_of, mark_of, pin_of, table_of, pins_of, IsTable};
+ghost use Rattle.session_table.specs.Marks.{AreMarks, Gained, HasRoom};
+ghost use Rattle.session_table.specs.Changing.{StandsAt, with_transaction};
 
-use crate::session::Session;
-use page_apply::Machine;
+use crate::session::{Session, Transaction};
+use dq_base::{Image, Name};
+use page_apply::{Machine, Pin};
 use std::alloc::{AllocError, Global};
 
-/// The session at a place, which is that of a connection, has opened a database and is in no transaction, begins one over the newest image of its
-/// database, which is pinned; at once with the turn to write, or without it. The image is copied once. `Err` is want of
-/// memory; nothing has changed then. **Still to come**: it answers want of memory for now.
+/// The newest image of a database, copied; the empty one where the machine has no such database.
+fn image_of(alloc: Global, machine: &Machine, name: &Name) -> Result<Image, AllocError>
+    ensures { IfOk result (λ image. image ≡ ((machine_of machine.now).base name.now).image) }
+{
+    match machine.newest_image(name.as_str())? {
+        Some(image) => Ok(image),
+        None => Ok(Image::new(alloc)),
+    }
+}
+
+/// How many commits a database had; 0 where the machine has no such database.
+fn commits_of(machine: &Machine, name: &Name) -> u64
+    ensures { result ≡ ((machine_of machine.now).base name.now).newest }
+{
+    match machine.newest(name.as_str()) {
+        Some(commits) => commits,
+        None => 0,
+    }
+}
+
+/// A read mark of the newest image of a database; none where the machine has no such database.
+fn pin_of_name(machine: &mut Machine, name: &Name) -> Option<Pin>
+    requires { HasRoom machine.old }
+    ensures shows { image_pinned machine.new result ≡ ((machine_of machine.old).base name.now).image }
+    ensures gained { Gained (mark_of result) machine.old machine.new }
+{
+    let _ = machine.databases();
+    match machine.pin(name.as_str()) {
+        Ok(pin) => Some(pin),
+        Err(_) => None,
+    }
+}
+
+/// A transaction over the newest image of a database. `Err` leaves the machine as it is.
+fn transaction_over(
+    alloc: Global,
+    machine: &mut Machine,
+    name: &Name,
+    turn: bool,
+) -> Result<Transaction, AllocError>
+    requires { HasRoom machine.old }
+    ensures begun { IfOk result (λ x. transaction_of machine.new x ≡ begun_over name.now ((machine_of machine.old).base name.now) turn) }
+    ensures gained { IfOk result (λ x. Gained (pin_of (Some x)) machine.old machine.new) }
+    ensures kept { OnErr result (machine.new ≡ machine.old) }
+{
+    let own_name = name.try_clone(alloc)?;
+    let working = image_of(alloc, machine, name)?;
+    let mark = commits_of(machine, name);
+    let pin = pin_of_name(machine, name);
+    Ok(Transaction {
+        name: own_name,
+        mark,
+        pin,
+        working,
+        turn,
+    })
+}
+
+/// A transaction of a session's database.
+fn transaction_of_session(
+    alloc: Global,
+    machine: &mut Machine,
+    session: &Session,
+    turn: bool,
+) -> Result<Transaction, AllocError>
+    requires open { IsSome session.now.database }
+    requires room { HasRoom machine.old }
+    ensures begun { IfOk result (λ x. (name : List ℕ) → session.now.database ≡ Some name → transaction_of machine.new x ≡ begun_over name ((machine_of machine.old).base name) turn) }
+    ensures gained { IfOk result (λ x. Gained (pin_of (Some x)) machine.old machine.new) }
+    ensures kept { OnErr result (machine.new ≡ machine.old) }
+{
+    match &session.database {
+        Some(name) => transaction_over(alloc, machine, name, turn),
+        None => Err(AllocError),
+    }
+}
+
+/// Puts a transaction into the session at a place.
+fn put(sessions: &mut Vec<Session>, place: usize, transaction: Transaction)
+    requires { place < vec_len sessions.old }
+    ensures { (session : Session) → sessions.new.items ≡ set sessions.old.items place (with_transaction (get_or sessions.old.items place session) transaction) }
+{
+    sessions[place].transaction = Some(transaction);
+}
+
+/// The session at a place, which is that of a connection, has opened a database and is in no transaction, begins one over the
+/// newest image of its database, which is pinned; at once with the turn to write, or without it. The image is copied once.
+/// `Err` is want of memory; nothing has changed then.
 pub fn begin(
     alloc: Global,
     sessions: &mut Vec<Session>,
@@ -34,5 +120,7 @@ pub fn begin(
     ensures marks_after { AreMarks (pins_of sessions.new.items) machine.new }
     ensures fit { IsTable sessions.new.items }
 {
-    Err(AllocError)
+    let transaction = transaction_of_session(alloc, machine, &sessions[place], at_once)?;
+    put(sessions, place, transaction);
+    Ok(())
 }
