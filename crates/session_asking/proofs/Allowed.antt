@@ -10,18 +10,26 @@ use Rattle.sql_scan.specs.declared.heading.WordKind.{WordKind}
 use Rattle.sql_scan.specs.declared.heading.WordKind.TheVariants as words
 use Rattle.sql_scan.specs.Statements.{scan_of}
 use Rattle.raft_rules.specs.Node.{among, voters}
-use Rattle.session_rules.specs.Causes.{NotLeader, NoDatabase, LogFull, TooManyDatabases, DatabaseOpen, BadName, BadNode, BadFormat, ChangeInFlight, TargetBehind, AnswerTooBig, NotAllowed, WrongParameters, OneStatementWanted, TooManyStatements, InTransaction, NoTransaction}
+use Rattle.sql_scan.specs.declared.fault.ScanFault.TheVariants as scan_faults
+use Rattle.session_rules.specs.Causes.{scan_cause, NotLeader, NoDatabase, LogFull, TooManyDatabases, DatabaseOpen, BadName, BadNode, BadFormat, ChangeInFlight, TargetBehind, AnswerTooBig, NotAllowed, WrongParameters, OneStatementWanted, TooManyStatements, InTransaction, NoTransaction}
 use Rattle.session_rules.specs.Limits.{log_full, one_too_many, change_in_flight}
 use Rattle.session_rules.specs.Machine.{Machine, is_named}
 use Rattle.session_rules.specs.Sessions.{Prepared, Session, Gateway, View, in_tx}
 use Rattle.session_rules.specs.Statements.{prepared_from, prepared_at, prepared_count, is_left_out, any_barred, wrong_params, with_params, with_all}
 use Rattle.session_rules.specs.Asking as asking
 use Rattle.session_rules.specs.Asking.{Asked, Never, asked_by}
-use Rattle.session_asking.specs.Meant.{IsServed, IsAllowed}
+use Rattle.session_asking.specs.Meant.{IsServed, IsPlainCause, IsAllowed}
 
 pub both_ok : {X E : Type 0} (r : Result X E) (P Q R : X → Type 0) → ((x : X) → P x → Q x → R x) → IfOk r P → IfOk r Q → IfOk r R
 both_ok {X} {E} (Ok x) P Q R f p q = f x p q
 both_ok {X} {E} (Err e) P Q R f p q = tt
+
+scan_plain : (fault : ScanFault) → IsPlainCause (scan_cause fault)
+scan_plain (scan_faults.OpenQuote at) = tt
+scan_plain (scan_faults.OpenComment at) = tt
+scan_plain (scan_faults.Named at) = tt
+scan_plain (scan_faults.Number at) = tt
+scan_plain scan_faults.NoMemory = tt
 
 module _ (v : View) (s : Session) where
   either : (b : Bool) (x y : Asked) → IsAllowed v s x → IsAllowed v s y → IsAllowed v s (cond b x y)
@@ -71,7 +79,7 @@ module _ (v : View) (s : Session) where
     statements_too (p ∷ q ∷ ps) params = several_too (p ∷ q ∷ ps) params
 
     text_too : (sql : List ℕ) (r : Result (List Piece) ScanFault) (params : List Value) → IsAllowed v s (asking.asks_text (in_tx s) sql r params)
-    text_too sql (Err fault) params = tt
+    text_too sql (Err fault) params = scan_plain fault
     text_too sql (Ok pieces) params = statements_too (map (prepared_from sql) pieces) params
 
     query_too : (p : Prepared) (params : List Value) → IsAllowed v s (asking.asks_query p params)
@@ -88,7 +96,7 @@ module _ (v : View) (s : Session) where
     sole_too (p ∷ q ∷ ps) params = not_one_too (p ∷ q ∷ ps)
 
     rows_too : (sql : List ℕ) (r : Result (List Piece) ScanFault) (params : List Value) → IsAllowed v s (asking.asks_rows sql r params)
-    rows_too sql (Err fault) params = tt
+    rows_too sql (Err fault) params = scan_plain fault
     rows_too sql (Ok pieces) params = sole_too (map (prepared_from sql) pieces) params
 
     exec_too : (o : Option Prepared) (params : List Value) → IsAllowed v s (asking.asks_exec (in_tx s) o params)
@@ -114,7 +122,7 @@ module _ (v : View) (s : Session) where
       (either wide (asking.with_room s (prepared_from sql p) (asking.tail_of wide p)) (Never OneStatementWanted) (room_too (prepared_from sql p) (asking.tail_of wide p)) tt)
 
   prepare_too : (sql : List ℕ) (wide : Bool) (r : Result (List Piece) ScanFault) → IsAllowed v s (asking.asks_prepare s sql wide r)
-  prepare_too sql wide (Err fault) = tt
+  prepare_too sql wide (Err fault) = scan_plain fault
   prepare_too sql wide (Ok pieces) = pieces_too sql wide pieces
 
   new_too : (name : List ℕ) → IsAllowed v s (cond (log_full v) (Never LogFull) (asking.Creates name))

@@ -6,6 +6,8 @@ use Rattle.wire_msgs.specs.declared.request.Request.{Request}
 use Rattle.wire_msgs.specs.declared.request.Request.TheVariants as requests
 use Rattle.sql_scan.specs.Places.{StandsIn}
 use Rattle.session_rules.specs.Asking as rules
+use Rattle.session_rules.specs.Causes as rule_causes
+use Rattle.session_rules.specs.Causes.{Cause as RuleCause}
 use Rattle.session_rules.specs.Asking.{Asked, has_database}
 use Rattle.session_rules.specs.Sessions as sessions
 use Rattle.session_rules.specs.Sessions.{Prepared, Effect as RuleEffect, View, Session, in_tx}
@@ -76,10 +78,16 @@ pub record IsServed (v : View) (s : Session) : Type 0 where
   pub serves : v.serving ≡ true
   pub opened : has_database s ≡ true
 
--- What the rules ask for is asked only where this holds: of a new database, that the log has room; of what is done in the
+-- a cause that needs no engine: not that an engine didn't open the files
+abbrev pub IsPlainCause : RuleCause → Type 0
+IsPlainCause rule_causes.NotADatabase = ⊥
+IsPlainCause cause = Unit {0}
+
+-- What the rules ask for is asked only where this holds: of a refusal, that it needs no engine; of a new database, that the log has room; of what is done in the
 -- session's database, that it is served; and of a transaction, that none is open where it begins, and one where it ends with
 -- its changes.
 abbrev pub IsAllowed : View → Session → Asked → Type 0
+IsAllowed v s (rules.Never cause) = IsPlainCause cause
 IsAllowed v s (rules.Creates name) = log_full v ≡ false
 IsAllowed v s (rules.Begins at_once) = IsServed v s × (in_tx s ≡ false)
 IsAllowed v s rules.Commits = IsServed v s × (in_tx s ≡ true)

@@ -1,0 +1,7 @@
+pub mod Turned
+pub mod Shown
+pub mod Formed
+pub mod OutsideRun
+pub mod InsideRun
+pub mod Ground
+pub mod NeverUnopened
