@@ -1,3 +1,5 @@
 pub mod Holding
 pub mod Keeping
 pub mod Carried
+pub mod Decided
+pub mod Unopened

@@ -5,7 +5,11 @@
 #![tactic(auto)]
 
 mod act;
+mod committing;
+mod deciding;
+mod handling;
 mod laws;
+mod running;
 mod sessions;
 mod turning;
 

@@ -1,5 +1,5 @@
 -- What a request that is refused leaves, what is noted of one, and what is proposed by one.
-use Rattle.std.proofs.Common.{◌≡◌, ◌⊎◌, inl, inr, ℕ, Bool, true, false, cond, List, [], ◌∷◌, refl}
+use Rattle.std.proofs.Common.{◌≡◌, ◌⊎◌, inl, inr, ℕ, Bool, true, false, cond, List, [], ◌∷◌, refl, subst}
 use Rattle.std.specs.Prelude.{◌==◌, ◌&&◌, not, nat_lt, nat_le, map, Option, Some, None, Result, Ok, Err}
 use Rattle.std.proofs.lemmas.Bool.{cond_both}
 use Rattle.dq_base.specs.declared.images.Image.{Image}
@@ -21,7 +21,7 @@ use Rattle.raft_rules.specs.Node.{Server, among, voters}
 use Rattle.session_rules.specs.Causes.{Cause, NotLeader, DatabaseOpen, ChangeInFlight, NoDatabase, NotAllowed, OneStatementWanted, WrongParameters, InTransaction, NoTransaction, BadName, BadNode, BadFormat, TargetBehind, TooManyStatements, TooManyDatabases, LogFull, AnswerTooBig, DatabaseFull}
 use Rattle.session_rules.specs.Machine.{Machine, is_named}
 use Rattle.session_rules.specs.Engines.{Answer, no_pages, Ending, Lacking, TooLarge, Stopped, Ended, Handed}
-use Rattle.session_rules.specs.Sessions.{Reply, Prepared, Transaction, Session, Gateway, View, Nothing, Inside, Outside, HandsOver, JoinsPeer, Turned, Refused, Lacks, Answers, Proposes, Affects, Writing, Committing}
+use Rattle.session_rules.specs.Sessions.{Reply, Prepared, Transaction, Session, Gateway, View, Note, Nothing, Inside, Outside, HandsOver, JoinsPeer, Turned, Refused, Lacks, Answers, Proposes, Affects, Writing, Committing}
 use Rattle.session_rules.specs.Statements.{any_barred, is_left_out, wrong_params, with_params, with_all, prepared_at, prepared_count, prepared_from}
 use Rattle.session_rules.specs.Limits.{other_holds, change_in_flight, one_too_many, pages_full, log_full, first_cause, hindrance}
 use Rattle.session_rules.specs.Asking
@@ -243,6 +243,11 @@ keeps o v g c (Affects effect) good h = absurd h
 
 pub refusals_keep_hold : RefusalsKeep
 refusals_keep_hold v m g c request answers = keeps (handed v m g c request) v g c (on_request v m g c request answers) (request_good v m g c request answers)
+
+-- what is answered at once is no refusal
+pub answers_plain : (v : View) (m : Machine) (g : Gateway) (c : ℕ) (request : Request) (answers : List Answer) (s : Session) (reply : Reply) (note : Note) → on_request v m g c request answers ≡ Answers s reply note → IsRefusal reply → ⊥
+answers_plain v m g c request answers s reply note e =
+    (subst (Good (handed v m g c request) v) e (request_good v m g c request answers)).0
 
 tells : (o : Option Handed) (v : View) (t : Turned) → Good o v t → TurnedTells o t
 tells o v (Refused cause) good = tt

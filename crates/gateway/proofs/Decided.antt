@@ -1,0 +1,193 @@
+-- What comes of a request, with what it hands to an engine or nothing.
+use Rattle.std.proofs.Common.{◌≡◌, ℕ, zero, suc, ◌<◌, ◌++◌, length, get_or, ap, ◌∙◌, arith, Bool, true, false, cond, ◌&&◌, List, [], ◌∷◌, Option, Some, None, Result, Ok, Err, refl, sym, subst, rules}
+use Rattle.std.proofs.lemmas.Bool.{false≢true}
+use Rattle.std.specs.Prelude.{nat_lt, IsSome, MatchOption}
+use Rattle.std.specs.Option.{option_map}
+use Rattle.std.specs.List.{AllByRecursion}
+use Rattle.dq_base.specs.Images.{page_count}
+use Rattle.dq_base.specs.Changes.{changed}
+use Rattle.wire_words.specs.declared.value.Value.{Value}
+use Rattle.frame_commands.specs.declared.command.Command.TheVariants.{OpenDb}
+use Rattle.page_apply.specs.declared.database.Database.{Database}
+use Rattle.page_apply.specs.Files.{empty_image}
+use Rattle.page_apply.specs.Pins.{IsPinned}
+use Rattle.wire_msgs.specs.declared.request.Request.{Request}
+use Rattle.sql_engine.specs.declared.kind.EngineKind.{EngineKind}
+use Rattle.sql_engine.specs.Meanings.{Meaning, Told}
+use Rattle.session_rules.specs.Asking as asking
+use Rattle.session_rules.specs.Asking.{Asked, asked_by}
+use Rattle.session_rules.specs.Causes as causes
+use Rattle.session_rules.specs.Causes.{Cause}
+use Rattle.session_rules.specs.Engines.{Answer, Handed, no_pages}
+use Rattle.session_rules.specs.Entries.{Does}
+use Rattle.session_rules.specs.Limits.{pages_full, other_holds, log_full, first_cause, hindrance, too_full}
+use Rattle.session_rules.specs.Machine.{Machine, machine_of}
+use Rattle.session_rules.specs.Requests.{does, handed_for, handed, on_request, creates, begins, begun, flying, commit_in, committed, unless, change_of, with_tx}
+use Rattle.session_rules.specs.Sessions.{Session, Gateway, View, Transaction, Turned, Refused, Lacks, Answers, Proposes, Affects, Opening, Committing, Nothing, Began, result}
+use Rattle.statement_runs.specs.Running.{TellsAll}
+use Rattle.session_table.specs.declared.cause.Cause.TheVariants as told
+use Rattle.session_table.specs.declared.session.Session.{Session as CodeSession}
+use Rattle.session_table.specs.Changing.{IsAbsent, StandsAt}
+use Rattle.session_table.specs.Table.{database_of, transaction_of, session_of, session_at, table_of, AreApart, pin_of, pins_of}
+use Rattle.session_table.proofs.Placing.{stands}
+use Rattle.session_table.proofs.Swept.{none_there}
+use Rattle.gateway.specs.Carrying.{CanCarry}
+use Rattle.session_asking.specs.declared.wanted.Wanted.{Wanted}
+use Rattle.session_asking.specs.Meant.{meant, IsPlainCause}
+use Rattle.session_turns.specs.declared.turn.Turn.{Turn}
+use Rattle.session_turns.specs.declared.turn.Turn.TheVariants as turns
+use Rattle.session_turns.specs.Turning.{ComesTo, ComesBy, TurnsTo}
+
+-- no answer of an engine is looked at
+pub nothing_handed : (m : Meaning) (kind : EngineKind) (v : View) (machine : Machine) (g : Gateway) (conn : ℕ) (s : Session) (params : List Value) (w known : Wanted) (told_now : Option Told) (turn : Turn) → w ≡ known
+    → handed_for machine s (meant params known) ≡ None → ComesTo v machine s (does v machine g conn s (meant params known) []) turn → TurnsTo m kind v machine g conn s (meant params w) told_now told_now turn
+unfolding TellsAll
+nothing_handed m kind v machine g conn s params w known told_now turn is none comes =
+    subst (λ (x : Wanted). TurnsTo m kind v machine g conn s (meant params x) told_now told_now turn) (sym is)
+    (subst (λ (o : Option Handed). ComesBy m kind v machine s o (does v machine g conn s (meant params known)) told_now told_now turn) (sym none)
+    (record { answers = []; allowed = tt; told = refl; exact = refl; is = comes }))
+
+-- ---- files that an engine didn't open
+
+-- the outcome is no refusal for that cause
+abbrev pub IsPlain : Turned → Type 0
+IsPlain (Refused cause) = IsPlainCause cause
+IsPlain Lacks = Unit {0}
+IsPlain (Answers s reply note) = Unit {0}
+IsPlain (Proposes s contents note) = Unit {0}
+IsPlain (Affects effect) = Unit {0}
+
+abbrev IsPlainFor : Option Cause → Type 0
+IsPlainFor None = Unit {0}
+IsPlainFor (Some cause) = IsPlainCause cause
+
+module _ (v : View) (m : Machine) (s : Session) where
+  not_that : (turned : Turned) → IsPlain turned → ComesTo v m s turned (turns.Refused told.NotADatabase) → ⊥
+  not_that (Refused cause) h e = subst IsPlainCause e h
+  not_that Lacks h e = e
+  not_that (Answers to reply note) h e = e
+  not_that (Proposes to contents note) h e = e
+  not_that (Affects effect) h e = e
+
+  pub never_unopened : (turned : Turned) (turn : Turn) → IsPlain turned → ComesTo v m s turned turn → turn ≡ turns.Refused told.NotADatabase → ⊥
+  never_unopened turned turn h e is = not_that turned h (subst (ComesTo v m s turned) is e)
+
+either : (b : Bool) (x y : Turned) → IsPlain x → IsPlain y → IsPlain (cond b x y)
+either true x y a b = a
+either false x y a b = b
+
+either_cause : (b : Bool) (cause : Cause) (others : Option Cause) → IsPlainCause cause → IsPlainFor others → IsPlainFor (first_cause b cause others)
+either_cause true cause others a b = a
+either_cause false cause others a b = b
+
+unless_plain : (o : Option Cause) (t : Turned) → IsPlainFor o → IsPlain t → IsPlain (unless o t)
+unless_plain None t a b = b
+unless_plain (Some cause) t a b = a
+
+module _ (v : View) (m : Machine) (g : Gateway) (conn : ℕ) (s : Session) (answers : List Answer) where
+  pub creates_plain : (name : List ℕ) → IsPlain (does v m g conn s (asking.Creates name) answers)
+  unfolding does
+  creates_plain name = either (pages_full m g name empty_image) (Refused causes.DatabaseFull) (Proposes (flying v s name (Does (OpenDb name) ∷ []) 0 Opening) (Does (OpenDb name) ∷ []) Nothing) tt tt
+
+  pub begins_plain : (at_once : Bool) → IsPlain (does v m g conn s (asking.Begins at_once) answers)
+  unfolding does
+  begins_plain at_once = either (at_once && other_holds g conn s.database) (Refused causes.Locked) (Answers (begun m s at_once) (result 0) Began) tt tt
+
+  hindered : (x : Transaction) → IsPlainFor (first_cause (log_full v) causes.LogFull (hindrance m g conn x.name x.mark (changed x.pinned x.working) x.working))
+  unfolding hindrance
+  hindered x = search (rules, either_cause)
+
+  ends_plain : (x : Transaction) → IsPlain (committed v m g conn s x)
+  unfolding committed
+  ends_plain x =
+      either (no_pages (changed x.pinned x.working)) (Answers (with_tx s None) (result 0) Nothing)
+      (unless (first_cause (log_full v) causes.LogFull (hindrance m g conn x.name x.mark (changed x.pinned x.working) x.working)) (Proposes (flying v s x.name (change_of v x.name (changed x.pinned x.working)) (page_count x.working) Committing) (change_of v x.name (changed x.pinned x.working)) Nothing)) tt
+      (unless_plain (first_cause (log_full v) causes.LogFull (hindrance m g conn x.name x.mark (changed x.pinned x.working) x.working)) (Proposes (flying v s x.name (change_of v x.name (changed x.pinned x.working)) (page_count x.working) Committing) (change_of v x.name (changed x.pinned x.working)) Nothing) (hindered x) tt)
+
+  commit_plain : (o : Option Transaction) → IsPlain (commit_in v m g conn s o)
+  commit_plain None = tt
+  commit_plain (Some x) = ends_plain x
+
+  pub commits_plain : IsPlain (does v m g conn s asking.Commits answers)
+  unfolding does
+  commits_plain = commit_plain s.tx
+
+-- ---- what is wanted by a request
+
+pub decided : (m : Meaning) (kind : EngineKind) (v : View) (machine : Machine) (g : Gateway) (conn own : ℕ) (s : Session) (params : List Value) (w : Wanted) (request : Request) (told_before told_now : Option Told) (turn : Turn)
+    → s ≡ g.session conn → own ≡ conn → meant params w ≡ asked_by v machine g s request → TurnsTo m kind v machine g own s (meant params w) told_before told_now turn
+    → ComesBy m kind v machine (g.session conn) (handed v machine g conn request) (on_request v machine g conn request) told_before told_now turn
+unfolding handed on_request
+decided m kind v machine g conn own s params w request told_before told_now turn is at wants comes =
+    let first : TurnsTo m kind v machine g own s (asked_by v machine g s request) told_before told_now turn = subst (λ (a : Asked). TurnsTo m kind v machine g own s a told_before told_now turn) wants comes in
+    let second : TurnsTo m kind v machine g conn s (asked_by v machine g s request) told_before told_now turn = subst (λ (c : ℕ). TurnsTo m kind v machine g c s (asked_by v machine g s request) told_before told_now turn) at first in
+    let third : TurnsTo m kind v machine g conn (g.session conn) (asked_by v machine g (g.session conn) request) told_before told_now turn = subst (λ (t : Session). TurnsTo m kind v machine g conn t (asked_by v machine g t request) told_before told_now turn) is second in
+    record { answers = third.answers; allowed = third.allowed; told = third.told; exact = third.exact; is = third.is }
+
+-- ---- the session at a place of the table
+
+pub here_at : (databases : List Database) (sessions : List CodeSession) (weight conn place : ℕ) (d : CodeSession) → AreApart sessions → StandsAt conn sessions place → session_of databases (get_or sessions place d) ≡ (table_of databases sessions weight).session conn
+unfolding table_of
+here_at databases sessions weight conn place d apart at =
+    sym (subst (λ (n : ℕ). session_at databases sessions n ≡ session_of databases (get_or sessions place d)) (at.own d) (stands databases sessions place d apart at.within))
+
+both_parts : {X : Type 0} (P : X → Type 0) (xs ys : List X) → AllByRecursion P (xs ++ ys) → AllByRecursion P xs × AllByRecursion P ys
+both_parts P [] ys all = (tt, all)
+both_parts P (x ∷ xs) ys all = let rest : AllByRecursion P xs × AllByRecursion P ys = both_parts P xs ys all.1 in ((all.0, rest.0), rest.1)
+
+pub pins_part : (databases : List Database) (sessions : List CodeSession) (place : ℕ) (d : CodeSession) → place < length sessions → AllByRecursion (IsPinned databases) (pins_of sessions) → AllByRecursion (IsPinned databases) (pin_of (get_or sessions place d).transaction)
+pins_part databases [] place d within all = absurd (omega arith)
+pins_part databases (s ∷ ss) zero d within all = (both_parts (IsPinned databases) (pin_of s.transaction) (pins_of ss) all).0
+pins_part databases (s ∷ ss) (suc place) d within all = let h : place < length ss = omega arith in pins_part databases ss place d h (both_parts (IsPinned databases) (pin_of s.transaction) (pins_of ss) all).1
+
+-- ---- what can be carried out
+
+some_name : (o : Option (List ℕ)) → nat_lt 0 (length (database_of o)) ≡ true → IsSome o
+some_name None e = absurd (false≢true e)
+some_name (Some name) e = refl
+
+none_mapped : {X Y : Type 0} (f : X → Y) (o : Option X) → option_map f o ≡ None → o ≡ None
+none_mapped f None e = refl
+none_mapped f (Some x) e = (cc)
+
+pub can_carry : (v : View) (m : Machine) (databases : List Database) (s : CodeSession) (turned : Turned) (turn : Turn) → ComesTo v m (session_of databases s) turned turn → CanCarry s turn
+can_carry v m databases s turned (turns.Refused told) e = tt
+can_carry v m databases s turned turns.Ends e = tt
+can_carry v m databases s turned (turns.Proposes flight entries) e = tt
+can_carry v m databases s turned (turns.Affects effect) e = tt
+can_carry v m databases s (Refused cause) (turns.Answers change reply) e = absurd e
+can_carry v m databases s Lacks (turns.Answers change reply) e = absurd e
+can_carry v m databases s (Answers to reply note) (turns.Answers change told) e = e.2
+can_carry v m databases s (Proposes to contents note) (turns.Answers change reply) e = absurd e
+can_carry v m databases s (Affects effect) (turns.Answers change reply) e = absurd e
+can_carry v m databases s (Refused cause) (turns.Begins at_once) e = absurd e
+can_carry v m databases s Lacks (turns.Begins at_once) e = absurd e
+can_carry v m databases s (Answers to reply note) (turns.Begins at_once) e = (none_mapped (transaction_of databases) s.transaction e.2, some_name s.database e.3)
+can_carry v m databases s (Proposes to contents note) (turns.Begins at_once) e = absurd e
+can_carry v m databases s (Affects effect) (turns.Begins at_once) e = absurd e
+
+-- ---- a connection that has a session stands somewhere
+
+pub stands_somewhere : (databases : List Database) (sessions : List CodeSession) (weight conn : ℕ) → ((table_of databases sessions weight).session conn).there ≡ true → IsAbsent conn sessions → ⊥
+unfolding table_of
+stands_somewhere databases sessions weight conn there none = false≢true (sym (ap (λ (s : Session). s.there) (none_there databases sessions conn none)) ∙ there)
+
+pub is_found : {X : Type 0} (o : Option X) (P : Type 0) (Q : X → Type 0) → MatchOption o P Q → (P → ⊥) → IsSome o
+is_found {X} None P Q h never = absurd (never h)
+is_found {X} (Some x) P Q h never = refl
+
+pub moved : (m : Meaning) (kind : EngineKind) (v : View) (databases : List Database) (sessions known : List CodeSession) (weight conn : ℕ) (request : Request) (told_before told_now : Option Told) (turn : Turn) → known ≡ sessions
+    → ComesBy m kind v (machine_of databases) ((table_of databases known weight).session conn) (handed v (machine_of databases) (table_of databases known weight) conn request) (on_request v (machine_of databases) (table_of databases known weight) conn request) told_before told_now turn
+    → ComesBy m kind v (machine_of databases) ((table_of databases sessions weight).session conn) (handed v (machine_of databases) (table_of databases sessions weight) conn request) (on_request v (machine_of databases) (table_of databases sessions weight) conn request) told_before told_now turn
+moved m kind v databases sessions known weight conn request told_before told_now turn same comes =
+    subst (λ (ss : List CodeSession). ComesBy m kind v (machine_of databases) ((table_of databases ss weight).session conn) (handed v (machine_of databases) (table_of databases ss weight) conn request) (on_request v (machine_of databases) (table_of databases ss weight) conn request) told_before told_now turn) same comes
+
+pub carry_at : (m : Meaning) (kind : EngineKind) (v : View) (databases : List Database) (sessions known : List CodeSession) (weight conn place : ℕ) (d : CodeSession) (request : Request) (told_before told_now : Option Told) (turn : Turn)
+    → known ≡ sessions → AreApart sessions → StandsAt conn sessions place
+    → ComesBy m kind v (machine_of databases) ((table_of databases known weight).session conn) (handed v (machine_of databases) (table_of databases known weight) conn request) (on_request v (machine_of databases) (table_of databases known weight) conn request) told_before told_now turn
+    → CanCarry (get_or sessions place d) turn
+carry_at m kind v databases sessions known weight conn place d request told_before told_now turn same apart at comes =
+    let here : ComesBy m kind v (machine_of databases) ((table_of databases sessions weight).session conn) (handed v (machine_of databases) (table_of databases sessions weight) conn request) (on_request v (machine_of databases) (table_of databases sessions weight) conn request) told_before told_now turn =
+    moved m kind v databases sessions known weight conn request told_before told_now turn same comes in
+    can_carry v (machine_of databases) databases (get_or sessions place d) (on_request v (machine_of databases) (table_of databases sessions weight) conn request here.answers) turn
+    (subst (λ (s : Session). ComesTo v (machine_of databases) s (on_request v (machine_of databases) (table_of databases sessions weight) conn request here.answers) turn) (sym (here_at databases sessions weight conn place d apart at)) here.is)

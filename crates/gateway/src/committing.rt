@@ -1,0 +1,38 @@
+//! Transactions that end with their changes. **Still to come**: the call answers want of memory for now.
+
+ghost use Rattle.std.specs.Prelude.{◌≡◌, ◌≢◌, ℕ, List, IfOk, IsSome};
+ghost use Rattle.std.specs.List.{AllByRecursion};
+ghost use Rattle.page_apply.specs.Pins.{IsPinned};
+ghost use Rattle.session_rules.specs.Asking.{Commits};
+ghost use Rattle.session_rules.specs.Engines.{Answer};
+ghost use Rattle.session_rules.specs.Machine.{machine_of};
+ghost use Rattle.session_rules.specs.Requests.{does};
+ghost use Rattle.session_table.specs.declared.cause.Cause.TheVariants.{NotADatabase};
+ghost use Rattle.session_table.specs.Table.{AreApart, pin_of, session_of, table_of};
+ghost use Rattle.session_asking.specs.Meant.{IsServed};
+ghost use Rattle.session_turns.specs.declared.turn.Turn.TheVariants as turns;
+ghost use Rattle.session_turns.specs.Turning.{ComesTo};
+
+use page_apply::Machine;
+use session_asking::View;
+use session_table::Session;
+use session_turns::Turn;
+use std::alloc::{AllocError, Global};
+
+/// What comes of COMMIT in an open transaction. `Err` is want of memory.
+pub(crate) fn commit_turn(
+    _alloc: Global,
+    view: &View,
+    machine: &Machine,
+    sessions: &[Session],
+    session: &Session,
+) -> Result<Turn, AllocError>
+    requires apart { AreApart sessions.now }
+    requires served { IsServed view.now (session_of machine.now session.now) }
+    requires live { AllByRecursion (IsPinned machine.now) (pin_of session.now.transaction) }
+    requires open { IsSome session.now.transaction }
+    ensures opened { IfOk result (λ turn. turn ≢ turns.Refused NotADatabase) }
+    ensures comes { (weight : ℕ) (answers : List Answer) → IfOk result (ComesTo view.now (machine_of machine.now) (session_of machine.now session.now) (does view.now (machine_of machine.now) (table_of machine.now sessions.now weight) session.now.conn (session_of machine.now session.now) Commits answers)) }
+{
+    Err(AllocError)
+}

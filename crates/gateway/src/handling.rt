@@ -1,0 +1,53 @@
+//! Handling a request: what comes of it, and carrying that out.
+
+ghost use Rattle.std.specs.Prelude.{◌≡◌, ◌<◌, ◌≤◌, ◌∷◌, [], true, OnErr, IfOk};
+ghost use Rattle.session_rules.specs.Causes.{NotADatabase, failure};
+ghost use Rattle.session_rules.specs.Machine.{machine_of};
+ghost use Rattle.session_table.specs.Marks.{AreMarks};
+ghost use Rattle.session_table.specs.Table.{table_of, pins_of, IsTable};
+ghost use Rattle.session_asking.specs.Meant.{NameHasNoNul};
+ghost use Rattle.gateway.specs.Calls.{TurnedBy, HasShortTerm};
+
+use crate::act::Act;
+use crate::deciding::decide;
+use crate::turning::carry_out;
+use page_apply::Machine;
+use session_asking::View;
+use session_table::{Session, find};
+use sql_engine::Engine;
+use std::alloc::{AllocError, Global};
+use wire_msgs::Request;
+
+/// Handles a request of a connection that has a session. `Err` is want of memory; nothing has changed then but what the
+/// engine told.
+pub(crate) fn handle<E: Engine>(
+    alloc: Global,
+    sessions: &mut Vec<Session>,
+    weight: &mut u64,
+    conn: u64,
+    request: &Request,
+    view: &View,
+    machine: &mut Machine,
+    engine: &mut E,
+) -> Result<Act, AllocError>
+    requires table { IsTable sessions.old.items }
+    requires marks { AreMarks (pins_of sessions.old.items) machine.old }
+    requires there { ((table_of machine.old sessions.old.items weight.old).session conn).there ≡ true }
+    requires name { NameHasNoNul request.now }
+    requires term { HasShortTerm view.now }
+    ensures turned { IfOk result (TurnedBy (E.meaning (E.kind engine.old)) (E.kind engine.old) view.now (machine_of machine.old) (table_of machine.old sessions.old.items weight.old) conn request.now (E.told engine.old) (E.told engine.new) (table_of machine.new sessions.new.items weight.new)) }
+    ensures failed { OnErr result (table_of machine.new sessions.new.items weight.new ≡ table_of machine.old sessions.old.items weight.old) }
+    ensures files { machine_of machine.new ≡ machine_of machine.old }
+    ensures marks_after { AreMarks (pins_of sessions.new.items) machine.new }
+    ensures fit { IsTable sessions.new.items }
+    ensures kind { E.kind engine.new ≡ E.kind engine.old }
+    ensures openings { E.refused_openings engine.old ≤ E.refused_openings engine.new }
+    ensures unopened { IfOk result (λ act. act ≡ Act.Reply (failure NotADatabase ∷ []) → E.refused_openings engine.old < E.refused_openings engine.new) }
+{
+    let place = find(sessions.as_slice(), conn).unwrap();
+    let known = sessions.as_slice();
+    let turn = decide(
+        alloc, known, *weight, place, conn, request, view, machine, engine,
+    )?;
+    carry_out(alloc, sessions, weight, place, conn, machine, turn)
+}

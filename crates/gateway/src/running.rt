@@ -1,0 +1,69 @@
+//! Statements that a request runs. **Still to come**: the calls answer want of memory for now.
+
+ghost use Rattle.std.specs.Prelude.{◌≡◌, ◌<◌, ◌≤◌, ◌∷◌, [], ℕ, IfOk, if◌then◌else◌};
+ghost use Rattle.session_rules.specs.Asking.{Runs, Reads};
+ghost use Rattle.session_rules.specs.Machine.{machine_of};
+ghost use Rattle.session_rules.specs.Statements.{with_all};
+ghost use Rattle.statement_runs.specs.Texts.{assigned};
+ghost use Rattle.session_table.specs.declared.cause.Cause.TheVariants.{NotADatabase};
+ghost use Rattle.session_table.specs.Table.{AreApart, session_of, table_of};
+ghost use Rattle.session_asking.specs.declared.wanted.Wanted.TheVariants as wanted;
+ghost use Rattle.session_asking.specs.Meant.{IsServed, CanRun};
+ghost use Rattle.session_turns.specs.declared.turn.Turn.TheVariants as turns;
+ghost use Rattle.session_turns.specs.Turning.{TurnsTo};
+ghost use Rattle.gateway.specs.Calls.{HasShortTerm};
+
+use page_apply::Machine;
+use session_asking::{Script, View};
+use session_table::{Prepared, Session};
+use session_turns::Turn;
+use sql_engine::Engine;
+use std::alloc::{AllocError, Global};
+use wire_words::Value;
+
+/// What comes of one statement with all parameters, whose rows are told or dropped. `Err` is want of memory.
+pub(crate) fn run_prepared<E: Engine>(
+    _alloc: Global,
+    view: &View,
+    machine: &Machine,
+    sessions: &[Session],
+    session: &Session,
+    rows: bool,
+    prepared: &Prepared,
+    params: &[Value],
+    engine: &mut E,
+) -> Result<Turn, AllocError>
+    requires apart { AreApart sessions.now }
+    requires term { HasShortTerm view.now }
+    requires served { IsServed view.now (session_of machine.now session.now) }
+    ensures kind { E.kind engine.new ≡ E.kind engine.old }
+    ensures openings { E.refused_openings engine.old ≤ E.refused_openings engine.new }
+    ensures unopened { IfOk result (λ turn. turn ≡ turns.Refused NotADatabase → E.refused_openings engine.old < E.refused_openings engine.new) }
+    ensures ran { (weight : ℕ) → IfOk result (TurnsTo (E.meaning (E.kind engine.old)) (E.kind engine.old) view.now (machine_of machine.now) (table_of machine.now sessions.now weight) session.now.conn (session_of machine.now session.now) (if rows then Reads (with_all prepared.now params.now) else Runs (with_all prepared.now params.now ∷ [])) (E.told engine.old) (E.told engine.new)) }
+{
+    Err(AllocError)
+}
+
+/// What comes of the statements of a text, which together take all parameters, and whose rows are dropped. `Err` is want of
+/// memory.
+pub(crate) fn run_script<E: Engine>(
+    _alloc: Global,
+    view: &View,
+    machine: &Machine,
+    sessions: &[Session],
+    session: &Session,
+    script: &Script,
+    params: &[Value],
+    engine: &mut E,
+) -> Result<Turn, AllocError>
+    requires apart { AreApart sessions.now }
+    requires term { HasShortTerm view.now }
+    requires served { IsServed view.now (session_of machine.now session.now) }
+    requires fits { CanRun params.now (wanted.RunsAll script.now) }
+    ensures kind { E.kind engine.new ≡ E.kind engine.old }
+    ensures openings { E.refused_openings engine.old ≤ E.refused_openings engine.new }
+    ensures unopened { IfOk result (λ turn. turn ≡ turns.Refused NotADatabase → E.refused_openings engine.old < E.refused_openings engine.new) }
+    ensures ran { (weight : ℕ) → IfOk result (TurnsTo (E.meaning (E.kind engine.old)) (E.kind engine.old) view.now (machine_of machine.now) (table_of machine.now sessions.now weight) session.now.conn (session_of machine.now session.now) (Runs (assigned script.now.text script.now.pieces params.now)) (E.told engine.old) (E.told engine.new)) }
+{
+    Err(AllocError)
+}
