@@ -50,7 +50,7 @@ module _ (v : View) (m : Machine) (g : Gateway) (conn : ℕ) (s : Session) (x : 
     ended_inside : (turned : Turned) → inside m g conn s x ss rows (Ended all.to ran.answer) ≡ turned → IfOk r (ComesTo v m s turned) → IfOk r (ComesTo v m s (inside m g conn s x ss rows e))
     ended_inside turned is comes =
         subst (λ (y : Ending). IfOk r (ComesTo v m s (inside m g conn s x ss rows y))) (sym all.is)
-          (subst (λ (t : Turned). IfOk r (ComesTo v m s t)) (sym is) comes)
+        (subst (λ (t : Turned). IfOk r (ComesTo v m s t)) (sym is) comes)
 
     abbrev works : List NumberedPage → Turned
     works pages = unless (row_cause rows ran.answer (hindrance m g conn x.name x.mark pages all.to)) (Answers (worked s x all.to true) (reply_of rows ran.answer) (Inside x.name ss))

@@ -68,8 +68,8 @@ plain_hindrance : (m : Machine) (g : Gateway) (conn : ℕ) (name : List ℕ) (ma
 unfolding hindrance
 plain_hindrance m g conn name mark pages to =
     plain_first (other_holds g conn name) causes.Locked (first_cause (not ((m.base name).newest == mark)) causes.OutOfDate (first_cause (too_full m g name pages to) causes.DatabaseFull None)) tt
-      (plain_first (not ((m.base name).newest == mark)) causes.OutOfDate (first_cause (too_full m g name pages to) causes.DatabaseFull None) tt
-        (plain_first (too_full m g name pages to) causes.DatabaseFull None tt tt))
+    (plain_first (not ((m.base name).newest == mark)) causes.OutOfDate (first_cause (too_full m g name pages to) causes.DatabaseFull None) tt
+    (plain_first (too_full m g name pages to) causes.DatabaseFull None tt tt))
 
 -- of an ending, where no file was left unopened
 abbrev Opened : Ending → Type 0
@@ -93,29 +93,29 @@ unfolding outside outside_write
 plain_outside v m g conn s ss rows Lacking o = tt
 plain_outside v m g conn s ss rows (TooLarge answer) o =
     plain_unless (first_cause (log_full v) causes.LogFull (row_cause rows answer (hindrance m g conn s.database (m.base s.database).newest answer.after.pages (m.base s.database).image))) (Refused causes.DatabaseFull)
-      (plain_first (log_full v) causes.LogFull (row_cause rows answer (hindrance m g conn s.database (m.base s.database).newest answer.after.pages (m.base s.database).image)) tt
-        (plain_row rows answer (hindrance m g conn s.database (m.base s.database).newest answer.after.pages (m.base s.database).image) (plain_hindrance m g conn s.database (m.base s.database).newest answer.after.pages (m.base s.database).image))) tt
+    (plain_first (log_full v) causes.LogFull (row_cause rows answer (hindrance m g conn s.database (m.base s.database).newest answer.after.pages (m.base s.database).image)) tt
+    (plain_row rows answer (hindrance m g conn s.database (m.base s.database).newest answer.after.pages (m.base s.database).image) (plain_hindrance m g conn s.database (m.base s.database).newest answer.after.pages (m.base s.database).image))) tt
 plain_outside v m g conn s ss rows (Stopped fault) o = plain_fault fault o
 plain_outside v m g conn s ss rows (Ended to answer) o =
     let pages : List NumberedPage = changed (m.base s.database).image to in
     plain_if (no_pages pages) _ _
-      (plain_unless (row_cause rows answer None) _ (plain_row rows answer None tt) tt)
-      (plain_unless (first_cause (log_full v) causes.LogFull (row_cause rows answer (hindrance m g conn s.database (m.base s.database).newest pages to))) _
-        (plain_first (log_full v) causes.LogFull (row_cause rows answer (hindrance m g conn s.database (m.base s.database).newest pages to)) tt
-          (plain_row rows answer (hindrance m g conn s.database (m.base s.database).newest pages to) (plain_hindrance m g conn s.database (m.base s.database).newest pages to))) tt)
+    (plain_unless (row_cause rows answer None) _ (plain_row rows answer None tt) tt)
+    (plain_unless (first_cause (log_full v) causes.LogFull (row_cause rows answer (hindrance m g conn s.database (m.base s.database).newest pages to))) _
+    (plain_first (log_full v) causes.LogFull (row_cause rows answer (hindrance m g conn s.database (m.base s.database).newest pages to)) tt
+    (plain_row rows answer (hindrance m g conn s.database (m.base s.database).newest pages to) (plain_hindrance m g conn s.database (m.base s.database).newest pages to))) tt)
 
 plain_inside : (m : Machine) (g : Gateway) (conn : ℕ) (s : Session) (x : Transaction) (ss : List Statement) (rows : Bool) (e : Ending) → Opened e → IsPlain (inside m g conn s x ss rows e)
 unfolding inside
 plain_inside m g conn s x ss rows Lacking o = tt
 plain_inside m g conn s x ss rows (TooLarge answer) o =
     plain_unless (row_cause rows answer (hindrance m g conn x.name x.mark answer.after.pages x.working)) (Refused causes.DatabaseFull)
-      (plain_row rows answer (hindrance m g conn x.name x.mark answer.after.pages x.working) (plain_hindrance m g conn x.name x.mark answer.after.pages x.working)) tt
+    (plain_row rows answer (hindrance m g conn x.name x.mark answer.after.pages x.working) (plain_hindrance m g conn x.name x.mark answer.after.pages x.working)) tt
 plain_inside m g conn s x ss rows (Stopped fault) o = plain_fault fault o
 plain_inside m g conn s x ss rows (Ended to answer) o =
     let pages : List NumberedPage = changed x.working to in
     plain_if (no_pages pages) _ _
-      (plain_unless (row_cause rows answer None) _ (plain_row rows answer None tt) tt)
-      (plain_unless (row_cause rows answer (hindrance m g conn x.name x.mark pages to)) _ (plain_row rows answer (hindrance m g conn x.name x.mark pages to) (plain_hindrance m g conn x.name x.mark pages to)) tt)
+    (plain_unless (row_cause rows answer None) _ (plain_row rows answer None tt) tt)
+    (plain_unless (row_cause rows answer (hindrance m g conn x.name x.mark pages to)) _ (plain_row rows answer (hindrance m g conn x.name x.mark pages to) (plain_hindrance m g conn x.name x.mark pages to)) tt)
 
 -- ---- what is told of it
 

@@ -41,7 +41,7 @@ module _ (v : View) (m : Machine) (g : Gateway) (conn : ℕ) (s : Session) (ss :
   unfolding outside
   large_comes r answer is comes =
       subst (λ (x : Ending). IfOk r (ComesTo v m s (outside v m g conn s ss rows x))) (sym is)
-        (subst (λ (n : List ℕ). IfOk r (ComesTo v m s (unless (first_cause (log_full v) LogFull (row_cause rows answer (hindrance m g conn n (m.base n).newest answer.after.pages (m.base n).image))) (Refused DatabaseFull)))) (sym own) comes)
+      (subst (λ (n : List ℕ). IfOk r (ComesTo v m s (unless (first_cause (log_full v) LogFull (row_cause rows answer (hindrance m g conn n (m.base n).newest answer.after.pages (m.base n).image))) (Refused DatabaseFull)))) (sym own) comes)
 
   module _ (r : Result Turn AllocError) (tx : ℕ) (ran : AllRan) (all : AllShown tx base e ran) where
     pages_are : (change_in ran).pages ≡ changed base all.to
@@ -50,7 +50,7 @@ module _ (v : View) (m : Machine) (g : Gateway) (conn : ℕ) (s : Session) (ss :
     ended : (turned : Turned) → outside v m g conn s ss rows (Ended all.to ran.answer) ≡ turned → IfOk r (ComesTo v m s turned) → IfOk r (ComesTo v m s (outside v m g conn s ss rows e))
     ended turned is comes =
         subst (λ (x : Ending). IfOk r (ComesTo v m s (outside v m g conn s ss rows x))) (sym all.is)
-          (subst (λ (t : Turned). IfOk r (ComesTo v m s t)) (sym is) comes)
+        (subst (λ (t : Turned). IfOk r (ComesTo v m s t)) (sym is) comes)
 
     -- the change of the rules, by the name
     its_change : changed (m.base s.database).image all.to ≡ (change_in ran).pages

@@ -51,9 +51,9 @@ module _ (v : View) (m : Machine) (s : Session) (r : Result Turn AllocError) whe
       → IfOk r (ComesTo v m s (unless (first_cause full LogFull (row_cause rows answer hindrance)) (proposes name rows answer note (change_of v name set.pages) (page_count to))))
   goes_on name rows answer note full hindrance set count to not_full none counted number comes =
       behind_log full (row_cause rows answer hindrance) (proposes name rows answer note (change_of v name set.pages) (page_count to)) not_full
-        (subst (λ (h : Option RuleCause). IfOk r (ComesTo v m s (unless (row_cause rows answer h) (proposes name rows answer note (change_of v name set.pages) (page_count to))))) (sym none)
-          (subst (λ (n : ℕ). IfOk r (ComesTo v m s (unless (row_cause rows answer None) (proposes name rows answer note (change_of v name set.pages) n)))) counted
-            (subst (λ (tx : ℕ). IfOk r (ComesTo v m s (unless (row_cause rows answer None) (proposes name rows answer note (map Does (split name (record { tx = tx; pages = set.pages }))) count)))) number comes)))
+      (subst (λ (h : Option RuleCause). IfOk r (ComesTo v m s (unless (row_cause rows answer h) (proposes name rows answer note (change_of v name set.pages) (page_count to))))) (sym none)
+      (subst (λ (n : ℕ). IfOk r (ComesTo v m s (unless (row_cause rows answer None) (proposes name rows answer note (change_of v name set.pages) n)))) counted
+      (subst (λ (tx : ℕ). IfOk r (ComesTo v m s (unless (row_cause rows answer None) (proposes name rows answer note (map Does (split name (record { tx = tx; pages = set.pages }))) count)))) number comes)))
 
 -- pages that nothing hinders can be applied
 pub always_taken : (pages : List NumberedPage) (count : ℕ) (hindrance : Image → Option RuleCause) → ((to : Image) → LeadsTo pages to → Hinders pages to (hindrance to) (Ok count)) → is_none (page_fault pages) ≡ true

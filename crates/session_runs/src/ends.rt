@@ -2,7 +2,6 @@
 
 ghost use Rattle.std.specs.Prelude.{◌≡◌, ℕ, List, Option, Some, None, true, false, IfOk};
 ghost use Rattle.std.specs.List.{AllByRecursion};
-
 ghost use Rattle.dq_base.specs.Applying.{applied};
 ghost use Rattle.sql_engine.specs.Replies.{IsTable};
 ghost use Rattle.session_rules.specs.Causes.{Cause as RuleCause};
@@ -107,7 +106,14 @@ pub(crate) fn proposed(
 {
     match told(alloc, rows, answer)? {
         Ok(reply) => {
-            let flight = flight(alloc, view, name, &entries, pages, FlightKind::Writing(reply))?;
+            let flight = flight(
+                alloc,
+                view,
+                name,
+                &entries,
+                pages,
+                FlightKind::Writing(reply),
+            )?;
             Ok(Turn::Proposes(flight, entries))
         }
         Err(cause) => Ok(Turn::Refused(cause)),

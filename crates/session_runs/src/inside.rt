@@ -53,7 +53,15 @@ fn too_large(
     ensures { (weight : ℕ) (v : RuleView) (s : RuleSession) (to : Image) → IfOk result (ComesTo v (machine_of machine.now) s (unless (row_cause rows answer (limits.hindrance (machine_of machine.now) (table_of machine.now sessions.now weight) conn transaction.now.name transaction.now.mark answer.after.pages to)) (rules.Refused DatabaseFull))) }
 {
     let name = &transaction.name;
-    let cause = hindering(alloc, machine, sessions, conn, name, transaction.mark, &answer)?;
+    let cause = hindering(
+        alloc,
+        machine,
+        sessions,
+        conn,
+        name,
+        transaction.mark,
+        &answer,
+    )?;
     refused(alloc, rows, answer, cause)
 }
 
@@ -109,7 +117,15 @@ pub(crate) fn turn_inside(
             if is_unchanged(&ran) {
                 return idle(alloc, rows, ran.answer);
             }
-            work(alloc, machine, sessions, session.conn, transaction, rows, ran)
+            work(
+                alloc,
+                machine,
+                sessions,
+                session.conn,
+                transaction,
+                rows,
+                ran,
+            )
         }
     }
 }

@@ -112,7 +112,16 @@ pub(crate) fn turn_outside(
             if is_unchanged(&ran) {
                 return idle(alloc, rows, ran.answer);
             }
-            write(alloc, view, machine, sessions, session.conn, name, rows, ran)
+            write(
+                alloc,
+                view,
+                machine,
+                sessions,
+                session.conn,
+                name,
+                rows,
+                ran,
+            )
         }
     }
 }

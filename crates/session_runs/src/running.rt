@@ -31,6 +31,13 @@ use statement_runs::{Ending, run_all, run_one};
 use std::alloc::{AllocError, Global};
 use wire_words::Value;
 
+/// The number of the transaction whose entries come next in the node's log, where that has room.
+fn next_transaction(view: &View) -> u64
+    ensures { view.now.term ≤ 4294967295 → limits.log_full view.now ≡ false → result ≡ tx_of view.now.term (suc view.now.last) }
+{
+    transaction_number(view.term, view.last)
+}
+
 /// Runs a statement over the image of a session: that of its transaction, or the newest of its database. `Err` is want of
 /// memory.
 fn run_statement<E: Engine>(
@@ -145,7 +152,7 @@ pub fn run_prepared<E: Engine>(
     ensures unopened { IfOk result (λ turn. turn ≡ turns.Refused causes.NotADatabase → E.refused_openings engine.old < E.refused_openings engine.new) }
     ensures ran { (weight : ℕ) → IfOk result (RunsTo (E.meaning (E.kind engine.old)) (E.kind engine.old) view.now (machine_of machine.now) (table_of machine.now sessions.now weight) session.now.conn (session_of machine.now session.now) (with_all prepared.now params.now ∷ []) rows (E.told engine.old) (E.told engine.new)) }
 {
-    let tx = transaction_number(view.term, view.last);
+    let tx = next_transaction(view);
     let ending = run_statement(alloc, machine, session, prepared, params, tx, engine)?;
     turn_of(alloc, view, machine, sessions, session, rows, ending)
 }
@@ -172,7 +179,7 @@ pub fn run_script<E: Engine>(
     ensures unopened { IfOk result (λ turn. turn ≡ turns.Refused causes.NotADatabase → E.refused_openings engine.old < E.refused_openings engine.new) }
     ensures ran { (weight : ℕ) → IfOk result (RunsTo (E.meaning (E.kind engine.old)) (E.kind engine.old) view.now (machine_of machine.now) (table_of machine.now sessions.now weight) session.now.conn (session_of machine.now session.now) (assigned script.now.text script.now.pieces params.now) false (E.told engine.old) (E.told engine.new)) }
 {
-    let tx = transaction_number(view.term, view.last);
+    let tx = next_transaction(view);
     let ending = run_statements(alloc, machine, session, script, params, tx, engine)?;
     turn_of(alloc, view, machine, sessions, session, false, ending)
 }

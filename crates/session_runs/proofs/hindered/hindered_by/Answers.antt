@@ -13,4 +13,4 @@ hindrance-requires-clause-some c = ap no_pages c.as_slice-pages.ensures ∙ c.re
 pub returns : goal.returns
 returns c = λ weight to leads.
     subst (λ (name : List ℕ). IfOk c.hindrance.result (Hinders c.args.set.now.pages to (hindrance (machine_of c.args.machine.now) (table_of c.args.machine.now c.args.sessions.now weight) c.args.conn name c.args.mark c.args.set.now.pages to))) c.as_str.ensures.value
-      (subst (λ (pages : List NumberedPage). IfOk c.hindrance.result (Hinders pages to (hindrance (machine_of c.args.machine.now) (table_of c.args.machine.now c.args.sessions.now weight) c.args.conn c.as_str.result.now c.args.mark pages to))) c.as_slice-pages.ensures (c.hindrance.ensures weight to (subst (λ (pages : List NumberedPage). LeadsTo pages to) (sym c.as_slice-pages.ensures) leads)))
+    (subst (λ (pages : List NumberedPage). IfOk c.hindrance.result (Hinders pages to (hindrance (machine_of c.args.machine.now) (table_of c.args.machine.now c.args.sessions.now weight) c.args.conn c.as_str.result.now c.args.mark pages to))) c.as_slice-pages.ensures (c.hindrance.ensures weight to (subst (λ (pages : List NumberedPage). LeadsTo pages to) (sym c.as_slice-pages.ensures) leads)))

@@ -23,4 +23,4 @@ pub returns-else-is_unchanged : goal.returns-else-is_unchanged
 returns-else-is_unchanged c = λ weight tx v statements ended shows.
     let all = shows_ended tx c.args.transaction.now.working ended c.in-Ended.ran (subst (Shows tx c.args.transaction.now.working ended) c.in-Ended.is shows) in
     work_inside v (machine_of c.args.machine.now) (table_of c.args.machine.now c.args.sessions.now weight) c.args.session.now.conn (session_of c.args.machine.now c.args.session.now) (transaction_of c.args.machine.now c.args.transaction.now) statements c.args.rows ended c.work.result tx c.in-Ended.ran all (sym c.is_unchanged.ensures ∙ c.if-is_unchanged.false)
-      (c.work.ensures weight v (session_of c.args.machine.now c.args.session.now) (transaction_of c.args.machine.now c.args.transaction.now) _ all.to (leads_inside v (machine_of c.args.machine.now) (table_of c.args.machine.now c.args.sessions.now weight) c.args.session.now.conn (session_of c.args.machine.now c.args.session.now) (transaction_of c.args.machine.now c.args.transaction.now) statements c.args.rows ended c.work.result tx c.in-Ended.ran all) (ap (option_map (transaction_of c.args.machine.now)) c.requires.open) (applied_inside v (machine_of c.args.machine.now) (table_of c.args.machine.now c.args.sessions.now weight) c.args.session.now.conn (session_of c.args.machine.now c.args.session.now) (transaction_of c.args.machine.now c.args.transaction.now) statements c.args.rows ended c.work.result tx c.in-Ended.ran all))
+    (c.work.ensures weight v (session_of c.args.machine.now c.args.session.now) (transaction_of c.args.machine.now c.args.transaction.now) _ all.to (leads_inside v (machine_of c.args.machine.now) (table_of c.args.machine.now c.args.sessions.now weight) c.args.session.now.conn (session_of c.args.machine.now c.args.session.now) (transaction_of c.args.machine.now c.args.transaction.now) statements c.args.rows ended c.work.result tx c.in-Ended.ran all) (ap (option_map (transaction_of c.args.machine.now)) c.requires.open) (applied_inside v (machine_of c.args.machine.now) (table_of c.args.machine.now c.args.sessions.now weight) c.args.session.now.conn (session_of c.args.machine.now c.args.session.now) (transaction_of c.args.machine.now c.args.transaction.now) statements c.args.rows ended c.work.result tx c.in-Ended.ran all))

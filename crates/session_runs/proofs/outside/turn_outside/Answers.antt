@@ -26,4 +26,4 @@ pub returns-else-is_unchanged : goal.returns-else-is_unchanged
 returns-else-is_unchanged c = λ weight tx statements ended number shows.
     let all = shows_ended tx ((machine_of c.args.machine.now).base c.args.name.now).image ended c.in-Ended.ran (subst (Shows tx ((machine_of c.args.machine.now).base c.args.name.now).image ended) c.in-Ended.is shows) in
     write_comes c.args.view.now (machine_of c.args.machine.now) (table_of c.args.machine.now c.args.sessions.now weight) c.args.session.now.conn (session_of c.args.machine.now c.args.session.now) statements c.args.rows c.args.name.now c.requires.name ended c.write.result tx c.in-Ended.ran all (sym c.is_unchanged.ensures ∙ c.if-is_unchanged.false)
-      (c.write.ensures weight (session_of c.args.machine.now c.args.session.now) _ all.to (leads c.args.view.now (machine_of c.args.machine.now) (table_of c.args.machine.now c.args.sessions.now weight) c.args.session.now.conn (session_of c.args.machine.now c.args.session.now) statements c.args.rows c.args.name.now c.requires.name ended c.write.result tx c.in-Ended.ran all) (λ not_full. ap (λ (set : PageSet). set.tx) all.change ∙ number not_full))
+    (c.write.ensures weight (session_of c.args.machine.now c.args.session.now) _ all.to (leads c.args.view.now (machine_of c.args.machine.now) (table_of c.args.machine.now c.args.sessions.now weight) c.args.session.now.conn (session_of c.args.machine.now c.args.session.now) statements c.args.rows c.args.name.now c.requires.name ended c.write.result tx c.in-Ended.ran all) (λ not_full. ap (λ (set : PageSet). set.tx) all.change ∙ number not_full))

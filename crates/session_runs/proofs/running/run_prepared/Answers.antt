@@ -8,7 +8,7 @@ use Rattle.session_rules.specs.Statements.{with_all}
 use Rattle.session_table.specs.Table.{database_of, table_of, session_of}
 use Rattle.session_turns.specs.Turning.{ComesTo}
 use Rattle.session_runs.proofs.Formed.{well_formed}
-use Rattle.session_runs.proofs.Ground.{has_opened, not_full, run_is}
+use Rattle.session_runs.proofs.Ground.{has_opened, run_is}
 use Rattle.session_runs.proofs.NeverUnopened.{was_unopened}
 use Rattle.session_runs.proofs.running.run_prepared.Goals as goal
 
@@ -16,14 +16,14 @@ pub turn_of-requires-clause-open : goal.turn_of-requires-clause-open
 turn_of-requires-clause-open g c = has_opened c.args.session.now.database c.requires.served.opened
 
 pub turn_of-requires-clause-formed : goal.turn_of-requires-clause-formed
-turn_of-requires-clause-formed g c = well_formed _ _ c.transaction_number-tx.result (ground (machine_of c.args.machine.now) (session_of c.args.machine.now c.args.session.now) (session_of c.args.machine.now c.args.session.now).tx) (with_all c.args.prepared.now c.args.params.now ∷ []) c.in_ok-ending.ensures.ran.answers c.in_ok-ending.ending c.in_ok-ending.ensures.ran.allowed c.in_ok-ending.ensures.ran.ends
+turn_of-requires-clause-formed g c = well_formed _ _ c.next_transaction-tx.result (ground (machine_of c.args.machine.now) (session_of c.args.machine.now c.args.session.now) (session_of c.args.machine.now c.args.session.now).tx) (with_all c.args.prepared.now c.args.params.now ∷ []) c.in_ok-ending.ensures.ran.answers c.in_ok-ending.ending c.in_ok-ending.ensures.ran.allowed c.in_ok-ending.ensures.ran.ends
 
 pub returns-clause-unopened : goal.returns-clause-unopened
 returns-clause-unopened g c =
     let run = c.in_ok-ending.ensures.ran in
     let ended = runs (ground (machine_of c.args.machine.now) (session_of c.args.machine.now c.args.session.now) (session_of c.args.machine.now c.args.session.now).tx) no_answer (with_all c.args.prepared.now c.args.params.now ∷ []) run.answers in
-    IfOk-weaker c.turn_of.result _ _ (λ turn comes is. c.in_ok-ending.ensures.unopened (was_unopened c.args.view.now (machine_of c.args.machine.now) (table_of c.args.machine.now c.args.sessions.now 0) c.args.session.now.conn (session_of c.args.machine.now c.args.session.now) (session_of c.args.machine.now c.args.session.now).tx (with_all c.args.prepared.now c.args.params.now ∷ []) c.args.rows c.transaction_number-tx.result (ground (machine_of c.args.machine.now) (session_of c.args.machine.now c.args.session.now) (session_of c.args.machine.now c.args.session.now).tx) ended c.in_ok-ending.ending turn run.ends comes is))
-      (c.turn_of.ensures 0 c.transaction_number-tx.result (with_all c.args.prepared.now c.args.params.now ∷ []) ended (λ room. c.transaction_number-tx.ensures (c.requires.term c.requires.served.serves) (not_full c.args.view.now room)) run.ends)
+    IfOk-weaker c.turn_of.result _ _ (λ turn comes is. c.in_ok-ending.ensures.unopened (was_unopened c.args.view.now (machine_of c.args.machine.now) (table_of c.args.machine.now c.args.sessions.now 0) c.args.session.now.conn (session_of c.args.machine.now c.args.session.now) (session_of c.args.machine.now c.args.session.now).tx (with_all c.args.prepared.now c.args.params.now ∷ []) c.args.rows c.next_transaction-tx.result (ground (machine_of c.args.machine.now) (session_of c.args.machine.now c.args.session.now) (session_of c.args.machine.now c.args.session.now).tx) ended c.in_ok-ending.ending turn run.ends comes is))
+    (c.turn_of.ensures 0 c.next_transaction-tx.result (with_all c.args.prepared.now c.args.params.now ∷ []) ended (λ room. c.next_transaction-tx.ensures (c.requires.term c.requires.served.serves) room) run.ends)
 
 pub returns-clause-ran : goal.returns-clause-ran
 returns-clause-ran g c = λ weight.
@@ -36,4 +36,4 @@ returns-clause-ran g c = λ weight.
       exact = run.exact;
       is = subst (λ (turned : Turned). ComesTo c.args.view.now (machine_of c.args.machine.now) (session_of c.args.machine.now c.args.session.now) turned turn) (sym (run_is c.args.view.now (machine_of c.args.machine.now) (table_of c.args.machine.now c.args.sessions.now weight) c.args.session.now.conn (session_of c.args.machine.now c.args.session.now) (session_of c.args.machine.now c.args.session.now).tx (with_all c.args.prepared.now c.args.params.now ∷ []) c.args.rows run.answers)) comes;
     })
-      (c.turn_of.ensures weight c.transaction_number-tx.result (with_all c.args.prepared.now c.args.params.now ∷ []) ended (λ room. c.transaction_number-tx.ensures (c.requires.term c.requires.served.serves) (not_full c.args.view.now room)) run.ends)
+    (c.turn_of.ensures weight c.next_transaction-tx.result (with_all c.args.prepared.now c.args.params.now ∷ []) ended (λ room. c.next_transaction-tx.ensures (c.requires.term c.requires.served.serves) room) run.ends)
