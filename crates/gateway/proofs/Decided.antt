@@ -1,7 +1,7 @@
 -- What comes of a request, with what it hands to an engine or nothing.
 use Rattle.std.proofs.Common.{◌≡◌, ℕ, zero, suc, ◌<◌, ◌++◌, length, get_or, ap, ◌∙◌, arith, Bool, true, false, cond, ◌&&◌, List, [], ◌∷◌, Option, Some, None, Result, Ok, Err, refl, sym, subst, rules}
-use Rattle.std.proofs.lemmas.Bool.{false≢true}
-use Rattle.std.specs.Prelude.{nat_lt, IsSome, MatchOption}
+use Rattle.std.proofs.lemmas.Bool.{false≢true, and_parts}
+use Rattle.std.specs.Prelude.{is_none, not, nat_lt, IsSome, MatchOption}
 use Rattle.std.specs.Option.{option_map}
 use Rattle.std.specs.List.{AllByRecursion}
 use Rattle.dq_base.specs.Images.{page_count}
@@ -12,6 +12,9 @@ use Rattle.page_apply.specs.declared.database.Database.{Database}
 use Rattle.page_apply.specs.Files.{empty_image}
 use Rattle.page_apply.specs.Pins.{IsPinned}
 use Rattle.wire_msgs.specs.declared.request.Request.{Request}
+use Rattle.wire_msgs.specs.declared.request.Request.TheVariants as requests
+use Rattle.gateway.specs.declared.act.Act.{Act}
+use Rattle.gateway.specs.Calls.{TurnedBy, HasNoNul}
 use Rattle.sql_engine.specs.declared.kind.EngineKind.{EngineKind}
 use Rattle.sql_engine.specs.Meanings.{Meaning, Told}
 use Rattle.session_rules.specs.Asking as asking
@@ -23,7 +26,7 @@ use Rattle.session_rules.specs.Entries.{Does}
 use Rattle.session_rules.specs.Limits.{pages_full, other_holds, log_full, first_cause, hindrance, too_full}
 use Rattle.session_rules.specs.Machine.{Machine, machine_of}
 use Rattle.session_rules.specs.Requests.{does, handed_for, handed, on_request, creates, begins, begun, flying, commit_in, committed, unless, change_of, with_tx}
-use Rattle.session_rules.specs.Sessions.{Session, Gateway, View, Transaction, Turned, Refused, Lacks, Answers, Proposes, Affects, Opening, Committing, Nothing, Began, result}
+use Rattle.session_rules.specs.Sessions.{may_ask, Session, Gateway, View, Transaction, Turned, Refused, Lacks, Answers, Proposes, Affects, Opening, Committing, Nothing, Began, result}
 use Rattle.statement_runs.specs.Running.{TellsAll}
 use Rattle.session_table.specs.declared.cause.Cause.TheVariants as told
 use Rattle.session_table.specs.declared.session.Session.{Session as CodeSession}
@@ -33,7 +36,7 @@ use Rattle.session_table.proofs.Placing.{stands}
 use Rattle.session_table.proofs.Swept.{none_there}
 use Rattle.gateway.specs.Carrying.{CanCarry}
 use Rattle.session_asking.specs.declared.wanted.Wanted.{Wanted}
-use Rattle.session_asking.specs.Meant.{meant, IsPlainCause}
+use Rattle.session_asking.specs.Meant.{meant, IsPlainCause, NameHasNoNul}
 use Rattle.session_turns.specs.declared.turn.Turn.{Turn}
 use Rattle.session_turns.specs.declared.turn.Turn.TheVariants as turns
 use Rattle.session_turns.specs.Turning.{ComesTo, ComesBy, TurnsTo}
@@ -191,3 +194,34 @@ carry_at m kind v databases sessions known weight conn place d request told_befo
     moved m kind v databases sessions known weight conn request told_before told_now turn same comes in
     can_carry v (machine_of databases) databases (get_or sessions place d) (on_request v (machine_of databases) (table_of databases sessions weight) conn request here.answers) turn
     (subst (λ (s : Session). ComesTo v (machine_of databases) s (on_request v (machine_of databases) (table_of databases sessions weight) conn request here.answers) turn) (sym (here_at databases sessions weight conn place d apart at)) here.is)
+
+pub its_name : (request : Request) → HasNoNul request → NameHasNoNul request
+its_name requests.Leader h = tt
+its_name (requests.Client id) h = tt
+its_name (requests.Open name flags vfs) h = h
+its_name (requests.Prepare db sql wide) h = tt
+its_name (requests.Exec db id params wide) h = tt
+its_name (requests.Query db id params wide) h = tt
+its_name (requests.Finalize db id) h = tt
+its_name (requests.ExecSql db sql params wide) h = tt
+its_name (requests.QuerySql db sql params wide) h = tt
+its_name (requests.Interrupt db) h = tt
+its_name (requests.Connect id address) h = tt
+its_name (requests.Add id address) h = tt
+its_name (requests.Assign id role) h = tt
+its_name (requests.Remove id) h = tt
+its_name (requests.Dump name) h = tt
+its_name (requests.Cluster format) h = tt
+its_name (requests.Transfer id) h = tt
+its_name (requests.Describe format) h = tt
+its_name (requests.Weight weight) h = tt
+
+pub there_if : (s : Session) → may_ask s ≡ true → s.there ≡ true
+unfolding may_ask
+there_if s e = (and_parts s.there (not s.hung) (and_parts (s.there && not s.hung) (is_none s.flight) e).0).0
+
+pub turned_so : (m : Meaning) (kind : EngineKind) (v : View) (machine : Machine) (g known : Gateway) (conn : ℕ) (request : Request) (told_before told_now : Option Told) (now seen : Gateway) (act : Act) → g ≡ known → now ≡ seen
+    → TurnedBy m kind v machine g conn request told_before told_now now act → TurnedBy m kind v machine known conn request told_before told_now seen act
+turned_so m kind v machine g known conn request told_before told_now now seen act before after turned =
+    subst (λ (h : Gateway). TurnedBy m kind v machine known conn request told_before told_now h act) after
+    (subst (λ (h : Gateway). TurnedBy m kind v machine h conn request told_before told_now now act) before turned)

@@ -1,7 +1,8 @@
 //! The sessions of a node: what comes of each request of a client, of entries that are applied, of leadership that is lost,
 //! and of connections that come and go.
 //!
-//! **The body of `on_request` is still to come**: its contract stands, and it answers want of memory for now.
+//! **Statements are still to come**: a request that runs statements, or commits a transaction, answers want of memory for now.
+//! All other requests are answered.
 #![tactic(auto)]
 
 mod act;

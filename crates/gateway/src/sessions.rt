@@ -12,6 +12,7 @@ ghost use Rattle.gateway.specs.Calls.{TurnedBy, HasNoNul, HasShortTerm};
 ghost use Rattle.gateway.specs.Seen.{seen, pins_of, PinsOf};
 
 use crate::act::Act;
+use crate::handling::handle;
 use page_apply::Machine;
 use session_asking::View;
 use session_table::{Session, applied, find, join, left, lost};
@@ -99,7 +100,11 @@ impl Gateway {
         ensures openings { E.refused_openings engine.old ≤ E.refused_openings engine.new }
         ensures unopened { IfOk result (λ act. act ≡ Act.Reply (failure NotADatabase ∷ []) → E.refused_openings engine.old < E.refused_openings engine.new) }
     {
-        Err(AllocError)
+        let sessions = &mut self.sessions;
+        let weight = &mut self.weight;
+        handle(
+            self.alloc, sessions, weight, conn, request, view, machine, engine,
+        )
     }
 
     /// An entry of a term is applied: the proposal that ends with it is done, and its client, if it is there, is answered. The
