@@ -3,3 +3,5 @@ pub mod Keeping
 pub mod Carried
 pub mod Decided
 pub mod Unopened
+pub mod RunTurns
+pub mod CommitTurns

@@ -1,4 +1,4 @@
-//! Transactions that end with their changes. **Still to come**: the call answers want of memory for now.
+//! Transactions that end with their changes.
 
 ghost use Rattle.std.specs.Prelude.{◌≡◌, ◌≢◌, ℕ, List, IfOk, IsSome};
 ghost use Rattle.std.specs.List.{AllByRecursion};
@@ -12,6 +12,7 @@ ghost use Rattle.session_table.specs.Table.{AreApart, pin_of, session_of, table_
 ghost use Rattle.session_asking.specs.Meant.{IsServed};
 ghost use Rattle.session_turns.specs.declared.turn.Turn.TheVariants as turns;
 ghost use Rattle.session_turns.specs.Turning.{ComesTo};
+ghost use Rattle.gateway.specs.Calls.{HasShortTerm};
 
 use page_apply::Machine;
 use session_asking::View;
@@ -21,18 +22,19 @@ use std::alloc::{AllocError, Global};
 
 /// What comes of COMMIT in an open transaction. `Err` is want of memory.
 pub(crate) fn commit_turn(
-    _alloc: Global,
+    alloc: Global,
     view: &View,
     machine: &Machine,
     sessions: &[Session],
     session: &Session,
 ) -> Result<Turn, AllocError>
     requires apart { AreApart sessions.now }
+    requires term { HasShortTerm view.now }
     requires served { IsServed view.now (session_of machine.now session.now) }
     requires live { AllByRecursion (IsPinned machine.now) (pin_of session.now.transaction) }
     requires open { IsSome session.now.transaction }
     ensures opened { IfOk result (λ turn. turn ≢ turns.Refused NotADatabase) }
     ensures comes { (weight : ℕ) (answers : List Answer) → IfOk result (ComesTo view.now (machine_of machine.now) (session_of machine.now session.now) (does view.now (machine_of machine.now) (table_of machine.now sessions.now weight) session.now.conn (session_of machine.now session.now) Commits answers)) }
 {
-    Err(AllocError)
+    session_commits::commit_turn(alloc, view, machine, sessions, session)
 }

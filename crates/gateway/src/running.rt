@@ -1,4 +1,4 @@
-//! Statements that a request runs. **Still to come**: the calls answer want of memory for now.
+//! Statements that a request runs.
 
 ghost use Rattle.std.specs.Prelude.{◌≡◌, ◌<◌, ◌≤◌, ◌∷◌, [], ℕ, IfOk, if◌then◌else◌};
 ghost use Rattle.session_rules.specs.Asking.{Runs, Reads};
@@ -23,7 +23,7 @@ use wire_words::Value;
 
 /// What comes of one statement with all parameters, whose rows are told or dropped. `Err` is want of memory.
 pub(crate) fn run_prepared<E: Engine>(
-    _alloc: Global,
+    alloc: Global,
     view: &View,
     machine: &Machine,
     sessions: &[Session],
@@ -41,13 +41,15 @@ pub(crate) fn run_prepared<E: Engine>(
     ensures unopened { IfOk result (λ turn. turn ≡ turns.Refused NotADatabase → E.refused_openings engine.old < E.refused_openings engine.new) }
     ensures ran { (weight : ℕ) → IfOk result (TurnsTo (E.meaning (E.kind engine.old)) (E.kind engine.old) view.now (machine_of machine.now) (table_of machine.now sessions.now weight) session.now.conn (session_of machine.now session.now) (if rows then Reads (with_all prepared.now params.now) else Runs (with_all prepared.now params.now ∷ [])) (E.told engine.old) (E.told engine.new)) }
 {
-    Err(AllocError)
+    session_runs::run_prepared(
+        alloc, view, machine, sessions, session, rows, prepared, params, engine,
+    )
 }
 
 /// What comes of the statements of a text, which together take all parameters, and whose rows are dropped. `Err` is want of
 /// memory.
 pub(crate) fn run_script<E: Engine>(
-    _alloc: Global,
+    alloc: Global,
     view: &View,
     machine: &Machine,
     sessions: &[Session],
@@ -65,5 +67,7 @@ pub(crate) fn run_script<E: Engine>(
     ensures unopened { IfOk result (λ turn. turn ≡ turns.Refused NotADatabase → E.refused_openings engine.old < E.refused_openings engine.new) }
     ensures ran { (weight : ℕ) → IfOk result (TurnsTo (E.meaning (E.kind engine.old)) (E.kind engine.old) view.now (machine_of machine.now) (table_of machine.now sessions.now weight) session.now.conn (session_of machine.now session.now) (Runs (assigned script.now.text script.now.pieces params.now)) (E.told engine.old) (E.told engine.new)) }
 {
-    Err(AllocError)
+    session_runs::run_script(
+        alloc, view, machine, sessions, session, script, params, engine,
+    )
 }

@@ -29,23 +29,23 @@ use Rattle.statement_runs.specs.Running.{Shows, is_unopened, ends_unopened}
 use Rattle.std.proofs.lemmas.Bool.{cases_Bool}
 
 -- a cause that needs no engine, or none
-abbrev Plain : Option Cause → Type 0
+abbrev pub Plain : Option Cause → Type 0
 Plain None = Unit {0}
 Plain (Some cause) = IsPlainCause cause
 
 -- an outcome that isn't refused for a cause that needs an engine
-abbrev IsPlain : Turned → Type 0
+abbrev pub IsPlain : Turned → Type 0
 IsPlain (Refused cause) = IsPlainCause cause
 IsPlain Lacks = Unit {0}
 IsPlain (Answers s reply note) = Unit {0}
 IsPlain (Proposes s contents note) = Unit {0}
 IsPlain (Affects effect) = Unit {0}
 
-plain_unless : (cause : Option Cause) (turned : Turned) → Plain cause → IsPlain turned → IsPlain (unless cause turned)
+pub plain_unless : (cause : Option Cause) (turned : Turned) → Plain cause → IsPlain turned → IsPlain (unless cause turned)
 plain_unless None turned p q = q
 plain_unless (Some cause) turned p q = p
 
-plain_first : (holds : Bool) (cause : Cause) (others : Option Cause) → IsPlainCause cause → Plain others → Plain (first_cause holds cause others)
+pub plain_first : (holds : Bool) (cause : Cause) (others : Option Cause) → IsPlainCause cause → Plain others → Plain (first_cause holds cause others)
 plain_first true cause others p q = p
 plain_first false cause others p q = q
 
@@ -64,7 +64,7 @@ unfolding row_cause
 plain_row true answer others q = plain_or (rows_cause (parts_of answer.columns answer.rows)) others (plain_rows (parts_of answer.columns answer.rows)) q
 plain_row false answer others q = q
 
-plain_hindrance : (m : Machine) (g : Gateway) (conn : ℕ) (name : List ℕ) (mark : ℕ) (pages : List NumberedPage) (to : Image) → Plain (hindrance m g conn name mark pages to)
+pub plain_hindrance : (m : Machine) (g : Gateway) (conn : ℕ) (name : List ℕ) (mark : ℕ) (pages : List NumberedPage) (to : Image) → Plain (hindrance m g conn name mark pages to)
 unfolding hindrance
 plain_hindrance m g conn name mark pages to =
     plain_first (other_holds g conn name) causes.Locked (first_cause (not ((m.base name).newest == mark)) causes.OutOfDate (first_cause (too_full m g name pages to) causes.DatabaseFull None)) tt
@@ -84,7 +84,7 @@ plain_fault (faults.NotText row column) e = tt
 plain_fault faults.Unopened e = absurd cc
 plain_fault faults.NoMemory e = tt
 
-plain_if : (b : Bool) (x y : Turned) → IsPlain x → IsPlain y → IsPlain (cond b x y)
+pub plain_if : (b : Bool) (x y : Turned) → IsPlain x → IsPlain y → IsPlain (cond b x y)
 plain_if true x y p q = p
 plain_if false x y p q = q
 
@@ -129,7 +129,7 @@ plain_ran : (v : View) (m : Machine) (g : Gateway) (conn : ℕ) (s : Session) (t
 plain_ran v m g conn s None ss rows e o = plain_outside v m g conn s ss rows e o
 plain_ran v m g conn s (Some x) ss rows e o = plain_inside m g conn s x ss rows e o
 
-told_plain : (v : View) (m : Machine) (s : Session) (turned : Turned) → ComesTo v m s turned (turns.Refused code_causes.NotADatabase) → IsPlain turned → ⊥
+pub told_plain : (v : View) (m : Machine) (s : Session) (turned : Turned) → ComesTo v m s turned (turns.Refused code_causes.NotADatabase) → IsPlain turned → ⊥
 told_plain v m s (Refused cause) comes plain = subst IsPlainCause comes plain
 told_plain v m s Lacks comes plain = comes
 told_plain v m s (Answers to reply note) comes plain = comes
