@@ -1,8 +1,5 @@
 //! The sessions of a node: what comes of each request of a client, of entries that are applied, of leadership that is lost,
 //! and of connections that come and go.
-//!
-//! **Statements are still to come**: a request that runs statements, or commits a transaction, answers want of memory for now.
-//! All other requests are answered.
 #![tactic(auto)]
 
 mod act;
