@@ -54,19 +54,20 @@ quiet_with streams conn stream own others other = elim (eqb_tells other conn) [
 ]
 
 -- the code after a client went, of which no message waited
-pub left_shows : (old new : Voter) (w : Lone) (conn : ℕ) (streams : ℕ → Option Conn) → Holds old.clients old.machine old.view (node_of w) streams [] → Rests (node_of w) → ((other : ℕ) → other ≢ conn → IsQuiet (w.streams other))
+pub left_shows : (old new : Voter) (w : Lone) (conn : ℕ) (streams : ℕ → Option Conn) (turns : List ℕ) → Holds old.clients old.machine old.view (node_of w) streams turns → Rests (node_of w) → ((other : ℕ) → other ≢ conn → IsQuiet (w.streams other))
     → with_stream streams conn None ≡ with_stream w.streams conn None → clients_of new.clients new.machine ≡ without (clients_of old.clients old.machine) conn → machine_of new.machine ≡ machine_of old.machine → new.view ≡ old.view
     → Shows new (leaves w conn)
-left_shows old new w conn streams h rests quiet same left files view =
+left_shows old new w conn streams turns h rests quiet same left files view =
     let u = with_gate (node_of w) (on_hangup (node_of w).gate conn) in
     let is : node_of (turned w (Leave conn)) ≡ u = left_node w conn in
-    let holds : Holds new.clients new.machine new.view u (with_stream w.streams conn None) [] = record {
-      clients = left ∙ ap (λ (c : Clients). without c conn) h.clients ∙ ap (λ (ss : ℕ → Option Conn). record { sessions = on_hangup (node_of w).gate conn; streams = ss; turns = [] }) same;
+    let holds : Holds new.clients new.machine new.view u (with_stream w.streams conn None) turns = record {
+      clients = left ∙ ap (λ (c : Clients). without c conn) h.clients ∙ ap (λ (ss : ℕ → Option Conn). record { sessions = on_hangup (node_of w).gate conn; streams = ss; turns = turns }) same;
       machine_is = files ∙ h.machine_is;
       view_is = view ∙ h.view_is;
     } in
     record {
-      holds = subst (λ (x : Node). Holds new.clients new.machine new.view x (with_stream w.streams conn None) []) (sym is) holds;
+      turns = turns;
+      holds = subst (λ (x : Node). Holds new.clients new.machine new.view x (with_stream w.streams conn None) turns) (sym is) holds;
       rests = subst Rests (sym is) (gated_rests (node_of w) (on_hangup (node_of w).gate conn) rests (gone_idle (node_of w).gate conn rests.answered));
       quiet = quiet_with w.streams conn None tt quiet;
     }
@@ -93,6 +94,7 @@ stays_open old new conn reason said none told left files view w stream x =
     let why : reason_of stream ≡ None = sym (its_reason old w conn stream x) ∙ sym told ∙ none in
     subst (λ (o : Option CloseReason). ClosesFor new w conn stream o said said) (sym why) (record {
       shows = record {
+        turns = [];
         holds = record {
           clients = left ∙ closed_none (clients_of old.clients old.machine) conn (sym told ∙ none) ∙ x.holds.clients;
           machine_is = files ∙ x.holds.machine_is;
@@ -110,7 +112,7 @@ pub closes_now : (old new : Voter) (conn : ℕ) (o : Option CloseReason) (reason
 closes_now old new conn o reason said_old said_new some told left files view says w stream x =
     let why : reason_of stream ≡ Some reason = sym (its_reason old w conn stream x) ∙ sym told ∙ some in
     subst (λ (r : Option CloseReason). ClosesFor new w conn stream r said_old said_new) (sym why) (record {
-      shows = left_shows old new w conn (with_stream w.streams conn (Some (with_waiting stream []))) x.holds x.rests x.quiet (stream_again w.streams conn (Some (with_waiting stream [])) None)
+      shows = left_shows old new w conn (with_stream w.streams conn (Some (with_waiting stream []))) [] x.holds x.rests x.quiet (stream_again w.streams conn (Some (with_waiting stream [])) None)
           (left ∙ closed_some (clients_of old.clients old.machine) conn reason (sym told ∙ some)) files view;
       says = says;
     })
@@ -142,6 +144,7 @@ hung_shows old new conn left files view w x = by (w.streams conn) refl
 
     by : (o : Option Conn) → w.streams conn ≡ o → Shows new (hangs_up w conn)
     by None e = subst (Shows new) (stays_none w conn e) (record {
+      turns = x.turns;
       holds = record {
         clients = left ∙ hung_none (clients_of old.clients old.machine) conn (here ∙ e) ∙ x.holds.clients;
         machine_is = files ∙ x.holds.machine_is;
@@ -151,7 +154,7 @@ hung_shows old new conn left files view w x = by (w.streams conn) refl
       quiet = x.quiet;
     })
     by (Some stream) e = subst (Shows new) (leaves_some w conn stream e)
-        (left_shows old new w conn w.streams x.holds x.rests (λ other apart. x.quiet other) refl (left ∙ hung_some (clients_of old.clients old.machine) conn stream (here ∙ e)) files view)
+        (left_shows old new w conn w.streams x.turns x.holds x.rests (λ other apart. x.quiet other) refl (left ∙ hung_some (clients_of old.clients old.machine) conn stream (here ∙ e)) files view)
 
 -- ---- a client that connects
 
@@ -206,13 +209,14 @@ gets_in old new conn how said gets left told machine view w x =
     let may : connects node.gate conn ≡ true = how_joins node.gate conn how (told ∙ ap (λ (c : Clients). joining c.sessions conn) x.holds.clients) gets in
     let is : node_of (turned w (Join conn)) ≡ joined node conn = joined_node w conn may in
     let streams = with_stream w.streams conn (Some opened) in
-    let clients_now : clients_of new.clients new.machine ≡ record { sessions = connected node.gate conn; streams = streams; turns = [] } =
+    let clients_now : clients_of new.clients new.machine ≡ record { sessions = connected node.gate conn; streams = streams; turns = x.turns } =
     ap (λ ds. clients_of new.clients ds) machine ∙ left ∙ joined_by k conn how told ∙ ap (joined_as k conn) gets ∙ ap (λ (c : Clients). joined_as c conn Joined) x.holds.clients in
-    let holds : Holds new.clients new.machine new.view (joined node conn) streams [] = record { clients = clients_now; machine_is = ap machine_of machine ∙ x.holds.machine_is; view_is = view ∙ x.holds.view_is } in
+    let holds : Holds new.clients new.machine new.view (joined node conn) streams x.turns = record { clients = clients_now; machine_is = ap machine_of machine ∙ x.holds.machine_is; view_is = view ∙ x.holds.view_is } in
     let r = x.rests in
     let rests : Rests (joined node conn) = record { applied = r.applied; serves = r.serves; term = r.term; answered = joined_idle node.gate conn r.answered; calm = r.calm } in
     let there : Shows new (with_streams (turned w (Join conn)) streams) = record {
-      holds = subst (λ (n : Node). Holds new.clients new.machine new.view n streams []) (sym is) holds;
+      turns = x.turns;
+      holds = subst (λ (n : Node). Holds new.clients new.machine new.view n streams x.turns) (sym is) holds;
       rests = subst Rests (sym is) rests;
       quiet = quiet_with w.streams conn (Some opened) refl (λ other apart. x.quiet other);
     } in
@@ -226,8 +230,14 @@ stays_out old new conn how said_old said_new apart left told same machine view s
     let k = clients_of old.clients old.machine in
     let may : connects node.gate conn ≡ false = how_stays node.gate conn how (told ∙ ap (λ (c : Clients). joining c.sessions conn) x.holds.clients) apart in
     let there : Shows new w = record {
+      turns = x.turns;
       holds = record { clients = ap (λ ds. clients_of new.clients ds) machine ∙ left ∙ joined_by k conn how told ∙ same ∙ x.holds.clients; machine_is = ap machine_of machine ∙ x.holds.machine_is; view_is = view ∙ x.holds.view_is };
       rests = x.rests;
       quiet = x.quiet;
     } in
     record { shows = subst (λ (p : Lone × List Say). Shows new p.0) (full_is w conn may) there; says = says ∙ ap (λ (p : Lone × List Say). said_old ++ p.1) (full_is w conn may) }
+
+pub stays_as : (k : Clients) (conn : ℕ) (how : Joining) → how ≢ Joined → joined_as k conn how ≡ k
+stays_as k conn Joined apart = absurd (apart refl)
+stays_as k conn Full apart = refl
+stays_as k conn Taken apart = refl

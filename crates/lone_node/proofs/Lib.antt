@@ -1,4 +1,5 @@
 pub mod Asking
+pub mod Bytes
 pub mod Calm
 pub mod Checkpoints
 pub mod Collecting
@@ -13,4 +14,5 @@ pub mod Performing
 pub mod Safety
 pub mod Settling
 pub mod Shown
+pub mod Starting
 pub mod Turning

@@ -1,6 +1,6 @@
 -- One voter and its clients: what happened at the node, turn by turn; the streams of the open connections; and what is left of
 -- a journal, from which each request takes the engine's answers.
-use Rattle.std.specs.Prelude.{ℕ, false, List, [], ◌∷◌, ◌++◌, codes, length, take, drop, map, is_none, Option, Some, None, Result, Ok, Err, if◌then◌else◌}
+use Rattle.std.specs.Prelude.{ℕ, true, false, List, [], ◌∷◌, ◌++◌, codes, length, take, drop, map, is_none, Option, Some, None, Result, Ok, Err, if◌then◌else◌}
 use Rattle.std.specs.Option.{option_map}
 use Rattle.wire_words.specs.declared.message.Message.{Message}
 use Rattle.wire_msgs.specs.declared.request.Request.{Request}
@@ -96,6 +96,13 @@ view_now node = record {
 -- what it is before anything happened
 abbrev pub starting_view : View
 starting_view = record { id = 1; address = codes "n1"; leader = None; serving = false; term = 0; last = 0; servers = own_server ∷ []; links = false; readers = false; even = [] }
+
+-- the leader of term 1
+abbrev pub elected : View → Server → View
+elected v leader = record { id = v.id; address = v.address; leader = Some leader; serving = v.serving; term = 1; last = v.last; servers = v.servers; links = v.links; readers = v.readers; even = v.even }
+
+abbrev pub serving : View → View
+serving v = record { id = v.id; address = v.address; leader = v.leader; serving = true; term = v.term; last = v.last; servers = v.servers; links = v.links; readers = v.readers; even = v.even }
 
 -- ---- turns, and what is said in them
 

@@ -38,8 +38,9 @@ pub record Holds (held : Held) (machine : List Database) (seen : View) (node : N
   pub machine_is : machine_of machine ≡ databases node
   pub view_is : seen ≡ view_now node
 
--- The code shows the run that came here: its node rests, and no message waits.
+-- The code shows the run that came here: its node rests, and no message waits, whoever has a turn.
 pub record Shows (code : Voter) (w : Lone) : Type 0 where
-  pub holds : Holds code.clients code.machine code.view (node_of w) w.streams []
+  pub turns : List ℕ
+  pub holds : Holds code.clients code.machine code.view (node_of w) w.streams turns
   pub rests : Rests (node_of w)
   pub quiet : (conn : ℕ) → IsQuiet (w.streams conn)

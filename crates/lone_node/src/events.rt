@@ -1,9 +1,10 @@
 //! How the node starts; timeouts; clients that come and go; and what it shows of itself.
 
-ghost use Rattle.std.specs.Prelude.{◌≡◌, ◌++◌, List, IfOk, OnOk};
+ghost use Rattle.std.specs.Prelude.{◌≡◌, ◌≢◌, true, false, ◌++◌, List, IfOk, OnOk};
 ghost use Rattle.session_rules.specs.Engines.{Answer};
 ghost use Rattle.page_apply.specs.Databases.{contents_of};
-ghost use Rattle.lone_node.specs.Lone.{Lone, fresh, node_of, own_server, contents, starting_view, times_out, joins, hangs_up};
+ghost use Rattle.gateway.specs.Calls.{HasShortTerm};
+ghost use Rattle.lone_node.specs.Lone.{elected, serving, Lone, fresh, node_of, own_server, contents, starting_view, times_out, joins, hangs_up};
 ghost use Rattle.lone_node.specs.Shows.{IsSound, Shows};
 
 use crate::say::Say;
@@ -34,6 +35,34 @@ fn own_server(alloc: Global) -> Result<Server, AllocError>
     })
 }
 
+/// Whether a client that came so has a session.
+fn gets_in(how: Joining) -> bool
+    ensures yes { result ≡ true → how ≡ Joining.Joined }
+    ensures no { result ≡ false → how ≢ Joining.Joined }
+{
+    match how {
+        Joining::Joined => true,
+        Joining::Full | Joining::Taken => false,
+    }
+}
+
+/// It becomes the leader of term 1.
+fn elect(view: &mut View, leader: Server)
+    requires { HasShortTerm view.old }
+    ensures elected { view.new ≡ elected view.old leader }
+    ensures short { HasShortTerm view.new }
+{
+    view.leader = Some(leader);
+    view.term = 1;
+}
+
+/// It serves, as the leader of term 1.
+fn serve(view: &mut View)
+    ensures { view.new ≡ serving view.old }
+{
+    view.serving = true;
+}
+
 /// What it is before anything happened: a follower that knows no leader.
 fn starting_view(alloc: Global) -> Result<View, AllocError>
     ensures { IfOk result (λ view. view ≡ starting_view) }
@@ -60,7 +89,13 @@ impl Voter {
         ensures shows { IfOk result (λ node. (journal : List Answer) → Shows node (fresh journal)) }
         ensures sound { IfOk result IsSound }
     {
-        Err(AllocError)
+        let view = starting_view(alloc)?;
+        Ok(Voter {
+            alloc,
+            clients: Clients::new(alloc),
+            machine: Machine::new(alloc),
+            view,
+        })
     }
 
     /// An election timeout. The first one makes it the leader of term 1, as its own vote is a majority, and it serves at
@@ -72,7 +107,14 @@ impl Voter {
         ensures says { OnOk result ((w : Lone) → Shows self.old w → said.new.items ≡ said.old.items ++ (times_out w).1) }
         ensures sound { IsSound self.new }
     {
-        Err(AllocError)
+        if self.view.serving {
+            return Ok(());
+        }
+        let leader = own_server(self.alloc)?;
+        elect(&mut self.view, leader);
+        self.apply(&None, said)?;
+        serve(&mut self.view);
+        Ok(())
     }
 
     /// A client connects: it gets a session, or it is closed with the reason `Limit` where 64 are there. The number is that
@@ -83,7 +125,14 @@ impl Voter {
         ensures says { OnOk result ((w : Lone) → Shows self.old w → said.new.items ≡ said.old.items ++ (joins w conn).1) }
         ensures sound { IsSound self.new }
     {
-        Err(AllocError)
+        let how = self.clients.connect(conn)?;
+        if !gets_in(how) {
+            said.push(Say::Closed {
+                conn,
+                reason: CloseReason::Limit,
+            })?;
+        }
+        Ok(())
     }
 
     /// A client hangs up. Where its connection isn't open nothing changes. Takes no memory.

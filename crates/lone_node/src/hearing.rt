@@ -125,6 +125,11 @@ impl Voter {
         ensures kind { E.kind engine.new ≡ E.kind engine.old }
         ensures sound { IsSound self.new }
     {
-        Err(AllocError)
+        if !self.clients.is_open(conn) {
+            return Ok(());
+        }
+        self.clients.receive(conn, bytes)?;
+        self.take_messages(engine, said)?;
+        self.close(conn, said)
     }
 }
