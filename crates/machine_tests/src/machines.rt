@@ -127,6 +127,19 @@ fn the_65th_live_pin_is_full(rt: HostRuntime) -> Result<(), Fail> {
     Ok(())
 }
 
+// A byte of the main file in the image that a new pin of a database shows.
+pub(crate) fn pinned_byte(
+    machine: &mut Machine,
+    name: &str,
+    place: usize,
+) -> Result<Option<u8>, AllocError> {
+    let Ok(pin) = machine.pin(name) else {
+        return Ok(None);
+    };
+    let image = machine.image(&pin)?;
+    Ok(image.main.as_slice().get(place).copied())
+}
+
 // Leaves the first 64 pages of the set of 65 pages pending in a database.
 pub(crate) fn pending_in(alloc: Global, machine: &mut Machine, name: &str) -> Result<(), AllocError>
     requires { IsName name.now }

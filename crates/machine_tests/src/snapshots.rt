@@ -1,6 +1,6 @@
 //! A machine with two databases, one of them with pending pages, as a snapshot and back.
 
-use crate::machines::{pending_in, states_of_a_split_set};
+use crate::machines::{pending_in, pinned_byte, states_of_a_split_set};
 use page_apply::{Machine, SnapFault};
 use std::alloc::{AllocError, Global};
 use std::test::Fail;
@@ -55,5 +55,26 @@ fn a_snapshot_gives_the_machine_back(rt: HostRuntime) -> Result<(), Fail> {
     assert_eq!(rt; byte_of(&restored, "d", 2)?, Some(9));
     assert_eq!(rt; byte_of(&restored, "d", 258_050)?, Some(9));
     assert_eq!(rt; byte_of(&restored, "d", 262_144)?, None);
+    Ok(())
+}
+
+/// Whether a machine's databases have these names, in this order.
+fn are_named(machine: &Machine, wanted: &[&str]) -> Result<bool, AllocError> {
+    let names = machine.names()?;
+    Ok(
+        names.len() == wanted.len()
+            && names
+                .iter()
+                .zip(wanted)
+                .all(|(name, text)| name.as_str() == *text),
+    )
+}
+
+#[test]
+fn names_and_pinned_images_are_told(rt: HostRuntime) -> Result<(), Fail> {
+    let mut machine = two_databases(rt.alloc())?;
+    assert!(rt; are_named(&machine, &["a", "d"])?);
+    assert_eq!(rt; pinned_byte(&mut machine, "d", 258_050)?, Some(9));
+    assert_eq!(rt; pinned_byte(&mut machine, "a", 0)?, None);
     Ok(())
 }

@@ -1,5 +1,5 @@
 -- What a statement of SQL means on an image, over the clauses of the crate `sqlite` alone.
-use Rattle.std.specs.Prelude.{true, false, ◌≡◌, ◌⊎◌, ℕ, Bool, List, [], length, Option, Some, None, Result, Ok, Err, IsTrue}
+use Rattle.std.specs.Prelude.{true, false, ◌≡◌, ◌⊎◌, ℕ, Bool, List, [], Option, Some, None, Result, Ok, Err, IsTrue}
 use Rattle.sqlite_disk.specs.declared.Disk.{Ghosts}
 use Rattle.sqlite_wal.specs.Recovery as raw
 use Rattle.sqlite_value.specs.Order.{Row}

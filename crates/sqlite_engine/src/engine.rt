@@ -3,7 +3,7 @@ ghost use Rattle.std.specs.List.{Contains};
 ghost use Rattle.sql_engine.specs.Meanings.{Answers, Faults, CountsOpenings, Tells};
 ghost use Rattle.sql_engine.specs.declared.kind.EngineKind.TheVariants.{Sqlite};
 ghost use Rattle.sqlite_engine.specs.Keeping.{newest, images_of};
-ghost use Rattle.sqlite_engine.specs.Openings.{IsUnopened, OpensNothing};
+ghost use Rattle.sqlite_engine.specs.Openings.{IsUnopened, OpensNothing, TriesToOpen};
 ghost use Rattle.sqlite_engine.specs.Meant.{sql_meaning};
 
 use crate::connection::OpenFault;
@@ -75,6 +75,7 @@ impl SqliteEngine {
         ensures same { OnOk result (self.new.refused ≡ self.old.refused) }
         ensures fault { IfErr result (IsUnopened self.old.refused self.new.refused) }
         ensures opens { OpensNothing image.now self.old self.new }
+        ensures tries { TriesToOpen image.now self.old self.new }
     {
         if let Some(kept) = take(&mut self.kept, image) {
             return Ok(kept);
@@ -129,6 +130,7 @@ fn drop_oldest(list: &mut Vec<Kept>)
 /// Takes the connection over this image out of the list.
 fn take(list: &mut Vec<Kept>, image: &Image) -> Option<Kept>
     ensures over { IfSome result (λ kept. kept.base ≡ image.now) }
+    ensures among { IfSome result (λ _. Contains (images_of list.old.items) image.now) }
     ensures none { result ≡ None → Contains (images_of list.old.items) image.now → ⊥ }
 {
     match place_of(list, image) {
@@ -140,6 +142,7 @@ fn take(list: &mut Vec<Kept>, image: &Image) -> Option<Kept>
 /// Where in the list the connection over this image stands.
 fn place_of(list: &[Kept], image: &Image) -> Option<usize>
     ensures some { IfSome result (λ at. (at < length list.now) × ((other : _) → (slice_index_or list.now at other).base ≡ image.now)) }
+    ensures among { IfSome result (λ _. Contains (images_of list.now) image.now) }
     ensures none { result ≡ None → Contains (images_of list.now) image.now → ⊥ }
 {
     for (at, kept) in list.iter().enumerate() {
@@ -175,6 +178,7 @@ impl Engine for SqliteEngine {
         ensures openings { CountsOpenings self.old.refused self.new.refused result }
         ensures told { Tells result None None }
         ensures opens { OpensNothing image.now self.old self.new }
+        ensures tries { TriesToOpen image.now self.old self.new }
     {
         match self.opened(image) {
             Ok(kept) => {
@@ -197,6 +201,7 @@ impl Engine for SqliteEngine {
     fn ready(&mut self, image: &Image)
         ensures openings { self.old.refused ≤ self.new.refused }
         ensures opens { OpensNothing image.now self.old self.new }
+        ensures tries { TriesToOpen image.now self.old self.new }
     {
         if let Ok(kept) = self.opened(image) {
             self.keep(Some(kept));
