@@ -1,5 +1,5 @@
 -- Rows of a leader's progress, as loops find and add them.
-use Rattle.std.proofs.Common.{◌≡◌, ◌≢◌, ℕ, zero, suc, ◌+◌, ◌-◌, ◌<◌, ◌≤◌, Bool, true, false, cond, List, [], ◌∷◌, ◌++◌, length, take, refl, sym, ap, ◌∙◌, arith, append_assoc}
+use Rattle.std.proofs.Common.{◌≡◌, ◌≢◌, ℕ, zero, suc, ◌+◌, ◌-◌, ◌<◌, Bool, true, false, cond, List, [], ◌∷◌, ◌++◌, length, take, refl, sym, ap, ◌∙◌, arith, append_assoc}
 use Rattle.std.specs.Prelude.{◌==◌, ◌||◌, min, max, slice_index_or, slice_set}
 use Rattle.std.proofs.lemmas.Bool.{eqb-false, ne_eqb, cond-true, cond-false}
 use Rattle.std.proofs.lemmas.List.{map-append, take_more}

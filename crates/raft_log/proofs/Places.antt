@@ -6,7 +6,7 @@ use Rattle.std.proofs.lemmas.List.{take_more, get_or-drop}
 use Rattle.raft_rules.specs.Log.{Entry, LogEnd, nth_term, term_at, matches}
 use Rattle.raft_rules.specs.Node.{Follower}
 use Rattle.raft_rules.specs.Compaction.{CutLog, compacted, whole_log, meets}
-use Rattle.raft_rules.specs.NodeValues.{NodeValue, node_of}
+use Rattle.raft_rules.specs.NodeValues.{NodeValue}
 use Rattle.raft_rules.proofs.NodeValues.{compacted_length, whole_term, whole_term_cut}
 
 -- how long the whole log is

@@ -1,5 +1,5 @@
-use Rattle.std.proofs.Common.{inl, inr, sym, length, drop, arith, length-drop}
-use Rattle.raft_log.proofs.Agreeing.{front_free, front_conflict, front_within, front_short}
+use Rattle.std.proofs.Common.{inl, inr, sym, drop, arith, length-drop}
+use Rattle.raft_log.proofs.Agreeing.{front_free, front_conflict}
 use Rattle.raft_log.proofs.queue.conflict.Goals as goal
 
 pub returns-then-coming-same-clause-place : goal.returns-then-coming-same-clause-place

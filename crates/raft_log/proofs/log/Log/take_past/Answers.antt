@@ -1,4 +1,4 @@
-use Rattle.std.proofs.Common.{◌+◌, length, ap, ◌∙◌, arith, sym, subst}
+use Rattle.std.proofs.Common.{ap, arith, subst}
 use Rattle.raft_rules.specs.Log.{LogEnd}
 use Rattle.raft_log.specs.Agreeing.{TakesAfter}
 use Rattle.raft_log.proofs.Places.{meets_parts}
