@@ -1,5 +1,6 @@
 use crate::dqnode;
 use dq_base::{MemSink, MemSource};
+use engine_journal::Journal;
 use std::alloc::{AllocError, Global};
 use std::test::Fail;
 
@@ -30,7 +31,14 @@ fn run(
         Vec::from_slice(alloc, &[read])?,
     );
     let mut output = MemSink::new(alloc, Vec::from_slice(alloc, &[write])?);
-    let status = dqnode(alloc, words.as_slice(), &mut input, &mut output);
+    let mut journal = Journal::new(alloc);
+    let status = dqnode(
+        alloc,
+        words.as_slice(),
+        &mut input,
+        &mut output,
+        &mut journal,
+    );
     let text = Vec::from_slice(alloc, output.bytes())?;
     Ok(Ended { status, text })
 }
