@@ -1,15 +1,17 @@
 -- How a script ends, from how running it ended and what became of its error line.
-use Rattle.std.proofs.Common.{◌≡◌, ◌≢◌, ◌⊎◌, ℕ, List, ◌++◌, Option, Some, ap, inl, inr}
-use Rattle.std.specs.Io.KnownBytes.{Appends}
+use Rattle.std.proofs.Common.{◌≡◌, ◌≢◌, ◌⊎◌, ℕ, List, [], ◌++◌, Option, Some, ap, inl, inr, sym, subst, ◌∙◌, append-nil}
+use Rattle.std.specs.Io.KnownBytes.{Appends, Consumes}
 use Rattle.dq_base.specs.Sink.{AppendsFront}
 use Rattle.dq_base.proofs.ContentLaws.{Appends-then, AppendsFront-then, AppendsFront-longer}
 use Rattle.session_rules.specs.Engines.{Answer}
 use Rattle.sql_engine.specs.declared.kind.EngineKind.{EngineKind}
 use Rattle.cluster_runner.specs.Run.{Fault, Line, Large, run, printed}
-use Rattle.cluster_runner.specs.Outcome.{MayFollow, Refuses, StopsShort}
+use Rattle.sqlite_engine.specs.Any.{any_meaning}
+use Rattle.lone_node.proofs.Safety.{runs_are_safe_hold}
+use Rattle.cluster_runner.specs.Outcome.{MayFollow, Anything, IsAllowed, Completes, Refuses, StopsShort}
 use Rattle.dqnode.specs.declared.status.Status.{Status}
 use Rattle.dqnode.specs.declared.status.Status.TheVariants as status
-use Rattle.dqnode.specs.Program.{line_error, large_error, fault_text, run_text, Faults, BreaksOff}
+use Rattle.dqnode.specs.Program.{line_error, large_error, fault_text, run_text, Faults, BreaksOff, RunsSafely}
 use Rattle.dqnode.specs.Status.{ScriptEnds}
 
 -- A script that stopped short breaks off.
@@ -58,3 +60,26 @@ pub large_refused : (kind : EngineKind) (journal : List Answer) (left left' writ
     → (ends ≡ status.Large) ⊎ (ends ≡ status.WriteFault) → ScriptEnds kind journal ends left left' written later
 large_refused kind journal left left' written printed_now later r ends told' broken (inl e) = rw e (told kind journal left left' written printed_now later Large r (told' e))
 large_refused kind journal left left' written printed_now later r ends told' broken (inr e) = rw e (not_told kind journal left left' written printed_now later Large r (broken (λ s. absurd cc)))
+
+-- However a script ended, its run is safe.
+module _ (kind : EngineKind) (journal : List Answer) (left left' : Option (List ℕ)) where
+  safely : (read : List ℕ) → Consumes left left' read → ((more : List ℕ) → MayFollow left' more → IsAllowed kind (run (read ++ more) journal)) → RunsSafely kind journal left left'
+  safely read taken allowed = record {
+    read = read;
+    taken = taken;
+    allowed = allowed;
+    safe = λ more may. runs_are_safe_hold (any_meaning kind) kind (run (read ++ more) journal).turns (allowed more may);
+  }
+
+  pub completes_safely : (written written' : Option (List ℕ)) → Completes kind journal left left' written written' → RunsSafely kind journal left left'
+  completes_safely written written' h =
+      safely h.script h.taken (λ more may. subst (λ (read : List ℕ). IsAllowed kind (run read journal)) (sym (ap (λ (m : List ℕ). h.script ++ m) (may h.read) ∙ append-nil h.script)) h.allowed)
+
+  pub refuses_safely : (fault : Fault) (written written' : Option (List ℕ)) → Refuses kind journal fault left left' written written' → RunsSafely kind journal left left'
+  refuses_safely fault written written' h = safely h.read h.taken h.allowed
+
+  pub stops_safely : (written written' : Option (List ℕ)) → StopsShort kind journal (MayFollow left') left left' written written' → RunsSafely kind journal left left'
+  stops_safely written written' h = safely h.read h.taken h.allowed
+
+  pub breaks_safely : (written written' : Option (List ℕ)) → StopsShort kind journal Anything left left' written written' → RunsSafely kind journal left left'
+  breaks_safely written written' h = safely h.read h.taken (λ more may. h.allowed more tt)

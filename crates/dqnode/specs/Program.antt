@@ -76,6 +76,14 @@ pub record BreaksOff (kind : EngineKind) (journal : List Answer) (follows : List
 abbrev pub RunsWith : List (String Global) → (EngineKind → Type 0) → Type 0
 RunsWith words holds = (kind : EngineKind) × AsksFor words kind × holds kind
 
+-- Whatever may follow the bytes read, each answer that the script's run takes off this journal is one that an engine of the
+-- kind may give, and the run is safe.
+pub record RunsSafely (kind : EngineKind) (journal : List Answer) (left left' : Option (List ℕ)) : Type 0 where
+  pub read : List ℕ
+  pub taken : Consumes left left' read
+  pub allowed : (more : List ℕ) → MayFollow left' more → IsAllowed kind (run (read ++ more) journal)
+  pub safe : (more : List ℕ) → MayFollow left' more → Safe (any_meaning kind) (run (read ++ more) journal).turns
+
 -- Where each answer that a script's run takes off a journal is one that an engine of the kind may give, the run is safe.
 abbrev pub RunsAreSafe : Type 0
 RunsAreSafe = (kind : EngineKind) (script : List ℕ) (journal : List Answer) → IsAllowed kind (run script journal) → Safe (any_meaning kind) (run script journal).turns

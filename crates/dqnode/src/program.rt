@@ -9,7 +9,7 @@ ghost use Rattle.cluster_runner.specs.Outcome.{MayFollow, Anything, Completes};
 ghost use Rattle.dq_base.specs.Sink.{AppendsFront};
 ghost use Rattle.cluster_runner.specs.Run.{Line, Large};
 ghost use Rattle.cluster_runner.specs.Alike.{KeepsAlike};
-ghost use Rattle.dqnode.specs.Program.{engine_word, AreWords, AsksFor, IsScript, words_error, line_error, large_error, Faults, BreaksOff, RunsWith, RunsAreSafe};
+ghost use Rattle.dqnode.specs.Program.{engine_word, AreWords, AsksFor, IsScript, words_error, line_error, large_error, Faults, BreaksOff, RunsWith, RunsSafely, RunsAreSafe};
 ghost use Rattle.dqnode.specs.Status.{IsStatus, IsBroken, ScriptEnds};
 
 use crate::status::Status;
@@ -108,6 +108,7 @@ fn script<S: Source, K: Sink>(
     journal: &mut Journal,
 ) -> Status
     ensures ended { ScriptEnds engine (map answer_of journal.new) result (S.left input.old) (S.left input.new) (K.written output.old) (K.written output.new) }
+    ensures safe { RunsSafely engine (map answer_of journal.new) (S.left input.old) (S.left input.new) }
     ensures read_fault { result ≡ Status.ReadFault → Rose (S.faults input.old) (S.faults input.new) }
     ensures write_fault { result ≡ Status.WriteFault → Rose (K.faults output.old) (K.faults output.new) }
     ensures input_count { S.faults input.old ≤ S.faults input.new }
@@ -141,17 +142,20 @@ fn refuse_words<K: Sink>(output: &mut K) -> Status
 /// process ends with.
 ///
 /// The words are `script`, or `script --engine E` where E is `sqlite` or `cells`: the input is a script, whose text goes to
-/// the output. The engine of SQLite is the default. Other words give status 1 and the line `error words`. A line that isn't in the grammar, or that names what isn't there, the first fault of the
-/// script, gives status 2, behind the text of the lines before it, and `error line` with its number. A line behind the
-/// millionth, or an event behind the twenty thousandth, as the first fault gives 9 and `error large` instead. 3 is a
-/// fault of the input and 4 one of the output, an error line that could not be written included; 7 is want of memory.
+/// the output. The engine of SQLite is the default. Other words give status 1 and the line `error words`. A line that isn't
+/// in the grammar, or that names what isn't there, the first fault of the script, gives status 2, behind the text of the
+/// lines before it, and `error line` with its number. A line behind the millionth, or an event behind the twenty
+/// thousandth, as the first fault gives 9 and `error large` instead. 3 is a fault of the input and 4 one of the output, an
+/// error line that could not be written included; 7 is want of memory.
 ///
 /// The journal is that of this run afterwards: what the engine answered to the statements of clients, in their order; what it
 /// held before is dropped, and after other words it is as it was. What was read and this journal decide all else. Each answer
 /// that the run takes off the journal is one that an engine of the kind may give, and every such run is safe: at each moment
-/// each reply is right by the node's entries, and what was said and applied stays. Unless the input is at its end, every script that begins with the bytes read has the fault
-/// that is named; and after a fault of the outside or want of memory a front was written of what each of them gives, so
-/// nothing of a line that was read in part. After words that ask for no script the input is as it was.
+/// each reply is right by the node's entries, and what was said and applied stays.
+///
+/// Unless the input is at its end, every script that begins with the bytes read has the fault that is named; and after a
+/// fault of the outside or want of memory a front was written of what each of them gives, so nothing of a line that was read
+/// in part. After words that ask for no script the input is as it was.
 pub fn dqnode<S: Source, K: Sink>(
     alloc: Global,
     words: &[String],
@@ -166,13 +170,17 @@ pub fn dqnode<S: Source, K: Sink>(
     ensures only_words { ¬ (IsScript words.now) → (result ≡ 1) ⊎ (result ≡ 4) }
     // For such words the input is not touched.
     ensures words_input { ¬ (IsScript words.now) → Keeps (S.left input.old) (S.left input.new) × (S.faults input.old ≡ S.faults input.new) }
+    // And the journal is as it was.
+    ensures words_journal { ¬ (IsScript words.now) → journal.new ≡ journal.old }
     // The script's first fault is a line that isn't in the grammar there; the bytes read show it, and it is named.
     ensures script { result ≡ 2 → RunsWith words.now (λ kind. (line : ℕ) × Faults kind (map answer_of journal.new) (Line line) (S.left input.old) (S.left input.new) (K.written output.old) (K.written output.new)) }
     // The script's first fault is that it has too many lines or events; the bytes read show it, and it is said.
     ensures large { result ≡ 9 → RunsWith words.now (λ kind. Faults kind (map answer_of journal.new) Large (S.left input.old) (S.left input.new) (K.written output.old) (K.written output.new)) }
-    // A run is safe where each answer that it takes off its journal is allowed, as those of this run are: at each moment each
-    // reply is right by the node's entries, and what was said and applied stays.
-    ensures safe { RunsAreSafe }
+    // However the script ended: each answer that its run takes off the journal is one that the engine may give, and the run is
+    // safe: at each moment each reply is right by the node's entries, and what was said and applied stays.
+    ensures safe { IsScript words.now → RunsWith words.now (λ kind. RunsSafely kind (map answer_of journal.new) (S.left input.old) (S.left input.new)) }
+    // So is the run of every script with every journal whose answers are allowed.
+    ensures always_safe { RunsAreSafe }
     // A run has one list of commands: at every moment machines that have applied as many of them hold the same files and
     // pending pages, and are shown so. The files of each are together at most 67,108,864 bytes long.
     ensures alike { (script : List ℕ) (journal : List Answer) → KeepsAlike script journal }
