@@ -7,9 +7,10 @@ ghost use Rattle.session_rules.specs.Causes.{unread_cause, failure};
 ghost use Rattle.client_sessions.specs.Calls.{bytes_of, sent};
 
 use dq_base::Items;
+use session_table::Cause;
 use std::alloc::{AllocError, Global};
 use wire_msgs::{MsgFault, Response, write_response};
-use wire_words::{WireBytes, WireText, WordFault};
+use wire_words::WireBytes;
 
 /// Responses as messages, one each.
 pub(crate) fn messages(
@@ -52,12 +53,7 @@ pub(crate) fn empty(alloc: Global) -> Result<WireBytes, AllocError>
 fn refusal(alloc: Global, fault: MsgFault) -> Result<Response, AllocError>
     ensures { IfOk result (λ response. response ≡ failure (unread_cause fault)) }
 {
-    let (code, text) = match fault {
-        MsgFault::Word(WordFault::Float(_)) => (20, "float parameter"),
-        _ => (1005, "bad request"),
-    };
-    let message = WireText::new(String::from_str(alloc, text)?);
-    Ok(Response::Failure { code, message })
+    Cause::of_unread(fault).failure(alloc)
 }
 
 /// The message that refuses one that doesn't read as a request, for this fault.

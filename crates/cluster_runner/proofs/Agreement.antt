@@ -1,5 +1,5 @@
 -- Each machine holds what its front of the run's list makes, at every moment, and is shown so.
-use Rattle.std.proofs.Common.{◌≡◌, ℕ, zero, suc, ◌+◌, ◌<◌, ◌≤◌, Bool, true, false, cond, List, [], ◌∷◌, ◌++◌, Option, Some, None, Ok, Err, length, get_or, take, All, Contains, refl, sym, ap, subst, ◌∙◌, append_assoc, append-nil, arith}
+use Rattle.std.proofs.Common.{◌≡◌, ℕ, zero, suc, ◌+◌, ◌<◌, ◌≤◌, Bool, true, false, cond, List, [], ◌∷◌, ◌++◌, Option, Some, None, option_map, Ok, Err, length, map, get_or, take, All, Contains, refl, sym, ap, subst, ◌∙◌, append_assoc, append-nil, map, arith}
 use Rattle.std.specs.Prelude.{slice_get, Result}
 use Rattle.std.specs.List.{AllByRecursion}
 use Rattle.std.proofs.lemmas.Grind.{fold-append}
@@ -22,16 +22,15 @@ use Rattle.cluster_runner.specs.declared.grammar.ScriptLine.{ScriptLine}
 use Rattle.cluster_runner.specs.declared.grammar.ScriptLine.TheVariants as says
 use Rattle.cluster_runner.specs.Lines.{lines_of}
 use Rattle.cluster_runner.specs.Grammar.{line_of}
-use Rattle.wire_words.specs.declared.message.Message.{Message}
-use Rattle.client_connection.specs.declared.connection.CloseReason.{CloseReason}
-use Rattle.client_connection.specs.Connection.{received, reason_of}
-use Rattle.cluster_runner.specs.declared.cluster.Client.{Client}
-use Rattle.cluster_runner.specs.declared.cluster.Client.TheVariants.{Open, Gone}
-use Rattle.cluster_runner.specs.World.{heard, served, replies, closing_line}
-use Rattle.cluster_runner.specs.World.{World, happens, node_standing}
+use Rattle.session_rules.specs.Engines.{Answer}
+use Rattle.lone_node.specs.declared.say.Say.{Say as Told}
+use Rattle.lone_node.specs.declared.say.Say.TheVariants as told
+use Rattle.lone_node.specs.Lone.{Lone, times_out, hears}
+use Rattle.lone_node.specs.Lone.{joins as node_joins}
+use Rattle.cluster_runner.specs.World.{World, say_of, with_known, gone_on, happens, node_standing}
 use Rattle.cluster_runner.specs.Holding.{Holding}
 use Rattle.cluster_runner.specs.Machines.{Fleet, idle, after_command, after_next, take_at, with_command, joins, refusal, applies, place_named, standing, standings}
-use Rattle.cluster_runner.specs.Scenes.{Scene, Nodes, Pages, plays, shown}
+use Rattle.cluster_runner.specs.Scenes.{Scene, Nodes, Pages, plays, lacks_answer, shown}
 use Rattle.cluster_runner.specs.Run.{Place, Opening, Within, Next, Fault, Run, idle_fleet, after_event, after_show, opened_at, line_step, said_step, step, onward, closing, run_from, run}
 use Rattle.cluster_runner.specs.Alike.{fleet_in, fleet_at, led, led_from, commands_of, moment, run_until, BeginsWith, Follows, IsDigestOf, Tells, length_of_all, KeepsAlike}
 use Rattle.cluster_runner.proofs.Bounded.{list_sound, follower_within}
@@ -139,41 +138,30 @@ all_shown_tell : (commands : List Command) (number : ℕ) (machines : List Holdi
 all_shown_tell commands number [] follow = tt
 all_shown_tell commands number (machine ∷ machines) follow = (shown_tells commands number machine follow.0, all_shown_tell commands (suc number) machines follow.1)
 
-node_tells_at : (commands : List Command) (leads : Bool) → Tells commands (cond leads (Node 1 1 true 1 (digest [])) (Node 1 0 false 0 (digest [])))
-node_tells_at commands true = tt
-node_tells_at commands false = tt
-
 node_tells : (commands : List Command) (world : World) → Tells commands (node_standing world)
-node_tells commands world = node_tells_at commands world.leads
+node_tells commands world = tt
 
 closing_tells : (place : Place) → AllFollow (fleet_at place) → AllTell (fleet_at place).commands (closing place)
-closing_tells Opening follow = tt
+closing_tells (Opening journal) follow = tt
 closing_tells (Within events (Nodes world)) follow = (node_tells [] world, tt)
 closing_tells (Within events (Pages fleet)) follow = all_shown_tell fleet.commands 1 fleet.machines follow
 
 -- ---- what events and lines do
 
-replies_tell : (leads : Bool) (connection : ℕ) (messages : List Message) (more : List Say) → AllTell [] more → AllTell [] (replies leads connection messages ++ more)
-replies_tell leads connection [] more h = h
-replies_tell leads connection (m ∷ messages) more h = (tt, replies_tell leads connection messages more h)
+said_tell : (told : List Told) → AllTell [] (map say_of told)
+said_tell [] = tt
+said_tell (told.Reply conn message ∷ more) = (tt, said_tell more)
+said_tell (told.Closed conn reason ∷ more) = (tt, said_tell more)
 
-closing_line_tells : (connection : ℕ) (reason : Option CloseReason) → AllTell [] (closing_line connection reason)
-closing_line_tells connection None = tt
-closing_line_tells connection (Some reason) = (tt, tt)
-
-heard_tells : (world : World) (connection : ℕ) (bytes : List ℕ) (client : Option Client) (next : World × List Say) → heard world connection bytes client ≡ Some next → AllTell [] next.1
-heard_tells world connection bytes None next e = absurd cc
-heard_tells world connection bytes (Some Gone) next e = subst (λ (n : World × List Say). AllTell [] n.1) (some_is _ next e) tt
-heard_tells world connection bytes (Some (Open c)) next e =
-    let after = received c bytes in
-    subst (λ (n : World × List Say). AllTell [] n.1) (some_is (served world connection after) next e)
-    (replies_tell world.leads connection after.waiting (closing_line connection (reason_of after)) (closing_line_tells connection (reason_of after)))
+bytes_tell : (known : Bool) (world : World) (o : Option (Lone × List Told)) (next : World × List Say) → cond known (option_map (gone_on world) o) None ≡ Some next → AllTell [] next.1
+bytes_tell false world o next e = absurd cc
+bytes_tell true world o next e = where_mapped (λ (n : World × List Say). AllTell [] n.1) (gone_on world) o next (λ n h. said_tell n.1) e
 
 happens_tells : (world : World) (event : Event) (next : World × List Say) → happens world event ≡ Some next → AllTell [] next.1
 unfolding happens
-happens_tells world (Timeout node) next e = where_some (λ (n : World × List Say). AllTell [] n.1) _ _ next tt e
-happens_tells world (Connect node connection) next e = where_some (λ (n : World × List Say). AllTell [] n.1) _ _ next tt e
-happens_tells world (Bytes connection bytes) next e = heard_tells world connection bytes (world.clients connection) next e
+happens_tells world (Timeout node) next e = where_some (λ (n : World × List Say). AllTell [] n.1) _ (gone_on world (times_out world.node)) next (said_tell (times_out world.node).1) e
+happens_tells world (Connect node connection) next e = where_some (λ (n : World × List Say). AllTell [] n.1) _ (gone_on (with_known world connection) (node_joins world.node connection)) next (said_tell (node_joins world.node connection).1) e
+happens_tells world (Bytes connection bytes) next e = bytes_tell _ world (hears world.node connection bytes) next e
 happens_tells world (Hangup connection) next e = where_some (λ (n : World × List Say). AllTell [] n.1) _ _ next tt e
 happens_tells world (Put bytes) next e = absurd cc
 happens_tells world (Take machine) next e = absurd cc
@@ -209,19 +197,19 @@ scene_shows (Pages fleet) number say follow e =
     where_mapped (Tells fleet.commands) (λ (place : ℕ). standing number (get_or fleet.machines place idle)) (place_named number (length fleet.machines)) say
     (λ place h. shown_tells fleet.commands number (get_or fleet.machines place idle) (all_get_or (Follows fleet.commands) fleet.machines place idle (follows_idle fleet.commands) follow)) e
 
-opening_goes : (number : ℕ) (may : Bool) (scene : Scene) (next : Place × List Say) → PlaceGoes Opening (Within 0 scene, []) → opened_at number may scene ≡ Ok next → PlaceGoes Opening next
-opening_goes number true scene next goes e = subst (PlaceGoes Opening) (ok_is _ next e) goes
-opening_goes number false scene next goes e = absurd cc
+opening_goes : (journal : List Answer) (number : ℕ) (may : Bool) (scene : Scene) (next : Place × List Say) → PlaceGoes (Opening journal) (Within 0 scene, []) → opened_at number may scene ≡ Ok next → PlaceGoes (Opening journal) next
+opening_goes journal number true scene next goes e = subst (PlaceGoes (Opening journal)) (ok_is _ next e) goes
+opening_goes journal number false scene next goes e = absurd cc
 
 count_goes : (events : ℕ) (few : Bool) (scene : Scene) (n : Scene × List Say) (next : Place × List Say) → SceneGoes scene n → cond few (Ok (Within (events + 1) n.0, n.1)) (Err Fault.Large) ≡ Ok next
     → PlaceGoes (Within events scene) next
 count_goes events true scene n next goes e = subst (PlaceGoes (Within events scene)) (ok_is _ next e) goes
 count_goes events false scene n next goes e = absurd cc
 
-after_goes : (number events : ℕ) (scene : Scene) (o : Option (Scene × List Say)) (next : Place × List Say) → ((n : Scene × List Say) → o ≡ Some n → SceneGoes scene n) → after_event number events o ≡ Ok next
+after_goes : (number events : ℕ) (scene : Scene) (lacking : Bool) (o : Option (Scene × List Say)) (next : Place × List Say) → ((n : Scene × List Say) → o ≡ Some n → SceneGoes scene n) → after_event number events lacking o ≡ Ok next
     → PlaceGoes (Within events scene) next
-after_goes number events scene None next goes e = absurd cc
-after_goes number events scene (Some n) next goes e = count_goes events _ scene n next (goes n refl) e
+after_goes number events scene lacking None next goes e = absurd cc
+after_goes number events scene lacking (Some n) next goes e = count_goes events _ scene n next (goes n refl) e
 
 show_goes : (number : ℕ) (place : Place) (o : Option Say) (next : Place × List Say) → AllFollow (fleet_at place) → ((say : Say) → o ≡ Some say → Tells (fleet_at place).commands say) → after_show number place o ≡ Ok next
     → PlaceGoes place next
@@ -231,14 +219,14 @@ show_goes number place (Some say) next follow tells e = subst (PlaceGoes place) 
 line_goes : (place : Place) (number : ℕ) (line : ScriptLine) (next : Place × List Say) → AllFollow (fleet_at place) → line_step place number line ≡ Ok next → PlaceGoes place next
 unfolding line_step
 line_goes place number says.Blank next follow e = subst (PlaceGoes place) (ok_is _ next e) (stays (fleet_at place) [] follow tt)
-line_goes Opening number (says.Nodes voters) next follow e = opening_goes number _ _ next (stays (idle_fleet 0) [] tt tt) e
-line_goes Opening number (says.Pages machines) next follow e = opening_goes number _ _ next (record { follow = all_follow_idle machines; grows = begins_itself []; tells = tt }) e
-line_goes Opening number (says.Show shows) next follow e = absurd cc
-line_goes Opening number (says.Event event) next follow e = absurd cc
+line_goes (Opening journal) number (says.Nodes voters) next follow e = opening_goes journal number _ _ next (stays (idle_fleet 0) [] tt tt) e
+line_goes (Opening journal) number (says.Pages machines) next follow e = opening_goes journal number _ _ next (record { follow = all_follow_idle machines; grows = begins_itself []; tells = tt }) e
+line_goes (Opening journal) number (says.Show shows) next follow e = absurd cc
+line_goes (Opening journal) number (says.Event event) next follow e = absurd cc
 line_goes (Within events scene) number (says.Nodes voters) next follow e = absurd cc
 line_goes (Within events scene) number (says.Pages machines) next follow e = absurd cc
 line_goes (Within events scene) number (says.Show shows) next follow e = show_goes number (Within events scene) (shown scene shows) next follow (λ say h. scene_shows scene shows say follow h) e
-line_goes (Within events scene) number (says.Event event) next follow e = after_goes number events scene (plays scene event) next (λ n h. scene_goes scene event n follow h) e
+line_goes (Within events scene) number (says.Event event) next follow e = after_goes number events scene (lacks_answer scene event) (plays scene event) next (λ n h. scene_goes scene event n follow h) e
 
 said_goes : (place : Place) (number : ℕ) (line : Option ScriptLine) (next : Place × List Say) → AllFollow (fleet_at place) → said_step place number line ≡ Ok next → PlaceGoes place next
 said_goes place number None next follow e = absurd cc
@@ -293,7 +281,7 @@ run_tells : (place : Place) (number : ℕ) (lines : List (List ℕ)) → AllFoll
 run_tells place number [] follow = closing_tells place follow
 run_tells place number (line ∷ lines) follow =
     let P : Next → Type 0 = λ o. step place number line ≡ o
-    → AllTell (fleet_at (led (λ (next : Place). led_from next (suc number) lines) place o)).commands (onward (λ (next : Place × List Say). run_from next.0 (suc number) lines) o).said in
+    → AllTell (fleet_at (led (λ (next : Place). led_from next (suc number) lines) place o)).commands (onward (λ (next : Place × List Say). run_from next.0 (suc number) lines) place o).said in
     let go : (o : Next) → P o =
     λ o. elim o as P [
       | Ok next ↦ λ e.
@@ -313,7 +301,7 @@ ShowsAtEnd run place = run.fault ≡ None → (said : List Say) × (run.said ≡
 shows : (place : Place) (number : ℕ) (lines : List (List ℕ)) → ShowsAtEnd (run_from place number lines) (led_from place number lines)
 shows place number [] = λ e. ([], refl)
 shows place number (line ∷ lines) =
-    let P : Next → Type 0 = λ o. ShowsAtEnd (onward (λ (next : Place × List Say). run_from next.0 (suc number) lines) o) (led (λ (next : Place). led_from next (suc number) lines) place o) in
+    let P : Next → Type 0 = λ o. ShowsAtEnd (onward (λ (next : Place × List Say). run_from next.0 (suc number) lines) place o) (led (λ (next : Place). led_from next (suc number) lines) place o) in
     let go : (o : Next) → P o =
     λ o. elim o as P [
       | Ok next ↦ λ e. let w = shows next.0 (suc number) lines e in (next.1 ++ w.0, ap (λ (s : List Say). next.1 ++ s) w.1 ∙ sym (append_assoc next.1 w.0 _))
@@ -321,59 +309,59 @@ shows place number (line ∷ lines) =
     ] in
     go (step place number line)
 
-module _ (script : List ℕ) where
-  grows_later : (early late : ℕ) → early ≤ late → BeginsWith (moment script late).commands (moment script early).commands
+module _ (script : List ℕ) (journal : List Answer) where
+  grows_later : (early late : ℕ) → early ≤ late → BeginsWith (moment script journal late).commands (moment script journal early).commands
   grows_later early late le =
       let front : take early (take late (lines_of script)) ≡ take early (lines_of script) = take-take early late (lines_of script) le in
-      subst (λ (lines : List (List ℕ)). BeginsWith (moment script late).commands (fleet_at (led_from Opening 1 lines)).commands) front (lead_on Opening 1 (take late (lines_of script)) early tt)
+      subst (λ (lines : List (List ℕ)). BeginsWith (moment script journal late).commands (fleet_at (led_from (Opening journal) 1 lines)).commands) front (lead_on (Opening journal) 1 (take late (lines_of script)) early tt)
 
-  grows_to_end : (count : ℕ) → BeginsWith (commands_of script) (moment script count).commands
-  grows_to_end count = lead_on Opening 1 (lines_of script) count tt
+  grows_to_end : (count : ℕ) → BeginsWith (commands_of script journal) (moment script journal count).commands
+  grows_to_end count = lead_on (Opening journal) 1 (lines_of script) count tt
 
-  each_follows : (count : ℕ) → AllByRecursion (Follows (commands_of script)) (moment script count).machines
+  each_follows : (count : ℕ) → AllByRecursion (Follows (commands_of script journal)) (moment script journal count).machines
   each_follows count =
-      let fleet = moment script count in
-      all_weaker (Follows fleet.commands) (Follows (commands_of script)) (follows_grown (commands_of script) fleet.commands (grows_to_end count)) fleet.machines
-      (lead Opening 1 (take count (lines_of script)) tt).follow
+      let fleet = moment script journal count in
+      all_weaker (Follows fleet.commands) (Follows (commands_of script journal)) (follows_grown (commands_of script journal) fleet.commands (grows_to_end count)) fleet.machines
+      (lead (Opening journal) 1 (take count (lines_of script)) tt).follow
 
-  all_follow : (count : ℕ) → All (Follows (commands_of script)) (moment script count).machines
-  all_follow count = All-from_recursion (Follows (commands_of script)) (moment script count).machines (each_follows count)
+  all_follow : (count : ℕ) → All (Follows (commands_of script journal)) (moment script journal count).machines
+  all_follow count = All-from_recursion (Follows (commands_of script journal)) (moment script journal count).machines (each_follows count)
 
-  all_bounded : (count : ℕ) → All (λ (machine : Holding). length_of_all machine.databases ≤ 67108864) (moment script count).machines
+  all_bounded : (count : ℕ) → All (λ (machine : Holding). length_of_all machine.databases ≤ 67108864) (moment script journal count).machines
   all_bounded count =
-      let machines = (moment script count).machines in
+      let machines = (moment script journal count).machines in
       let P : Holding → Type 0 = λ machine. length_of_all machine.databases ≤ 67108864 in
-      All-from_recursion P machines (all_weaker (Follows (commands_of script)) P (follower_within (commands_of script) (list_sound script)) machines (each_follows count))
+      All-from_recursion P machines (all_weaker (Follows (commands_of script journal)) P (follower_within (commands_of script journal) (list_sound script journal)) machines (each_follows count))
 
-  same_holding : (early late : ℕ) (machine other : Holding) → Contains (moment script early).machines machine → Contains (moment script late).machines other → machine.applied ≡ other.applied → machine.databases ≡ other.databases
+  same_holding : (early late : ℕ) (machine other : Holding) → Contains (moment script journal early).machines machine → Contains (moment script journal late).machines other → machine.applied ≡ other.applied → machine.databases ≡ other.databases
   same_holding early late machine other here there e =
-      let one = All-contains (Follows (commands_of script)) (moment script early).machines machine (all_follow early) here in
-      let two = All-contains (Follows (commands_of script)) (moment script late).machines other (all_follow late) there in
-      one.holds ∙ ap (λ (n : ℕ). files (take n (commands_of script))) e ∙ sym two.holds
+      let one = All-contains (Follows (commands_of script journal)) (moment script journal early).machines machine (all_follow early) here in
+      let two = All-contains (Follows (commands_of script journal)) (moment script journal late).machines other (all_follow late) there in
+      one.holds ∙ ap (λ (n : ℕ). files (take n (commands_of script journal))) e ∙ sym two.holds
 
-  all_told : All (Tells (commands_of script)) (run script).said
-  all_told = All-from_recursion (Tells (commands_of script)) (run script).said (run_tells Opening 1 (lines_of script) tt)
+  all_told : All (Tells (commands_of script journal)) (run script journal).said
+  all_told = All-from_recursion (Tells (commands_of script journal)) (run script journal).said (run_tells (Opening journal) 1 (lines_of script) tt)
 
-  same_digests : (number other applied : ℕ) (bytes others : List ℕ) → Contains (run script).said (Machine number applied bytes) → Contains (run script).said (Machine other applied others) → bytes ≡ others
+  same_digests : (number other applied : ℕ) (bytes others : List ℕ) → Contains (run script journal).said (Machine number applied bytes) → Contains (run script journal).said (Machine other applied others) → bytes ≡ others
   same_digests number other applied bytes others here there =
-      let said = (run script).said in
-      let one : IsDigestOf (commands_of script) applied bytes = All-contains (Tells (commands_of script)) said (Machine number applied bytes) all_told here in
-      let two : IsDigestOf (commands_of script) applied others = All-contains (Tells (commands_of script)) said (Machine other applied others) all_told there in
+      let said = (run script journal).said in
+      let one : IsDigestOf (commands_of script journal) applied bytes = All-contains (Tells (commands_of script journal)) said (Machine number applied bytes) all_told here in
+      let two : IsDigestOf (commands_of script journal) applied others = All-contains (Tells (commands_of script journal)) said (Machine other applied others) all_told there in
       one.bytes_are ∙ sym two.bytes_are
 
-  all_told_until : (count : ℕ) → All (Tells (commands_of script)) (run_until script count).said
+  all_told_until : (count : ℕ) → All (Tells (commands_of script journal)) (run_until script journal count).said
   all_told_until count =
-      let fleet = moment script count in
-      let said = (run_until script count).said in
-      All-from_recursion (Tells (commands_of script)) said
-      (all_weaker (Tells fleet.commands) (Tells (commands_of script)) (tells_grown (commands_of script) fleet.commands (grows_to_end count)) said (run_tells Opening 1 (take count (lines_of script)) tt))
+      let fleet = moment script journal count in
+      let said = (run_until script journal count).said in
+      All-from_recursion (Tells (commands_of script journal)) said
+      (all_weaker (Tells fleet.commands) (Tells (commands_of script journal)) (tells_grown (commands_of script journal) fleet.commands (grows_to_end count)) said (run_tells (Opening journal) 1 (take count (lines_of script)) tt))
 
-  next_does : (count : ℕ) (command : Command) → slice_get (commands_of script) count ≡ Some command → Does command (files (take count (commands_of script))) (files (take (count + 1) (commands_of script)))
+  next_does : (count : ℕ) (command : Command) → slice_get (commands_of script journal) count ≡ Some command → Does command (files (take count (commands_of script journal))) (files (take (count + 1) (commands_of script journal)))
   next_does count command e =
-      let front = take count (commands_of script) in
-      subst (λ (l : List Command). Does command (files front) (files l)) (sym (next_front (commands_of script) count command e)) (files_changed front command)
+      let front = take count (commands_of script journal) in
+      subst (λ (l : List Command). Does command (files front) (files l)) (sym (next_front (commands_of script journal) count command e)) (files_changed front command)
 
-  pub keeps_alike : KeepsAlike script
+  pub keeps_alike : KeepsAlike script journal
   keeps_alike = record {
     grows = grows_later;
     one_list = grows_to_end;
@@ -383,9 +371,9 @@ module _ (script : List ℕ) where
     told = all_told;
     same_digest = same_digests;
     told_until = all_told_until;
-    shown_until = λ count. shows Opening 1 (take count (lines_of script));
-    seen = all_seen script;
-    shown = shows Opening 1 (lines_of script);
-    in_order = λ count. files_in_order (take count (commands_of script));
+    shown_until = λ count. shows (Opening journal) 1 (take count (lines_of script));
+    seen = all_seen script journal;
+    shown = shows (Opening journal) 1 (lines_of script);
+    in_order = λ count. files_in_order (take count (commands_of script journal));
     does_next = next_does;
   }

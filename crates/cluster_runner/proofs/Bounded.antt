@@ -26,10 +26,11 @@ use Rattle.cluster_runner.specs.declared.grammar.ScriptLine.TheVariants as says
 use Rattle.cluster_runner.specs.Lines.{lines_of}
 use Rattle.cluster_runner.specs.Grammar.{line_of}
 use Rattle.cluster_runner.specs.Spelling.{AreHex}
+use Rattle.session_rules.specs.Engines.{Answer}
 use Rattle.cluster_runner.specs.World.{World, happens}
 use Rattle.cluster_runner.specs.Holding.{Holding}
 use Rattle.cluster_runner.specs.Machines.{Fleet, take_at, with_command, applies, place_named}
-use Rattle.cluster_runner.specs.Scenes.{Scene, Nodes, Pages, plays, shown}
+use Rattle.cluster_runner.specs.Scenes.{Scene, Nodes, Pages, plays, lacks_answer, shown}
 use Rattle.cluster_runner.specs.Run.{Place, Opening, Within, Next, Fault, after_event, after_show, opened_at, line_step, said_step, step}
 use Rattle.cluster_runner.specs.Alike.{fleet_in, fleet_at, led, led_from, commands_of, Follows, length_of_all}
 use Rattle.cluster_runner.proofs.Choices.{some_is}
@@ -113,9 +114,9 @@ count_sound : (events : ℕ) (few : Bool) (n : Scene × List Say) (next : Place 
 count_sound events true n next sound e = subst IsSoundAfter (ok_is _ next e) sound
 count_sound events false n next sound e = absurd cc
 
-after_sound : (number events : ℕ) (o : Option (Scene × List Say)) (next : Place × List Say) → ((n : Scene × List Say) → o ≡ Some n → IsSound (fleet_in n.0).commands) → after_event number events o ≡ Ok next → IsSoundAfter next
-after_sound number events None next sound e = absurd cc
-after_sound number events (Some n) next sound e = count_sound events _ n next (sound n refl) e
+after_sound : (number events : ℕ) (lacking : Bool) (o : Option (Scene × List Say)) (next : Place × List Say) → ((n : Scene × List Say) → o ≡ Some n → IsSound (fleet_in n.0).commands) → after_event number events lacking o ≡ Ok next → IsSoundAfter next
+after_sound number events lacking None next sound e = absurd cc
+after_sound number events lacking (Some n) next sound e = count_sound events _ n next (sound n refl) e
 
 show_sound : (number : ℕ) (place : Place) (o : Option Say) (next : Place × List Say) → IsSound (fleet_at place).commands → after_show number place o ≡ Ok next → IsSoundAfter next
 show_sound number place None next sound e = absurd cc
@@ -128,14 +129,14 @@ opening_sound number false scene next sound e = absurd cc
 line_sound : (place : Place) (number : ℕ) (line : ScriptLine) (next : Place × List Say) → ((event : Event) → line ≡ says.Event event → PutsBytes event) → IsSound (fleet_at place).commands → line_step place number line ≡ Ok next → IsSoundAfter next
 unfolding line_step
 line_sound place number says.Blank next puts sound e = subst IsSoundAfter (ok_is _ next e) sound
-line_sound Opening number (says.Nodes voters) next puts sound e = opening_sound number _ _ next none_sound e
-line_sound Opening number (says.Pages machines) next puts sound e = opening_sound number _ _ next none_sound e
-line_sound Opening number (says.Show shows) next puts sound e = absurd cc
-line_sound Opening number (says.Event event) next puts sound e = absurd cc
+line_sound (Opening journal) number (says.Nodes voters) next puts sound e = opening_sound number _ _ next none_sound e
+line_sound (Opening journal) number (says.Pages machines) next puts sound e = opening_sound number _ _ next none_sound e
+line_sound (Opening journal) number (says.Show shows) next puts sound e = absurd cc
+line_sound (Opening journal) number (says.Event event) next puts sound e = absurd cc
 line_sound (Within events scene) number (says.Nodes voters) next puts sound e = absurd cc
 line_sound (Within events scene) number (says.Pages machines) next puts sound e = absurd cc
 line_sound (Within events scene) number (says.Show shows) next puts sound e = show_sound number (Within events scene) (shown scene shows) next sound e
-line_sound (Within events scene) number (says.Event event) next puts sound e = after_sound number events (plays scene event) next (λ n h. scene_sound scene event n (puts event refl) sound h) e
+line_sound (Within events scene) number (says.Event event) next puts sound e = after_sound number events (lacks_answer scene event) (plays scene event) next (λ n h. scene_sound scene event n (puts event refl) sound h) e
 
 said_sound : (place : Place) (number : ℕ) (line : List ℕ) (said : Option ScriptLine) (next : Place × List Say) → line_of line ≡ said → IsSound (fleet_at place).commands → said_step place number said ≡ Ok next → IsSoundAfter next
 said_sound place number line None next is sound e = absurd cc
@@ -160,8 +161,8 @@ lead_sound place number (line ∷ lines) sound =
     ] in
     go (step place number line) refl
 
-pub list_sound : (script : List ℕ) → IsSound (commands_of script)
-list_sound script = lead_sound Opening 1 (lines_of script) none_sound
+pub list_sound : (script : List ℕ) (journal : List Answer) → IsSound (commands_of script journal)
+list_sound script journal = lead_sound (Opening journal) 1 (lines_of script) none_sound
 
 -- ---- what a list states, as its limits and as the files have it
 

@@ -1,5 +1,5 @@
 -- Each line that is printed of a machine is how the machine of its number stands at some moment.
-use Rattle.std.proofs.Common.{◌≡◌, ℕ, suc, ◌+◌, ◌-◌, ◌≤◌, Bool, true, false, cond, leb, List, [], ◌∷◌, ◌++◌, Option, Some, None, Ok, Err, length, get_or, take, All, refl, sym, ap, subst, ◌∙◌, append_assoc, arith}
+use Rattle.std.proofs.Common.{◌≡◌, ℕ, suc, ◌+◌, ◌-◌, ◌≤◌, Bool, true, false, cond, leb, List, [], ◌∷◌, ◌++◌, Option, Some, None, Ok, Err, length, map, get_or, take, All, refl, sym, ap, subst, ◌∙◌, append_assoc, arith}
 use Rattle.std.specs.List.{AllByRecursion}
 use Rattle.std.specs.Option.{option_map}
 use Rattle.std.proofs.Math.Seq.{get_or-append_seam}
@@ -16,17 +16,15 @@ use Rattle.cluster_runner.specs.declared.grammar.ScriptLine.{ScriptLine}
 use Rattle.cluster_runner.specs.declared.grammar.ScriptLine.TheVariants as says
 use Rattle.cluster_runner.specs.Lines.{lines_of}
 use Rattle.cluster_runner.specs.Grammar.{line_of}
-use Rattle.wire_words.specs.declared.message.Message.{Message}
-use Rattle.client_connection.specs.declared.connection.CloseReason.{CloseReason}
-use Rattle.client_connection.specs.Connection.{received, reason_of}
-use Rattle.cluster_runner.specs.declared.cluster.Client.{Client}
-use Rattle.cluster_runner.specs.declared.cluster.Client.TheVariants.{Open, Gone}
-use Rattle.cluster_runner.specs.World.{heard, served, replies, closing_line}
-use Rattle.cluster_runner.specs.World.{World, happens, node_standing}
-use Rattle.file_digest.specs.Digest.{digest}
+use Rattle.session_rules.specs.Engines.{Answer}
+use Rattle.lone_node.specs.declared.say.Say.{Say as Told}
+use Rattle.lone_node.specs.declared.say.Say.TheVariants as told
+use Rattle.lone_node.specs.Lone.{Lone, times_out, hears}
+use Rattle.lone_node.specs.Lone.{joins as node_joins}
+use Rattle.cluster_runner.specs.World.{World, say_of, with_known, gone_on, happens, node_standing}
 use Rattle.cluster_runner.specs.Holding.{Holding}
 use Rattle.cluster_runner.specs.Machines.{Fleet, idle, joins, refusal, applies, place_named, take_at, standing, standing_of, standings}
-use Rattle.cluster_runner.specs.Scenes.{Scene, Nodes, Pages, plays, shown}
+use Rattle.cluster_runner.specs.Scenes.{Scene, Nodes, Pages, plays, lacks_answer, shown}
 use Rattle.cluster_runner.specs.Run.{Place, Opening, Within, Next, Fault, after_event, after_show, opened_at, line_step, said_step, step, onward, closing, run_from, run}
 use Rattle.cluster_runner.specs.Alike.{fleet_in, fleet_at, led, led_from, IsSeenIn, IsSeen}
 use Rattle.cluster_runner.proofs.Choices.{some_is}
@@ -65,41 +63,30 @@ all_here commands front (machine ∷ machines) =
           (subst (λ (all : List Holding). AllSeenIn (record { commands = commands; machines = all }) (standings (suc (length (front ++ machine ∷ []))) machines)) same others),
     )
 
-node_seen_at : (fleet : Fleet) (leads : Bool) → IsSeenIn fleet (cond leads (Node 1 1 true 1 (digest [])) (Node 1 0 false 0 (digest [])))
-node_seen_at fleet true = tt
-node_seen_at fleet false = tt
-
 node_seen : (fleet : Fleet) (world : World) → IsSeenIn fleet (node_standing world)
-node_seen fleet world = node_seen_at fleet world.leads
+node_seen fleet world = tt
 
 closing_seen : (place : Place) → AllSeenIn (fleet_at place) (closing place)
-closing_seen Opening = tt
+closing_seen (Opening journal) = tt
 closing_seen (Within events (Nodes world)) = (node_seen (fleet_in (Nodes world)) world, tt)
 closing_seen (Within events (Pages fleet)) = all_here fleet.commands [] fleet.machines
 
 -- ---- what events and lines say
 
-replies_seen : (fleet : Fleet) (leads : Bool) (connection : ℕ) (messages : List Message) (more : List Say) → AllSeenIn fleet more → AllSeenIn fleet (replies leads connection messages ++ more)
-replies_seen fleet leads connection [] more h = h
-replies_seen fleet leads connection (m ∷ messages) more h = (tt, replies_seen fleet leads connection messages more h)
+said_seen_in : (fleet : Fleet) (told : List Told) → AllSeenIn fleet (map say_of told)
+said_seen_in fleet [] = tt
+said_seen_in fleet (told.Reply conn message ∷ more) = (tt, said_seen_in fleet more)
+said_seen_in fleet (told.Closed conn reason ∷ more) = (tt, said_seen_in fleet more)
 
-closing_line_seen : (fleet : Fleet) (connection : ℕ) (reason : Option CloseReason) → AllSeenIn fleet (closing_line connection reason)
-closing_line_seen fleet connection None = tt
-closing_line_seen fleet connection (Some reason) = (tt, tt)
-
-heard_seen : (fleet : Fleet) (world : World) (connection : ℕ) (bytes : List ℕ) (client : Option Client) (next : World × List Say) → heard world connection bytes client ≡ Some next → AllSeenIn fleet next.1
-heard_seen fleet world connection bytes None next e = absurd cc
-heard_seen fleet world connection bytes (Some Gone) next e = subst (λ (n : World × List Say). AllSeenIn fleet n.1) (some_is _ next e) tt
-heard_seen fleet world connection bytes (Some (Open c)) next e =
-    let after = received c bytes in
-    subst (λ (n : World × List Say). AllSeenIn fleet n.1) (some_is (served world connection after) next e)
-    (replies_seen fleet world.leads connection after.waiting (closing_line connection (reason_of after)) (closing_line_seen fleet connection (reason_of after)))
+bytes_seen : (fleet : Fleet) (known : Bool) (world : World) (o : Option (Lone × List Told)) (next : World × List Say) → cond known (option_map (gone_on world) o) None ≡ Some next → AllSeenIn fleet next.1
+bytes_seen fleet false world o next e = absurd cc
+bytes_seen fleet true world o next e = where_mapped (λ (n : World × List Say). AllSeenIn fleet n.1) (gone_on world) o next (λ n h. said_seen_in fleet n.1) e
 
 happens_seen : (fleet : Fleet) (world : World) (event : Event) (next : World × List Say) → happens world event ≡ Some next → AllSeenIn fleet next.1
 unfolding happens
-happens_seen fleet world (Timeout node) next e = where_some (λ (n : World × List Say). AllSeenIn fleet n.1) _ _ next tt e
-happens_seen fleet world (Connect node connection) next e = where_some (λ (n : World × List Say). AllSeenIn fleet n.1) _ _ next tt e
-happens_seen fleet world (Bytes connection bytes) next e = heard_seen fleet world connection bytes (world.clients connection) next e
+happens_seen fleet world (Timeout node) next e = where_some (λ (n : World × List Say). AllSeenIn fleet n.1) _ (gone_on world (times_out world.node)) next (said_seen_in fleet (times_out world.node).1) e
+happens_seen fleet world (Connect node connection) next e = where_some (λ (n : World × List Say). AllSeenIn fleet n.1) _ (gone_on (with_known world connection) (node_joins world.node connection)) next (said_seen_in fleet (node_joins world.node connection).1) e
+happens_seen fleet world (Bytes connection bytes) next e = bytes_seen fleet _ world (hears world.node connection bytes) next e
 happens_seen fleet world (Hangup connection) next e = where_some (λ (n : World × List Say). AllSeenIn fleet n.1) _ _ next tt e
 happens_seen fleet world (Put bytes) next e = absurd cc
 happens_seen fleet world (Take machine) next e = absurd cc
@@ -149,29 +136,29 @@ count_seen : (place : Place) (events : ℕ) (few : Bool) (n : Scene × List Say)
 count_seen place events true n next seen e = subst (SaysSeen place) (ok_is _ next e) seen
 count_seen place events false n next seen e = absurd cc
 
-event_seen : (place : Place) (number events : ℕ) (o : Option (Scene × List Say)) (next : Place × List Say) → ((n : Scene × List Say) → o ≡ Some n → AllSeenIn (fleet_at place) n.1) → after_event number events o ≡ Ok next → SaysSeen place next
-event_seen place number events None next seen e = absurd cc
-event_seen place number events (Some n) next seen e = count_seen place events _ n next (seen n refl) e
+event_seen : (place : Place) (number events : ℕ) (lacking : Bool) (o : Option (Scene × List Say)) (next : Place × List Say) → ((n : Scene × List Say) → o ≡ Some n → AllSeenIn (fleet_at place) n.1) → after_event number events lacking o ≡ Ok next → SaysSeen place next
+event_seen place number events lacking None next seen e = absurd cc
+event_seen place number events lacking (Some n) next seen e = count_seen place events _ n next (seen n refl) e
 
 show_seen : (place : Place) (number : ℕ) (o : Option Say) (next : Place × List Say) → ((say : Say) → o ≡ Some say → IsSeenIn (fleet_at place) say) → after_show number place o ≡ Ok next → SaysSeen place next
 show_seen place number None next seen e = absurd cc
 show_seen place number (Some say) next seen e = subst (SaysSeen place) (ok_is _ next e) (seen say refl, tt)
 
-opening_seen : (number : ℕ) (may : Bool) (scene : Scene) (next : Place × List Say) → opened_at number may scene ≡ Ok next → SaysSeen Opening next
-opening_seen number true scene next e = subst (SaysSeen Opening) (ok_is _ next e) tt
-opening_seen number false scene next e = absurd cc
+opening_seen : (journal : List Answer) (number : ℕ) (may : Bool) (scene : Scene) (next : Place × List Say) → opened_at number may scene ≡ Ok next → SaysSeen (Opening journal) next
+opening_seen journal number true scene next e = subst (SaysSeen (Opening journal)) (ok_is _ next e) tt
+opening_seen journal number false scene next e = absurd cc
 
 line_seen : (place : Place) (number : ℕ) (line : ScriptLine) (next : Place × List Say) → line_step place number line ≡ Ok next → SaysSeen place next
 unfolding line_step
 line_seen place number says.Blank next e = subst (SaysSeen place) (ok_is _ next e) tt
-line_seen Opening number (says.Nodes voters) next e = opening_seen number _ _ next e
-line_seen Opening number (says.Pages machines) next e = opening_seen number _ _ next e
-line_seen Opening number (says.Show shows) next e = absurd cc
-line_seen Opening number (says.Event event) next e = absurd cc
+line_seen (Opening journal) number (says.Nodes voters) next e = opening_seen journal number _ _ next e
+line_seen (Opening journal) number (says.Pages machines) next e = opening_seen journal number _ _ next e
+line_seen (Opening journal) number (says.Show shows) next e = absurd cc
+line_seen (Opening journal) number (says.Event event) next e = absurd cc
 line_seen (Within events scene) number (says.Nodes voters) next e = absurd cc
 line_seen (Within events scene) number (says.Pages machines) next e = absurd cc
 line_seen (Within events scene) number (says.Show shows) next e = show_seen (Within events scene) number (shown scene shows) next (λ say h. shown_seen scene shows say h) e
-line_seen (Within events scene) number (says.Event event) next e = event_seen (Within events scene) number events (plays scene event) next (λ n h. plays_seen scene event n h) e
+line_seen (Within events scene) number (says.Event event) next e = event_seen (Within events scene) number events (lacks_answer scene event) (plays scene event) next (λ n h. plays_seen scene event n h) e
 
 said_seen : (place : Place) (number : ℕ) (line : Option ScriptLine) (next : Place × List Say) → said_step place number line ≡ Ok next → SaysSeen place next
 said_seen place number None next e = absurd cc
@@ -199,7 +186,7 @@ one_later place next said number line lines e say s =
 run_seen : (place : Place) (number : ℕ) (lines : List (List ℕ)) → AllByRecursion (SeenOnTheWay place number lines) (run_from place number lines).said
 run_seen place number [] = all_weaker (IsSeenIn (fleet_at place)) (SeenOnTheWay place number []) (λ say s. (0, s)) (closing place) (closing_seen place)
 run_seen place number (line ∷ lines) =
-    let P : Next → Type 0 = λ o. step place number line ≡ o → AllByRecursion (SeenOnTheWay place number (line ∷ lines)) (onward (λ (next : Place × List Say). run_from next.0 (suc number) lines) o).said in
+    let P : Next → Type 0 = λ o. step place number line ≡ o → AllByRecursion (SeenOnTheWay place number (line ∷ lines)) (onward (λ (next : Place × List Say). run_from next.0 (suc number) lines) place o).said in
     let go : (o : Next) → P o =
     λ o. elim o as P [
       | Ok next ↦ λ e.
@@ -211,5 +198,5 @@ run_seen place number (line ∷ lines) =
     ] in
     go (step place number line) refl
 
-pub all_seen : (script : List ℕ) → All (IsSeen script) (run script).said
-all_seen script = All-from_recursion (IsSeen script) (run script).said (run_seen Opening 1 (lines_of script))
+pub all_seen : (script : List ℕ) (journal : List Answer) → All (IsSeen script journal) (run script journal).said
+all_seen script journal = All-from_recursion (IsSeen script journal) (run script journal).said (run_seen (Opening journal) 1 (lines_of script))

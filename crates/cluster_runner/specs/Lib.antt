@@ -2,13 +2,13 @@ pub mod ScriptSize
 pub mod Lines
 pub mod Grammar
 pub mod Spelling
-pub mod Answers
 pub mod World
 pub mod Holding
 pub mod Machines
 pub mod Scenes
 pub mod Run
 pub mod Steps
+pub mod Playing
 pub mod Alike
 pub mod Outcome
 pub mod Stops

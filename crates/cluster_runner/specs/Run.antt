@@ -9,23 +9,25 @@ use Rattle.cluster_runner.specs.declared.cluster.Say.{Say}
 use Rattle.cluster_runner.specs.declared.cluster.Say.TheVariants.{Reply, Closed, Refused, Node, Machine}
 use Rattle.cluster_runner.specs.declared.grammar.ScriptLine.{ScriptLine}
 use Rattle.cluster_runner.specs.declared.grammar.ScriptLine.TheVariants as says
-use Rattle.cluster_runner.specs.declared.stage.Stage.{Stage as RunnerStage}
-use Rattle.cluster_runner.specs.declared.stage.Stage.TheVariants as runner
+use Rattle.session_rules.specs.Engines.{Answer}
+use Rattle.session_world.specs.Alone.{Turn}
 use Rattle.cluster_runner.specs.Lines.{lines_of}
 use Rattle.cluster_runner.specs.Grammar.{line_of}
 use Rattle.cluster_runner.specs.World.{fresh}
 use Rattle.cluster_runner.specs.Machines.{Fleet, idle_machines}
-use Rattle.cluster_runner.specs.Scenes.{Scene, Nodes, Pages, plays, shown, all_shown, scene_of}
+use Rattle.cluster_runner.specs.Scenes.{Scene, Nodes, Pages, plays, lacks_answer, turns_in, journal_in, shown, all_shown}
 
--- where a script is: before its mode line, or in a scene after so many events
+-- where a script is: before its mode line, with the journal for its run, or in a scene after so many events
 pub data Place : Type 0 where
-  Opening : Place
+  Opening : List Answer → Place
   Within : ℕ → Scene → Place
 
--- why a run ends before its script does: this line isn't in the grammar there, or there are too many lines or events
+-- why a run ends before its script does: this line isn't in the grammar there; there are too many lines or events; or its
+-- journal lacks an answer
 pub data Fault : Type 0 where
   Line : ℕ → Fault
   Large : Fault
+  Unanswered : Fault
 
 -- where a line leads and what was said, or why it leads nowhere
 abbrev pub Next : Type 0
@@ -40,9 +42,9 @@ abbrev pub idle_fleet : ℕ → Fleet
 idle_fleet count = record { commands = []; machines = idle_machines count }
 
 -- an event is one more; of too many there is none
-abbrev pub after_event : ℕ → ℕ → Option (Scene × List Say) → Next
-after_event number events None = Err (Line number)
-after_event number events (Some next) = if nat_lt events event_limit then Ok (Within (events + 1) next.0, next.1) else Err Large
+abbrev pub after_event : ℕ → ℕ → Bool → Option (Scene × List Say) → Next
+after_event number events lacking None = Err (if lacking then Unanswered else Line number)
+after_event number events lacking (Some next) = if nat_lt events event_limit then Ok (Within (events + 1) next.0, next.1) else Err Large
 
 -- showing changes nothing
 abbrev pub after_show : ℕ → Place → Option Say → Next
@@ -52,14 +54,14 @@ after_show number place (Some say) = Ok (place, say ∷ [])
 -- what a line of this number does that says this
 unfoldable pub line_step : Place → ℕ → ScriptLine → Next
 line_step place number says.Blank = Ok (place, [])
-line_step Opening number (says.Nodes voters) = opened_at number (voters == 1) (Nodes fresh)
-line_step Opening number (says.Pages machines) = opened_at number (nat_le 1 machines && nat_le machines 9) (Pages (idle_fleet machines))
-line_step Opening number (says.Show shows) = Err (Line number)
-line_step Opening number (says.Event event) = Err (Line number)
+line_step (Opening journal) number (says.Nodes voters) = opened_at number (voters == 1) (Nodes (fresh journal))
+line_step (Opening journal) number (says.Pages machines) = opened_at number (nat_le 1 machines && nat_le machines 9) (Pages (idle_fleet machines))
+line_step (Opening journal) number (says.Show shows) = Err (Line number)
+line_step (Opening journal) number (says.Event event) = Err (Line number)
 line_step (Within events scene) number (says.Nodes voters) = Err (Line number)
 line_step (Within events scene) number (says.Pages machines) = Err (Line number)
 line_step (Within events scene) number (says.Show shows) = after_show number (Within events scene) (shown scene shows)
-line_step (Within events scene) number (says.Event event) = after_event number events (plays scene event)
+line_step (Within events scene) number (says.Event event) = after_event number events (lacks_answer scene event) (plays scene event)
 
 abbrev pub said_step : Place → ℕ → Option ScriptLine → Next
 said_step place number None = Err (Line number)
@@ -69,36 +71,51 @@ said_step place number (Some line) = line_step place number line
 unfoldable pub step : Place → ℕ → List ℕ → Next
 step place number line = if nat_le number line_count_limit then said_step place number (line_of line) else Err Large
 
--- a run: what was said, in order, and the fault at which it ends, where it has one
+-- a run: what was said, in order; the fault at which it ends, where it has one; and the turns of its node
 pub record Run : Type 0 where
   pub said : List Say
   pub fault : Option Fault
+  pub turns : List Turn
 
 -- a run in which this was said before
 abbrev pub said_before : List Say → Run → Run
-said_before said run = record { said = said ++ run.said; fault = run.fault }
+said_before said run = record { said = said ++ run.said; fault = run.fault; turns = run.turns }
 
-abbrev pub onward : (Place × List Say → Run) → Next → Run
-onward go (Ok next) = said_before next.1 (go next)
-onward go (Err fault) = record { said = []; fault = Some fault }
+-- the turns of the node up to a place
+abbrev pub turns_at : Place → List Turn
+turns_at (Opening journal) = []
+turns_at (Within events scene) = turns_in scene
+
+-- what is left of the journal at a place
+abbrev pub journal_at : Place → List Answer
+journal_at (Opening journal) = journal
+journal_at (Within events scene) = journal_in scene
+
+-- the run that ends at a place with this fault
+abbrev pub stopped_at : Place → Fault → Run
+stopped_at place fault = record { said = []; fault = Some fault; turns = turns_at place }
+
+abbrev pub onward : (Place × List Say → Run) → Place → Next → Run
+onward go place (Ok next) = said_before next.1 (go next)
+onward go place (Err fault) = stopped_at place fault
 
 -- at the end of a script all are shown
 abbrev pub closing : Place → List Say
-closing Opening = []
+closing (Opening journal) = []
 closing (Within events scene) = all_shown scene
 
 -- the run of no more lines
 abbrev pub ending : Place → Run
-ending place = record { said = closing place; fault = None }
+ending place = record { said = closing place; fault = None; turns = turns_at place }
 
 -- the run of these lines from a place on, the first of which has this number
 abbrev pub run_from : Place → ℕ → List (List ℕ) → Run
 run_from place number [] = ending place
-run_from place number (line ∷ lines) = onward (λ (next : Place × List Say). run_from next.0 (suc number) lines) (step place number line)
+run_from place number (line ∷ lines) = onward (λ (next : Place × List Say). run_from next.0 (suc number) lines) place (step place number line)
 
--- the run that a script makes
-abbrev pub run : List ℕ → Run
-run script = run_from Opening 1 (lines_of script)
+-- the run that a script makes with a journal, from which the requests of its clients take the engine's answers
+abbrev pub run : List ℕ → List Answer → Run
+run script journal = run_from (Opening journal) 1 (lines_of script)
 
 abbrev pub role : Bool → List ℕ
 role leads = if leads then codes "leader" else codes "follower"
@@ -134,8 +151,3 @@ next_text (Err fault) = []
 -- what a line has printed
 abbrev pub step_text : Place → ℕ → List ℕ → List ℕ
 step_text place number line = next_text (step place number line)
-
--- the place that the runner keeps
-abbrev pub place_of : RunnerStage → Place
-place_of runner.Opening = Opening
-place_of (runner.Within events scene) = Within events (scene_of scene)

@@ -1,38 +1,34 @@
-//! The node of a script, in memory, and its clients.
+//! The node of a script, in memory, with its clients and its engine.
 
-ghost use Rattle.std.specs.Prelude.{◌≡◌, ◌++◌, [], true, Some, None, IfOk, OnOk, OnErr, IsErrOf, MatchOption};
-ghost use Rattle.cluster_runner.specs.declared.cluster.Client.{Client};
-ghost use Rattle.client_connection.specs.Connection.{received, reason_of};
-ghost use Rattle.cluster_runner.specs.World.{replies, closing_line, answered, left_open};
+ghost use Rattle.std.specs.Prelude.{◌≡◌, ◌++◌, ℕ, List, [], map, true, false, IfOk, OnOk, OnErr, IsErrOf};
+ghost use Rattle.session_rules.specs.Engines.{Answer};
+ghost use Rattle.sql_engine.specs.declared.kind.EngineKind.{EngineKind};
+ghost use Rattle.sqlite_engine.specs.Any.{any_kind};
+ghost use Rattle.lone_node.specs.declared.say.Say.{Say as Told};
+ghost use Rattle.cluster_runner.specs.World.{World, say_of};
 
-use crate::answers::answer;
 use crate::grammar::Event;
-use client_connection::{CloseReason, Connection};
+use client_connection::CloseReason;
+use engine_journal::{Journal, NotedEngine};
 use file_digest::digest;
+use lone_node::LoneNode;
+use sql_engine::{CellEngine, EngineKind};
+use sqlite_engine::{AnyEngine, SqliteEngine};
 use std::alloc::{AllocError, AllocFailed, Global};
-use std::collections::BTreeMap;
+use std::collections::BTreeSet;
 use wire_words::WireBytes;
-
-/// A client's connection.
-#[derive(Debug, Drop)]
-pub(crate) enum Client {
-    /// It is open.
-    Open(Connection),
-    /// It was closed, by the node or by the client.
-    Gone,
-}
 
 /// Something that a node says.
 #[derive(Debug, Drop)]
 pub enum Say {
     /// A whole response to the client of a connection.
     Reply {
-        connection: u32,
+        connection: u64,
         bytes: WireBytes,
     },
     /// The node closed a connection.
     Closed {
-        connection: u32,
+        connection: u64,
         reason: CloseReason,
     },
     /// Bytes were no command, or the list of commands could not take it.
@@ -83,229 +79,195 @@ impl<T: Drop> From<AllocFailed<T>> for EventFault {
     }
 }
 
-/// Node 1, the only voter, and its clients by the numbers of their connections.
-#[derive(Debug, Drop)]
+/// Node 1, the only voter, and its clients; the engine that runs their statements, and the journal of its answers; and the
+/// numbers of all connections that were ever made.
+#[derive(Drop)]
 pub(crate) struct Cluster {
-    leads: bool,
-    clients: BTreeMap<u32, Client>,
+    node: LoneNode,
+    engine: NotedEngine<AnyEngine>,
+    journal: Journal,
+    known: BTreeSet<u32>,
 }
 
-/// Answers the requests that wait, in order.
-fn answer_waiting(
-    alloc: Global,
-    leads: bool,
-    connection: u32,
-    client: &mut Connection,
-    said: &mut Vec<Say>,
-) -> Result<(), AllocError>
-    ensures said { OnOk result (said.new.items ≡ said.old.items ++ replies leads connection client.old.waiting) }
-    ensures left { OnOk result (client.new ≡ answered client.old) }
+/// An engine of a kind.
+fn new_engine(alloc: Global, kind: EngineKind) -> AnyEngine
+    ensures { any_kind result ≡ kind }
 {
-    while let Some(message) = client.next() {
-        let bytes = answer(alloc, leads, &message)?;
-        said.push(Say::Reply { connection, bytes })?;
+    match kind {
+        EngineKind::Sqlite => AnyEngine::Sqlite(SqliteEngine::new(alloc)),
+        EngineKind::Cells => AnyEngine::Cells(CellEngine::new(alloc)),
     }
-    Ok(())
 }
 
-/// Closes the connection where its stream is at its end.
-fn close(connection: u32, client: Connection, said: &mut Vec<Say>) -> Result<Client, AllocError>
-    ensures client { IfOk result (λ after. after ≡ left_open (reason_of client) client) }
-    ensures said { OnOk result (said.new.items ≡ said.old.items ++ closing_line connection (reason_of client)) }
+/// What the node tells a client, as it is printed.
+fn say_of(told: lone_node::Say) -> Say
+    ensures { result ≡ say_of told }
 {
-    let mut client = client;
-    let Some(reason) = client.close_reason()? else {
-        return Ok(Client::Open(client));
-    };
-    said.push(Say::Closed { connection, reason })?;
-    Ok(Client::Gone)
+    match told {
+        lone_node::Say::Reply { conn, message } => Say::Reply {
+            connection: conn,
+            bytes: message,
+        },
+        lone_node::Say::Closed { conn, reason } => Say::Closed {
+            connection: conn,
+            reason,
+        },
+    }
 }
 
-/// Takes a client's bytes, answers its requests, and closes the connection where its stream is at its end.
-fn serve(
-    alloc: Global,
-    leads: bool,
-    connection: u32,
-    client: Connection,
-    bytes: &[u8],
-    said: &mut Vec<Say>,
-) -> Result<Client, AllocError>
-    requires { said.old.items ≡ [] }
-    ensures client { IfOk result (λ after. after ≡ left_open (reason_of (received client bytes.now)) (answered (received client bytes.now))) }
-    ensures said { OnOk result (said.new.items ≡ replies leads connection (received client bytes.now).waiting
-        ++ closing_line connection (reason_of (received client bytes.now))) }
+fn all_said(alloc: Global, told: Vec<lone_node::Say>) -> Result<Vec<Say>, AllocError>
+    ensures { IfOk result (λ said. said.items ≡ map say_of told.items) }
 {
-    let mut client = client;
-    client.receive(bytes)?;
-    answer_waiting(alloc, leads, connection, &mut client, said)?;
-    close(connection, client, said)
+    let mut said = Vec::with_capacity(alloc, told.len())?;
+    for one in told {
+        said.push(say_of(one))?;
+    }
+    Ok(said)
 }
 
 impl Cluster {
-    ghost use Rattle.cluster_runner.specs.World.{fresh, happens, openness, with_client, node_standing, world_of};
+    ghost use Rattle.cluster_runner.specs.World.{fresh, happens, is_unanswered, node_standing};
+    ghost use Rattle.cluster_runner.specs.Playing.{Grows, ShowsWorld, HoldsWorld, Happened, Leads, answers_kept};
 
-    /// The node, started, and no client.
-    pub fn new(alloc: Global) -> Cluster
-        ensures { world_of result ≡ fresh }
+    /// The node, started, with an engine of a kind and no client. Its journal is empty. `Err` is want of memory.
+    pub fn new(alloc: Global, kind: EngineKind) -> Result<Cluster, AllocError>
+        ensures shows { IfOk result (λ cluster. (journal : List Answer) → ShowsWorld journal kind cluster (fresh journal)) }
+        ensures journal { IfOk result (λ cluster. answers_kept cluster ≡ []) }
     {
-        Cluster {
-            leads: false,
-            clients: BTreeMap::new(alloc),
-        }
+        Ok(Cluster {
+            node: LoneNode::new(alloc)?,
+            engine: NotedEngine::new(alloc, new_engine(alloc, kind)),
+            journal: Journal::new(alloc),
+            known: BTreeSet::new(alloc),
+        })
     }
 
-    /// The first timeout makes the node leader, as its own vote is a majority; a later one changes nothing.
-    #[tactic(auto, unfolding(crate::specs::World::happens))]
-    fn timeout(&mut self, node: u32) -> Result<(), EventFault>
-        ensures ok { OnOk result (happens (world_of self.old) (Event.Timeout node) ≡ Some (world_of self.new, [])) }
-        ensures fault { OnErr result (happens (world_of self.old) (Event.Timeout node) ≡ None) }
-        ensures err { OnErr result (world_of self.new ≡ world_of self.old) }
+    /// An election timeout at a node.
+    fn timeout(&mut self, node: u32, told: &mut Vec<lone_node::Say>) -> Result<(), EventFault>
+        ensures happened { OnOk result ((kind : EngineKind) (world : World) → HoldsWorld kind self.old world → Happened kind self.old self.new world (Event.Timeout node) told.old.items told.new.items) }
+        ensures fault { IsErrOf result EventFault.NotThere → (world : World) → happens world (Event.Timeout node) ≡ None }
+        ensures journal { self.new.journal ≡ self.old.journal }
     {
         if node != 1 {
             return Err(EventFault::NotThere);
         }
-        self.leads = true;
+        self.node.timeout(told)?;
         Ok(())
     }
 
-    /// Puts a client's connection into the table.
-    fn set_client(&mut self, connection: u32, client: Client) -> Result<(), AllocError>
-        ensures ok { OnOk result (world_of self.new ≡ with_client (world_of self.old) connection client) }
-        ensures err { OnErr result (world_of self.new ≡ world_of self.old) }
-    {
-        self.clients.insert(connection, client)?;
-        Ok(())
-    }
-
-    /// Takes an open connection out of the table, where another one is to be put then.
-    fn take_open(&mut self, connection: u32) -> Option<Connection>
-        ensures others { (client : Client) → with_client (world_of self.new) connection client ≡ with_client (world_of self.old) connection client }
-        ensures leads { (world_of self.new).leads ≡ (world_of self.old).leads }
-        ensures taken { MatchOption result (openness ((world_of self.old).clients connection) ≡ Some true → ⊥)
-            (λ client. (world_of self.old).clients connection ≡ Some (Client.Open client)) }
-    {
-        match self.clients.remove(&connection) {
-            Some(Client::Open(client)) => Some(client),
-            _ => None,
-        }
-    }
-
-    /// Connects a client to the node, where the number was never one of a connection.
-    #[tactic(auto, unfolding(crate::specs::World::happens))]
-    fn connect(&mut self, alloc: Global, node: u32, connection: u32) -> Result<(), EventFault>
-        ensures ok { OnOk result (happens (world_of self.old) (Event.Connect node connection) ≡ Some (world_of self.new, [])) }
-        ensures fault { IsErrOf result EventFault.NotThere → happens (world_of self.old) (Event.Connect node connection) ≡ None }
-        ensures err { OnErr result (world_of self.new ≡ world_of self.old) }
-    {
-        if node != 1 || self.clients.contains_key(&connection) {
-            return Err(EventFault::NotThere);
-        }
-        self.set_client(connection, Client::Open(Connection::new(alloc)))?;
-        Ok(())
-    }
-
-    /// Ends a client's connection.
-    #[tactic(auto, unfolding(crate::specs::World::happens))]
-    fn hang_up(&mut self, connection: u32) -> Result<(), EventFault>
-        ensures ok { OnOk result (happens (world_of self.old) (Event.Hangup connection) ≡ Some (world_of self.new, [])) }
-        ensures fault { IsErrOf result EventFault.NotThere → happens (world_of self.old) (Event.Hangup connection) ≡ None }
-        ensures err { OnErr result (world_of self.new ≡ world_of self.old) }
-    {
-        if !self.clients.contains_key(&connection) {
-            return Err(EventFault::NotThere);
-        }
-        self.set_client(connection, Client::Gone)?;
-        Ok(())
-    }
-
-    /// How a connection stands: none where it was never made, else whether it is open.
-    fn is_open(&self, connection: u32) -> Option<bool>
-        ensures { result ≡ openness ((world_of self.now).clients connection) }
-    {
-        match self.clients.get(&connection) {
-            Some(Client::Open(_)) => Some(true),
-            Some(Client::Gone) => Some(false),
-            None => None,
-        }
-    }
-
-    /// Takes bytes on a connection that is open.
-    #[tactic(auto, unfolding(crate::specs::World::happens))]
-    fn hear(
+    /// A client connects to a node, where the number was never one of a connection.
+    fn connect(
         &mut self,
-        alloc: Global,
+        node: u32,
         connection: u32,
-        bytes: &[u8],
-        said: &mut Vec<Say>,
-    ) -> Result<(), AllocError>
-        requires open { openness ((world_of self.old).clients connection) ≡ Some true }
-        requires nothing { said.old.items ≡ [] }
-        ensures { OnOk result (happens (world_of self.old) (Event.Bytes connection bytes.now) ≡ Some (world_of self.new, said.new.items)) }
+        told: &mut Vec<lone_node::Say>,
+    ) -> Result<(), EventFault>
+        ensures happened { OnOk result ((kind : EngineKind) (world : World) → HoldsWorld kind self.old world → Happened kind self.old self.new world (Event.Connect node connection) told.old.items told.new.items) }
+        ensures fault { IsErrOf result EventFault.NotThere → (kind : EngineKind) (world : World) → HoldsWorld kind self.old world → happens world (Event.Connect node connection) ≡ None }
+        ensures journal { self.new.journal ≡ self.old.journal }
     {
-        let Some(client) = self.take_open(connection) else {
-            return Ok(());
-        };
-        let client = serve(alloc, self.leads, connection, client, bytes, said)?;
-        self.set_client(connection, client)
+        if node != 1 || self.known.contains(&connection) {
+            return Err(EventFault::NotThere);
+        }
+        self.known.insert(connection)?;
+        self.node.connect(u64::from(connection), told)?;
+        Ok(())
     }
 
-    /// Takes bytes on a connection; where it is closed, nothing happens.
-    #[tactic(auto, unfolding(crate::specs::World::happens))]
+    /// A client sends bytes on a connection that was made.
     fn bytes(
         &mut self,
-        alloc: Global,
         connection: u32,
         bytes: &[u8],
-        said: &mut Vec<Say>,
+        told: &mut Vec<lone_node::Say>,
     ) -> Result<(), EventFault>
-        requires { said.old.items ≡ [] }
-        ensures ok { OnOk result (happens (world_of self.old) (Event.Bytes connection bytes.now) ≡ Some (world_of self.new, said.new.items)) }
-        ensures fault { IsErrOf result EventFault.NotThere → happens (world_of self.old) (Event.Bytes connection bytes.now) ≡ None }
-        ensures kept { IsErrOf result EventFault.NotThere → world_of self.new ≡ world_of self.old }
+        ensures happened { OnOk result ((kind : EngineKind) (world : World) → HoldsWorld kind self.old world → Happened kind self.old self.new world (Event.Bytes connection bytes.now) told.old.items told.new.items) }
+        ensures fault { IsErrOf result EventFault.NotThere → (kind : EngineKind) (world : World) → HoldsWorld kind self.old world → (happens world (Event.Bytes connection bytes.now) ≡ None) × (is_unanswered world (Event.Bytes connection bytes.now) ≡ false) }
+        ensures journal { self.new.journal ≡ self.old.journal }
     {
-        match self.is_open(connection) {
-            Some(true) => {
-                self.hear(alloc, connection, bytes, said)?;
-                Ok(())
-            }
-            Some(false) => Ok(()),
-            None => Err(EventFault::NotThere),
+        if !self.known.contains(&connection) {
+            return Err(EventFault::NotThere);
+        }
+        self.node
+            .hear(u64::from(connection), bytes, &mut self.engine, told)?;
+        Ok(())
+    }
+
+    /// The client of a connection that was made goes.
+    fn hang_up(&mut self, connection: u32) -> Result<(), EventFault>
+        ensures happened { OnOk result ((kind : EngineKind) (world : World) (said : List Told) → HoldsWorld kind self.old world → Happened kind self.old self.new world (Event.Hangup connection) said said) }
+        ensures fault { IsErrOf result EventFault.NotThere → (kind : EngineKind) (world : World) → HoldsWorld kind self.old world → happens world (Event.Hangup connection) ≡ None }
+        ensures journal { self.new.journal ≡ self.old.journal }
+    {
+        if !self.known.contains(&connection) {
+            return Err(EventFault::NotThere);
+        }
+        self.node.hang_up(u64::from(connection));
+        Ok(())
+    }
+
+    /// Has an event happen, and puts what the node tells behind the rest.
+    #[tactic(auto, unfolding(crate::specs::World::happens, crate::specs::World::is_unanswered))]
+    fn happen(&mut self, event: Event, told: &mut Vec<lone_node::Say>) -> Result<(), EventFault>
+        ensures happened { OnOk result ((kind : EngineKind) (world : World) → HoldsWorld kind self.old world → Happened kind self.old self.new world event told.old.items told.new.items) }
+        ensures fault { IsErrOf result EventFault.NotThere → (kind : EngineKind) (world : World) → HoldsWorld kind self.old world → (happens world event ≡ None) × (is_unanswered world event ≡ false) }
+        ensures journal { self.new.journal ≡ self.old.journal }
+    {
+        match event {
+            Event::Timeout { node } => self.timeout(node, told),
+            Event::Connect { node, connection } => self.connect(node, connection, told),
+            Event::Bytes { connection, bytes } => self.bytes(connection, bytes.as_slice(), told),
+            Event::Hangup { connection } => self.hang_up(connection),
+            Event::Put { .. } | Event::Take { .. } => Err(EventFault::NotThere),
         }
     }
 
-    /// Has an event happen, and answers what was said. `NotThere` is an event that names what isn't there, and nothing has
-    /// happened then; want of memory may come after it has.
-    #[tactic(auto, unfolding(crate::specs::World::happens))]
-    pub fn take(&mut self, alloc: Global, event: Event) -> Result<Vec<Say>, EventFault>
-        ensures ok { IfOk result (λ said. happens (world_of self.old) event ≡ Some (world_of self.new, said.items)) }
-        ensures fault { IsErrOf result EventFault.NotThere → happens (world_of self.old) event ≡ None }
-        ensures kept { IsErrOf result EventFault.NotThere → world_of self.new ≡ world_of self.old }
+    /// The journal takes over the engine's answers. Where one of them was lost there is want of memory.
+    fn keep_answers(&mut self) -> Result<(), AllocError>
+        ensures kept { OnOk result ((self.old.engine.cut ≡ false) × (self.new.journal ≡ self.old.journal ++ self.old.engine.noted)) }
+        ensures engine { OnOk result (self.new.engine ≡ record self.old.engine { noted = [] }) }
+        ensures node { (self.new.node ≡ self.old.node) × (self.new.known ≡ self.old.known) }
+        ensures same { OnErr result (self.new.journal ≡ self.old.journal) }
     {
-        let mut said = Vec::new(alloc);
-        match event {
-            Event::Timeout { node } => self.timeout(node)?,
-            Event::Connect { node, connection } => self.connect(alloc, node, connection)?,
-            Event::Bytes { connection, bytes } => {
-                self.bytes(alloc, connection, bytes.as_slice(), &mut said)?;
-            }
-            Event::Hangup { connection } => self.hang_up(connection)?,
-            Event::Put { .. } | Event::Take { .. } => return Err(EventFault::NotThere),
+        if self.engine.is_cut() {
+            return Err(AllocError);
         }
+        self.journal.take_from(&mut self.engine)
+    }
+
+    /// Has an event happen, and answers what was said; the journal takes over what the engine answered. `NotThere` is an event
+    /// that names what isn't there, and nothing has happened then. After want of memory nothing is told of the node, and the
+    /// journal is as it was.
+    pub fn take(&mut self, alloc: Global, event: Event) -> Result<Vec<Say>, EventFault>
+        ensures ok { IfOk result (λ said. (all : List Answer) (kind : EngineKind) (world : World) → Grows (answers_kept self.new) all → ShowsWorld all kind self.old world → Leads all kind self.new world event said.items) }
+        ensures fault { IsErrOf result EventFault.NotThere → (kind : EngineKind) (world : World) → HoldsWorld kind self.old world → (happens world event ≡ None) × (is_unanswered world event ≡ false) }
+        ensures grows { Grows (answers_kept self.old) (answers_kept self.new) }
+        ensures kept { OnErr result (answers_kept self.new ≡ answers_kept self.old) }
+    {
+        let mut told = Vec::new(alloc);
+        self.happen(event, &mut told)?;
+        let said = all_said(alloc, told)?;
+        self.keep_answers()?;
         Ok(said)
     }
 
-    /// How the node stands. As leader it has applied the entry with which its term began; no files are there.
+    /// How the node stands. Costs in the order of its files.
     pub fn standing(&self) -> Say
-        ensures { result ≡ node_standing (world_of self.now) }
+        ensures { (kind : EngineKind) (world : World) → HoldsWorld kind self.now world → result ≡ node_standing world }
     {
-        let digest = digest(&[]);
-        let index = u64::from(self.leads);
         Say::Node {
             node: 1,
-            term: index,
-            leads: self.leads,
-            applied: index,
-            digest,
+            term: self.node.term(),
+            leads: self.node.leads(),
+            applied: self.node.applied(),
+            digest: digest(self.node.databases()),
         }
+    }
+
+    /// The journal of the engine's answers so far.
+    pub fn into_journal(self) -> Journal
+        ensures { result ≡ self.journal }
+    {
+        self.journal
     }
 }

@@ -1,7 +1,6 @@
 //! Runs a script: events at a node of a cluster, or at machines that apply one list of commands.
 #![tactic(auto)]
 
-mod answers;
 mod cluster;
 mod grammar;
 mod laws;

@@ -1,20 +1,25 @@
 //! Runs a script from its bytes to the text that it prints.
 
-ghost use Rattle.std.specs.Prelude.{◌≡◌, ◌+◌, ◌≤◌, ℕ, List, Option, Some, None, Ok, Err, OnOk, OnErr, IfErr, IsErrOf, MatchBool, MatchResult};
+ghost use Rattle.std.specs.Prelude.{◌≡◌, ◌+◌, ◌≤◌, ℕ, List, map, Option, None, OnOk, OnErr, IfErr, IsErrOf, MatchBool, MatchResult};
 ghost use Rattle.std.specs.Io.KnownBytes.{Appends};
 ghost use Rattle.dq_base.specs.Faults.{Rose};
 ghost use Rattle.dq_base.specs.Sink.{AppendsFront};
 ghost use Rattle.cluster_runner.specs.declared.lines.TheConstants.{LINE_COUNT_LIMIT};
-ghost use Rattle.cluster_runner.specs.declared.cluster.Say.{Say};
-ghost use Rattle.cluster_runner.specs.Run.{Place, Fault, step, step_text, text_of, closing, place_of};
+ghost use Rattle.session_rules.specs.Engines.{Answer};
+ghost use Rattle.sql_engine.specs.declared.kind.EngineKind.{EngineKind};
+ghost use Rattle.engine_journal.specs.Noting.{answer_of};
+ghost use Rattle.cluster_runner.specs.Run.{Place, text_of, closing};
+ghost use Rattle.cluster_runner.specs.Playing.{Grows, Shows, answers_in};
 ghost use Rattle.cluster_runner.specs.Lines.{to_come};
 ghost use Rattle.cluster_runner.specs.Stops.{fault_of};
-ghost use Rattle.cluster_runner.specs.Outcome.{Completes, Stopped, Ended, Reached, ReadWhole};
+ghost use Rattle.cluster_runner.specs.Outcome.{Completes, Stopped, Ended, Reached, ReadWhole, At, Ran, Breaks, IsSpent};
 
 use crate::lines::{LINE_COUNT_LIMIT, LineEnd, LineFault, LineReader};
 use crate::printing::{PrintFault, print};
 use crate::stage::{Stage, StepFault};
 use dq_base::{Failed, Sink, Source};
+use engine_journal::Journal;
+use sql_engine::EngineKind;
 use std::alloc::{AllocError, Global};
 
 /// How running a script ended.
@@ -82,6 +87,7 @@ impl From<AllocError> for Stop {
 }
 
 /// Does what the line of this number says, and prints what was said then.
+#[tactic(auto, using(crate::proofs::Growing::grows_none))]
 fn run_line<K: Sink>(
     alloc: Global,
     stage: &mut Stage,
@@ -90,9 +96,9 @@ fn run_line<K: Sink>(
     sink: &mut K,
 ) -> Result<(), Stop>
     requires { number ≤ LINE_COUNT_LIMIT }
-    ensures ok { OnOk result ((said : List Say) × (step (place_of stage.old) number line.now ≡ Ok (place_of stage.new, said)) × Appends (K.written sink.old) (K.written sink.new) (text_of said)) }
-    ensures err { OnErr result (AppendsFront (K.written sink.old) (K.written sink.new) (step_text (place_of stage.old) number line.now)) }
-    ensures script { (fault : Fault) → IfErr result (λ stop. fault_of stop ≡ Some fault → step (place_of stage.old) number line.now ≡ Err fault) }
+    ensures ok { OnOk result ((kind : EngineKind) (journal : List Answer) (place : Place) → Grows (answers_in stage.new) journal → Shows journal kind stage.old place → Ran kind journal stage.new place number line.now (K.written sink.old) (K.written sink.new)) }
+    ensures err { IfErr result (λ stop. (kind : EngineKind) (place : Place) → Shows (answers_in stage.new) kind stage.old place → Breaks kind stop place number line.now (K.written sink.old) (K.written sink.new)) }
+    ensures grows { Grows (answers_in stage.old) (answers_in stage.new) }
     ensures read { IsErrOf result Stop.ReadFault → ⊥ }
     ensures write { IsErrOf result Stop.WriteFault → Rose (K.faults sink.old) (K.faults sink.new) }
     ensures count { K.faults sink.old ≤ K.faults sink.new }
@@ -108,6 +114,7 @@ fn run_line<K: Sink>(
 }
 
 /// Reads the next line and does what it says. Answers whether the script may go on: it has ended where it may not.
+#[tactic(auto, using(crate::proofs::Growing::grows_none))]
 fn run_next<S: Source, K: Sink>(
     alloc: Global,
     lines: &mut LineReader,
@@ -118,12 +125,14 @@ fn run_next<S: Source, K: Sink>(
 ) -> Result<bool, Stop>
     requires { number ≤ LINE_COUNT_LIMIT }
     // From wherever the script came, it comes one line further, or it ends.
-    ensures goes { (first written : Option (List ℕ)) → Reached first (to_come lines.old (S.left source.old)) written (K.written sink.old) (place_of stage.old) number →
+    ensures goes { (kind : EngineKind) (journal : List Answer) (first written : Option (List ℕ)) → Grows (answers_in stage.new) journal
+        → At kind journal stage.old (λ place. Reached kind journal first (to_come lines.old (S.left source.old)) written (K.written sink.old) place number) →
         MatchResult result
         (λ more. MatchBool more
-        (Reached first (to_come lines.new (S.left source.new)) written (K.written sink.new) (place_of stage.new) (number + 1))
-        (ReadWhole first (S.left source.new) written (K.written sink.new) (place_of stage.new)))
-        (λ stop. Stopped stop first (S.left source.new) written (K.written sink.new)) }
+        (At kind journal stage.new (λ place. Reached kind journal first (to_come lines.new (S.left source.new)) written (K.written sink.new) place (number + 1)))
+        (At kind journal stage.new (ReadWhole kind journal first (S.left source.new) written (K.written sink.new))))
+        (λ stop. journal ≡ answers_in stage.new → Stopped kind journal stop first (S.left source.new) written (K.written sink.new)) }
+    ensures grows { Grows (answers_in stage.old) (answers_in stage.new) }
     ensures read { IsErrOf result Stop.ReadFault → Rose (S.faults source.old) (S.faults source.new) }
     ensures write { IsErrOf result Stop.WriteFault → Rose (K.faults sink.old) (K.faults sink.new) }
     ensures source_count { S.faults source.old ≤ S.faults source.new }
@@ -147,10 +156,10 @@ fn run_next<S: Source, K: Sink>(
 
 /// Reads what stands behind the last line that a script may have: nothing may.
 fn run_past<S: Source>(lines: &mut LineReader, source: &mut S) -> Result<(), Stop>
-    ensures goes { (first written printed : Option (List ℕ)) (place : Place) → Reached first (to_come lines.old (S.left source.old)) written printed place (LINE_COUNT_LIMIT + 1) →
+    ensures goes { (kind : EngineKind) (journal : List Answer) (first written printed : Option (List ℕ)) (place : Place) → Reached kind journal first (to_come lines.old (S.left source.old)) written printed place (LINE_COUNT_LIMIT + 1) →
         MatchResult result
-        (λ _. ReadWhole first (S.left source.new) written printed place)
-        (λ stop. Stopped stop first (S.left source.new) written printed) }
+        (λ _. ReadWhole kind journal first (S.left source.new) written printed place)
+        (λ stop. IsSpent place → Stopped kind journal stop first (S.left source.new) written printed) }
     ensures read { IsErrOf result Stop.ReadFault → Rose (S.faults source.old) (S.faults source.new) }
     ensures write { IsErrOf result Stop.WriteFault → ⊥ }
     ensures source_count { S.faults source.old ≤ S.faults source.new }
@@ -163,6 +172,7 @@ fn run_past<S: Source>(lines: &mut LineReader, source: &mut S) -> Result<(), Sto
 }
 
 /// Runs the lines of a script in order, up to the first that isn't in the grammar.
+#[tactic(auto, using(crate::proofs::Growing::grows_none))]
 fn run_lines<S: Source, K: Sink>(
     alloc: Global,
     lines: &mut LineReader,
@@ -170,10 +180,12 @@ fn run_lines<S: Source, K: Sink>(
     source: &mut S,
     sink: &mut K,
 ) -> Result<(), Stop>
-    ensures goes { (first written : Option (List ℕ)) → Reached first (to_come lines.old (S.left source.old)) written (K.written sink.old) (place_of stage.old) 1 →
+    ensures goes { (kind : EngineKind) (journal : List Answer) (first written : Option (List ℕ)) → Grows (answers_in stage.new) journal
+        → At kind journal stage.old (λ place. Reached kind journal first (to_come lines.old (S.left source.old)) written (K.written sink.old) place 1) →
         MatchResult result
-        (λ _. ReadWhole first (S.left source.new) written (K.written sink.new) (place_of stage.new))
-        (λ stop. Stopped stop first (S.left source.new) written (K.written sink.new)) }
+        (λ _. At kind journal stage.new (ReadWhole kind journal first (S.left source.new) written (K.written sink.new)))
+        (λ stop. journal ≡ answers_in stage.new → Stopped kind journal stop first (S.left source.new) written (K.written sink.new)) }
+    ensures grows { Grows (answers_in stage.old) (answers_in stage.new) }
     ensures read { IsErrOf result Stop.ReadFault → Rose (S.faults source.old) (S.faults source.new) }
     ensures write { IsErrOf result Stop.WriteFault → Rose (K.faults sink.old) (K.faults sink.new) }
     ensures source_count { S.faults source.old ≤ S.faults source.new }
@@ -189,8 +201,8 @@ fn run_lines<S: Source, K: Sink>(
 
 /// Shows how all stand, at the end of a script.
 fn close<K: Sink>(alloc: Global, stage: &Stage, sink: &mut K) -> Result<(), Stop>
-    ensures ok { OnOk result (Appends (K.written sink.old) (K.written sink.new) (text_of (closing (place_of stage.now)))) }
-    ensures err { OnErr result (AppendsFront (K.written sink.old) (K.written sink.new) (text_of (closing (place_of stage.now)))) }
+    ensures ok { OnOk result ((kind : EngineKind) (journal : List Answer) (place : Place) → Shows journal kind stage.now place → Appends (K.written sink.old) (K.written sink.new) (text_of (closing place))) }
+    ensures err { OnErr result ((kind : EngineKind) (journal : List Answer) (place : Place) → Shows journal kind stage.now place → AppendsFront (K.written sink.old) (K.written sink.new) (text_of (closing place))) }
     ensures script { IfErr result (λ stop. fault_of stop ≡ None) }
     ensures read { IsErrOf result Stop.ReadFault → ⊥ }
     ensures write { IsErrOf result Stop.WriteFault → Rose (K.faults sink.old) (K.faults sink.new) }
@@ -202,6 +214,7 @@ fn close<K: Sink>(alloc: Global, stage: &Stage, sink: &mut K) -> Result<(), Stop
 }
 
 /// Runs the lines of a script in order, and shows how all stand at its end.
+#[tactic(auto, using(crate::proofs::Growing::grows_none))]
 fn run_whole<S: Source, K: Sink>(
     alloc: Global,
     lines: &mut LineReader,
@@ -209,10 +222,10 @@ fn run_whole<S: Source, K: Sink>(
     source: &mut S,
     sink: &mut K,
 ) -> Result<(), Stop>
-    ensures goes { (first written : Option (List ℕ)) → Reached first (to_come lines.old (S.left source.old)) written (K.written sink.old) (place_of stage.old) 1 →
+    ensures goes { (kind : EngineKind) (first written : Option (List ℕ)) → At kind (answers_in stage.new) stage.old (λ place. Reached kind (answers_in stage.new) first (to_come lines.old (S.left source.old)) written (K.written sink.old) place 1) →
         MatchResult result
-        (λ _. Completes first (S.left source.new) written (K.written sink.new))
-        (λ stop. Stopped stop first (S.left source.new) written (K.written sink.new)) }
+        (λ _. Completes kind (answers_in stage.new) first (S.left source.new) written (K.written sink.new))
+        (λ stop. Stopped kind (answers_in stage.new) stop first (S.left source.new) written (K.written sink.new)) }
     ensures read { IsErrOf result Stop.ReadFault → Rose (S.faults source.old) (S.faults source.new) }
     ensures write { IsErrOf result Stop.WriteFault → Rose (K.faults sink.old) (K.faults sink.new) }
     ensures source_count { S.faults source.old ≤ S.faults source.new }
@@ -222,25 +235,39 @@ fn run_whole<S: Source, K: Sink>(
     close(alloc, stage, sink)
 }
 
-/// Runs a script from its first line on.
-fn run<S: Source, K: Sink>(alloc: Global, source: &mut S, sink: &mut K) -> Result<(), Stop>
-    ensures ok { OnOk result (Completes (S.left source.old) (S.left source.new) (K.written sink.old) (K.written sink.new)) }
-    ensures err { IfErr result (λ stop. Stopped stop (S.left source.old) (S.left source.new) (K.written sink.old) (K.written sink.new)) }
+/// Runs a script from its first line on, and leaves the journal of its run.
+fn run<S: Source, K: Sink>(
+    alloc: Global,
+    source: &mut S,
+    sink: &mut K,
+    engine: EngineKind,
+    journal: &mut Journal,
+) -> Result<(), Stop>
+    ensures ok { OnOk result (Completes engine (map answer_of journal.new) (S.left source.old) (S.left source.new) (K.written sink.old) (K.written sink.new)) }
+    ensures err { IfErr result (λ stop. Stopped engine (map answer_of journal.new) stop (S.left source.old) (S.left source.new) (K.written sink.old) (K.written sink.new)) }
     ensures read { IsErrOf result Stop.ReadFault → Rose (S.faults source.old) (S.faults source.new) }
     ensures write { IsErrOf result Stop.WriteFault → Rose (K.faults sink.old) (K.faults sink.new) }
     ensures source_count { S.faults source.old ≤ S.faults source.new }
     ensures sink_count { K.faults sink.old ≤ K.faults sink.new }
 {
+    *journal = Journal::new(alloc);
     let mut lines = LineReader::new(alloc)?;
-    let mut stage = Stage::Opening;
-    run_whole(alloc, &mut lines, &mut stage, source, sink)
+    let mut stage = Stage::Opening { engine };
+    let ended = run_whole(alloc, &mut lines, &mut stage, source, sink);
+    *journal = stage.into_journal(alloc);
+    ended
 }
 
 /// Runs the script that the source gives, and prints to the sink what the script's run says.
 ///
-/// The input is read in pieces. Held are one piece, one line, and what the script makes: a few bytes for each
-/// connection, or the list of commands with each machine's databases. It returns on every input, as far as the calls of
-/// the source and the sink return.
+/// An engine of the kind runs the statements of clients. The journal is that of this run afterwards: the engine's answers, in
+/// their order; what it held before is dropped. What was said and read is told by the run of the script with this journal,
+/// each answer of which is one that an engine of the kind may give. After want of memory the journal may lack answers, but
+/// none of what was printed.
+///
+/// The input is read in pieces. Held are one piece, one line, and what the script makes: the connections, sessions and
+/// databases of a node, with a copy of each answer of its engine; or the list of commands with each machine's databases. It
+/// returns on every input, as far as the calls of the source and the sink return.
 ///
 /// - `Done`: the script was read to its end, it has no fault, and its text was printed.
 /// - `Script(line)`: that line is the first that isn't in the grammar or that names what isn't there; the text of the
@@ -252,14 +279,20 @@ fn run<S: Source, K: Sink>(alloc: Global, source: &mut S, sink: &mut K) -> Resul
 ///
 /// What was read decides this: unless the source is at its end, the fault and the text are those of every script that
 /// begins with the bytes read. So nothing was printed of a line that was read in part.
-pub fn run_script<S: Source, K: Sink>(alloc: Global, source: &mut S, sink: &mut K) -> Outcome
-    ensures ended { Ended result (S.left source.old) (S.left source.new) (K.written sink.old) (K.written sink.new) }
+pub fn run_script<S: Source, K: Sink>(
+    alloc: Global,
+    source: &mut S,
+    sink: &mut K,
+    engine: EngineKind,
+    journal: &mut Journal,
+) -> Outcome
+    ensures ended { Ended engine (map answer_of journal.new) result (S.left source.old) (S.left source.new) (K.written sink.old) (K.written sink.new) }
     ensures read_fault { result ≡ Outcome.ReadFault → Rose (S.faults source.old) (S.faults source.new) }
     ensures write_fault { result ≡ Outcome.WriteFault → Rose (K.faults sink.old) (K.faults sink.new) }
     ensures source_count { S.faults source.old ≤ S.faults source.new }
     ensures sink_count { K.faults sink.old ≤ K.faults sink.new }
 {
-    match run(alloc, source, sink) {
+    match run(alloc, source, sink, engine, journal) {
         Ok(()) => Outcome::Done,
         Err(Stop::Script(line)) => Outcome::Script(line),
         Err(Stop::Large) => Outcome::Large,

@@ -1,14 +1,19 @@
 //! What a script's mode line opens.
 
-ghost use Rattle.std.specs.Prelude.{◌≡◌, Some, None, IfOk, IsErrOf};
+ghost use Rattle.std.specs.Prelude.{◌≡◌, false, List, map, Some, None, IfOk, OnErr, IsErrOf};
+ghost use Rattle.session_rules.specs.Engines.{Answer};
+ghost use Rattle.sql_engine.specs.declared.kind.EngineKind.{EngineKind};
+ghost use Rattle.engine_journal.specs.Noting.{answer_of};
+ghost use Rattle.cluster_runner.specs.Scenes.{Scene as Shown};
 
 use crate::cluster::{Cluster, EventFault, Say};
 use crate::grammar::Event;
 use crate::machines::Machines;
+use engine_journal::Journal;
 use std::alloc::{AllocError, Global};
 
 /// What a script plays in.
-#[derive(Debug, Drop)]
+#[derive(Drop)]
 pub(crate) enum Scene {
     /// A cluster of nodes.
     Nodes(Cluster),
@@ -17,14 +22,16 @@ pub(crate) enum Scene {
 }
 
 impl Scene {
-    ghost use Rattle.cluster_runner.specs.Scenes.{plays, shown, all_shown, scene_of};
+    ghost use Rattle.cluster_runner.specs.Scenes.{plays, lacks_answer, shown, all_shown};
+    ghost use Rattle.cluster_runner.specs.Playing.{Grows, ShowsScene, LeadsScene, answers_of};
 
     /// Has an event happen, and answers what was said. `NotThere` is an event that names what isn't there, and nothing has
     /// happened then; want of memory may come after it has.
     pub fn take(&mut self, alloc: Global, event: Event) -> Result<Vec<Say>, EventFault>
-        ensures ok { IfOk result (λ said. plays (scene_of self.old) event ≡ Some (scene_of self.new, said.items)) }
-        ensures fault { IsErrOf result EventFault.NotThere → plays (scene_of self.old) event ≡ None }
-        ensures kept { IsErrOf result EventFault.NotThere → scene_of self.new ≡ scene_of self.old }
+        ensures ok { IfOk result (λ said. (all : List Answer) (kind : EngineKind) (scene : Shown) → Grows (answers_of self.new) all → ShowsScene all kind self.old scene → LeadsScene all kind self.new scene event said.items) }
+        ensures fault { IsErrOf result EventFault.NotThere → (all : List Answer) (kind : EngineKind) (scene : Shown) → ShowsScene all kind self.old scene → (plays scene event ≡ None) × (lacks_answer scene event ≡ false) }
+        ensures grows { Grows (answers_of self.old) (answers_of self.new) }
+        ensures kept { OnErr result (answers_of self.new ≡ answers_of self.old) }
     {
         match self {
             Scene::Nodes(cluster) => cluster.take(alloc, event),
@@ -34,7 +41,7 @@ impl Scene {
 
     /// How the node or machine of a number stands, where it is there.
     pub fn show(&self, number: u32) -> Option<Say>
-        ensures { result ≡ shown (scene_of self.now) number }
+        ensures { (all : List Answer) (kind : EngineKind) (scene : Shown) → ShowsScene all kind self.now scene → result ≡ shown scene number }
     {
         match self {
             Scene::Nodes(cluster) if number == 1 => Some(cluster.standing()),
@@ -45,7 +52,7 @@ impl Scene {
 
     /// How all stand, by their numbers.
     pub fn show_all(&self, alloc: Global) -> Result<Vec<Say>, AllocError>
-        ensures { IfOk result (λ said. said.items ≡ all_shown (scene_of self.now)) }
+        ensures { IfOk result (λ said. (all : List Answer) (kind : EngineKind) (scene : Shown) → ShowsScene all kind self.now scene → said.items ≡ all_shown scene) }
     {
         match self {
             Scene::Nodes(cluster) => {
@@ -54,6 +61,16 @@ impl Scene {
                 Ok(said)
             }
             Scene::Pages(machines) => machines.standings(alloc),
+        }
+    }
+
+    /// The journal of an engine's answers, which is empty where no engine was asked. Takes no memory.
+    pub fn into_journal(self, alloc: Global) -> Journal
+        ensures { map answer_of result ≡ answers_of self }
+    {
+        match self {
+            Scene::Nodes(cluster) => cluster.into_journal(),
+            Scene::Pages(_) => Journal::new(alloc),
         }
     }
 }

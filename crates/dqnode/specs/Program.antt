@@ -1,15 +1,37 @@
 -- What the program does: its words, its input, what it writes and the status that it ends with.
-use Rattle.std.specs.Prelude.{◌≡◌, ◌++◌, ℕ, List, [], ◌∷◌, map, codes, string_bytes, String, Option, Some, None}
+use Rattle.std.specs.Prelude.{◌≡◌, ◌⊎◌, ◌++◌, ℕ, List, [], ◌∷◌, map, codes, string_bytes, String, Option, Some, None}
 use Rattle.std.specs.declared.alloc.Global.{Global}
 use Rattle.std.specs.Fmt.{decimal}
 use Rattle.std.specs.Io.KnownBytes.{Appends, Consumes}
 use Rattle.dq_base.specs.Sink.{AppendsFront}
-use Rattle.cluster_runner.specs.Run.{Run, Fault, Line, Large, run, printed}
-use Rattle.cluster_runner.specs.Outcome.{MayFollow}
+use Rattle.sql_engine.specs.declared.kind.EngineKind.{EngineKind}
+use Rattle.sql_engine.specs.declared.kind.EngineKind.TheVariants.{Sqlite, Cells}
+use Rattle.session_rules.specs.Engines.{Answer}
+use Rattle.sqlite_engine.specs.Any.{any_meaning}
+use Rattle.lone_node.specs.Safe.{Safe}
+use Rattle.cluster_runner.specs.Run.{Run, Fault, Line, Large, Unanswered, run, printed}
+use Rattle.cluster_runner.specs.Outcome.{MayFollow, IsAllowed}
+
+-- the name of a kind of engine
+abbrev pub engine_word : EngineKind → List ℕ
+engine_word Sqlite = codes "sqlite"
+engine_word Cells = codes "cells"
+
+-- three words that ask for a script to be run with an engine of this kind
+pub record AreWords (script option engine : List ℕ) (kind : EngineKind) : Type 0 where
+  pub script_is : script ≡ codes "script"
+  pub option_is : option ≡ codes "--engine"
+  pub engine_is : engine ≡ engine_word kind
+
+-- the words ask for a script to be run with an engine of this kind, which is SQLite's where they name none
+abbrev pub AsksFor : List (String Global) → EngineKind → Type 0
+AsksFor words kind =
+    ((kind ≡ Sqlite) × (map string_bytes words ≡ codes "script" ∷ []))
+    ⊎ (map string_bytes words ≡ codes "script" ∷ codes "--engine" ∷ engine_word kind ∷ [])
 
 -- the words ask for a script to be run
 abbrev pub IsScript : List (String Global) → Type 0
-IsScript words = map string_bytes words ≡ codes "script" ∷ []
+IsScript words = (kind : EngineKind) × AsksFor words kind
 
 -- the line for words that ask for nothing
 abbrev pub words_error : List ℕ
@@ -27,21 +49,41 @@ abbrev pub fault_text : Option Fault → List ℕ
 fault_text None = []
 fault_text (Some (Line line)) = line_error line
 fault_text (Some Large) = large_error
+fault_text (Some Unanswered) = []
 
 -- what a run gives in all: what it prints, and then the line that names its fault, where it has one
 abbrev pub run_text : Run → List ℕ
 run_text run = printed run ++ fault_text run.fault
 
--- Whatever may follow the bytes read, the script has this fault, its first, and all of its text was written.
-pub record Faults (fault : Fault) (left left' written written' : Option (List ℕ)) : Type 0 where
+-- Whatever may follow the bytes read, the script has this fault by this journal, its first, all of its text was written, and
+-- the answers that it took off the journal are allowed.
+pub record Faults (kind : EngineKind) (journal : List Answer) (fault : Fault) (left left' written written' : Option (List ℕ)) : Type 0 where
   pub read : List ℕ
   pub taken : Consumes left left' read
-  pub faulty : (more : List ℕ) → MayFollow left' more → (run (read ++ more)).fault ≡ Some fault
-  pub text : (more : List ℕ) → MayFollow left' more → Appends written written' (run_text (run (read ++ more)))
+  pub faulty : (more : List ℕ) → MayFollow left' more → (run (read ++ more) journal).fault ≡ Some fault
+  pub text : (more : List ℕ) → MayFollow left' more → Appends written written' (run_text (run (read ++ more) journal))
+  pub allowed : (more : List ℕ) → MayFollow left' more → IsAllowed kind (run (read ++ more) journal)
 
--- Whichever bytes of `follows` stand behind those read, a front of the script's text was written, its error line counted
--- in: so nothing of a line that was read in part.
-pub record BreaksOff (follows : List ℕ → Type 0) (left left' written written' : Option (List ℕ)) : Type 0 where
+-- Whichever bytes of `follows` stand behind those read, a front of the script's text by this journal was written, its error
+-- line counted in: so nothing of a line that was read in part. The answers that are taken off the journal are allowed.
+pub record BreaksOff (kind : EngineKind) (journal : List Answer) (follows : List ℕ → Type 0) (left left' written written' : Option (List ℕ)) : Type 0 where
   pub read : List ℕ
   pub taken : Consumes left left' read
-  pub text : (more : List ℕ) → follows more → AppendsFront written written' (run_text (run (read ++ more)))
+  pub text : (more : List ℕ) → follows more → AppendsFront written written' (run_text (run (read ++ more) journal))
+  pub allowed : (more : List ℕ) → follows more → IsAllowed kind (run (read ++ more) journal)
+
+-- the words ask for a script, and this holds of the kind of engine that they name
+abbrev pub RunsWith : List (String Global) → (EngineKind → Type 0) → Type 0
+RunsWith words holds = (kind : EngineKind) × AsksFor words kind × holds kind
+
+-- Whatever may follow the bytes read, each answer that the script's run takes off this journal is one that an engine of the
+-- kind may give, and the run is safe.
+pub record RunsSafely (kind : EngineKind) (journal : List Answer) (left left' : Option (List ℕ)) : Type 0 where
+  pub read : List ℕ
+  pub taken : Consumes left left' read
+  pub allowed : (more : List ℕ) → MayFollow left' more → IsAllowed kind (run (read ++ more) journal)
+  pub safe : (more : List ℕ) → MayFollow left' more → Safe (any_meaning kind) (run (read ++ more) journal).turns
+
+-- Where each answer that a script's run takes off a journal is one that an engine of the kind may give, the run is safe.
+abbrev pub RunsAreSafe : Type 0
+RunsAreSafe = (kind : EngineKind) (script : List ℕ) (journal : List Answer) → IsAllowed kind (run script journal) → Safe (any_meaning kind) (run script journal).turns

@@ -1,5 +1,7 @@
 -- The numbers of the ways in which the program ends.
 use Rattle.std.specs.Prelude.{◌≡◌, ◌⊎◌, ℕ, Option, List}
+use Rattle.session_rules.specs.Engines.{Answer}
+use Rattle.sql_engine.specs.declared.kind.EngineKind.{EngineKind}
 use Rattle.cluster_runner.specs.Run as script
 use Rattle.cluster_runner.specs.Outcome.{MayFollow, Anything, Completes}
 use Rattle.dqnode.specs.Program.{Faults, BreaksOff}
@@ -24,11 +26,11 @@ abbrev pub IsBroken : ℕ → Type 0
 IsBroken code = (code ≡ 4) ⊎ (code ≡ 7)
 
 -- what a script did that ended with this status
-abbrev pub ScriptEnds : Status → Option (List ℕ) → Option (List ℕ) → Option (List ℕ) → Option (List ℕ) → Type 0
-ScriptEnds Done left left' written written' = Completes left left' written written'
-ScriptEnds Words left left' written written' = ⊥
-ScriptEnds Script left left' written written' = (line : ℕ) × Faults (script.Line line) left left' written written'
-ScriptEnds ReadFault left left' written written' = BreaksOff Anything left left' written written'
-ScriptEnds WriteFault left left' written written' = BreaksOff (MayFollow left') left left' written written'
-ScriptEnds NoMemory left left' written written' = BreaksOff (MayFollow left') left left' written written'
-ScriptEnds Large left left' written written' = Faults script.Large left left' written written'
+abbrev pub ScriptEnds : EngineKind → List Answer → Status → Option (List ℕ) → Option (List ℕ) → Option (List ℕ) → Option (List ℕ) → Type 0
+ScriptEnds kind journal Done left left' written written' = Completes kind journal left left' written written'
+ScriptEnds kind journal Words left left' written written' = ⊥
+ScriptEnds kind journal Script left left' written written' = (line : ℕ) × Faults kind journal (script.Line line) left left' written written'
+ScriptEnds kind journal ReadFault left left' written written' = BreaksOff kind journal Anything left left' written written'
+ScriptEnds kind journal WriteFault left left' written written' = BreaksOff kind journal (MayFollow left') left left' written written'
+ScriptEnds kind journal NoMemory left left' written written' = BreaksOff kind journal (MayFollow left') left left' written written'
+ScriptEnds kind journal Large left left' written written' = Faults kind journal script.Large left left' written written'

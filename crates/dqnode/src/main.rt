@@ -9,6 +9,7 @@ mod tests;
 mod words;
 
 use dq_base::{ReadSource, WriteSink};
+use engine_journal::Journal;
 pub use program::dqnode;
 pub use status::Status;
 use std::io;
@@ -21,5 +22,6 @@ fn main(rt: HostRuntime) -> ExitCode {
     let words = words::behind_name(all.as_slice());
     let mut input = ReadSource::new(rt.stdin());
     let mut output = WriteSink::new(io::writer(&rt));
-    ExitCode::from(dqnode(rt.alloc(), words, &mut input, &mut output))
+    let mut journal = Journal::new(rt.alloc());
+    ExitCode::from(dqnode(rt.alloc(), words, &mut input, &mut output, &mut journal))
 }

@@ -1,5 +1,6 @@
 use crate::dqnode;
 use dq_base::{MemSink, MemSource};
+use engine_journal::Journal;
 use std::alloc::{AllocError, Global};
 use std::test::Fail;
 
@@ -9,6 +10,22 @@ const GREETING: &str = "bytes 1 010000000000000001000000000000000000000000000000
 /// The reply of a node that knows no leader: id 0 and no address.
 const NO_LEADER: &str = "reply 1 020000000100000000000000000000000000000000000000\n";
 
+/// That reply, and how the node stands at the end of the script.
+const STANDS: &str =
+    "reply 1 020000000100000000000000000000000000000000000000\nnode 1 term 0 role follower applied 0 files e3b0c44298fc1c149afbf4c8996fb92427ae41e4649b934ca495991b7852b855\n";
+
+/// Words that ask for a script to be run.
+const PLAIN: &[&str] = &["script"];
+
+const SQLITE: &[&str] = &["script", "--engine", "sqlite"];
+
+const CELLS: &[&str] = &["script", "--engine", "cells"];
+
+/// Words that ask for nothing.
+const OTHER: &[&str] = &["script", "--engine", "other"];
+
+const NO_NAME: &[&str] = &["script", "--engine"];
+
 /// What the program did.
 #[derive(Drop)]
 struct Ended {
@@ -16,21 +33,31 @@ struct Ended {
     text: Vec<u8>,
 }
 
-/// Runs the program in memory with one word, where the read and the write of these numbers, from 1, fail.
+/// Runs the program in memory with these words, where the read and the write of these numbers, from 1, fail.
 fn run(
     alloc: Global,
-    word: &str,
+    given: &[&str],
     script: &[u8],
     read: u64,
     write: u64,
 ) -> Result<Ended, AllocError> {
-    let words = vec![in alloc; String::from_str(alloc, word)?]?;
+    let mut words = Vec::new(alloc);
+    for word in given {
+        words.push(String::from_str(alloc, word)?)?;
+    }
     let mut input = MemSource::new(
         Vec::from_slice(alloc, script)?,
         Vec::from_slice(alloc, &[read])?,
     );
     let mut output = MemSink::new(alloc, Vec::from_slice(alloc, &[write])?);
-    let status = dqnode(alloc, words.as_slice(), &mut input, &mut output);
+    let mut journal = Journal::new(alloc);
+    let status = dqnode(
+        alloc,
+        words.as_slice(),
+        &mut input,
+        &mut output,
+        &mut journal,
+    );
     let text = Vec::from_slice(alloc, output.bytes())?;
     Ok(Ended { status, text })
 }
@@ -42,38 +69,43 @@ fn long_script(alloc: Global) -> Result<String, AllocError> {
 }
 
 #[test]
-fn failing_streams_give_3_and_4(rt: HostRuntime) -> Result<(), Fail> {
+fn words_and_failing_streams(rt: HostRuntime) -> Result<(), Fail> {
     let alloc = rt.alloc();
     let known = format!(in alloc; "nodes 1\nconnect 1 1\n{GREETING}")?;
     let long = long_script(alloc)?;
     let (known, long) = (known.as_str(), long.as_str());
     let rows = [
-        ("script", known, 1, 0, 3, ""),
+        (PLAIN, known, 0, 0, 0, STANDS),
+        (SQLITE, known, 0, 0, 0, STANDS),
+        (CELLS, known, 0, 0, 0, STANDS),
+        (OTHER, known, 0, 0, 1, "error words\n"),
+        (NO_NAME, known, 0, 0, 1, "error words\n"),
+        (PLAIN, known, 1, 0, 3, ""),
         // The first read gives the whole script, and the second is to tell that it has ended.
-        ("script", known, 2, 0, 3, NO_LEADER),
-        ("script", "", 1, 0, 3, ""),
+        (PLAIN, known, 2, 0, 3, NO_LEADER),
+        (PLAIN, "", 1, 0, 3, ""),
         // A line that is cut by a failed read is not run.
-        ("script", long, 2, 0, 3, ""),
-        ("script", long, 0, 0, 2, "error line 3\n"),
-        ("script", known, 0, 1, 4, ""),
+        (PLAIN, long, 2, 0, 3, ""),
+        (PLAIN, long, 0, 0, 2, "error line 3\n"),
+        (PLAIN, known, 0, 1, 4, ""),
         // The line at the end can't be written.
-        ("script", known, 0, 2, 4, NO_LEADER),
-        ("script", "", 0, 1, 0, ""),
+        (PLAIN, known, 0, 2, 4, NO_LEADER),
+        (PLAIN, "", 0, 1, 0, ""),
         // An error line that can't be written.
-        ("script", "nodes", 0, 1, 4, ""),
-        ("other", "", 0, 1, 4, ""),
+        (PLAIN, "nodes", 0, 1, 4, ""),
+        (OTHER, "", 0, 1, 4, ""),
     ];
-    for (word, script, read, write, status, text) in rows {
-        let ended = run(alloc, word, script.as_bytes(), read, write)?;
+    for (words, script, read, write, status, text) in rows {
+        let ended = run(alloc, words, script.as_bytes(), read, write)?;
         assert_eq!(rt;
             ended.status,
             status,
-            "read {read}, write {write} of {word}"
+            "read {read}, write {write} of {script}"
         );
         assert_eq!(rt;
             ended.text.as_slice(),
             text.as_bytes(),
-            "read {read}, write {write} of {word}"
+            "read {read}, write {write} of {script}"
         );
     }
     Ok(())

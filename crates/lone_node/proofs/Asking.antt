@@ -36,7 +36,8 @@ use Rattle.lone_node.specs.Lone.{Lone, own_server, node_of, given, standing, vie
 use Rattle.lone_node.specs.Safe.{Allowed}
 use Rattle.lone_node.specs.Shows.{Rests, IsQuiet, Holds}
 use Rattle.lone_node.specs.Applying.{At, Going, Settles, OnlySays, says_of, Performs}
-use Rattle.lone_node.specs.Taking.{Among, at_first, further, with_waiting, Waits}
+use Rattle.lone_node.specs.Taking.{Among, at_first, further, with_waiting, Caused, Waits}
+use Rattle.lone_node.proofs.Causes.{caused_none, caused_asked}
 use Rattle.lone_node.proofs.Journals.{IsExact, request_same, front_taken, front_left}
 use Rattle.lone_node.proofs.Settling.{at_databases, at_rest, settled_end, none_due, turn_at_leader, turn_elsewhere, turn_quiet, calm_after, all_settled}
 use Rattle.lone_node.proofs.Turning.{turn_more, new_said, allowed_more, messages_one}
@@ -336,7 +337,7 @@ told_by m kind w conn stream rest request answers sessions act mid new before no
     proposed_told m kind w conn stream rest request answers s contents note sessions act mid new before now b t o gate is spelled performs
 
 -- What a message came to, by answers that the engine told.
-pub record Does (m : Meaning) (kind : EngineKind) (w : Lone) (conn : ℕ) (stream : Conn) (message : Message) (rest : List Message) (told_before told_now : Option Told) (new : Voter) (before now : List Say) : Type 0 where
+pub record Does (m : Meaning) (kind : EngineKind) (w : Lone) (conn : ℕ) (stream : Conn) (message : Message) (rest : List Message) (told_before told_now : Option Told) (refused_before refused_now : ℕ) (new : Voter) (before now : List Say) : Type 0 where
   pub answers : List Answer
   pub told : TellsAll answers told_before told_now
   pub next : Lone
@@ -344,13 +345,14 @@ pub record Does (m : Meaning) (kind : EngineKind) (w : Lone) (conn : ℕ) (strea
   pub comes_to : (later : List Answer) → comes (given w (answers ++ later)) conn (request_of message) ≡ Some (given next later, said)
   pub streams : next.streams ≡ w.streams
   pub allowed : Allowed m kind next.turns
+  pub caused : Caused w next refused_before refused_now
   pub waits : Waits new next conn stream rest
   pub says : now ≡ before ++ said
 
 pub asked_does : (m : Meaning) (kind : EngineKind) (w : Lone) (conn : ℕ) (stream : Conn) (message : Message) (request : Request) (rest : List Message) (told_before told_now : Option Told) (sessions : Gateway) (refused_before refused_now : ℕ) (act : Act) (mid new : Voter) (before now : List Say)
     → request_of message ≡ Ok request → Allowed m kind w.turns → Rests (node_of w) → may_ask ((node_of w).gate.session conn) ≡ true → Taken mid w conn stream rest sessions
     → Asked m kind (view (node_of w)) (databases (node_of w)) (node_of w).gate conn request told_before told_now refused_before refused_now sessions act → Performs act mid new before now
-    → Does m kind w conn stream message rest told_before told_now new before now
+    → Does m kind w conn stream message rest told_before told_now refused_before refused_now new before now
 asked_does m kind w conn stream message request rest told_before told_now sessions refused_before refused_now act mid new before now reads allowed rests may t a performs =
     let node = node_of w in
     let x = a.turned in
@@ -365,17 +367,18 @@ asked_does m kind w conn stream message request rest told_before told_now sessio
       comes_to = λ later. ap (comes (given w (x.answers ++ later)) conn) reads ∙ asks_as w conn request x.answers later exact;
       streams = refl;
       allowed = next_allowed m kind w conn request x.answers b;
+      caused = caused_asked w conn request x.answers sessions a.gateway_act refused_before refused_now x.is a.unopened;
       waits = r.waits;
       says = r.says;
     }
 
 -- a message that doesn't read is refused
-pub unread_does : (m : Meaning) (kind : EngineKind) (w : Lone) (conn : ℕ) (stream : Conn) (message : Message) (fault : MsgFault) (rest : List Message) (told_before told_now : Option Told) (sessions : Gateway) (act : Act) (mid new : Voter) (before now : List Say)
+pub unread_does : (m : Meaning) (kind : EngineKind) (w : Lone) (conn : ℕ) (stream : Conn) (message : Message) (fault : MsgFault) (rest : List Message) (told_before told_now : Option Told) (sessions : Gateway) (refused_before refused_now : ℕ) (act : Act) (mid new : Voter) (before now : List Say)
     → request_of message ≡ Err fault → Allowed m kind w.turns → Rests (node_of w) → Taken mid w conn stream rest sessions
     → Unread (node_of w).gate conn fault told_before told_now sessions act → Performs act mid new before now
-    → Does m kind w conn stream message rest told_before told_now new before now
+    → Does m kind w conn stream message rest told_before told_now refused_before refused_now new before now
 unfolding TellsAll
-unread_does m kind w conn stream message fault rest told_before told_now sessions act mid new before now reads allowed rests t u performs =
+unread_does m kind w conn stream message fault rest told_before told_now sessions refused_before refused_now act mid new before now reads allowed rests t u performs =
     let streams = with_stream w.streams conn (Some (with_waiting stream rest)) in
     let only : OnlySays (acts.Reply conn (bytes_of (failure (unread_cause fault) ∷ []))) mid new before now = subst (λ (a : Act). Performs a mid new before now) u.act_is performs in
     let holds : Holds mid.clients mid.machine mid.view (node_of w) streams t.turns = record {
@@ -391,6 +394,7 @@ unread_does m kind w conn stream message fault rest told_before told_now session
       comes_to = λ later. ap (comes (given w later) conn) reads;
       streams = refl;
       allowed = allowed;
+      caused = caused_none w refused_before refused_now;
       waits = record {
         turns = t.turns;
         holds = subst (λ (v : Voter). Holds v.clients v.machine v.view (node_of w) streams t.turns) (sym only.stays) holds;

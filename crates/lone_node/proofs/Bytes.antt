@@ -1,5 +1,5 @@
 -- A client's bytes, as the code takes them.
-use Rattle.std.proofs.Common.{◌≡◌, ℕ, Bool, true, false, List, [], ◌∷◌, ◌++◌, refl, sym, ap, ◌∙◌, append_assoc, append-nil, Option, Some, None, Result, Ok, Err}
+use Rattle.std.proofs.Common.{◌≡◌, ◌≤◌, ℕ, Bool, true, false, List, [], ◌∷◌, ◌++◌, refl, sym, ap, ◌∙◌, append_assoc, append-nil, Option, Some, None, Result, Ok, Err}
 use Rattle.std.specs.Prelude.{OnOk, not, is_none}
 use Rattle.std.specs.Option.{option_map}
 use Rattle.wire_words.specs.declared.message.Message.{Message}
@@ -20,6 +20,7 @@ use Rattle.lone_node.specs.Lone.{Lone, given, closes, behind, hears, hears_on}
 use Rattle.lone_node.specs.Safe.{Allowed}
 use Rattle.lone_node.specs.Shows.{Shows}
 use Rattle.lone_node.specs.Taking.{Among, at_first, further, Waits, Empties, TakesAll, Closes, Heard}
+use Rattle.lone_node.proofs.Causes.{same_low, caused_none, caused_both, caused_closes}
 use Rattle.lone_node.proofs.Turning.{allowed_more}
 
 none_open : (o : Option Conn) (open_is : Bool) → open_is ≡ not (is_none o) → open_is ≡ false → o ≡ None
@@ -38,10 +39,10 @@ here : (code : Voter) (w : Lone) (conn : ℕ) → Shows code w → (clients_of c
 here code w conn x = ap (λ (c : Clients). c.streams conn) x.holds.clients
 
 -- on a connection that isn't open nothing happens
-pub hears_none : (m : Meaning) (kind : EngineKind) (told : Option Told) (code : Voter) (conn : ℕ) (bytes : List ℕ) (open_is : Bool) (said : List Say) → open_is ≡ not (is_none ((clients_of code.clients code.machine).streams conn)) → open_is ≡ false
-    → (w : Lone) → Allowed m kind w.turns → Shows code w → Heard m kind w conn bytes told told code said said
+pub hears_none : (m : Meaning) (kind : EngineKind) (told : Option Told) (refused : ℕ) (code : Voter) (conn : ℕ) (bytes : List ℕ) (open_is : Bool) (said : List Say) → open_is ≡ not (is_none ((clients_of code.clients code.machine).streams conn)) → open_is ≡ false
+    → (w : Lone) → Allowed m kind w.turns → Shows code w → Heard m kind w conn bytes told told refused refused code said said
 unfolding hears TellsAll
-hears_none m kind told code conn bytes open_is said is off w allowed x =
+hears_none m kind told refused code conn bytes open_is said is off w allowed x =
     let closed : w.streams conn ≡ None = none_open (w.streams conn) open_is (is ∙ ap (λ (o : Option Conn). not (is_none o)) (here code w conn x)) off in
     record {
       answers = [];
@@ -50,6 +51,7 @@ hears_none m kind told code conn bytes open_is said is off w allowed x =
       said = [];
       comes_to = λ later. ap (hears_on (given w later) conn bytes) closed;
       allowed = allowed;
+      caused = caused_none w refused refused;
       shows = x;
       says = sym (append-nil said);
     }
@@ -86,14 +88,14 @@ abbrev then_closes : ℕ → Conn → Option (Lone × List Say) → Option (Lone
 then_closes conn stream o = option_map (λ (next : Lone × List Say). behind next.1 (closes next.0 conn stream (reason_of stream))) o
 
 -- all that came of the bytes
-pub hears_all : {F : Type 0} (result : Result (Unit {0}) F) (m : Meaning) (kind : EngineKind) (told_before told_now : Option Told) (old taken last : Voter) (conn : ℕ) (bytes : List ℕ) (open_is : Bool) (before mid now : List Say)
-    → open_is ≡ not (is_none ((clients_of old.clients old.machine).streams conn)) → open_is ≡ true
-    → ((w : Lone) (stream : Conn) (left : List Message) → Allowed m kind w.turns → Shows old w → w.streams conn ≡ Some stream → TakesAll m kind w conn (received stream bytes) (received stream bytes).waiting told_before told_now taken before mid)
+pub hears_all : {F : Type 0} (result : Result (Unit {0}) F) (m : Meaning) (kind : EngineKind) (told_before told_now : Option Told) (refused_before refused_now : ℕ) (old taken last : Voter) (conn : ℕ) (bytes : List ℕ) (open_is : Bool) (before mid now : List Say)
+    → open_is ≡ not (is_none ((clients_of old.clients old.machine).streams conn)) → open_is ≡ true → refused_before ≤ refused_now
+    → ((w : Lone) (stream : Conn) (left : List Message) → Allowed m kind w.turns → Shows old w → w.streams conn ≡ Some stream → TakesAll m kind w conn (received stream bytes) (received stream bytes).waiting told_before told_now refused_before refused_now taken before mid)
     → OnOk result ((w : Lone) (stream : Conn) → Empties taken w conn stream → Closes last w conn stream mid now)
-    → OnOk result ((w : Lone) → Allowed m kind w.turns → Shows old w → Heard m kind w conn bytes told_before told_now last before now)
+    → OnOk result ((w : Lone) → Allowed m kind w.turns → Shows old w → Heard m kind w conn bytes told_before told_now refused_before refused_now last before now)
 unfolding hears
-hears_all (Err f) m kind told_before told_now old taken last conn bytes open_is before mid now is on takes closing = tt
-hears_all (Ok u) m kind told_before told_now old taken last conn bytes open_is before mid now is on takes closing = λ w allowed x.
+hears_all (Err f) m kind told_before told_now refused_before refused_now old taken last conn bytes open_is before mid now is on more takes closing = tt
+hears_all (Ok u) m kind told_before told_now refused_before refused_now old taken last conn bytes open_is before mid now is on more takes closing = λ w allowed x.
     let opens = some_open (w.streams conn) open_is (is ∙ ap (λ (o : Option Conn). not (is_none o)) (here old w conn x)) on in
     let stream = received opens.0 bytes in
     let t = takes w opens.0 [] allowed x opens.1 in
@@ -108,6 +110,7 @@ hears_all (Ok u) m kind told_before told_now old taken last conn bytes open_is b
           ∙ ap (then_closes conn stream) (t.comes_to later)
           ∙ ap (λ (next : Lone × List Say). Some (behind t.said next)) (closes_given t.next later conn stream (reason_of stream));
       allowed = closes_allowed m kind t.next conn stream (reason_of stream) t.allowed;
+      caused = caused_both w t.next (closes t.next conn stream (reason_of stream)).0 refused_before refused_now refused_now more (same_low refused_now) t.caused (caused_closes t.next conn stream (reason_of stream) refused_now refused_now);
       shows = c.shows;
       says = c.says ∙ ap (λ (xs : List Say). xs ++ (closes t.next conn stream (reason_of stream)).1) t.says ∙ append_assoc before t.said (closes t.next conn stream (reason_of stream)).1;
     }

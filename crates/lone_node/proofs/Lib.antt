@@ -1,6 +1,7 @@
 pub mod Asking
 pub mod Bytes
 pub mod Calm
+pub mod Causes
 pub mod Checkpoints
 pub mod Collecting
 pub mod Commands

@@ -101,16 +101,16 @@ clients_taken w conn stream left turns sessions new offer o rest =
 by_reading : (m : Meaning) (kind : EngineKind) (w : Lone) (conn : ℕ) (stream : Conn) (message : Message) (rest : List Message) (told_before told_now : Option Told) (refused_before refused_now : ℕ) (sessions : Gateway) (act : Act) (mid new : Voter) (before now : List Say)
     → (r : Result Request MsgFault) → request_of message ≡ r → Allowed m kind w.turns → Rests (node_of w) → may_ask ((node_of w).gate.session conn) ≡ true → Taken mid w conn stream rest sessions
     → Comes m kind (view (node_of w)) (databases (node_of w)) (node_of w).gate conn r told_before told_now refused_before refused_now sessions act → Performs act mid new before now
-    → Does m kind w conn stream message rest told_before told_now new before now
+    → Does m kind w conn stream message rest told_before told_now refused_before refused_now new before now
 by_reading m kind w conn stream message rest told_before told_now refused_before refused_now sessions act mid new before now (Ok request) reads allowed rests may t came performs =
     asked_does m kind w conn stream message request rest told_before told_now sessions refused_before refused_now act mid new before now reads allowed rests may t came performs
 by_reading m kind w conn stream message rest told_before told_now refused_before refused_now sessions act mid new before now (Err fault) reads allowed rests may t came performs =
-    unread_does m kind w conn stream message fault rest told_before told_now sessions act mid new before now reads allowed rests t came performs
+    unread_does m kind w conn stream message fault rest told_before told_now sessions refused_before refused_now act mid new before now reads allowed rests t came performs
 
 pub takes_one : (m : Meaning) (kind : EngineKind) (old mid new : Voter) (told_before told_now : Option Told) (refused_before refused_now : ℕ) (o : Option Act) (act : Act) (before now : List Say) → o ≡ Some act → IsSound old
     → mid.view ≡ old.view → machine_of mid.machine ≡ machine_of old.machine
     → TookTurn m kind old.view (machine_of old.machine) (clients_of old.clients old.machine) told_before told_now refused_before refused_now (clients_of mid.clients mid.machine) o → Performs act mid new before now
-    → (w : Lone) (conn : ℕ) (stream : Conn) (left : List Message) → Allowed m kind w.turns → Waits old w conn stream left → TakesOne m kind w conn stream left told_before told_now new before now
+    → (w : Lone) (conn : ℕ) (stream : Conn) (left : List Message) → Allowed m kind w.turns → Waits old w conn stream left → TakesOne m kind w conn stream left told_before told_now refused_before refused_now new before now
 takes_one m kind old mid new told_before told_now refused_before refused_now o act before now some sound same_view same_machine turn performs w conn stream left allowed x =
     let node = node_of w in
     let k = clients_with node (waiting_streams w conn stream left) x.turns in
@@ -144,6 +144,7 @@ takes_one m kind old mid new told_before told_now refused_before refused_now o a
       comes_to = d.comes_to;
       streams = d.streams;
       allowed = d.allowed;
+      caused = d.caused;
       waits = d.waits;
       says = d.says;
     }

@@ -11,6 +11,7 @@ use Rattle.session_world.specs.Life.{Event, Connect, Hangup, Call, Apply, Lose, 
 use Rattle.session_world.specs.Alone.{Turn, Timeout, Join, Leave, Ask, applies, settling, events_of, takes_turn, alone_from, alone, AllowsTurns}
 use Rattle.session_world.proofs.Alones.{alone_is_safe_holds}
 use Rattle.lone_node.specs.Safe.{Lasts, Allowed, RunsAreSafe}
+use Rattle.lone_node.proofs.Turning.{from_append}
 
 lasts_refl : (w : Node) → Lasts w w
 lasts_refl w = record { more = []; log = sym (append-nil w.log); later = []; said = sym (append-nil w.said) }
@@ -81,10 +82,6 @@ lasts_turn w t = lasts_events (events_of w t) w (own_turn w t)
 lasts_turns : (ts : List Turn) (w : Node) → Lasts w (alone_from w ts)
 lasts_turns [] w = lasts_refl w
 lasts_turns (t ∷ ts) w = lasts_trans (lasts_turn w t) (lasts_turns ts (takes_turn w t))
-
-from_append : (ts us : List Turn) (w : Node) → alone_from w (ts ++ us) ≡ alone_from (alone_from w ts) us
-from_append [] us w = refl
-from_append (t ∷ ts) us w = from_append ts us (takes_turn w t)
 
 lasts_from : (early late : List Turn) → Lasts (alone early) (alone (early ++ late))
 unfolding alone

@@ -14,13 +14,14 @@ use Rattle.lone_node.specs.Safe.{Allowed}
 use Rattle.lone_node.specs.Lone.{replies, messages_of}
 use Rattle.lone_node.proofs.Journals.{front_left}
 
-from_more : (ts : List Turn) (w : Node) (t : Turn) → alone_from w (ts ++ t ∷ []) ≡ takes_turn (alone_from w ts) t
-from_more [] w t = refl
-from_more (u ∷ ts) w t = from_more ts (takes_turn w u) t
+-- turns behind others go on from the node after these
+pub from_append : (ts us : List Turn) (w : Node) → alone_from w (ts ++ us) ≡ alone_from (alone_from w ts) us
+from_append [] us w = refl
+from_append (t ∷ ts) us w = from_append ts us (takes_turn w t)
 
 pub turn_more : (ts : List Turn) (t : Turn) → alone (ts ++ t ∷ []) ≡ takes_turn (alone ts) t
 unfolding alone
-turn_more ts t = from_more ts (started [] 0 0) t
+turn_more ts t = from_append ts (t ∷ []) (started [] 0 0)
 
 -- what is said in a turn is what is new
 pub new_said : (old new more : List Said) → new ≡ old ++ more → drop (length old) new ≡ more

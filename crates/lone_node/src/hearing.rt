@@ -1,6 +1,6 @@
 //! A client's bytes: its messages, what comes of them, and the end of its stream.
 
-ghost use Rattle.std.specs.Prelude.{◌≡◌, ◌++◌, ℕ, List, [], map, Some, None, OnOk, IfOk, MatchBool};
+ghost use Rattle.std.specs.Prelude.{◌≡◌, ◌≤◌, ◌++◌, ℕ, List, [], map, Some, None, OnOk, IfOk, MatchBool};
 ghost use Rattle.wire_words.specs.declared.message.Message.{Message};
 ghost use Rattle.client_connection.specs.Connection.{Conn};
 ghost use Rattle.lone_node.specs.declared.say.Say.{Say};
@@ -60,9 +60,10 @@ impl Voter {
     ) -> Result<bool, AllocError>
         requires sound { IsSound self.old }
         ensures took { IfOk result (λ took. (w : Lone) (conn : ℕ) (stream : Conn) (left : List Message) → Allowed (E.meaning (E.kind engine.old)) (E.kind engine.old) w.turns → Waits self.old w conn stream left
-            → MatchBool took (TakesOne (E.meaning (E.kind engine.old)) (E.kind engine.old) w conn stream left (E.told engine.old) (E.told engine.new) self.new said.old.items said.new.items)
+            → MatchBool took (TakesOne (E.meaning (E.kind engine.old)) (E.kind engine.old) w conn stream left (E.told engine.old) (E.told engine.new) (E.refused_openings engine.old) (E.refused_openings engine.new) self.new said.old.items said.new.items)
             (TakesNone w conn stream left (E.told engine.old) (E.told engine.new) self.new said.old.items said.new.items)) }
         ensures kind { E.kind engine.new ≡ E.kind engine.old }
+        ensures openings { E.refused_openings engine.old ≤ E.refused_openings engine.new }
         ensures sound { IsSound self.new }
     {
         match self.clients.next(&self.view, &mut self.machine, engine)? {
@@ -82,8 +83,9 @@ impl Voter {
     ) -> Result<(), AllocError>
         requires sound { IsSound self.old }
         ensures took { OnOk result ((w : Lone) (conn : ℕ) (stream : Conn) (left : List Message) → Allowed (E.meaning (E.kind engine.old)) (E.kind engine.old) w.turns → Waits self.old w conn stream left
-            → TakesAll (E.meaning (E.kind engine.old)) (E.kind engine.old) w conn stream left (E.told engine.old) (E.told engine.new) self.new said.old.items said.new.items) }
+            → TakesAll (E.meaning (E.kind engine.old)) (E.kind engine.old) w conn stream left (E.told engine.old) (E.told engine.new) (E.refused_openings engine.old) (E.refused_openings engine.new) self.new said.old.items said.new.items) }
         ensures kind { E.kind engine.new ≡ E.kind engine.old }
+        ensures openings { E.refused_openings engine.old ≤ E.refused_openings engine.new }
         ensures sound { IsSound self.new }
     {
         for _ in 0..u64::MAX {
@@ -121,8 +123,9 @@ impl Voter {
     ) -> Result<(), AllocError>
         requires sound { IsSound self.old }
         ensures heard { OnOk result ((w : Lone) → Allowed (E.meaning (E.kind engine.old)) (E.kind engine.old) w.turns → Shows self.old w
-            → Heard (E.meaning (E.kind engine.old)) (E.kind engine.old) w conn bytes.now (E.told engine.old) (E.told engine.new) self.new said.old.items said.new.items) }
+            → Heard (E.meaning (E.kind engine.old)) (E.kind engine.old) w conn bytes.now (E.told engine.old) (E.told engine.new) (E.refused_openings engine.old) (E.refused_openings engine.new) self.new said.old.items said.new.items) }
         ensures kind { E.kind engine.new ≡ E.kind engine.old }
+        ensures openings { E.refused_openings engine.old ≤ E.refused_openings engine.new }
         ensures sound { IsSound self.new }
     {
         if !self.clients.is_open(conn) {

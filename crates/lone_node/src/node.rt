@@ -1,6 +1,6 @@
 //! The voter, as its caller has it.
 
-ghost use Rattle.std.specs.Prelude.{◌≡◌, ◌++◌, List, IfOk, OnOk};
+ghost use Rattle.std.specs.Prelude.{◌≡◌, ◌≤◌, ◌++◌, List, IfOk, OnOk};
 ghost use Rattle.session_rules.specs.Engines.{Answer};
 ghost use Rattle.page_apply.specs.Databases.{contents_of};
 ghost use Rattle.lone_node.specs.Lone.{Lone, fresh, node_of, contents, times_out, joins, hangs_up};
@@ -52,7 +52,7 @@ impl LoneNode {
     }
 
     /// An election timeout. The first one makes it the leader of term 1, as its own vote is a majority, and it serves at
-    /// once; a later one changes nothing. What is told is put behind what was said.
+    /// once; a later one changes nothing. What is told is put behind what was said. `Err` is want of memory.
     pub fn timeout(&mut self, said: &mut Vec<Say>) -> Result<(), AllocError>
         ensures shows { OnOk result ((w : Lone) → Shows self.old w → Shows self.new (times_out w).0) }
         ensures says { OnOk result ((w : Lone) → Shows self.old w → said.new.items ≡ said.old.items ++ (times_out w).1) }
@@ -61,7 +61,7 @@ impl LoneNode {
     }
 
     /// A client connects: it gets a session, or it is closed with the reason `Limit` where 64 are there. The number is that
-    /// of no client before it.
+    /// of no client before it. `Err` is want of memory.
     pub fn connect(&mut self, conn: u64, said: &mut Vec<Say>) -> Result<(), AllocError>
         ensures shows { OnOk result ((w : Lone) → Shows self.old w → Shows self.new (joins w conn).0) }
         ensures says { OnOk result ((w : Lone) → Shows self.old w → said.new.items ≡ said.old.items ++ (joins w conn).1) }
@@ -71,7 +71,7 @@ impl LoneNode {
 
     /// A client's bytes, the next piece of its stream: each message that is whole with them comes, in order, and is done before
     /// the next; then the connection closes, where its stream is at its end or there was no room for a byte. On a connection
-    /// that isn't open nothing happens. What is told is put behind what was said.
+    /// that isn't open nothing happens. What is told is put behind what was said. `Err` is want of memory.
     ///
     /// Costs what the requests cost at the gateway and what their statements cost in the engine.
     pub fn hear<E: Engine>(
@@ -81,10 +81,12 @@ impl LoneNode {
         engine: &mut E,
         said: &mut Vec<Say>,
     ) -> Result<(), AllocError>
-        // By answers that the engine may give and told; all of them are used up.
+        // By answers that the engine may give and told; all of them are used up. A request is refused as over no database only
+        // where one more opening was refused.
         ensures heard { OnOk result ((w : Lone) → Allowed (E.meaning (E.kind engine.old)) (E.kind engine.old) w.turns → Shows self.old w
-            → Heard (E.meaning (E.kind engine.old)) (E.kind engine.old) w conn bytes.now (E.told engine.old) (E.told engine.new) self.new said.old.items said.new.items) }
+            → Heard (E.meaning (E.kind engine.old)) (E.kind engine.old) w conn bytes.now (E.told engine.old) (E.told engine.new) (E.refused_openings engine.old) (E.refused_openings engine.new) self.new said.old.items said.new.items) }
         ensures kind { E.kind engine.new ≡ E.kind engine.old }
+        ensures openings { E.refused_openings engine.old ≤ E.refused_openings engine.new }
     {
         self.voter.hear(conn, bytes, engine, said)
     }

@@ -4,6 +4,7 @@ ghost use Rattle.sqlite_disk.specs.Digest.{digest};
 ghost use Rattle.sqlite_disk.specs.Refusal.{finds_no_room};
 ghost use Rattle.sqlite_disk.specs.Tally.{CountsCatch};
 ghost use Rattle.record_disk.specs.Recording.{touched_count, pages_between, IsRecorded};
+ghost use Rattle.record_disk.specs.Tested.{AnswersWantedBytes};
 ghost use Rattle.std.specs.Str.{bytes_eq};
 
 use crate::before::FileBefore;
@@ -127,9 +128,11 @@ impl Disk for PageFile {
         Ok(())
     }
 
+    /// It fails only where the file ends before, or where the bytes there have another digest, which counts as damage.
     fn read_checked(&mut self, key: u64, want: u64, at: usize, buf: &mut [u8]) -> io::Result<()>
         ensures read { OnOk result (Holds self.old.after at buf.new) }
         ensures tested { OnOk result (digest key buf.new ≡ want) }
+        ensures wanted { AnswersWantedBytes self.old.after key want at (length buf.old) result }
         ensures faults { CountsFaultIf (at + length buf.old ≤ length self.old.after) result self.old.faults self.new.faults }
         ensures caught { CountsCatch result (record { caught = self.old.caught; refused = 0 }) (record { caught = self.new.caught; refused = 0 }) }
         ensures same { self.new ≡ record self.old { faults = self.new.faults; caught = self.new.caught } }

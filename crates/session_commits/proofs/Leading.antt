@@ -1,5 +1,5 @@
 -- The pages of a change lead to its image.
-use Rattle.std.proofs.Common.{◌≡◌, ◌≢◌, ℕ, zero, suc, ◌<◌, ◌^◌, Bool, true, false, cond, bytes_eq, List, [], ◌∷◌, ◌++◌, length, ◌&&◌, Option, Some, None, inl, inr, refl, sym, ap, subst, ◌∙◌}
+use Rattle.std.proofs.Common.{◌≡◌, ℕ, zero, suc, ◌<◌, ◌^◌, Bool, true, false, cond, bytes_eq, List, [], ◌∷◌, ◌++◌, length, ◌&&◌, Option, Some, None, inl, inr, refl, sym, ap, subst, ◌∙◌}
 use Rattle.std.specs.Prelude.{◌==◌}
 use Rattle.std.specs.List.{AllByRecursion}
 use Rattle.dq_base.specs.declared.images.Image.{Image}
@@ -7,7 +7,7 @@ use Rattle.dq_base.specs.declared.pages.NumberedPage.{NumberedPage}
 use Rattle.dq_base.specs.Images.{page_at, page_from, page_start, file_of, sizes_page, reaches}
 use Rattle.std.proofs.lemmas.Bool.{cases_Bool, cond-true, both_ways}
 use Rattle.std.proofs.lemmas.Slice.Eq.{bytes_eq-Decides}
-use Rattle.dq_base.specs.Applying.{applied, page_fault, fault_before}
+use Rattle.dq_base.specs.Applying.{fault_before}
 use Rattle.dq_base.specs.Changes.{same_image, changed_page, changed_from, numbers_above_one, sizes_of, changed}
 use Rattle.dq_base.proofs.ChangeLaw.{length-sizes_page, applied_change}
 use Rattle.dq_base.proofs.FileBytes.{length-page_from}

@@ -1,6 +1,6 @@
 //! A transaction that ends with its changes.
 
-ghost use Rattle.std.specs.Prelude.{◌≡◌, ◌≤◌, ◌<◌, ◌^◌, ℕ, List, length, true, false, is_none, suc, map, Some, IfOk, OnOk};
+ghost use Rattle.std.specs.Prelude.{◌≡◌, ◌≤◌, ℕ, List, true, false, is_none, suc, map, Some, IfOk, OnOk};
 ghost use Rattle.std.specs.List.{AllByRecursion};
 ghost use Rattle.dq_base.specs.declared.images.Image.{Image as ImageValue};
 ghost use Rattle.dq_base.specs.Applying.{page_fault};
@@ -23,39 +23,17 @@ ghost use Rattle.session_asking.specs.Meant.{IsServed};
 ghost use Rattle.session_turns.specs.Turning.{ComesTo};
 ghost use Rattle.session_writes.specs.Hindered.{LeadsTo, Hinders};
 
-use dq_base::{Image, Items, Lengths, Name, NumberedPage, PageSet};
-use page_apply::{Machine, Pin};
+use crate::pinned::{are_none, changed_since, lengths_of};
+use dq_base::{Items, Name, NumberedPage, PageSet};
+use page_apply::Machine;
 use raft_vote::Entries;
 use session_asking::View;
 use session_table::{Cause, Flight, FlightKind, Session, Transaction};
 use session_turns::Turn;
 use session_writes::{change_entries, hindrance, log_full, transaction_number};
-use statement_runs::change_between;
 use std::alloc::{AllocError, Global};
 
-/// The lengths of an image's files.
-fn lengths_of(image: &Image) -> Lengths
-    ensures main { length image.now.main < 2 ^ 64 }
-    ensures side { length image.now.side < 2 ^ 64 }
-{
-    Lengths {
-        main: image.main.len(),
-        side: image.side.len(),
-    }
-}
-
-/// The image that a transaction has pinned, copied. `Err` is want of memory.
-fn pinned(alloc: Global, machine: &Machine, pin: &Option<Pin>) -> Result<Image, AllocError>
-    requires { AllByRecursion (IsPinned machine.now) (mark_of pin.now) }
-    ensures { IfOk result (λ image. image ≡ image_pinned machine.now pin.now) }
-{
-    match pin {
-        Some(pin) => machine.image(pin),
-        None => Ok(Image::new(alloc)),
-    }
-}
-
-/// The pages that a transaction has changed. The image that it has pinned is copied for that. `Err` is want of memory.
+/// The pages that a transaction has changed, which lead to its working image. `Err` is want of memory.
 fn pages_of(
     alloc: Global,
     machine: &Machine,
@@ -65,9 +43,8 @@ fn pages_of(
     ensures change { IfOk result (λ pages. pages.items ≡ changed (image_pinned machine.now transaction.now.pin) transaction.now.working) }
     ensures leads { IfOk result (λ pages. LeadsTo pages.items transaction.now.working) }
 {
-    let before = pinned(alloc, machine, &transaction.pin)?;
     let _ = lengths_of(&transaction.working);
-    change_between(alloc, &before, &transaction.working)
+    changed_since(alloc, machine, &transaction.pin, &transaction.working)
 }
 
 /// A commit of entries that come next in the log, which isn't full. `Err` is want of memory.
@@ -182,17 +159,9 @@ fn commit(
     }
 }
 
-/// Whether there are none.
-fn are_none(pages: &Vec<NumberedPage>) -> bool
-    ensures { result ≡ no_pages pages.now.items }
-{
-    let pages = pages.as_slice();
-    pages.is_empty()
-}
-
 /// What COMMIT comes to at a session of a node that serves: its transaction is over, where it has changed no page; else its
-/// changes are proposed, where nothing hinders them. The image that the transaction has pinned is copied once, and each page that
-/// it has changed. `Err` is want of memory.
+/// changes are proposed, where nothing hinders them. The image that the transaction has pinned is read page by page; what is
+/// copied are the pages that it has changed. `Err` is want of memory.
 #[tactic(auto, unfolding(session_rules::specs::Requests::does, session_rules::specs::Requests::committed))]
 pub fn commit_turn(
     alloc: Global,

@@ -2,5 +2,6 @@
 #![tactic(auto)]
 
 mod commit;
+mod pinned;
 
 pub use commit::commit_turn;

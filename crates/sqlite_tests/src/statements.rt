@@ -64,17 +64,23 @@ fn filled(alloc: Global) -> Result<Database, Fail> {
     Ok(database)
 }
 
-/// What a query answers twice over an image that was opened ahead: whether its row is there, the pages of its set, and how
-/// many openings were tried in all.
+/// Whether a text that is no SQL is refused.
+fn refuses(engine: &mut SqliteEngine, image: &Image) -> bool {
+    engine.run(image, "SELEC 1", &[], 3).is_err()
+}
+
+/// What a query answers over an image that was opened ahead, before and after a text that is refused: whether its row is
+/// there, the pages of its set, and how many openings were tried in all.
 fn asked(engine: &mut SqliteEngine, image: &Image) -> Result<(bool, usize, u64), Fail> {
     let text = "SELECT a, b FROM t";
     engine.ready(image);
     let first = engine.run(image, text, &[], 2)?;
-    let second = engine.run(image, text, &[], 3)?;
+    let is_refused = refuses(engine, image);
+    let second = engine.run(image, text, &[], 4)?;
     let is_row = row_of(&first) == Some((5, "x")) && row_of(&second) == Some((5, "x"));
     let is_named = first_name(&first) == Some("a");
     Ok((
-        is_row && is_named,
+        is_row && is_named && is_refused,
         second.after.pages.len(),
         engine.openings(),
     ))
@@ -180,20 +186,26 @@ fn changed_rows_are_counted(rt: HostRuntime) -> Result<(), Fail> {
     Ok(())
 }
 
-/// The fault of a statement over an empty image, under an engine of cells or of SQLite.
-fn fault_under(alloc: Global, cells: bool, text: &str) -> Option<EngineFault> {
-    let mut engine = if cells {
+/// An engine of cells or of SQLite, as a fork of another.
+fn forked(alloc: Global, cells: bool) -> Result<AnyEngine, AllocError> {
+    let engine = if cells {
         AnyEngine::Cells(CellEngine::new(alloc))
     } else {
         AnyEngine::Sqlite(SqliteEngine::new(alloc))
     };
+    engine.fork()
+}
+
+/// The fault of a statement over an empty image, under an engine of cells or of SQLite.
+fn fault_under(alloc: Global, cells: bool, text: &str) -> Result<Option<EngineFault>, AllocError> {
+    let mut engine = forked(alloc, cells)?;
     let image = Image::new(alloc);
     engine.ready(&image);
-    engine.run(&image, text, &[], 6).err()
+    Ok(engine.run(&image, text, &[], 6).err())
 }
 
 #[test]
-fn each_kind_has_its_own_statements(rt: HostRuntime) {
+fn each_kind_has_its_own_statements(rt: HostRuntime) -> Result<(), Fail> {
     let rows = [
         (true, "SET 3 9", None),
         (true, "SELECT 1", Some(EngineFault::Sql)),
@@ -201,6 +213,7 @@ fn each_kind_has_its_own_statements(rt: HostRuntime) {
         (false, "SELECT 1", None),
     ];
     for (cells, text, wanted) in rows {
-        assert_eq!(rt; fault_under(rt.alloc(), cells, text), wanted);
+        assert_eq!(rt; fault_under(rt.alloc(), cells, text)?, wanted);
     }
+    Ok(())
 }

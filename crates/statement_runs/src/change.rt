@@ -14,8 +14,8 @@ fn same_image(before: &Image, after: &Image) -> bool
         && before.side.as_slice() == after.side.as_slice()
 }
 
-/// How many numbers there are from 2 up to the highest that an image has.
-fn numbers_above_one(image: &Image) -> u64
+/// How many numbers there are from 2 up to the highest that an image has. Takes no memory.
+pub fn numbers_above_one(image: &Image) -> u64
     ensures count { result ≡ numbers_above_one image.now }
     ensures small { result ≤ 2 ^ 53 }
 {
@@ -24,16 +24,17 @@ fn numbers_above_one(image: &Image) -> u64
     2 * main.max(side)
 }
 
-/// The sizes page of an image.
-fn sizes_of(image: &Image) -> NumberedPage
+/// The sizes page of an image, with its number. Takes no memory.
+pub fn sizes_of(image: &Image) -> NumberedPage
     ensures { result ≡ sizes_of image.now }
 {
     let page = page_at(image, 1).unwrap();
     NumberedPage { number: 1, page }
 }
 
-/// Adds the later page where it differs.
-fn add_changed(
+/// Adds to the pages of a change what it lists at a number: the later page, where there was none before or another one. `Err` is
+/// want of memory.
+pub fn add_changed(
     pages: &mut Vec<NumberedPage>,
     number: u64,
     old: Option<Page>,

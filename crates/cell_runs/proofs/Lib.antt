@@ -1,0 +1,5 @@
+pub mod CellAnswers
+pub mod Unnumbered
+pub mod Turning
+pub mod Asking
+pub mod Repeating
