@@ -169,15 +169,15 @@ module _ (kind : EngineKind) (old new : Cluster) (world : World) (holds : HoldsW
     says = sym (append-nil said);
   }
 
-  pub heard : (connection conn : ℕ) (bytes : List ℕ) (before now : List Told) → world.known connection ≡ true → conn ≡ connection
+  pub heard : (connection conn : ℕ) (bytes : List ℕ) (refused_before refused_now : ℕ) (before now : List Told) → world.known connection ≡ true → conn ≡ connection
       → ((w : Lone) → Allowed (any_meaning (any_kind old.engine.engine)) (any_kind old.engine.engine) w.turns → ShowsNode old.node w
-      → Heard (any_meaning (any_kind old.engine.engine)) (any_kind old.engine.engine) w conn bytes (tells old) (tells new) new.node before now)
+      → Heard (any_meaning (any_kind old.engine.engine)) (any_kind old.engine.engine) w conn bytes (tells old) (tells new) refused_before refused_now new.node before now)
       → any_kind new.engine.engine ≡ any_kind old.engine.engine → new.known ≡ old.known → Happened kind old new world (event.Bytes connection bytes) before now
   unfolding happens
-  heard connection conn bytes before now is_known same hears engine known =
-      let h : Heard (any_meaning kind) kind world.node connection bytes (tells old) (tells new) new.node before now =
-      subst (λ (k : EngineKind). Allowed (any_meaning k) k world.node.turns → Heard (any_meaning k) k world.node connection bytes (tells old) (tells new) new.node before now) holds.engine_kind
-      (λ a. subst (λ (q : ℕ). Heard (any_meaning (any_kind old.engine.engine)) (any_kind old.engine.engine) world.node q bytes (tells old) (tells new) new.node before now) same (hears world.node a holds.node)) holds.allowed in
+  heard connection conn bytes refused_before refused_now before now is_known same hears engine known =
+      let h : Heard (any_meaning kind) kind world.node connection bytes (tells old) (tells new) refused_before refused_now new.node before now =
+      subst (λ (k : EngineKind). Allowed (any_meaning k) k world.node.turns → Heard (any_meaning k) k world.node connection bytes (tells old) (tells new) refused_before refused_now new.node before now) holds.engine_kind
+      (λ a. subst (λ (q : ℕ). Heard (any_meaning (any_kind old.engine.engine)) (any_kind old.engine.engine) world.node q bytes (tells old) (tells new) refused_before refused_now new.node before now) same (hears world.node a holds.node)) holds.allowed in
       record {
         answers = h.answers;
         told = h.told;

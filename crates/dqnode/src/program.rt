@@ -9,6 +9,7 @@ ghost use Rattle.cluster_runner.specs.Outcome.{MayFollow, Anything, Completes};
 ghost use Rattle.dq_base.specs.Sink.{AppendsFront};
 ghost use Rattle.cluster_runner.specs.Run.{Line, Large};
 ghost use Rattle.cluster_runner.specs.Alike.{KeepsAlike};
+ghost use Rattle.dqnode.specs.Deciding.{CellsDecide};
 ghost use Rattle.dqnode.specs.Program.{engine_word, AreWords, AsksFor, IsScript, words_error, line_error, large_error, Faults, BreaksOff, RunsWith, RunsSafely, RunsAreSafe};
 ghost use Rattle.dqnode.specs.Status.{IsStatus, IsBroken, ScriptEnds};
 
@@ -151,7 +152,8 @@ fn refuse_words<K: Sink>(output: &mut K) -> Status
 /// The journal is that of this run afterwards: what the engine answered to the statements of clients, in their order; what it
 /// held before is dropped, and after other words it is as it was. What was read and this journal decide all else. Each answer
 /// that the run takes off the journal is one that an engine of the kind may give, and every such run is safe: at each moment
-/// each reply is right by the node's entries, and what was said and applied stays.
+/// each reply is right by the node's entries, and what was said and applied stays. With the engine of cells the script alone
+/// decides what is said and at which line it fails, where the engine wanted no memory.
 ///
 /// Unless the input is at its end, every script that begins with the bytes read has the fault that is named; and after a
 /// fault of the outside or want of memory a front was written of what each of them gives, so nothing of a line that was read
@@ -181,6 +183,9 @@ pub fn dqnode<S: Source, K: Sink>(
     ensures safe { IsScript words.now → RunsWith words.now (λ kind. RunsSafely kind (map answer_of journal.new) (S.left input.old) (S.left input.new)) }
     // So is the run of every script with every journal whose answers are allowed.
     ensures always_safe { RunsAreSafe }
+    // With the engine of cells the script alone decides what is said and at which fault it ends, whatever a journal holds, where
+    // the engine wanted no memory and the journal lacks no answer.
+    ensures determined { CellsDecide }
     // A run has one list of commands: at every moment machines that have applied as many of them hold the same files and
     // pending pages, and are shown so. The files of each are together at most 67,108,864 bytes long.
     ensures alike { (script : List ℕ) (journal : List Answer) → KeepsAlike script journal }

@@ -1,13 +1,16 @@
 -- What code asks for, as the rules have it, with the parameters of the request.
-use Rattle.std.specs.Prelude.{◌≡◌, ◌<◌, ℕ, Bool, true, false, List, [], ◌∷◌, length, All, Option, Some, None, IsSome, map}
+use Rattle.std.specs.Prelude.{◌≡◌, ◌<◌, ℕ, Bool, true, false, List, [], ◌∷◌, length, All, Option, Some, None, IsSome, Result, Ok, Err, map}
 use Rattle.dq_base.specs.Names.{has_nul}
 use Rattle.wire_words.specs.declared.value.Value.{Value}
 use Rattle.wire_msgs.specs.declared.request.Request.{Request}
 use Rattle.wire_msgs.specs.declared.request.Request.TheVariants as requests
+use Rattle.sql_scan.specs.declared.pieces.Piece.{Piece}
+use Rattle.sql_scan.specs.declared.fault.ScanFault.{ScanFault}
 use Rattle.sql_scan.specs.Places.{StandsIn}
+use Rattle.sql_scan.specs.Statements.{scan_of}
 use Rattle.session_rules.specs.Asking as rules
 use Rattle.session_rules.specs.Causes as rule_causes
-use Rattle.session_rules.specs.Causes.{Cause as RuleCause}
+use Rattle.session_rules.specs.Causes.{scan_cause, Cause as RuleCause}
 use Rattle.session_rules.specs.Asking.{Asked, has_database}
 use Rattle.session_rules.specs.Sessions as sessions
 use Rattle.session_rules.specs.Sessions.{Prepared, Effect as RuleEffect, View, Session, in_tx}
@@ -41,6 +44,11 @@ meant params wanted.RollsBack = rules.RollsBack
 meant params (wanted.RunsOne prepared) = rules.Runs (with_all prepared params ∷ [])
 meant params (wanted.RunsAll script) = rules.Runs (assigned script.text script.pieces params)
 meant params (wanted.Reads prepared) = rules.Reads (with_all prepared params)
+
+-- The statements of a text, which stand in it; or the cause for which it can't be cut into statements.
+abbrev pub CutInto : List ℕ → Result (List Piece) Cause → Type 0
+CutInto sql (Ok pieces) = (scan_of sql ≡ Ok pieces) × All (StandsIn sql) pieces
+CutInto sql (Err cause) = (fault : ScanFault) × (scan_of sql ≡ Err fault) × (cause_named cause ≡ scan_cause fault)
 
 -- what is asked, where it isn't refused for a cause
 abbrev pub refused_by : Option Cause → Asked → Asked

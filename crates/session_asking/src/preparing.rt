@@ -9,10 +9,10 @@ ghost use Rattle.session_rules.specs.Statements as statements;
 ghost use Rattle.session_table.specs.Table.{session_of};
 ghost use Rattle.session_asking.specs.Meant.{meant, FitsStatements};
 
-use crate::texts::prepared_from;
+use crate::texts::{cut, prepared_from};
 use crate::wanted::Wanted;
 use session_table::{Cause, Prepared, Session, prepared_count};
-use sql_scan::{Piece, ScanFault, scan};
+use sql_scan::Piece;
 use statement_runs::{any_barred, is_left_out};
 use std::alloc::{AllocError, Global};
 
@@ -124,15 +124,11 @@ pub(crate) fn wanted_by_prepare(
     ensures wants { (databases : List Database) → IfOk result (λ wanted. meant [] wanted ≡ rules.asks_prepare (session_of databases session.now) sql.now wide (scan_of sql.now)) }
     ensures can { IfOk result (FitsStatements session.now.statements.items []) }
 {
-    match scan(alloc, sql) {
-        Ok(scan) => {
-            let wanted = wanted_by_pieces(alloc, session, sql, wide, scan.statements.as_slice())?;
+    match cut(alloc, sql)? {
+        Ok(pieces) => {
+            let wanted = wanted_by_pieces(alloc, session, sql, wide, pieces.as_slice())?;
             Ok(wanted)
         }
-        Err(ScanFault::OpenQuote(_)) => Ok(Wanted::Never(Cause::OpenQuote)),
-        Err(ScanFault::OpenComment(_)) => Ok(Wanted::Never(Cause::OpenComment)),
-        Err(ScanFault::Named(_)) => Ok(Wanted::Never(Cause::NamedParameter)),
-        Err(ScanFault::Number(_)) => Ok(Wanted::Never(Cause::BadParameterNumber)),
-        Err(ScanFault::NoMemory) => Err(AllocError),
+        Err(cause) => Ok(Wanted::Never(cause)),
     }
 }

@@ -6,7 +6,7 @@ ghost use Rattle.sql_scan.specs.Statements.{scan_of};
 ghost use Rattle.session_rules.specs.Asking as rules;
 ghost use Rattle.session_rules.specs.Statements as statements;
 ghost use Rattle.statement_runs.specs.Texts.{cut_at};
-ghost use Rattle.session_asking.specs.Meant.{meant, CanRun};
+ghost use Rattle.session_asking.specs.Meant.{meant, CanRun, CutInto};
 
 use crate::prepared::{wanted_by_one, wanted_by_reading};
 use crate::wanted::{Script, Wanted};
@@ -28,6 +28,17 @@ pub(crate) fn prepared_from(alloc: Global, sql: &str, piece: &Piece) -> Result<P
         word: piece.word,
         params: piece.params,
     })
+}
+
+/// The statements of a text; or why it can't be cut into statements. `Err` is want of memory.
+pub(crate) fn cut(alloc: Global, sql: &str) -> Result<Result<Items<Piece>, Cause>, AllocError>
+    ensures { IfOk result (CutInto sql.now) }
+{
+    match scan(alloc, sql) {
+        Ok(scan) => Ok(Ok(scan.statements)),
+        Err(ScanFault::NoMemory) => Err(AllocError),
+        Err(fault) => Ok(Err(Cause::of_scan(fault))),
+    }
 }
 
 /// Whether there is exactly one statement.
@@ -91,16 +102,12 @@ pub(crate) fn wanted_by_text(
     ensures wants { IfOk result (λ wanted. meant params.now wanted ≡ rules.asks_text inside sql.now (scan_of sql.now) params.now) }
     ensures runs { IfOk result (CanRun params.now) }
 {
-    match scan(alloc, sql) {
-        Ok(scan) => {
-            let wanted = wanted_by_pieces(alloc, inside, sql, scan.statements, params)?;
+    match cut(alloc, sql)? {
+        Ok(pieces) => {
+            let wanted = wanted_by_pieces(alloc, inside, sql, pieces, params)?;
             Ok(wanted)
         }
-        Err(ScanFault::OpenQuote(_)) => Ok(Wanted::Never(Cause::OpenQuote)),
-        Err(ScanFault::OpenComment(_)) => Ok(Wanted::Never(Cause::OpenComment)),
-        Err(ScanFault::Named(_)) => Ok(Wanted::Never(Cause::NamedParameter)),
-        Err(ScanFault::Number(_)) => Ok(Wanted::Never(Cause::BadParameterNumber)),
-        Err(ScanFault::NoMemory) => Err(AllocError),
+        Err(cause) => Ok(Wanted::Never(cause)),
     }
 }
 
@@ -132,15 +139,11 @@ pub(crate) fn wanted_by_rows(
 ) -> Result<Wanted, AllocError>
     ensures wants { IfOk result (λ wanted. meant params.now wanted ≡ rules.asks_rows sql.now (scan_of sql.now) params.now) }
 {
-    match scan(alloc, sql) {
-        Ok(scan) => {
-            let wanted = wanted_by_sole(alloc, sql, scan.statements.as_slice(), params)?;
+    match cut(alloc, sql)? {
+        Ok(pieces) => {
+            let wanted = wanted_by_sole(alloc, sql, pieces.as_slice(), params)?;
             Ok(wanted)
         }
-        Err(ScanFault::OpenQuote(_)) => Ok(Wanted::Never(Cause::OpenQuote)),
-        Err(ScanFault::OpenComment(_)) => Ok(Wanted::Never(Cause::OpenComment)),
-        Err(ScanFault::Named(_)) => Ok(Wanted::Never(Cause::NamedParameter)),
-        Err(ScanFault::Number(_)) => Ok(Wanted::Never(Cause::BadParameterNumber)),
-        Err(ScanFault::NoMemory) => Err(AllocError),
+        Err(cause) => Ok(Wanted::Never(cause)),
     }
 }

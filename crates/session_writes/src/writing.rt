@@ -64,7 +64,9 @@ pub fn change_entries(
 /// 64 bits: the term is above 4,294,967,295, or the index is not below it. Takes no memory.
 #[tactic(auto, unfolding(session_rules::specs::Entries::tx_of))]
 pub fn transaction_number(term: u64, last: u64) -> u64
-    ensures { term ≤ 4294967295 → last < 4294967295 → result ≡ tx_of term (suc last) }
+    ensures number { term ≤ 4294967295 → last < 4294967295 → result ≡ tx_of term (suc last) }
+    ensures term_above { 4294967295 < term → result ≡ 0 }
+    ensures index_above { 4294967295 ≤ last → result ≡ 0 }
 {
     if term > 4_294_967_295 || last >= 4_294_967_295 {
         return 0;

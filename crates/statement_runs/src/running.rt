@@ -190,40 +190,6 @@ fn step<E: Engine>(
     }
 }
 
-/// Runs several statements, or none.
-fn run_several<E: Engine>(
-    alloc: Global,
-    engine: &mut E,
-    image: &Image,
-    text: &str,
-    pieces: &[Piece],
-    params: &[Value],
-    tx: u64,
-) -> Result<Ending, AllocError>
-    requires stand { All (StandsIn text.now) pieces.now }
-    requires fit { wants pieces.now ≡ length params.now }
-    ensures kind { E.kind engine.new ≡ E.kind engine.old }
-    ensures openings { E.refused_openings engine.old ≤ E.refused_openings engine.new }
-    ensures unopened { IfOk result (λ ending. running.ends_unopened ending ≡ true → E.refused_openings engine.old < E.refused_openings engine.new) }
-    ensures ran { IfOk result (RanTo (E.meaning (E.kind engine.old)) (E.kind engine.old) tx image.now (assigned text.now pieces.now params.now) (E.told engine.old) (E.told engine.new)) }
-{
-    let mut progress = Progress {
-        working: None,
-        answer: no_answer(alloc),
-    };
-    let mut rest = params;
-    for piece in pieces {
-        let (own, later) = rest.split_at(piece.params as usize);
-        let one = piece_text(text, piece);
-        match step(alloc, engine, image, &mut progress, one, own, tx)? {
-            Some(ending) => return Ok(ending),
-            None => rest = later,
-        }
-    }
-    let ending = progress.finish(alloc, image, tx)?;
-    Ok(ending)
-}
-
 /// Runs the statements of a text one after another, each over the image that the one before it left, for the transaction of
 /// a number. Each takes as many parameters as it counts, in order; together they take all.
 ///
@@ -250,5 +216,19 @@ pub fn run_all<E: Engine>(
         let one = piece_text(text, piece);
         return Ok(run_one(engine, image, one, params, tx));
     }
-    run_several(alloc, engine, image, text, pieces, params, tx)
+    let mut progress = Progress {
+        working: None,
+        answer: no_answer(alloc),
+    };
+    let mut rest = params;
+    for piece in pieces {
+        let (own, later) = rest.split_at(piece.params as usize);
+        let one = piece_text(text, piece);
+        match step(alloc, engine, image, &mut progress, one, own, tx)? {
+            Some(ending) => return Ok(ending),
+            None => rest = later,
+        }
+    }
+    let ending = progress.finish(alloc, image, tx)?;
+    Ok(ending)
 }

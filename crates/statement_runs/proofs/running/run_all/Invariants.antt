@@ -1,6 +1,6 @@
 use Rattle.std.proofs.Common.{◌≤◌}
 use Rattle.statement_runs.proofs.Standing.{Standing}
-use Rattle.statement_runs.proofs.running.run_several.Given as goal
+use Rattle.statement_runs.proofs.running.run_all.Given as goal
 
 abbrev pub invariant-loop-piece : goal.invariant-loop-piece
 invariant-loop-piece g l = record {
