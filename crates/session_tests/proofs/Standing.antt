@@ -1,0 +1,19 @@
+-- Clients that stand over a machine: at the start, and where a command is done.
+use Rattle.std.proofs.Common.{◌≡◌, List, [], sym, subst}
+use Rattle.std.specs.Prelude.{Result, Ok, Err, OnOk, OnErr}
+use Rattle.frame_commands.specs.declared.command.Command.{Command}
+use Rattle.page_apply.specs.declared.database.Database.{Database}
+use Rattle.page_apply.specs.Databases.{act}
+use Rattle.page_apply.specs.Pins.{Pinning, StillPinned}
+use Rattle.client_sessions.specs.Seen.{StandOver, HasNoMarks}
+use Rattle.client_sessions.specs.declared.clients.Clients.{Clients as Held}
+use Rattle.client_sessions.proofs.Standing.{still_stand}
+
+pub begun : (held : Held) (databases : List Database) → databases ≡ [] → ((ds : List Database) → HasNoMarks ds → StandOver held ds) → StandOver held databases
+begun held databases none stand = subst (StandOver held) (sym none) (stand [] (λ pin live. live))
+
+pub acted : {F : Type 0} (result : Result (Unit {0}) F) (old new : List Database) (command : Command) (held : Held) → OnOk result (new ≡ act old command) → OnErr result (new ≡ old)
+    → ((pin : Pinning) → StillPinned old new pin) → StandOver held old → StandOver held new
+acted (Ok u) old new command held did kept still stand =
+    subst (StandOver held) (sym did) (still_stand held old command (λ pin. subst (λ (ds : List Database). StillPinned old ds pin) did (still pin)) stand)
+acted (Err f) old new command held did kept still stand = subst (StandOver held) (sym kept) stand

@@ -1,0 +1,5 @@
+use Rattle.client_sessions.specs.Seen.{StandOver}
+use Rattle.session_tests.proofs.node.Node.apply.Given as goal
+
+abbrev pub invariant-loop-entry : goal.invariant-loop-entry
+invariant-loop-entry l = StandOver l.self.clients l.self.machine

@@ -1,0 +1,5 @@
+use Rattle.client_sessions.specs.Seen.{StandOver}
+use Rattle.session_tests.proofs.node.Node.crowd.Given as goal
+
+abbrev pub invariant-loop-number : goal.invariant-loop-number
+invariant-loop-number l = StandOver l.self.clients l.self.machine

@@ -1,0 +1,5 @@
+use Rattle.client_sessions.specs.Seen.{StandOver}
+use Rattle.session_tests.proofs.node.Node.serve.Given as goal
+
+abbrev pub invariant-loop : goal.invariant-loop
+invariant-loop l = StandOver l.self.clients l.self.machine

@@ -1,0 +1,5 @@
+use Rattle.client_sessions.specs.Seen.{StandOver}
+use Rattle.session_tests.proofs.node.Node.take_all.Given as goal
+
+abbrev pub invariant-loop-step : goal.invariant-loop-step
+invariant-loop-step l = StandOver l.self.clients l.self.machine

@@ -1,0 +1,12 @@
+//! The tests of sessions as code, which call the crates from outside. A crate with tests of its own is proved once more with
+//! them, so these stand here.
+#![tactic(auto)]
+
+#[cfg(test)]
+mod causes;
+#[cfg(test)]
+mod lives;
+#[cfg(test)]
+mod messages;
+#[cfg(test)]
+mod node;
