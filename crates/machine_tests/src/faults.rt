@@ -2,7 +2,7 @@
 
 use dq_base::{Name, PAGE_SIZE, Page, PageFault};
 use frame_commands::Command;
-use page_apply::{Machine, SnapFault};
+use page_apply::{Machine, PinFault, SnapFault};
 use std::alloc::{AllocError, Global};
 use std::test::Fail;
 use wal_frames::{Frame, WalFault, write_wal};
@@ -157,6 +157,21 @@ fn faults_say_what_is_wrong(rt: HostRuntime) -> Result<(), Fail> {
         ),
         (SnapFault::Tail, "bytes follow the snapshot"),
         (SnapFault::NoMemory, "out of memory"),
+    ] {
+        let said = format!(in rt.alloc(); "{fault}")?;
+        assert_eq!(rt; said.as_str(), text);
+    }
+    Ok(())
+}
+
+#[test]
+fn each_fault_of_a_pin_says_what_is_wrong(rt: HostRuntime) -> Result<(), Fail> {
+    for (fault, text) in [
+        (PinFault::Unknown, "there is no such database"),
+        (
+            PinFault::Full(64),
+            "all 64 read marks of the database are live",
+        ),
     ] {
         let said = format!(in rt.alloc(); "{fault}")?;
         assert_eq!(rt; said.as_str(), text);
