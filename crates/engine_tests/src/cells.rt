@@ -137,3 +137,22 @@ fn statements_of_cells_run_in_turn(rt: HostRuntime) -> Result<(), Fail> {
     }
     Ok(())
 }
+
+#[test]
+fn each_fault_of_an_engine_says_what_is_wrong(rt: HostRuntime) -> Result<(), Fail> {
+    for (fault, text) in [
+        (EngineFault::Constraint, "a constraint is broken"),
+        (EngineFault::Sql, "the statement is refused"),
+        (EngineFault::Float(2, 1), "row 2, column 1 is a real value"),
+        (
+            EngineFault::NotText(0, 3),
+            "row 0, column 3 is a text that isn't UTF-8",
+        ),
+        (EngineFault::Unopened, "the files are not opened"),
+        (EngineFault::NoMemory, "out of memory"),
+    ] {
+        let said = format!(in rt.alloc(); "{fault}")?;
+        assert_eq!(rt; said.as_str(), text);
+    }
+    Ok(())
+}
