@@ -66,6 +66,19 @@ fn texts(rt: HostRuntime) {
     }
 }
 
+/// Whether a text that fills a mebibyte is read, lent and copied, and is written back so.
+fn large_text_passes(alloc: Global) -> Result<bool, WordFault> {
+    let text = "x".repeat(alloc, 1_048_575)?;
+    let mut body = Vec::from_slice(alloc, text.as_bytes())?;
+    body.push(0)?;
+    text_passes(alloc, &body, &text)
+}
+
+#[test]
+fn a_text_at_size(rt: HostRuntime) {
+    assert_eq!(rt; large_text_passes(rt.alloc()), Ok(true));
+}
+
 fn text_has_nul(alloc: Global, text: &str) -> Result<bool, AllocError> {
     Ok(WireText::new(String::from_str(alloc, text)?).has_nul())
 }
