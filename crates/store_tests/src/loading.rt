@@ -41,11 +41,41 @@ const BACK: &[u64] = &[1, 0x10d6_b751, 8, 1, 3, 2];
 /// Entry 3 of term 2, in format 1.
 const LATE: &[u64] = &[1, 0xeb2a_5f74_088f_b226, 3, 1, 2, 0x3_0000_0001, 0x63_6261];
 
+/// Metadata of version 6 with the same term and vote, in format 2.
+const NEW_METADATA: &[u64] = &[2, 6, 3, 2, 0x338c_80f7_0891_d07d];
+
+/// Snapshot 7 of term 2, in format 2.
+const NEW_SNAPSHOT: &[u64] = &[2, 7, 2, 3, 0x3ae4_e4b9_690a_1622, 0x63_6261];
+
+/// Entries 6 and 7 of term 2, in format 2.
+const NEW_FRONT: &[u64] = &[
+    2,
+    0xe150_5113_a943_966d,
+    0xd305_1f98_d4df_d22c,
+    6,
+    2,
+    2,
+    0x3_0000_0001,
+    2,
+    0x1_0000_0001,
+    0x63_6261,
+    0x64,
+];
+
+/// Entry 8 of term 3, in format 2.
+const NEW_BACK: &[u64] = &[2, 0x7ebf_61ac_5e11_4044, 0x141c_fc98_42c4_b0e3, 8, 1, 3, 2];
+
 /// A segment without entries that begins at index 6, in format 2.
 const EMPTIED: &[u64] = &[2, 0x3c7c_9aa5_e45d_9a5e, 0x141c_fc98_42c4_b0e3, 6, 0];
 
+/// A folder without files.
+const EMPTY: [&[u64]; FILES] = [&[], &[], &[], &[], &[]];
+
 /// A folder of format 1 with a snapshot and two segments.
 const WHOLE: [&[u64]; FILES] = [METADATA, &[], SNAPSHOT, FRONT, BACK];
+
+/// The same in format 2.
+const NEW_WHOLE: [&[u64]; FILES] = [&[], NEW_METADATA, NEW_SNAPSHOT, NEW_FRONT, NEW_BACK];
 
 /// What a load answers.
 #[derive(Clone, Copy, Debug, PartialEq, Eq)]
@@ -161,10 +191,10 @@ fn loaded_alike(
     }
 }
 
-/// What is answered where one file of the whole folder is cut to a length.
+/// What is answered where one file of a whole folder is cut to a length, in either format.
 fn wanted(file: usize, length: usize) -> Answer {
     match file {
-        0 => Answer::Fault(LoadFault::NoMeta),
+        0 | 1 => Answer::Fault(LoadFault::NoMeta),
         2 => Answer::Fault(LoadFault::Gap(6, 0)),
         3 if length < 8 => Answer::Fault(LoadFault::Damaged(1, 0)),
         3 if length == 8 => Answer::Kept(3, 2, 7, 8, 1),
@@ -175,9 +205,10 @@ fn wanted(file: usize, length: usize) -> Answer {
 
 #[test]
 fn folders_load_by_the_rules(rt: HostRuntime) {
-    let rows: [([&[u64]; FILES], Answer); 7] = [
-        ([&[], &[], &[], &[], &[]], Answer::Kept(0, 0, 0, 1, 0)),
+    let rows: [([&[u64]; FILES], Answer); 8] = [
+        (EMPTY, Answer::Kept(0, 0, 0, 1, 0)),
         (WHOLE, Answer::Kept(3, 2, 7, 6, 3)),
+        (NEW_WHOLE, Answer::Kept(3, 2, 7, 6, 3)),
         (
             [METADATA, &[], SNAPSHOT, &[], &[]],
             Answer::Kept(3, 2, 7, 8, 0),
@@ -206,38 +237,85 @@ fn folders_load_by_the_rules(rt: HostRuntime) {
 
 #[test]
 fn files_cut_at_every_byte_load_by_the_rules(rt: HostRuntime) {
-    for (file, size) in [(0, 40), (2, 48), (3, 80), (4, 48)] {
+    for (files, file, size) in [
+        (&WHOLE, 0, 40),
+        (&WHOLE, 2, 48),
+        (&WHOLE, 3, 80),
+        (&WHOLE, 4, 48),
+        (&NEW_WHOLE, 1, 40),
+        (&NEW_WHOLE, 2, 48),
+        (&NEW_WHOLE, 3, 88),
+        (&NEW_WHOLE, 4, 56),
+    ] {
         for length in 0..size {
             assert!(rt;
-                loaded_alike(rt.alloc(), &WHOLE, file, length) == Ok(Some(wanted(file, length)))
+                loaded_alike(rt.alloc(), files, file, length) == Ok(Some(wanted(file, length)))
             );
         }
     }
 }
 
-/// The term that is loaded after `set_meta` stopped at a call, with a pick, and whether it answered `Ok`.
-fn after_stop(alloc: Global, call: u64, pick: u64) -> Option<(bool, Answer)> {
+/// A store over a folder with term 3 and vote 2, which it keeps where the folder has no metadata.
+fn voted(alloc: Global, disk: &mut MemDisk, files: &[&[u64]; FILES]) -> Option<Store> {
+    fill(alloc, disk, files, 0, usize::MAX).ok()?;
+    let (mut store, kept) = Store::load(alloc, disk).ok()?;
+    if kept.term == 0 {
+        store.set_meta(disk, 3, 2).ok()?;
+    }
+    Some(store)
+}
+
+/// Whether `set_meta` with term 4 and no vote, stopped at a call, answered `Ok`, and what is loaded after a crash with
+/// the pick.
+fn after_stop(
+    alloc: Global,
+    files: &[&[u64]; FILES],
+    call: u64,
+    pick: u64,
+) -> Option<(bool, Answer)> {
     let mut disk = MemDisk::new(alloc);
-    fill(alloc, &mut disk, &WHOLE, 0, usize::MAX).ok()?;
-    let (mut store, _kept) = Store::load(alloc, &mut disk).ok()?;
+    let mut store = voted(alloc, &mut disk, files)?;
     disk.arm(Some(Stop { call, pick }), None);
     let answered = store.set_meta(&mut disk, 4, 0).is_ok();
     disk.crash(0).ok()?;
     Some((answered, load(alloc, &mut disk)))
 }
 
-#[test]
-fn a_stopped_set_meta_kept_the_old_state_or_the_new_one(rt: HostRuntime) {
-    let old = Answer::Kept(3, 2, 7, 6, 3);
-    let new = Answer::Kept(4, 0, 7, 6, 3);
-    for (call, pick, wanted) in [(1, 0, old), (1, 2, old), (1, 1, new)] {
-        assert_eq!(rt; after_stop(rt.alloc(), call, pick), Some((false, wanted)));
-    }
+/// Whether each stop of the three calls leaves the old state or the new one, and one behind them the new one.
+fn are_old_or_new(alloc: Global, files: &[&[u64]; FILES], old: Answer, new: Answer) -> bool {
     for call in 1..5 {
         for pick in 0..16 {
-            let after = after_stop(rt.alloc(), call, pick);
-            assert!(rt; after == Some((call > 3, new)) || after == Some((false, old)));
+            let after = after_stop(alloc, files, call, pick);
+            if after != Some((call > 3, new)) && after != Some((false, old)) {
+                return false;
+            }
         }
+    }
+    true
+}
+
+#[test]
+fn a_stopped_set_meta_kept_the_old_state_or_the_new_one(rt: HostRuntime) {
+    let rows = [
+        (
+            &EMPTY,
+            Answer::Kept(3, 2, 0, 1, 0),
+            Answer::Kept(4, 0, 0, 1, 0),
+        ),
+        (
+            &WHOLE,
+            Answer::Kept(3, 2, 7, 6, 3),
+            Answer::Kept(4, 0, 7, 6, 3),
+        ),
+    ];
+    for (files, old, new) in rows {
+        for (call, pick, kept) in [(1, 0, old), (1, 2, old), (1, 1, new)] {
+            assert_eq!(rt;
+                after_stop(rt.alloc(), files, call, pick),
+                Some((false, kept))
+            );
+        }
+        assert!(rt; are_old_or_new(rt.alloc(), files, old, new));
     }
 }
 
@@ -275,20 +353,36 @@ fn files_after_a_load_are_written_in_format_2(rt: HostRuntime) {
     }
 }
 
-/// What a load answers where a call of the disk fails.
-fn failing(alloc: Global, call: u64) -> Result<Answer, DiskFault> {
+/// What a load of a folder answers where a call of the disk fails.
+fn failing(alloc: Global, files: &[&[u64]; FILES], call: u64) -> Result<Answer, DiskFault> {
     let mut disk = MemDisk::new(alloc);
-    fill(alloc, &mut disk, &WHOLE, 0, usize::MAX)?;
+    fill(alloc, &mut disk, files, 0, usize::MAX)?;
     disk.arm(None, Some(call));
     Ok(load(alloc, &mut disk))
 }
 
+/// How many calls of the disk a load makes, where each that fails is answered and the others are not.
+fn calls_of_a_load(alloc: Global, files: &[&[u64]; FILES]) -> Option<u64> {
+    for made in 0..20 {
+        match failing(alloc, files, made + 1).ok()? {
+            Answer::Fault(LoadFault::DiskFault) => {}
+            Answer::Fault(_) => return None,
+            Answer::Kept(..) => return Some(made),
+        }
+    }
+    None
+}
+
+// The folder is listed; each file is read once, by one call for its bytes and one that finds no more; each is synced, and
+// the names are.
 #[test]
-fn a_disk_that_fails_is_answered(rt: HostRuntime) {
-    for call in 1..15 {
-        assert_eq!(rt;
-            failing(rt.alloc(), call),
-            Ok(Answer::Fault(LoadFault::DiskFault))
-        );
+fn a_load_reads_each_file_once_and_answers_a_disk_that_fails(rt: HostRuntime) {
+    for (files, calls) in [
+        (&EMPTY, 2),
+        (&[METADATA, &[], SNAPSHOT, &[], &[]], 8),
+        (&WHOLE, 14),
+        (&NEW_WHOLE, 14),
+    ] {
+        assert_eq!(rt; calls_of_a_load(rt.alloc(), files), Some(calls));
     }
 }
