@@ -13,7 +13,7 @@ use Rattle.session_table.specs.declared.cause.Cause.TheVariants as code_causes
 use Rattle.session_turns.specs.declared.turn.Turn.{Turn}
 use Rattle.session_turns.specs.declared.turn.Turn.TheVariants as turns
 use Rattle.session_turns.specs.Turning.{ComesTo}
-use Rattle.session_runs.proofs.NeverUnopened.{IsPlain, plain_unless, plain_first, plain_hindrance, plain_if, told_plain}
+use Rattle.session_turns.proofs.NeverUnopened.{IsPlain, plain_unless, plain_first, plain_hindrance, plain_if, told_plain}
 
 plain_commit : (v : View) (m : Machine) (g : Gateway) (conn : ℕ) (s : Session) (tx : Option Transaction) → IsPlain (commit_in v m g conn s tx)
 unfolding committed

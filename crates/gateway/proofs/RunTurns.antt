@@ -11,7 +11,7 @@ use Rattle.session_rules.specs.Sessions.{Session, Gateway, View, Prepared}
 use Rattle.session_rules.specs.Statements.{with_all}
 use Rattle.session_turns.specs.declared.turn.Turn.{Turn}
 use Rattle.session_turns.specs.Turning.{TurnsTo}
-use Rattle.session_runs.specs.Runs.{RunsTo}
+use Rattle.session_turns.specs.Runs.{RunsTo}
 
 module _ (m : Meaning) (kind : EngineKind) (v : View) (machine : Machine) (g : Gateway) (conn : ℕ) (s : Session) (before now : Option Told) (turn : Turn) where
   -- statements whose rows are dropped

@@ -36,5 +36,5 @@ pub(crate) fn commit_turn(
     ensures opened { IfOk result (λ turn. turn ≢ turns.Refused NotADatabase) }
     ensures comes { (weight : ℕ) (answers : List Answer) → IfOk result (ComesTo view.now (machine_of machine.now) (session_of machine.now session.now) (does view.now (machine_of machine.now) (table_of machine.now sessions.now weight) session.now.conn (session_of machine.now session.now) Commits answers)) }
 {
-    session_commits::commit_turn(alloc, view, machine, sessions, session)
+    session_turns::commit_turn(alloc, view, machine, sessions, session)
 }

@@ -41,7 +41,7 @@ pub(crate) fn run_prepared<E: Engine>(
     ensures unopened { IfOk result (λ turn. turn ≡ turns.Refused NotADatabase → E.refused_openings engine.old < E.refused_openings engine.new) }
     ensures ran { (weight : ℕ) → IfOk result (TurnsTo (E.meaning (E.kind engine.old)) (E.kind engine.old) view.now (machine_of machine.now) (table_of machine.now sessions.now weight) session.now.conn (session_of machine.now session.now) (if rows then Reads (with_all prepared.now params.now) else Runs (with_all prepared.now params.now ∷ [])) (E.told engine.old) (E.told engine.new)) }
 {
-    session_runs::run_prepared(
+    session_turns::run_prepared(
         alloc, view, machine, sessions, session, rows, prepared, params, engine,
     )
 }
@@ -67,7 +67,7 @@ pub(crate) fn run_script<E: Engine>(
     ensures unopened { IfOk result (λ turn. turn ≡ turns.Refused NotADatabase → E.refused_openings engine.old < E.refused_openings engine.new) }
     ensures ran { (weight : ℕ) → IfOk result (TurnsTo (E.meaning (E.kind engine.old)) (E.kind engine.old) view.now (machine_of machine.now) (table_of machine.now sessions.now weight) session.now.conn (session_of machine.now session.now) (Runs (assigned script.now.text script.now.pieces params.now)) (E.told engine.old) (E.told engine.new)) }
 {
-    session_runs::run_script(
+    session_turns::run_script(
         alloc, view, machine, sessions, session, script, params, engine,
     )
 }

@@ -1,1 +1,14 @@
+pub mod Hinders
+pub mod RowsTold
+pub mod LowNumbers
 pub mod Flights
+pub mod Turned
+pub mod Shown
+pub mod Formed
+pub mod OutsideRun
+pub mod InsideRun
+pub mod Ground
+pub mod NeverUnopened
+pub mod Committing
+pub mod Leading
+pub mod SamePages

@@ -1,1 +1,5 @@
+pub mod Hindered
+pub mod Pages
+pub mod Runs
+pub mod Told
 pub mod Turning

@@ -1,3 +1,0 @@
-pub mod Committing
-pub mod Leading
-pub mod SamePages

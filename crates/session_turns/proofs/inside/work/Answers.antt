@@ -1,0 +1,28 @@
+use Rattle.std.proofs.Common.{◌≡◌, true, Option, None, Ok, Err, IfOk, sym, ap, subst, ◌∙◌}
+use Rattle.dq_base.specs.declared.images.Image.{Image}
+use Rattle.dq_base.specs.declared.pages.PageSet.{PageSet}
+use Rattle.dq_base.specs.Applying.{applied}
+use Rattle.session_rules.specs.Causes.{Cause}
+use Rattle.session_rules.specs.Limits.{hindrance}
+use Rattle.session_rules.specs.Machine.{machine_of}
+use Rattle.session_rules.specs.Sessions.{Answers}
+use Rattle.session_rules.specs.Requests.{unless, row_cause, reply_of, worked}
+use Rattle.session_table.specs.Table.{table_of}
+use Rattle.session_turns.specs.Turning.{ComesTo}
+use Rattle.statement_runs.specs.Running.{change_in}
+use Rattle.session_turns.specs.Hindered.{Hinders}
+use Rattle.session_turns.proofs.inside.work.Goals as goal
+
+pub returns-in-Err : goal.returns-in-Err
+returns-in-Err c = λ weight v s x note to leads begun reaches.
+    let pages = (change_in c.args.ran).pages in
+    c.refused.ensures (hindrance (machine_of c.args.machine.now) (table_of c.args.machine.now c.args.sessions.now weight) c.args.conn c.args.transaction.now.name c.args.transaction.now.mark pages to) (subst (Hinders pages to (hindrance (machine_of c.args.machine.now) (table_of c.args.machine.now c.args.sessions.now weight) c.args.conn c.args.transaction.now.name c.args.transaction.now.mark pages to)) c.in-Err.is (c.in_ok-hindered.ensures.hinders weight to leads)) v (machine_of c.args.machine.now) s _
+
+pub returns : goal.returns
+returns c = λ weight v s x note to leads begun reaches.
+    let pages = (change_in c.args.ran).pages in
+    let found : Hinders pages to (hindrance (machine_of c.args.machine.now) (table_of c.args.machine.now c.args.sessions.now weight) c.args.conn c.args.transaction.now.name c.args.transaction.now.mark pages to) (Ok c.in-Ok._count) = subst (Hinders pages to (hindrance (machine_of c.args.machine.now) (table_of c.args.machine.now c.args.sessions.now weight) c.args.conn c.args.transaction.now.name c.args.transaction.now.mark pages to)) c.in-Ok.is (c.in_ok-hindered.ensures.hinders weight to leads) in
+    let image : applied x.working c.in_ok-set-in-Ok.set.pages ≡ to = ap (λ (set : PageSet). applied x.working set.pages) c.in_ok-set-in-Ok.ensures ∙ reaches in
+    subst (λ (h : Option Cause). IfOk c.worked.result (ComesTo v (machine_of c.args.machine.now) s (unless (row_cause c.args.rows c.args.ran.answer h) (Answers (worked s x to true) (reply_of c.args.rows c.args.ran.answer) note)))) (sym found.0)
+    (subst (λ (after : Image). IfOk c.worked.result (ComesTo v (machine_of c.args.machine.now) s (unless (row_cause c.args.rows c.args.ran.answer None) (Answers (worked s x after true) (reply_of c.args.rows c.args.ran.answer) note)))) image
+    (c.worked.ensures v (machine_of c.args.machine.now) s x note begun))

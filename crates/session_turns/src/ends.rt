@@ -1,0 +1,121 @@
+//! The ways in which statements that ran end.
+
+ghost use Rattle.std.specs.Prelude.{◌≡◌, ℕ, List, Option, Some, None, true, false, IfOk};
+ghost use Rattle.std.specs.List.{AllByRecursion};
+ghost use Rattle.dq_base.specs.Applying.{applied};
+ghost use Rattle.sql_engine.specs.Replies.{IsTable};
+ghost use Rattle.session_rules.specs.Causes.{Cause as RuleCause};
+ghost use Rattle.session_rules.specs.Entries.{Content, written};
+ghost use Rattle.session_rules.specs.Limits as limits;
+ghost use Rattle.session_rules.specs.Machine.{Machine};
+ghost use Rattle.session_rules.specs.Requests.{unless, row_cause, reply_of, with_flight, flying, worked};
+ghost use Rattle.session_rules.specs.Seen.{HasSpelling};
+ghost use Rattle.session_rules.specs.Sessions as sessions;
+ghost use Rattle.session_rules.specs.Sessions.{Session, View as RuleView, Turned, Note, Transaction};
+ghost use Rattle.session_table.specs.Named.{cause_named, kind_named};
+ghost use Rattle.session_turns.specs.Turning.{ComesTo};
+
+use dq_base::{Name, PageSet};
+use raft_vote::Entries;
+use session_asking::View;
+use session_table::{Cause, Change, Flight, FlightKind};
+use crate::turn::Turn;
+use crate::rows::told;
+use sql_engine::Ran;
+use std::alloc::{AllocError, Global};
+
+/// Statements that ran are refused: their rows can't be told, or else for this cause. `Err` is want of memory.
+pub(crate) fn refused(
+    alloc: Global,
+    rows: bool,
+    answer: Ran,
+    cause: Cause,
+) -> Result<Turn, AllocError>
+    requires { IsTable answer.columns answer.rows }
+    ensures { (hindrance : Option RuleCause) → hindrance ≡ Some (cause_named cause) → (v : RuleView) (m : Machine) (s : Session) (turned : Turned) → IfOk result (ComesTo v m s (unless (row_cause rows answer hindrance) turned)) }
+{
+    match told(alloc, rows, answer)? {
+        Ok(_reply) => Ok(Turn::Refused(cause)),
+        Err(row_cause) => Ok(Turn::Refused(row_cause)),
+    }
+}
+
+/// Statements that changed no page are answered. `Err` is want of memory.
+pub(crate) fn idle(alloc: Global, rows: bool, answer: Ran) -> Result<Turn, AllocError>
+    requires { IsTable answer.columns answer.rows }
+    ensures { (v : RuleView) (m : Machine) (s : Session) (note : Note) → IfOk result (ComesTo v m s (unless (row_cause rows answer None) (sessions.Answers s (reply_of rows answer) note))) }
+{
+    match told(alloc, rows, answer)? {
+        Ok(reply) => Ok(Turn::Answers(Change::Stays, reply)),
+        Err(cause) => Ok(Turn::Refused(cause)),
+    }
+}
+
+/// Statements that changed pages in a transaction are answered. `Err` is want of memory.
+pub(crate) fn worked(
+    alloc: Global,
+    rows: bool,
+    answer: Ran,
+    set: PageSet,
+) -> Result<Turn, AllocError>
+    requires { IsTable answer.columns answer.rows }
+    ensures { (v : RuleView) (m : Machine) (s : Session) (x : Transaction) (note : Note) → s.tx ≡ Some x → IfOk result (ComesTo v m s (unless (row_cause rows answer None) (sessions.Answers (worked s x (applied x.working set.pages) true) (reply_of rows answer) note))) }
+{
+    match told(alloc, rows, answer)? {
+        Ok(reply) => Ok(Turn::Answers(Change::Works(set), reply)),
+        Err(cause) => Ok(Turn::Refused(cause)),
+    }
+}
+
+/// A proposal of entries that come next in the log, which isn't full. `Err` is want of memory.
+pub(crate) fn flight(
+    alloc: Global,
+    view: &View,
+    name: &Name,
+    entries: &Entries,
+    pages: u64,
+    kind: FlightKind,
+) -> Result<Flight, AllocError>
+    requires { limits.log_full view.now ≡ false }
+    ensures { (s : Session) (contents : List Content) → entries.now ≡ written view.now.term contents → IfOk result (λ flight. flying view.now s name.now contents pages (kind_named kind) ≡ with_flight s (Some flight)) }
+{
+    let name = name.try_clone(alloc)?;
+    Ok(Flight {
+        name,
+        first: view.last + 1,
+        last: view.last + entries.as_slice().len() as u64,
+        term: view.term,
+        pages,
+        kind,
+    })
+}
+
+/// A write outside a transaction is proposed. `Err` is want of memory.
+pub(crate) fn proposed(
+    alloc: Global,
+    view: &View,
+    name: &Name,
+    rows: bool,
+    answer: Ran,
+    entries: Entries,
+    pages: u64,
+) -> Result<Turn, AllocError>
+    requires table { IsTable answer.columns answer.rows }
+    requires room { limits.log_full view.now ≡ false }
+    ensures { (m : Machine) (s : Session) (note : Note) (contents : List Content) → entries ≡ written view.now.term contents → AllByRecursion HasSpelling contents → IfOk result (ComesTo view.now m s (unless (row_cause rows answer None) (sessions.Proposes (flying view.now s name.now contents pages (sessions.Writing (reply_of rows answer))) contents note))) }
+{
+    match told(alloc, rows, answer)? {
+        Ok(reply) => {
+            let flight = flight(
+                alloc,
+                view,
+                name,
+                &entries,
+                pages,
+                FlightKind::Writing(reply),
+            )?;
+            Ok(Turn::Proposes(flight, entries))
+        }
+        Err(cause) => Ok(Turn::Refused(cause)),
+    }
+}

@@ -1,0 +1,185 @@
+//! Statements of a request, run by an engine at a session.
+
+ghost use Rattle.std.specs.Prelude.{◌≡◌, ◌<◌, ◌≤◌, ℕ, List, [], ◌∷◌, true, false, suc, IsSome, IfOk};
+ghost use Rattle.sql_engine.specs.Replies.{Statement};
+ghost use Rattle.session_rules.specs.Engines as engines;
+ghost use Rattle.session_rules.specs.Entries.{tx_of};
+ghost use Rattle.session_rules.specs.Limits as limits;
+ghost use Rattle.session_rules.specs.Machine.{machine_of};
+ghost use Rattle.session_rules.specs.Requests.{ground};
+ghost use Rattle.session_rules.specs.Statements.{with_all};
+ghost use Rattle.session_asking.specs.declared.wanted.Wanted.TheVariants as wanted;
+ghost use Rattle.session_asking.specs.Meant.{CanRun, IsServed};
+ghost use Rattle.statement_runs.specs.Texts.{assigned};
+ghost use Rattle.statement_runs.specs.Running.{RanTo, Shows, ends_unopened};
+ghost use Rattle.session_table.specs.declared.cause.Cause.TheVariants as causes;
+ghost use Rattle.session_table.specs.Table.{database_of, session_of, table_of, AreApart};
+ghost use Rattle.session_turns.specs.declared.turn.Turn.TheVariants as turns;
+ghost use Rattle.session_turns.specs.Turning.{ComesTo};
+ghost use Rattle.session_turns.specs.Runs.{IsWellFormed, RunsTo, ran_in};
+
+use crate::inside::turn_inside;
+use crate::outside::turn_outside;
+use dq_base::Name;
+use page_apply::Machine;
+use session_asking::{Script, View};
+use session_table::{Prepared, Session, name_of, newest_image};
+use crate::turn::Turn;
+use crate::writing::transaction_number;
+use sql_engine::Engine;
+use statement_runs::{Ending, run_all, run_one};
+use std::alloc::{AllocError, Global};
+use wire_words::Value;
+
+/// The number of the transaction whose entries come next in the node's log, where that has room.
+fn next_transaction(view: &View) -> u64
+    ensures { view.now.term ≤ 4294967295 → limits.log_full view.now ≡ false → result ≡ tx_of view.now.term (suc view.now.last) }
+{
+    transaction_number(view.term, view.last)
+}
+
+/// Runs a statement over the image of a session: that of its transaction, or the newest of its database. `Err` is want of
+/// memory.
+fn run_statement<E: Engine>(
+    alloc: Global,
+    machine: &Machine,
+    session: &Session,
+    prepared: &Prepared,
+    params: &[Value],
+    tx: u64,
+    engine: &mut E,
+) -> Result<Ending, AllocError>
+    ensures kind { E.kind engine.new ≡ E.kind engine.old }
+    ensures openings { E.refused_openings engine.old ≤ E.refused_openings engine.new }
+    ensures unopened { IfOk result (λ ending. ends_unopened ending ≡ true → E.refused_openings engine.old < E.refused_openings engine.new) }
+    ensures ran { IfOk result (RanTo (E.meaning (E.kind engine.old)) (E.kind engine.old) tx (ground (machine_of machine.now) (session_of machine.now session.now) (session_of machine.now session.now).tx) (with_all prepared.now params.now ∷ []) (E.told engine.old) (E.told engine.new)) }
+{
+    let text = prepared.text.as_str();
+    match &session.transaction {
+        Some(transaction) => Ok(run_one(engine, &transaction.working, text, params, tx)),
+        None => {
+            let image = newest_image(alloc, machine, name_of(&session.database))?;
+            Ok(run_one(engine, &image, text, params, tx))
+        }
+    }
+}
+
+/// The same of the statements of a text, one after another.
+fn run_statements<E: Engine>(
+    alloc: Global,
+    machine: &Machine,
+    session: &Session,
+    script: &Script,
+    params: &[Value],
+    tx: u64,
+    engine: &mut E,
+) -> Result<Ending, AllocError>
+    requires { CanRun params.now (wanted.RunsAll script.now) }
+    ensures kind { E.kind engine.new ≡ E.kind engine.old }
+    ensures openings { E.refused_openings engine.old ≤ E.refused_openings engine.new }
+    ensures unopened { IfOk result (λ ending. ends_unopened ending ≡ true → E.refused_openings engine.old < E.refused_openings engine.new) }
+    ensures ran { IfOk result (RanTo (E.meaning (E.kind engine.old)) (E.kind engine.old) tx (ground (machine_of machine.now) (session_of machine.now session.now) (session_of machine.now session.now).tx) (assigned script.now.text script.now.pieces params.now) (E.told engine.old) (E.told engine.new)) }
+{
+    let text = script.text.as_str();
+    let pieces = script.pieces.as_slice();
+    match &session.transaction {
+        Some(transaction) => {
+            let working = &transaction.working;
+            let ending = run_all(alloc, engine, working, text, pieces, params, tx)?;
+            Ok(ending)
+        }
+        None => {
+            let image = newest_image(alloc, machine, name_of(&session.database))?;
+            let ending = run_all(alloc, engine, &image, text, pieces, params, tx)?;
+            Ok(ending)
+        }
+    }
+}
+
+/// The name of the database that a session has opened.
+fn opened(session: &Session) -> &Name
+    requires { IsSome session.now.database }
+    ensures { database_of session.now.database ≡ result.now }
+{
+    session.database.as_ref().unwrap()
+}
+
+/// What statements that ran come to at their session: in its transaction, or outside of one. `Err` is want of memory.
+fn turn_of(
+    alloc: Global,
+    view: &View,
+    machine: &Machine,
+    sessions: &[Session],
+    session: &Session,
+    rows: bool,
+    ending: Ending,
+) -> Result<Turn, AllocError>
+    requires apart { AreApart sessions.now }
+    requires open { IsSome session.now.database }
+    requires formed { IsWellFormed ending }
+    ensures { (weight tx : ℕ) (statements : List Statement) (ended : engines.Ending) → (limits.log_full view.now ≡ false → tx ≡ tx_of view.now.term (suc view.now.last)) → Shows tx (ground (machine_of machine.now) (session_of machine.now session.now) (session_of machine.now session.now).tx) ended ending → IfOk result (ComesTo view.now (machine_of machine.now) (session_of machine.now session.now) (ran_in view.now (machine_of machine.now) (table_of machine.now sessions.now weight) session.now.conn (session_of machine.now session.now) (session_of machine.now session.now).tx statements rows ended)) }
+{
+    match &session.transaction {
+        Some(transaction) => {
+            turn_inside(alloc, machine, sessions, session, transaction, rows, ending)
+        }
+        None => {
+            let name = opened(session);
+            turn_outside(alloc, view, machine, sessions, session, name, rows, ending)
+        }
+    }
+}
+
+/// What a statement comes to that runs with all parameters, and whose rows are told or not, at a session of a node that serves.
+/// Nothing has changed yet. Outside a transaction the newest image of the database is copied once, inside one nothing is but
+/// what changed. `Err` is want of memory.
+pub fn run_prepared<E: Engine>(
+    alloc: Global,
+    view: &View,
+    machine: &Machine,
+    sessions: &[Session],
+    session: &Session,
+    rows: bool,
+    prepared: &Prepared,
+    params: &[Value],
+    engine: &mut E,
+) -> Result<Turn, AllocError>
+    requires apart { AreApart sessions.now }
+    requires term { view.now.serving ≡ true → view.now.term ≤ 4294967295 }
+    requires served { IsServed view.now (session_of machine.now session.now) }
+    ensures kind { E.kind engine.new ≡ E.kind engine.old }
+    ensures openings { E.refused_openings engine.old ≤ E.refused_openings engine.new }
+    ensures unopened { IfOk result (λ turn. turn ≡ turns.Refused causes.NotADatabase → E.refused_openings engine.old < E.refused_openings engine.new) }
+    ensures ran { (weight : ℕ) → IfOk result (RunsTo (E.meaning (E.kind engine.old)) (E.kind engine.old) view.now (machine_of machine.now) (table_of machine.now sessions.now weight) session.now.conn (session_of machine.now session.now) (with_all prepared.now params.now ∷ []) rows (E.told engine.old) (E.told engine.new)) }
+{
+    let tx = next_transaction(view);
+    let ending = run_statement(alloc, machine, session, prepared, params, tx, engine)?;
+    turn_of(alloc, view, machine, sessions, session, rows, ending)
+}
+
+/// What the statements of a text come to, which run one after another with as many parameters as each counts, and whose rows are
+/// dropped, at a session of a node that serves. Nothing has changed yet. The newest image of the database is copied outside a
+/// transaction, and of several statements the first that changes pages has the image copied. `Err` is want of memory.
+pub fn run_script<E: Engine>(
+    alloc: Global,
+    view: &View,
+    machine: &Machine,
+    sessions: &[Session],
+    session: &Session,
+    script: &Script,
+    params: &[Value],
+    engine: &mut E,
+) -> Result<Turn, AllocError>
+    requires apart { AreApart sessions.now }
+    requires term { view.now.serving ≡ true → view.now.term ≤ 4294967295 }
+    requires served { IsServed view.now (session_of machine.now session.now) }
+    requires fits { CanRun params.now (wanted.RunsAll script.now) }
+    ensures kind { E.kind engine.new ≡ E.kind engine.old }
+    ensures openings { E.refused_openings engine.old ≤ E.refused_openings engine.new }
+    ensures unopened { IfOk result (λ turn. turn ≡ turns.Refused causes.NotADatabase → E.refused_openings engine.old < E.refused_openings engine.new) }
+    ensures ran { (weight : ℕ) → IfOk result (RunsTo (E.meaning (E.kind engine.old)) (E.kind engine.old) view.now (machine_of machine.now) (table_of machine.now sessions.now weight) session.now.conn (session_of machine.now session.now) (assigned script.now.text script.now.pieces params.now) false (E.told engine.old) (E.told engine.new)) }
+{
+    let tx = next_transaction(view);
+    let ending = run_statements(alloc, machine, session, script, params, tx, engine)?;
+    turn_of(alloc, view, machine, sessions, session, false, ending)
+}

@@ -1,3 +1,0 @@
-pub mod Hinders
-pub mod RowsTold
-pub mod LowNumbers
