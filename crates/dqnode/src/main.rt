@@ -4,8 +4,6 @@
 
 mod program;
 mod status;
-#[cfg(test)]
-mod tests;
 mod words;
 
 use dq_base::{ReadSource, WriteSink};

@@ -1,8 +1,0 @@
-//! The tests of SQLite's engine, which call it from outside. A crate with tests of its own is proved once more with them, so
-//! these stand here.
-#![tactic(auto)]
-
-#[cfg(test)]
-mod recorded;
-#[cfg(test)]
-mod statements;
