@@ -3,4 +3,6 @@
 #![tactic(auto)]
 
 #[cfg(test)]
+mod streams;
+#[cfg(test)]
 mod values;

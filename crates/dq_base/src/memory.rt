@@ -149,24 +149,3 @@ impl Sink for MemSink {
         }
     }
 }
-
-#[cfg(test)]
-mod tests {
-    use super::*;
-    use std::test::Fail;
-
-    #[test]
-    fn a_sink_keeps_what_did_not_fail(rt: HostRuntime) -> Result<(), Fail> {
-        let mut sink = MemSink::new(rt.alloc(), vec![in rt.alloc(); 2]?);
-        // What is written, what is answered, and what the sink holds then.
-        for (bytes, answer, held) in [
-            (b"one".as_slice(), Ok(()), b"one".as_slice()),
-            (b"two".as_slice(), Err(Failed), b"one".as_slice()),
-            (b"three".as_slice(), Ok(()), b"onethree".as_slice()),
-        ] {
-            assert_eq!(rt; sink.write_all(bytes), answer);
-            assert_eq!(rt; sink.bytes(), held);
-        }
-        Ok(())
-    }
-}
