@@ -71,14 +71,15 @@ module _ (mean : Meaning) (log : List Entry) (applied term : ℕ) (within : suc 
   query_taken (Rows answer) name at before ss seen p l h a = query_along mean at log (take p log) _ (agree_take at p log h l) (omega arith) a
 
   landed_said : (c : ℕ) (t : Trail) (f : Flight) (k : Kind) → f.last ≡ suc applied → t.at ≤ applied → KindOk mean log t f k → SaidOk mean (take (suc applied) log) (said_landed c t f k)
-  landed_said c t f Opening e at a = record { rows = tt; query = tt; commit = tt }
-  landed_said c t f Configuring e at a = record { rows = tt; query = tt; commit = tt }
+  landed_said c t f Opening e at a = record { rows = tt; query = tt; commit = tt; ends = tt }
+  landed_said c t f Configuring e at a = record { rows = tt; query = tt; commit = tt; ends = tt }
   landed_said c t f (Writing reply) e at a = record {
     rows = rows_are reply f.name t.at [] t.ran t.seen;
     query = query_taken reply f.name t.at [] t.ran t.seen (suc applied) within (omega arith) a.1;
     commit = commit_along mean log (take (suc applied) log) (commit_of f t.ran) (agree_take f.last (suc applied) log (omega arith) within) a.0.commit;
+    ends = (refl, refl);
   }
-  landed_said c t f Committing e at a = record { rows = tt; query = tt; commit = commit_along mean log (take (suc applied) log) (commit_of f t.ran) (agree_take f.last (suc applied) log (omega arith) within) a.commit }
+  landed_said c t f Committing e at a = record { rows = tt; query = tt; commit = commit_along mean log (take (suc applied) log) (commit_of f t.ran) (agree_take f.last (suc applied) log (omega arith) within) a.commit; ends = (refl, refl) }
 
   said_by_ok : (c : ℕ) (t : Trail) (hung : Bool) (o : Option Flight) → t.at ≤ applied → FlightIs mean log applied term t o → AllSaid mean (take (suc applied) log) (said_by (suc applied) c t hung o)
   said_by_ok c t hung None at a = tt

@@ -168,7 +168,7 @@ module _ (mean : Meaning) where
 
   pub said_grown : (log es : List Entry) (xs : List Said) → AllSaid mean log xs → AllSaid mean (log ++ es) xs
   said_grown log es [] a = tt
-  said_grown log es (x ∷ xs) a = (record { rows = a.0.rows; query = query_is_grown log es x.query a.0.query; commit = commit_is_grown log es x.commit a.0.commit }, said_grown log es xs a.1)
+  said_grown log es (x ∷ xs) a = (record { rows = a.0.rows; query = query_is_grown log es x.query a.0.query; commit = commit_is_grown log es x.commit a.0.commit; ends = a.0.ends }, said_grown log es xs a.1)
 
   pub said_append : (log : List Entry) (xs ys : List Said) → AllSaid mean log xs → AllSaid mean log ys → AllSaid mean log (xs ++ ys)
   said_append log [] ys a b = b

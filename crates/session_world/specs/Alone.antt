@@ -1,6 +1,6 @@
 -- One voter that never stops: what is proposed is applied in the same step. Its run, turn by turn, and that of a script with
 -- its journal.
-use Rattle.std.specs.Prelude.{◌≡◌, ℕ, zero, suc, ◌-◌, Bool, true, false, ◌&&◌, nat_le, List, [], ◌∷◌, ◌++◌, length, drop, map, None, if◌then◌else◌}
+use Rattle.std.specs.Prelude.{◌≡◌, ℕ, zero, suc, ◌-◌, ◌<◌, ◌≤◌, Bool, true, false, ◌&&◌, nat_le, List, [], ◌∷◌, ◌++◌, length, drop, map, None, if◌then◌else◌}
 use Rattle.std.specs.List.{filter}
 use Rattle.wire_msgs.specs.declared.request.Request.{Request}
 use Rattle.frame_commands.specs.declared.command.Command.TheVariants.{Checkpoint}
@@ -12,7 +12,7 @@ use Rattle.session_rules.specs.Engines.{Answer, used_for, AllowsFor}
 use Rattle.session_rules.specs.Sessions.{Turned, Refused, Lacks, Answers, Proposes, Affects, may_ask}
 use Rattle.session_rules.specs.Requests.{on_request, handed}
 use Rattle.session_world.specs.Woven.{Woven}
-use Rattle.session_world.specs.Nodes.{Node, Standing, databases, view_of, started}
+use Rattle.session_world.specs.Nodes.{Said, Node, Standing, databases, view_of, started}
 use Rattle.session_world.specs.Life.{Event, Connect, Hangup, Call, Apply, Lead, Serve, Append, happens, run_from}
 use Rattle.session_world.specs.Replies.{AllSaid}
 
@@ -87,6 +87,27 @@ pub record SafeAlone (m : Meaning) (w : Node) : Type 0 where
 -- So it is after each list of turns.
 abbrev pub AloneIsSafe : Meaning → EngineKind → Type 0
 AloneIsSafe m kind = (ts : List Turn) → AllowsTurns m kind (started [] 0 0) ts → SafeAlone m (alone ts)
+
+-- A reply that waited is said where its entry has been applied since, and the node leads in the entry's term.
+pub record SaidIn (before : ℕ) (v : Node) (x : Said) : Type 0 where
+  pub past : before < x.index
+  pub within : x.index ≤ v.applied
+  pub term : x.term ≡ v.term
+  pub leads : v.leads ≡ true
+
+abbrev pub AllIn : ℕ → Node → List Said → Type 0
+AllIn before v [] = Unit {0}
+AllIn before v (x ∷ xs) = (0 < x.index → SaidIn before v x) × AllIn before v xs
+
+-- What is said from one moment to another: each reply that waited for an entry is said where this entry is applied.
+pub record SaysInTime (w v : Node) : Type 0 where
+  pub later : List Said
+  pub said : v.said ≡ w.said ++ later
+  pub here : AllIn w.applied v later
+
+-- So it is in each turn.
+abbrev pub TurnsSay : Meaning → EngineKind → Type 0
+TurnsSay m kind = (ts : List Turn) (t : Turn) → AllowsTurns m kind (started [] 0 0) ts → AllowsTurn m kind (alone ts) t → SaysInTime (alone ts) (takes_turn (alone ts) t)
 
 -- ---- scripts
 

@@ -40,16 +40,17 @@ pub record Lasts (w v : Node) : Type 0 where
 abbrev pub LivesLast : Meaning → EngineKind → Type 0
 LivesLast m kind = (log : List Entry) (applied term : ℕ) (es fs : List Event) → Starts log applied → AllFit m kind (started log applied term) (es ++ fs) → Lasts (life log applied term es) (life log applied term (es ++ fs))
 
--- A reply that waited for an entry is said where the node, leading in the term of that entry, has just applied it.
-abbrev pub SaidHere : Node → Said → Type 0
-SaidHere w x = 0 < x.index → (x.index ≡ w.applied) × (x.term ≡ w.term) × (w.leads ≡ true)
+-- Between these two moments of a node, a reply that waited for an entry is said where the node, leading in the term of that
+-- entry, has just applied it, which it hadn't before.
+abbrev pub SaidHere : Node → Node → Said → Type 0
+SaidHere w v x = 0 < x.index → (w.applied < x.index) × (x.index ≡ v.applied) × (x.term ≡ v.term) × (v.leads ≡ true)
 
-abbrev pub AllHere : Node → List Said → Type 0
-AllHere w [] = Unit {0}
-AllHere w (x ∷ xs) = SaidHere w x × AllHere w xs
+abbrev pub AllHere : Node → Node → List Said → Type 0
+AllHere w v [] = Unit {0}
+AllHere w v (x ∷ xs) = SaidHere w v x × AllHere w v xs
 
 abbrev pub AnsweredHere : Meaning → EngineKind → Type 0
-AnsweredHere m kind = (log : List Entry) (applied term : ℕ) (es : List Event) (e : Event) → Starts log applied → AllFit m kind (started log applied term) (es ++ e ∷ []) → (more : List Said) × ((life log applied term (es ++ e ∷ [])).said ≡ (life log applied term es).said ++ more) × AllHere (life log applied term (es ++ e ∷ [])) more
+AnsweredHere m kind = (log : List Entry) (applied term : ℕ) (es : List Event) (e : Event) → Starts log applied → AllFit m kind (started log applied term) (es ++ e ∷ []) → (more : List Said) × ((life log applied term (es ++ e ∷ [])).said ≡ (life log applied term es).said ++ more) × AllHere (life log applied term es) (life log applied term (es ++ e ∷ [])) more
 
 -- some reply is to this connection, and such as the test says
 abbrev pub SaidTo : ℕ → (Said → Type 0) → List Said → Type 0

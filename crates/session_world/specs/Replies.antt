@@ -57,11 +57,18 @@ RowsAre (Refusal cause) o = Unit {0}
 RowsAre (Single response) o = Unit {0}
 RowsAre (Rows answer) o = Answers o answer
 
--- A reply is right by these entries: rows are those of its query, and its query and its commit are as they should be.
+-- a commit, if any, is that of the entry which its reply waited for
+abbrev pub EndsAt : ℕ → ℕ → Option Commit → Type 0
+EndsAt index term None = Unit {0}
+EndsAt index term (Some c) = (c.last ≡ index) × (c.term ≡ term)
+
+-- A reply is right by these entries: rows are those of its query, and its query and its commit are as they should be; a commit
+-- is that of the entry which the reply waited for.
 pub record SaidOk (m : Meaning) (log : List Entry) (x : Said) : Type 0 where
   pub rows : RowsAre x.reply x.query
   pub query : QueryIs m log x.query
   pub commit : CommitIs m log x.commit
+  pub ends : EndsAt x.index x.term x.commit
 
 abbrev pub AllSaid : Meaning → List Entry → List Said → Type 0
 AllSaid m log [] = Unit {0}

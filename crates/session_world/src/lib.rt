@@ -3,7 +3,7 @@
 //! come and go. Nothing here runs: each law is the promise of an empty function, and it holds under every engine.
 #![tactic(auto)]
 
-ghost use Rattle.session_world.specs.Alone.{AloneIsSafe, ScriptsAreSafe};
+ghost use Rattle.session_world.specs.Alone.{AloneIsSafe, TurnsSay, ScriptsAreSafe};
 ghost use Rattle.session_world.specs.Examples.{
   WriteWaits,
   OldImages,
@@ -86,10 +86,11 @@ pub fn flights_stand<E: Engine>()
 {}
 
 /// One voter that never stops: after each turn all of its log is applied, each reply is right by it, its log is woven, and
-/// no request waits. The same of the lines of a script with one journal, of which each request takes its answers off the
+/// no request waits; and a reply that waited for an entry is said in the turn that applies this entry. The same of the lines of a script with one journal, of which each request takes its answers off the
 /// front; that run ends before a request that lacks one.
 pub fn alone_is_safe<E: Engine>()
     ensures turns { (kind : _) → AloneIsSafe (E.meaning kind) kind }
+    ensures in_turn { (kind : _) → TurnsSay (E.meaning kind) kind }
     ensures scripts { (kind : _) → ScriptsAreSafe (E.meaning kind) kind }
 {}
 
