@@ -109,7 +109,7 @@ module _ (mean : Meaning) (standing : Standing) (w : Node) (a : NodeOk mean w) (
     listed = a.listed;
     absent = a.absent;
     woven = a.woven;
-    said = said_append mean (take w.applied w.log) w.said _ a.said (record { rows = tt; query = tt; commit = tt; ends = tt }, tt);
+    said = said_append mean (take w.applied w.log) w.said _ a.said (record { rows = tt; query = tt; commit = tt; ends = tt; entry = λ h. absurd (omega (arith, h)) }, tt);
   }
 
   pub answers_ok : (s : Session) (r : Reply) (note : Note) → s.flight ≡ None → s.there ≡ true → SessionOk mean w.log w.applied w.term s (answered_trail w.applied (w.trail c) note) → (w.serving ≡ false → Bare s) → QueryIs mean (take w.applied w.log) (query_by w.applied (w.trail c) r note) → NodeOk mean (called w c (Answers s r note))
@@ -123,7 +123,7 @@ module _ (mean : Meaning) (standing : Standing) (w : Node) (a : NodeOk mean w) (
     listed = λ d. cond_both (d == c) s (w.gate.session d) (λ y. y.there ≡ true → among w.gate.conns d ≡ true) (λ e z. subst (λ k. among w.gate.conns k ≡ true) (sym (eqb-true d c e)) (a.listed c here)) (λ e z. a.listed d z);
     absent = λ d. cond_both (d == c) s (w.gate.session d) (λ y. y.there ≡ false → Bare y) (λ e z. no (sym z ∙ there)) (λ e. a.absent d);
     woven = a.woven;
-    said = said_append mean (take w.applied w.log) w.said _ a.said (record { rows = rows_by w.applied (w.trail c) r note; query = query; commit = tt; ends = tt }, tt);
+    said = said_append mean (take w.applied w.log) w.said _ a.said (record { rows = rows_by w.applied (w.trail c) r note; query = query; commit = tt; ends = tt; entry = λ h. absurd (omega (arith, h)) }, tt);
   }
 
   pub proposes_ok : (s : Session) (contents : List Content) (note : Note) → w.serving ≡ true → s.there ≡ true → SessionOk mean (w.log ++ entries_of w.term contents) w.applied w.term s (proposed_trail w.applied (w.trail c) note) → ((n : List ℕ) → Free n (entries_of w.term contents) ⊎ ((writes_to s.flight n ≡ true) × ((d : ℕ) → d ≢ c → writes_to (w.gate.session d).flight n ≡ false))) → Woven (w.log ++ entries_of w.term contents) → NodeOk mean (called w c (Proposes s contents note))

@@ -61,7 +61,7 @@ module _ (mean : Meaning) where
   -- replies that name a failure
   failures_ok : (log : List Entry) (cs : List ℕ) → AllSaid mean log (told_all (map (λ (c : ℕ). (c, Refusal LeadershipLost)) cs))
   failures_ok log [] = tt
-  failures_ok log (c ∷ cs) = (record { rows = tt; query = tt; commit = tt; ends = tt }, failures_ok log cs)
+  failures_ok log (c ∷ cs) = (record { rows = tt; query = tt; commit = tt; ends = tt; entry = λ h. absurd (omega (arith, h)) }, failures_ok log cs)
 
   lost_said : (log : List Entry) (g : Gateway) → AllSaid mean log (told_all (told_lost g))
   unfolding told_lost
