@@ -1,5 +1,5 @@
 -- One voter that never stops.
-use Rattle.std.proofs.Common.{◌≡◌, ℕ, zero, suc, ◌+◌, ◌-◌, ◌<◌, ◌≤◌, true, false, List, [], ◌∷◌, ◌++◌, length, refl, sym, ap, ◌∙◌, subst, arith, length-append, append_assoc}
+use Rattle.std.proofs.Common.{◌≡◌, ◌≢◌, ℕ, zero, suc, ◌+◌, ◌-◌, ◌<◌, ◌≤◌, true, false, List, [], ◌∷◌, ◌++◌, length, refl, sym, ap, ◌∙◌, subst, arith, length-append, append_assoc}
 use Rattle.std.specs.Prelude.{nat_le, Bool, map, Option, Some, None, if◌then◌else◌}
 use Rattle.std.specs.List.{filter}
 use Rattle.std.proofs.lemmas.List.{take_all, append-nil}
@@ -19,13 +19,14 @@ use Rattle.session_world.specs.Woven.{Woven}
 use Rattle.session_world.specs.Nodes.{Said, Trail, Node, Standing, databases, view_of, started}
 use Rattle.session_world.specs.Life.{Event, Connect, Hangup, Call, Apply, Lose, Lead, Serve, Append, Follow, called, happens, run_from, Fits, AllFit, ArePlain}
 use Rattle.session_world.specs.Replies.{AllSaid}
-use Rattle.session_world.specs.Alone.{Turn, Timeout, Join, Leave, Ask, applies, settling, due, settled, checkpointed, takes_turn, alone_from, alone, events_of, AllowsTurn, AllowsTurns, AloneIsSafe, AllIn, SaysInTime, TurnsSay, script_turns, ScriptsAreSafe}
+use Rattle.session_world.specs.Alone.{Turn, Timeout, Join, Leave, Ask, applies, settling, due, settled, checkpointed, takes_turn, alone_from, alone, events_of, AllowsTurn, AllowsTurns, AloneIsSafe, AllIn, SaysInTime, TurnsSay, NoneJoins, TurnsSee, script_turns, ScriptsAreSafe}
 use Rattle.session_world.proofs.Invariant.{FlightIs, NodeOk}
 use Rattle.session_world.proofs.Asks.{IsIdle, request_idle}
 use Rattle.session_world.proofs.Moves.{no}
 use Rattle.session_world.proofs.Lives.{happens_ok, run_ok, started_ok}
-use Rattle.session_world.specs.Laws.{AllHere}
+use Rattle.session_world.specs.Laws.{AllHere, NoneComes}
 use Rattle.session_world.proofs.Lasts.{run_append, step_here}
+use Rattle.session_world.proofs.Sees.{Gone, gone_none, gone_sees, along}
 
 -- the one node between two turns
 record Rests (mean : Meaning) (w : Node) : Type 0 where
@@ -123,6 +124,27 @@ no_entries = record { at = λ i name tx term b pages pos x. absurd (none_some x.
   where
     none_some : {A : Type 0} {x : A} → None ≡ Some x → ⊥
     none_some e = cc
+
+-- no connection of the number comes by these
+
+same_number : {c d : ℕ} → Connect c ≡ Connect d → c ≡ d
+same_number e = cc
+
+none_append : (d : ℕ) (es fs : List Event) → NoneComes d es → NoneComes d fs → NoneComes d (es ++ fs)
+none_append d [] fs a b = b
+none_append d (e ∷ es) fs a b = (a.0, none_append d es fs a.1 b)
+
+none_applies : (d k : ℕ) → NoneComes d (applies k)
+none_applies d zero = tt
+none_applies d (suc k) = ((λ e. cc), none_applies d k)
+
+none_turn : (d : ℕ) (w : Node) (t : Turn) → t ≢ Join d → NoneComes d (events_of w t)
+none_turn d w Timeout h = cond_both w.leads [] _ (NoneComes d) (λ e. tt) (λ e. ((λ q. cc), ((λ q. cc), ((λ q. cc), ((λ q. cc), tt)))))
+none_turn d w (Join c) h = ((λ q. h (ap (λ k. Join k) (same_number q))), tt)
+none_turn d w (Leave c) h = ((λ q. cc), tt)
+none_turn d w (Ask c standing r answers) h = cond_both w.leads _ _ (NoneComes d)
+    (λ e. ((λ q. cc), none_append d (settling (happens w (Call c standing r answers))) _ (none_applies d _) ((λ q. cc), none_applies d _)))
+    (λ e. ((λ q. cc), tt))
 
 -- what neither begins nor ends a node's leadership
 abbrev IsSteady : Event → Type 0
@@ -343,6 +365,13 @@ module _ (mean : Meaning) (kind : EngineKind) where
 
   pub turns_say_hold : TurnsSay mean kind
   turns_say_hold ts t h x = turn_tells (alone ts) t x (rests_alone ts h)
+
+  sees_turns : (d : ℕ) (u w : Node) (ts : List Turn) → AllowsTurns mean kind w ts → NoneJoins d ts → Rests mean w → Gone d u w → Gone d u (alone_from w ts)
+  sees_turns d u w [] h n a g = g
+  sees_turns d u w (t ∷ ts) h n a g = sees_turns d u (takes_turn w t) ts h.1 n.1 (turn_ok w t h.0 a) (along mean kind d u w (events_of w t) (turn_fits w t h.0 a) (none_turn d w t n.0) a.node g)
+
+  pub turns_see_hold : TurnsSee mean kind
+  turns_see_hold ts us d h x n = gone_sees d (alone ts) (alone_from (alone ts) us) (sees_turns d (alone ts) (alone ts) us x n (rests_alone ts h) (gone_none d (alone ts)))
 
   no_flight : (log : List Entry) (applied term : ℕ) (t : Trail) (o : Option Flight) → applied ≡ length log → FlightIs mean log applied term t o → o ≡ None
   no_flight log applied term t None e a = refl

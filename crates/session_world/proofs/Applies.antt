@@ -16,7 +16,7 @@ use Rattle.session_world.specs.Replies.{QueryIs, StandsAt, IsOpening, EntryOk, S
 use Rattle.session_world.proofs.Files.{Free, free_drop, alike_between}
 use Rattle.session_world.proofs.Invariant.{Calm, TxIs, KindOk, IsOf, result_plain, FlightOk, FlightIs, ApartBy, Apart, SessionOk, Held, NodeOk, agree_take, query_along, commit_along, said_grown, said_append, write_of, writes_parts, bare_ok, two_cond, rows_are}
 use Rattle.session_world.proofs.Weaves.{stands_front}
-use Rattle.session_world.proofs.Tables.{among_filter, absent_bare, settled_bare, settled_there, settled_absent}
+use Rattle.session_world.proofs.Tables.{among_filter, absent_bare, settled_bare, settled_there, settled_absent, sole_tidy}
 
 pub calm_next : (n : List ℕ) (k : ℕ) (log : List Entry) → Calm n k log → Calm n (suc k) log
 calm_next n k log c =
@@ -121,6 +121,7 @@ apply_ok mean w h a =
           (a.calm e n);
       listed = λ c e. among_filter (λ d. (settled_by (suc w.applied) (s d) (s d).flight).there) w.gate.conns c (a.listed c (settled_there (suc w.applied) (s c) (s c).flight e)) e;
       absent = λ c. settled_absent (suc w.applied) (s c) (s c).flight refl (a.absent c);
+      sole = sole_tidy w.gate.conns (λ d. settled_by (suc w.applied) (s d) (s d).flight) a.sole.once;
       woven = a.woven;
       said = said_append mean (take (suc w.applied) w.log) w.said _ (subst (λ l. AllSaid mean l w.said) (sym (front_grows w.applied w.log)) (said_grown mean (take w.applied w.log) _ w.said a.said)) (said_applied_ok mean w.log w.applied w.term within w.trail w.gate.session w.gate.conns a.sessions);
     }

@@ -230,9 +230,9 @@ module _ (mean : Meaning) (standing : Standing) (w : Node) (a : NodeOk mean w) (
 
   -- an effect beside the sessions
   affects_ok : (effect : Effect) → NodeOk mean (called w c (Affects effect))
-  affects_ok (HandsOver id) = record { applied = a.applied; leads = a.leads; sessions = a.sessions; idle = a.idle; calm = a.calm; listed = a.listed; absent = a.absent; woven = a.woven; said = said_append mean (take w.applied w.log) w.said _ a.said (record { rows = tt; query = tt; commit = tt; ends = tt; entry = λ h. absurd (omega (arith, h)) }, tt) }
-  affects_ok (JoinsPeer id) = record { applied = a.applied; leads = a.leads; sessions = a.sessions; idle = a.idle; calm = a.calm; listed = a.listed; absent = a.absent; woven = a.woven; said = said_append mean (take w.applied w.log) w.said _ a.said (record { rows = tt; query = tt; commit = tt; ends = tt; entry = λ h. absurd (omega (arith, h)) }, tt) }
-  affects_ok (Weighs weight) = record { applied = a.applied; leads = a.leads; sessions = a.sessions; idle = a.idle; calm = a.calm; listed = a.listed; absent = a.absent; woven = a.woven; said = said_append mean (take w.applied w.log) w.said _ a.said (record { rows = tt; query = tt; commit = tt; ends = tt; entry = λ h. absurd (omega (arith, h)) }, tt) }
+  affects_ok (HandsOver id) = record { applied = a.applied; leads = a.leads; sessions = a.sessions; idle = a.idle; calm = a.calm; listed = a.listed; absent = a.absent; sole = a.sole; woven = a.woven; said = said_append mean (take w.applied w.log) w.said _ a.said (record { rows = tt; query = tt; commit = tt; ends = tt; entry = λ h. absurd (omega (arith, h)) }, tt) }
+  affects_ok (JoinsPeer id) = record { applied = a.applied; leads = a.leads; sessions = a.sessions; idle = a.idle; calm = a.calm; listed = a.listed; absent = a.absent; sole = a.sole; woven = a.woven; said = said_append mean (take w.applied w.log) w.said _ a.said (record { rows = tt; query = tt; commit = tt; ends = tt; entry = λ h. absurd (omega (arith, h)) }, tt) }
+  affects_ok (Weighs weight) = record { applied = a.applied; leads = a.leads; sessions = a.sessions; idle = a.idle; calm = a.calm; listed = a.listed; absent = a.absent; sole = a.sole; woven = a.woven; said = said_append mean (take w.applied w.log) w.said _ a.said (record { rows = tt; query = tt; commit = tt; ends = tt; entry = λ h. absurd (omega (arith, h)) }, tt) }
 
   -- a proposal of an entry without pages
   other_ok : (name : List ℕ) (content : Content) (kind : Kind) → w.serving ≡ true → ((n : List ℕ) → touches n content ≡ false) → IsPlain true content → ((log : List Entry) (t : Trail) (f : Flight) → KindOk mean log t f kind) → IsOf kind name content → ((o : Option Transaction) → ApartBy kind o) → NodeOk mean (called w c (Proposes (flying (view_of w standing) (w.gate.session c) name (content ∷ []) 0 kind) (content ∷ []) Nothing))

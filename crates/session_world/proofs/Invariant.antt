@@ -113,6 +113,16 @@ pub record Held (session : ℕ → Session) (name : List ℕ) : Type 0 where
   pub conn : ℕ
   pub writes : writes_to (session conn).flight name ≡ true
 
+-- each number once
+abbrev pub Once : List ℕ → Type 0
+Once [] = Unit {0}
+Once (x ∷ xs) = (among xs x ≡ false) × Once xs
+
+-- the connections that are searched are there, each once
+pub record Sole (conns : List ℕ) (session : ℕ → Session) : Type 0 where
+  pub once : Once conns
+  pub there : (c : ℕ) → among conns c ≡ true → (session c).there ≡ true
+
 pub record NodeOk (mean : Meaning) (w : Node) : Type 0 where
   pub applied : w.applied ≤ length w.log
   pub leads : w.serving ≡ true → w.leads ≡ true
@@ -121,6 +131,7 @@ pub record NodeOk (mean : Meaning) (w : Node) : Type 0 where
   pub calm : w.serving ≡ true → (name : List ℕ) → Calm name w.applied w.log ⊎ Held w.gate.session name
   pub listed : (c : ℕ) → (w.gate.session c).there ≡ true → among w.gate.conns c ≡ true
   pub absent : (c : ℕ) → (w.gate.session c).there ≡ false → Bare (w.gate.session c)
+  pub sole : Sole w.gate.conns w.gate.session
   pub woven : Woven w.log
   pub said : AllSaid mean (take w.applied w.log) w.said
 

@@ -10,6 +10,7 @@ pub mod Calls
 pub mod Asks
 pub mod Lives
 pub mod Lasts
+pub mod Sees
 pub mod Answers
 pub mod Undos
 pub mod Commits

@@ -1,6 +1,6 @@
 -- One voter that never stops: what is proposed is applied in the same step. Its run, turn by turn, and that of a script with
 -- its journal.
-use Rattle.std.specs.Prelude.{◌≡◌, ℕ, zero, suc, ◌-◌, ◌<◌, ◌≤◌, Bool, true, false, ◌&&◌, nat_le, List, [], ◌∷◌, ◌++◌, length, drop, map, None, if◌then◌else◌}
+use Rattle.std.specs.Prelude.{◌≡◌, ◌≢◌, ℕ, zero, suc, ◌-◌, ◌<◌, ◌≤◌, Bool, true, false, ◌&&◌, nat_le, List, [], ◌∷◌, ◌++◌, length, drop, map, None, if◌then◌else◌}
 use Rattle.std.specs.List.{filter}
 use Rattle.wire_msgs.specs.declared.request.Request.{Request}
 use Rattle.frame_commands.specs.declared.command.Command.TheVariants.{Checkpoint}
@@ -15,6 +15,7 @@ use Rattle.session_world.specs.Woven.{Woven}
 use Rattle.session_world.specs.Nodes.{Said, Node, Standing, databases, view_of, started}
 use Rattle.session_world.specs.Life.{Event, Connect, Hangup, Call, Apply, Lead, Serve, Append, happens, run_from}
 use Rattle.session_world.specs.Replies.{AllSaid}
+use Rattle.session_world.specs.Laws.{Sees}
 
 -- What happens at the node in one turn: a timeout; a connection comes, or goes; a request with the engine's answers.
 pub data Turn : Type 0 where
@@ -108,6 +109,16 @@ pub record SaysInTime (w v : Node) : Type 0 where
 -- So it is in each turn.
 abbrev pub TurnsSay : Meaning → EngineKind → Type 0
 TurnsSay m kind = (ts : List Turn) (t : Turn) → AllowsTurns m kind (started [] 0 0) ts → AllowsTurn m kind (alone ts) t → SaysInTime (alone ts) (takes_turn (alone ts) t)
+
+-- no connection of this number joins
+abbrev pub NoneJoins : ℕ → List Turn → Type 0
+NoneJoins conn [] = Unit {0}
+NoneJoins conn (t ∷ ts) = (t ≢ Join conn) × NoneJoins conn ts
+
+-- In each stretch of turns in which none of a number joins, what its connection has seen is not below what any of its earlier
+-- replies rests on.
+abbrev pub TurnsSee : Meaning → EngineKind → Type 0
+TurnsSee m kind = (ts us : List Turn) (conn : ℕ) → AllowsTurns m kind (started [] 0 0) ts → AllowsTurns m kind (alone ts) us → NoneJoins conn us → Sees conn (alone ts) (alone_from (alone ts) us)
 
 -- ---- scripts
 
