@@ -27,6 +27,7 @@ use Rattle.session_world.proofs.Lives.{happens_ok, run_ok, started_ok}
 use Rattle.session_world.specs.Laws.{AllHere, NoneComes}
 use Rattle.session_world.proofs.Lasts.{run_append, step_here}
 use Rattle.session_world.proofs.Sees.{Gone, gone_none, gone_sees, along}
+use Rattle.session_world.proofs.Milds.{AllContents, Mild, AllLone, mild_run}
 
 -- the one node between two turns
 record Rests (mean : Meaning) (w : Node) : Type 0 where
@@ -145,6 +146,28 @@ none_turn d w (Leave c) h = ((λ q. cc), tt)
 none_turn d w (Ask c standing r answers) h = cond_both w.leads _ _ (NoneComes d)
     (λ e. ((λ q. cc), none_append d (settling (happens w (Call c standing r answers))) _ (none_applies d _) ((λ q. cc), none_applies d _)))
     (λ e. ((λ q. cc), tt))
+
+-- what one voter does by itself
+
+lone_append : (es fs : List Event) → AllLone es → AllLone fs → AllLone (es ++ fs)
+lone_append [] fs a b = b
+lone_append (e ∷ es) fs a b = (a.0, lone_append es fs a.1 b)
+
+lone_applies : (k : ℕ) → AllLone (applies k)
+lone_applies zero = tt
+lone_applies (suc k) = (tt, lone_applies k)
+
+lone_due : (ns : List (List ℕ)) → AllContents (map (λ (n : List ℕ). Does (Checkpoint n)) ns)
+lone_due [] = tt
+lone_due (n ∷ ns) = (tt, lone_due ns)
+
+lone_turn : (w : Node) (t : Turn) → AllLone (events_of w t)
+lone_turn w Timeout = cond_both w.leads [] _ AllLone (λ e. tt) (λ e. (tt, ((tt, tt), (tt, (tt, tt)))))
+lone_turn w (Join c) = (tt, tt)
+lone_turn w (Leave c) = (tt, tt)
+lone_turn w (Ask c standing r answers) = cond_both w.leads _ _ AllLone
+    (λ e. (tt, lone_append (settling (happens w (Call c standing r answers))) _ (lone_applies _) (lone_due _, lone_applies _)))
+    (λ e. (tt, tt))
 
 -- what neither begins nor ends a node's leadership
 abbrev IsSteady : Event → Type 0
@@ -373,6 +396,14 @@ module _ (mean : Meaning) (kind : EngineKind) where
   pub turns_see_hold : TurnsSee mean kind
   turns_see_hold ts us d h x n = gone_sees d (alone ts) (alone_from (alone ts) us) (sees_turns d (alone ts) (alone ts) us x n (rests_alone ts h) (gone_none d (alone ts)))
 
+  mild_turns : (ts : List Turn) (w : Node) → AllowsTurns mean kind w ts → Rests mean w → Mild w → Mild (alone_from w ts)
+  mild_turns [] w h a m = m
+  mild_turns (t ∷ ts) w h a m = mild_turns ts (takes_turn w t) h.1 (turn_ok w t h.0 a) (mild_run mean kind w (events_of w t) (lone_turn w t) (turn_fits w t h.0 a) a.node m)
+
+  mild_alone : (ts : List Turn) → AllowsTurns mean kind (started [] 0 0) ts → Mild (alone ts)
+  unfolding alone
+  mild_alone ts h = mild_turns ts (started [] 0 0) h (rests_alone [] tt) (record { servers = tt; kept = tt })
+
   no_flight : (log : List Entry) (applied term : ℕ) (t : Trail) (o : Option Flight) → applied ≡ length log → FlightIs mean log applied term t o → o ≡ None
   no_flight log applied term t None e a = refl
   no_flight log applied term t (Some f) e a = let x = a.ahead in let y = a.within in absurd (omega arith)
@@ -381,11 +412,14 @@ module _ (mean : Meaning) (kind : EngineKind) where
   alone_is_safe_holds ts h =
       let w = alone ts in
       let r = rests_alone ts h in
+      let mild = mild_alone ts h in
       let full = r.all in
       record {
         applied = r.all;
         said = subst (λ l. AllSaid mean l w.said) (take_all w.applied w.log (omega arith)) r.node.said;
         woven = r.node.woven;
+        servers = mild.servers;
+        kept = mild.kept;
         serves = sym r.same;
         term = r.term;
         answered = λ c. no_flight w.log w.applied w.term (w.trail c) (w.gate.session c).flight r.all (r.node.sessions c).flight;

@@ -14,6 +14,7 @@ pub mod Sees
 pub mod Answers
 pub mod Undos
 pub mod Commits
+pub mod Milds
 pub mod Alones
 pub mod Turns
 pub mod Examples

@@ -6,10 +6,11 @@ use Rattle.wire_msgs.specs.declared.request.Request.{Request}
 use Rattle.frame_commands.specs.declared.command.Command.TheVariants.{Checkpoint}
 use Rattle.sql_engine.specs.declared.kind.EngineKind.{EngineKind}
 use Rattle.sql_engine.specs.Meanings.{Meaning}
-use Rattle.session_rules.specs.Entries.{Content, Does, Other}
+use Rattle.session_rules.specs.Causes.{LeadershipLost}
+use Rattle.session_rules.specs.Entries.{Content, Does, Configures, Other, Entry}
 use Rattle.session_rules.specs.Machine.{Machine}
 use Rattle.session_rules.specs.Engines.{Answer, used_for, AllowsFor}
-use Rattle.session_rules.specs.Sessions.{Turned, Refused, Lacks, Answers, Proposes, Affects, may_ask}
+use Rattle.session_rules.specs.Sessions.{Refusal, Turned, Refused, Lacks, Answers, Proposes, Affects, may_ask}
 use Rattle.session_rules.specs.Requests.{on_request, handed}
 use Rattle.session_world.specs.Woven.{Woven}
 use Rattle.session_world.specs.Nodes.{Said, Node, Standing, databases, view_of, started}
@@ -75,12 +76,31 @@ abbrev pub AllowsTurns : Meaning → EngineKind → Node → List Turn → Type 
 AllowsTurns m kind w [] = Unit {0}
 AllowsTurns m kind w (t ∷ ts) = AllowsTurn m kind w t × AllowsTurns m kind (takes_turn w t) ts
 
+-- an entry that isn't other servers
+abbrev pub KeepsServers : Content → Type 0
+KeepsServers (Does command) = Unit {0}
+KeepsServers (Configures servers) = ⊥
+KeepsServers Other = Unit {0}
+
+-- no entry of the log changes the servers
+abbrev pub SameServers : List Entry → Type 0
+SameServers [] = Unit {0}
+SameServers (e ∷ es) = KeepsServers e.content × SameServers es
+
+-- none of these replies is the refusal of a lost leadership
+abbrev pub NoneLost : List Said → Type 0
+NoneLost [] = Unit {0}
+NoneLost (x ∷ xs) = (x.reply ≢ Refusal LeadershipLost) × NoneLost xs
+
 -- The one node has applied its whole log; each reply is right by it; the entries of each transaction stand in one piece; and
--- no request waits for its answer. Where it leads, it serves, in term 1.
+-- no request waits for its answer. No entry changes the servers, and no reply says that leadership was lost. Where the node
+-- leads, it serves, in term 1.
 pub record SafeAlone (m : Meaning) (w : Node) : Type 0 where
   pub applied : w.applied ≡ length w.log
   pub said : AllSaid m w.log w.said
   pub woven : Woven w.log
+  pub servers : SameServers w.log
+  pub kept : NoneLost w.said
   pub answered : (conn : ℕ) → (w.gate.session conn).flight ≡ None
   pub serves : w.serving ≡ w.leads
   pub term : w.term ≡ (if w.leads then 1 else 0)
