@@ -48,7 +48,7 @@ plain_query None = None
 plain_query (Some q) = Some (record { name = q.name; at = q.at; before = q.before; statement = q.statement; answer = unnumbered q.answer; seen = q.seen })
 
 abbrev pub plain_said : Said → Said
-plain_said s = record { conn = s.conn; reply = plain_reply s.reply; query = plain_query s.query; commit = s.commit; index = s.index; term = s.term }
+plain_said s = record { conn = s.conn; reply = plain_reply s.reply; query = plain_query s.query; commit = s.commit; opened = s.opened; index = s.index; term = s.term }
 
 abbrev pub plain_node : Node → Node
 plain_node w = record { term = w.term; leads = w.leads; serving = w.serving; log = w.log; applied = w.applied; gate = plain_gate w.gate; trail = w.trail; said = map plain_said w.said }
@@ -95,12 +95,12 @@ query_by_plain applied t r (Outside name ss) = query_plain r name applied [] ss 
 
 -- an answer at once, and what it rests on
 abbrev said_now : ℕ → ℕ → Trail → Reply → Note → Said
-said_now conn applied t r note = record { conn = conn; reply = r; query = query_by applied t r note; commit = None; index = 0; term = 0 }
+said_now conn applied t r note = record { conn = conn; reply = r; query = query_by applied t r note; commit = None; opened = None; index = 0; term = 0 }
 
 said_once : (conn applied : ℕ) (t : Trail) (r : Reply) (note : Note) → plain_said (said_now conn applied t r note) ≡ plain_said (said_now conn applied t (plain_reply r) note)
 said_once conn applied t r note =
     let twice = query_by_plain applied t (plain_reply r) note ∙ ap (λ (x : Reply). query_by applied t x note) (reply_twice r) in
-    λ i. record { conn = conn; reply = sym (reply_twice r) i; query = (query_by_plain applied t r note ∙ sym twice) i; commit = None; index = 0; term = 0 }
+    λ i. record { conn = conn; reply = sym (reply_twice r) i; query = (query_by_plain applied t r note ∙ sym twice) i; commit = None; opened = None; index = 0; term = 0 }
 
 -- the sessions with a plain one in place of another
 with_plain : (g : Gateway) (conn : ℕ) (s : Session) → plain_gate (with_session g conn s) ≡ plain_gate (with_session g conn (plain_session s))

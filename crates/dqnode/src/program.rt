@@ -152,8 +152,9 @@ fn refuse_words<K: Sink>(output: &mut K) -> Status
 /// The journal is that of this run afterwards: what the engine answered to the statements of clients, in their order; what it
 /// held before is dropped, and after other words it is as it was. What was read and this journal decide all else. Each answer
 /// that the run takes off the journal is one that an engine of the kind may give, and every such run is safe: at each moment
-/// each reply is right by the node's entries, and what was said and applied stays. With the engine of cells the script alone
-/// decides what is said and at which line it fails, where the engine wanted no memory.
+/// each reply is right by the node's entries, was said in the turn that applied the entry which it waited for, and is over no
+/// older image than its connection saw; and what was said and applied stays. With the engine of cells the script alone decides
+/// what is said and at which line it fails, where the engine wanted no memory.
 ///
 /// Unless the input is at its end, every script that begins with the bytes read has the fault that is named; and after a
 /// fault of the outside or want of memory a front was written of what each of them gives, so nothing of a line that was read
@@ -179,7 +180,8 @@ pub fn dqnode<S: Source, K: Sink>(
     // The script's first fault is that it has too many lines or events; the bytes read show it, and it is said.
     ensures large { result ≡ 9 → RunsWith words.now (λ kind. Faults kind (map answer_of journal.new) Large (S.left input.old) (S.left input.new) (K.written output.old) (K.written output.new)) }
     // However the script ended: each answer that its run takes off the journal is one that the engine may give, and the run is
-    // safe: at each moment each reply is right by the node's entries, and what was said and applied stays.
+    // safe: at each moment each reply is right by the node's entries, was said in the turn that applied the entry which it
+    // waited for, and is over no older image than its connection saw; and what was said and applied stays.
     ensures safe { IsScript words.now → RunsWith words.now (λ kind. RunsSafely kind (map answer_of journal.new) (S.left input.old) (S.left input.new)) }
     // So is the run of every script with every journal whose answers are allowed.
     ensures always_safe { RunsAreSafe }

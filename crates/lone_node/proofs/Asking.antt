@@ -107,7 +107,7 @@ effect_says conn (JoinsPeer id) = refl
 effect_says conn (Weighs weight) = refl
 
 abbrev answered_said : Node → ℕ → Reply → Note → Said
-answered_said node conn reply note = record { conn = conn; reply = reply; query = query_by node.applied (node.trail conn) reply note; commit = None; index = 0; term = 0 }
+answered_said node conn reply note = record { conn = conn; reply = reply; query = query_by node.applied (node.trail conn) reply note; commit = None; opened = None; index = 0; term = 0 }
 
 comes_of : (node : Node) (conn : ℕ) (o : Turned) (sessions : Gateway) (gact : GatewayAct) (act : Act) → act ≡ act_on conn gact → Is (view node) node.gate conn o sessions gact → Came node conn sessions act o
 comes_of node conn (Refused cause) sessions gact act is i =

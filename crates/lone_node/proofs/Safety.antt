@@ -8,8 +8,9 @@ use Rattle.session_rules.specs.Sessions.{Turned, Refused, Lacks, Answers, Propos
 use Rattle.session_rules.specs.Events.{connects}
 use Rattle.session_world.specs.Nodes.{Node, started}
 use Rattle.session_world.specs.Life.{Event, Connect, Hangup, Call, Apply, Lose, Lead, Serve, Append, Follow, called, happens, run_from}
-use Rattle.session_world.specs.Alone.{Turn, Timeout, Join, Leave, Ask, applies, settling, events_of, takes_turn, alone_from, alone, AllowsTurns}
-use Rattle.session_world.proofs.Alones.{alone_is_safe_holds}
+use Rattle.session_world.specs.Alone.{Turn, Timeout, Join, Leave, Ask, applies, settling, events_of, takes_turn, alone_from, alone, AllowsTurn, AllowsTurns, SaysInTime, NoneJoins}
+use Rattle.session_world.specs.Laws.{Sees}
+use Rattle.session_world.proofs.Alones.{alone_is_safe_holds, turns_say_hold, turns_see_hold}
 use Rattle.lone_node.specs.Safe.{Lasts, Allowed, RunsAreSafe}
 use Rattle.lone_node.proofs.Turning.{from_append}
 
@@ -92,8 +93,30 @@ module _ (m : Meaning) (kind : EngineKind) where
   allowed_front [] late w h = tt
   allowed_front (t ∷ ts) late w h = (h.0, allowed_front ts late (takes_turn w t) h.1)
 
+  allowed_at : (early late : List Turn) (t : Turn) (w : Node) → AllowsTurns m kind w (early ++ t ∷ late) → AllowsTurn m kind (alone_from w early) t
+  allowed_at [] late t w h = h.0
+  allowed_at (u ∷ us) late t w h = allowed_at us late t (takes_turn w u) h.1
+
+  allowed_back : (early late : List Turn) (w : Node) → AllowsTurns m kind w (early ++ late) → AllowsTurns m kind (alone_from w early) late
+  allowed_back [] late w h = h
+  allowed_back (t ∷ ts) late w h = allowed_back ts late (takes_turn w t) h.1
+
+  sees_at : (early mid : List Turn) (conn : ℕ) → Allowed m kind (early ++ mid) → NoneJoins conn mid → Sees conn (alone early) (alone (early ++ mid))
+  unfolding alone
+  sees_at early mid conn h n =
+      let w = started [] 0 0 in
+      subst (Sees conn (alone_from w early)) (sym (from_append early mid w)) (turns_see_hold m kind early mid conn (allowed_front early mid w h) (allowed_back early mid w h) n)
+
+  says_at : (early late : List Turn) (t : Turn) → Allowed m kind (early ++ t ∷ late) → SaysInTime (alone early) (alone (early ++ t ∷ []))
+  unfolding alone
+  says_at early late t h =
+      let w = started [] 0 0 in
+      subst (SaysInTime (alone_from w early)) (sym (from_append early (t ∷ []) w)) (turns_say_hold m kind early t (allowed_front early (t ∷ late) w h) (allowed_at early late t w h))
+
   pub runs_are_safe_hold : RunsAreSafe m kind
   runs_are_safe_hold ts h = record {
     at = λ early late e. alone_is_safe_holds m kind early (allowed_front early late (started [] 0 0) (subst (Allowed m kind) e h));
+    says = λ early late t e. says_at early late t (subst (Allowed m kind) e h);
+    sees = λ early mid late conn e n. sees_at early mid conn (allowed_front (early ++ mid) late (started [] 0 0) (subst (Allowed m kind) e h)) n;
     lasts = λ early late e. subst (λ us. Lasts (alone early) (alone us)) (sym e) (lasts_from early late);
   }

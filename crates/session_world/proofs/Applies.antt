@@ -4,17 +4,19 @@ use Rattle.std.specs.Prelude.{◌==◌, Option, Some, None}
 use Rattle.std.proofs.lemmas.List.{drop-drop, take-take, take-append-drop}
 use Rattle.std.proofs.lemmas.Bool.{cond_both, cond-false, cases_Bool, eqb-true, eqb-false}
 use Rattle.sql_engine.specs.Replies.{Statement}
+use Rattle.raft_rules.specs.Node.{Server}
 use Rattle.sql_engine.specs.Meanings.{Meaning}
-use Rattle.session_rules.specs.Entries.{Entry}
-use Rattle.session_rules.specs.Sessions.{Reply, Refusal, Single, Rows, Kind, Opening, Configuring, Writing, Committing, Flight, Transaction, Session, absent}
+use Rattle.session_rules.specs.Entries.{Content, Configures, Entry}
+use Rattle.session_rules.specs.Sessions.{Reply, Refusal, Single, Rows, empty, db, Kind, Opening, Configuring, Writing, Committing, Flight, Transaction, Session, absent}
 use Rattle.session_rules.specs.Limits.{writes_to}
 use Rattle.session_rules.specs.Events.{landed, settled_by, on_applied, tidy}
-use Rattle.session_world.specs.Nodes.{Trail, Node}
+use Rattle.session_world.specs.Nodes.{Said, Trail, Node}
 use Rattle.session_world.specs.Life.{Apply, query_for, commit_of, said_landed, said_by, said_applied, landed_trail, trail_by, happens}
-use Rattle.session_world.specs.Replies.{QueryIs, SaidOk, AllSaid}
+use Rattle.session_world.specs.Replies.{QueryIs, StandsAt, IsOpening, EntryOk, SaidOk, AllSaid}
 use Rattle.session_world.proofs.Files.{Free, free_drop, alike_between}
-use Rattle.session_world.proofs.Invariant.{Calm, TxIs, KindOk, FlightOk, FlightIs, ApartBy, Apart, SessionOk, Held, NodeOk, agree_take, query_along, commit_along, said_grown, said_append, write_of, writes_parts, bare_ok, two_cond, rows_are}
-use Rattle.session_world.proofs.Tables.{among_filter, absent_bare, settled_bare, settled_there, settled_absent}
+use Rattle.session_world.proofs.Invariant.{Calm, TxIs, KindOk, IsOf, result_plain, FlightOk, FlightIs, ApartBy, Apart, SessionOk, Held, NodeOk, agree_take, query_along, commit_along, said_grown, said_append, write_of, writes_parts, bare_ok, two_cond, rows_are}
+use Rattle.session_world.proofs.Weaves.{stands_front}
+use Rattle.session_world.proofs.Tables.{among_filter, absent_bare, settled_bare, settled_there, settled_absent, sole_tidy}
 
 pub calm_next : (n : List ℕ) (k : ℕ) (log : List Entry) → Calm n k log → Calm n (suc k) log
 calm_next n k log c =
@@ -23,6 +25,9 @@ calm_next n k log c =
       free = subst (λ j. Free n (drop j log)) e (subst (Free n) (drop-drop 1 k log) (free_drop 1 (drop k log) n c.free));
       still = (alike_between log k (suc k) n (omega arith) c.free).pending ∙ c.still;
     }
+
+db_empty : db ≡ empty → ⊥
+db_empty e = cc
 
 -- a later index, where neither transaction nor proposal reads it
 tx_seen : (mean : Meaning) (log : List Entry) (t : Trail) (o : Option Transaction) (index : ℕ) → o ≡ None → TxIs mean log (record { seen = max t.seen index; at = t.at; ran = t.ran }) o
@@ -50,7 +55,7 @@ module _ (mean : Meaning) (log : List Entry) (applied term : ℕ) (within : suc 
       let ne = eqb-false _ _ q in
       let ahead = a.ahead in
       let more : suc applied < f.last = omega arith in
-      let f' : FlightOk mean log (suc applied) term t f = record { ahead = more; within = a.within; of_term = a.of_term; kind = a.kind } in
+      let f' : FlightOk mean log (suc applied) term t f = record { ahead = more; within = a.within; of_term = a.of_term; kind = a.kind; entry = a.entry } in
       record { at = omega arith; seen = omega arith; tx = tx; flight = subst (FlightIs mean log (suc applied) term t) (sym e) f'; apart = subst (λ x. Apart x s.tx) (sym e) apart })
 
   -- the write turn is free again, or is still held
@@ -70,21 +75,26 @@ module _ (mean : Meaning) (log : List Entry) (applied term : ℕ) (within : suc 
   query_taken (Single response) name at before ss seen p l h a = tt
   query_taken (Rows answer) name at before ss seen p l h a = query_along mean at log (take p log) _ (agree_take at p log h l) (omega arith) a
 
-  landed_said : (c : ℕ) (t : Trail) (f : Flight) (k : Kind) → f.last ≡ suc applied → t.at ≤ applied → KindOk mean log t f k → SaidOk mean (take (suc applied) log) (said_landed c t f k)
-  landed_said c t f Opening e at a = record { rows = tt; query = tt; commit = tt }
-  landed_said c t f Configuring e at a = record { rows = tt; query = tt; commit = tt }
-  landed_said c t f (Writing reply) e at a = record {
+  entry_said : (x : Said) (f : Flight) (content : Content) → x.index ≡ suc applied → StandsAt log x.index x.term content → (x.reply ≡ db → IsOpening x.opened content) → (x.reply ≡ empty → (servers : List Server) × (content ≡ Configures servers)) → EntryOk (take (suc applied) log) x
+  entry_said x f content e stands opens changes = record { content = content; stands = stands_front log (suc applied) x.index x.term content (omega arith) (omega arith) within stands; opens = opens; changes = changes }
+
+  landed_said : (c : ℕ) (t : Trail) (f : Flight) (k : Kind) (content : Content) → f.last ≡ suc applied → t.at ≤ applied → StandsAt log f.last f.term content → IsOf k f.name content → KindOk mean log t f k → SaidOk mean (take (suc applied) log) (said_landed c t f k)
+  landed_said c t f Opening content e at s of a = record { rows = tt; query = tt; commit = tt; ends = tt; entry = λ h. entry_said (said_landed c t f Opening) f content e s (λ z. of) (λ z. absurd (db_empty z)) }
+  landed_said c t f Configuring content e at s of a = record { rows = tt; query = tt; commit = tt; ends = tt; entry = λ h. entry_said (said_landed c t f Configuring) f content e s (λ z. absurd (db_empty (sym z))) (λ z. of) }
+  landed_said c t f (Writing reply) content e at s of a = record {
     rows = rows_are reply f.name t.at [] t.ran t.seen;
     query = query_taken reply f.name t.at [] t.ran t.seen (suc applied) within (omega arith) a.1;
     commit = commit_along mean log (take (suc applied) log) (commit_of f t.ran) (agree_take f.last (suc applied) log (omega arith) within) a.0.commit;
+    ends = (refl, refl);
+    entry = λ h. entry_said (said_landed c t f (Writing reply)) f content e s (λ z. absurd (of.not_db z)) (λ z. absurd (of.not_empty z));
   }
-  landed_said c t f Committing e at a = record { rows = tt; query = tt; commit = commit_along mean log (take (suc applied) log) (commit_of f t.ran) (agree_take f.last (suc applied) log (omega arith) within) a.commit }
+  landed_said c t f Committing content e at s of a = record { rows = tt; query = tt; commit = commit_along mean log (take (suc applied) log) (commit_of f t.ran) (agree_take f.last (suc applied) log (omega arith) within) a.commit; ends = (refl, refl); entry = λ h. entry_said (said_landed c t f Committing) f content e s (λ z. absurd ((result_plain 0).not_db z)) (λ z. absurd ((result_plain 0).not_empty z)) }
 
   said_by_ok : (c : ℕ) (t : Trail) (hung : Bool) (o : Option Flight) → t.at ≤ applied → FlightIs mean log applied term t o → AllSaid mean (take (suc applied) log) (said_by (suc applied) c t hung o)
   said_by_ok c t hung None at a = tt
   said_by_ok c t hung (Some f) at a =
       cond_both (f.last == suc applied) _ _ (AllSaid mean (take (suc applied) log))
-      (λ e. cond_both hung _ _ (AllSaid mean (take (suc applied) log)) (λ h. tt) (λ h. (landed_said c t f f.kind (eqb-true _ _ e) at a.kind, tt)))
+      (λ e. cond_both hung _ _ (AllSaid mean (take (suc applied) log)) (λ h. tt) (λ h. (landed_said c t f f.kind a.entry.content (eqb-true _ _ e) at a.entry.stands a.entry.of a.kind, tt)))
       (λ e. tt)
 
   pub said_applied_ok : (trail : ℕ → Trail) (session : ℕ → Session) (cs : List ℕ) → ((c : ℕ) → SessionOk mean log applied term (session c) (trail c)) → AllSaid mean (take (suc applied) log) (said_applied (suc applied) trail session cs)
@@ -111,6 +121,7 @@ apply_ok mean w h a =
           (a.calm e n);
       listed = λ c e. among_filter (λ d. (settled_by (suc w.applied) (s d) (s d).flight).there) w.gate.conns c (a.listed c (settled_there (suc w.applied) (s c) (s c).flight e)) e;
       absent = λ c. settled_absent (suc w.applied) (s c) (s c).flight refl (a.absent c);
+      sole = sole_tidy w.gate.conns (λ d. settled_by (suc w.applied) (s d) (s d).flight) a.sole.once;
       woven = a.woven;
       said = said_append mean (take (suc w.applied) w.log) w.said _ (subst (λ l. AllSaid mean l w.said) (sym (front_grows w.applied w.log)) (said_grown mean (take w.applied w.log) _ w.said a.said)) (said_applied_ok mean w.log w.applied w.term within w.trail w.gate.session w.gate.conns a.sessions);
     }

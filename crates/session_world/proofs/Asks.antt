@@ -1,5 +1,5 @@
 -- What comes of a request keeps the invariant.
-use Rattle.std.proofs.Common.{◌≡◌, inl, ℕ, Bool, true, false, cond, List, [], ◌∷◌, ◌++◌, take, refl, sym, ap, ◌∙◌, subst, ⊎_elim, arith, length-append}
+use Rattle.std.proofs.Common.{◌≡◌, inl, ℕ, ◌+◌, ◌-◌, Bool, true, false, cond, List, [], ◌∷◌, ◌++◌, length, take, refl, sym, ap, ◌∙◌, subst, ⊎_elim, arith, length-append}
 use Rattle.std.specs.Prelude.{◌==◌, ◌&&◌, nat_lt, nat_le, map, Option, Some, None}
 use Rattle.std.proofs.lemmas.List.{length-take-le}
 use Rattle.std.proofs.lemmas.Bool.{cond_both, cases_Bool}
@@ -12,6 +12,7 @@ use Rattle.wire_msgs.specs.declared.response.Response.TheVariants as responses
 use Rattle.wire_msgs.specs.declared.request.Request.{Request}
 use Rattle.wire_msgs.specs.declared.request.Request.TheVariants as requests
 use Rattle.sql_engine.specs.declared.kind.EngineKind.{EngineKind}
+use Rattle.sql_engine.specs.declared.answer.Ran.{Ran}
 use Rattle.sql_engine.specs.Replies.{Statement}
 use Rattle.sql_engine.specs.Replies.{Reply as StatementReply}
 use Rattle.sql_engine.specs.Meanings.{Meaning, IsShort}
@@ -31,10 +32,10 @@ use Rattle.session_world.specs.Life.{query_by, called, IsPlain}
 use Rattle.session_world.specs.Replies.{QueryIs}
 use Rattle.session_world.proofs.Files.{touches, base_append, base_take, counts_between}
 use Rattle.session_world.proofs.Runs.{Led, RunsOk, runs_ok, ran_append}
-use Rattle.session_world.proofs.Invariant.{TxIs, KindOk, FlightIs, ApartBy, Apart, NodeOk, tx_grown, said_append}
+use Rattle.session_world.proofs.Invariant.{TxIs, KindOk, IsResult, result_plain, IsOf, FlightIs, ApartBy, Apart, NodeOk, tx_grown, said_append}
 use Rattle.session_world.proofs.Moves.{no}
-use Rattle.session_world.proofs.Weaves.{woven_plain}
-use Rattle.session_world.proofs.Wrotes.{block_for}
+use Rattle.session_world.proofs.Weaves.{get_right, woven_plain}
+use Rattle.session_world.proofs.Wrotes.{block_for, block_end}
 use Rattle.session_world.proofs.Calls.{unless_ok, first_none, row_none, hindrance_none, One, answer_query, refused_ok, answers_ok, proposes_ok, no_flight, not_apart, write_ok}
 
 -- an image that is led to from one that a change leads to, or that is the first one, is short where it differs
@@ -46,6 +47,10 @@ led_on pinned working to old l differs = ⊎_elim
 -- an image that differs from the one before is short
 led_short : (from to : Image) → Led from to → no_pages (changed from to) ≡ false → IsShort to
 led_short from to l differs = led_on from from to (λ e. no (sym e ∙ changed_same from)) l differs
+
+result_of : (rows : Bool) (answer : Ran) → IsResult (reply_of rows answer)
+result_of true answer = record { not_db = λ e. cc; not_empty = λ e. cc; not_lost = λ e. cc }
+result_of false answer = result_plain answer.affected
 
 -- what a node does for a session wherever it stands
 abbrev pub IsIdle : Asked → Type 0
@@ -149,7 +154,7 @@ module _ (mean : Meaning) (standing : Standing) (w : Node) (a : NodeOk mean w) (
         at = k.at;
         seen = k.seen;
         tx = tx_grown mean w.log _ (w.trail c) (w.gate.session c).tx (omega arith) k.tx;
-        flight = record { ahead = let o = wrote.commit.order in omega arith; within = wrote.commit.within; of_term = refl; kind = wrote };
+        flight = record { ahead = let o = wrote.commit.order in omega arith; within = wrote.commit.within; of_term = refl; kind = wrote; entry = let end = block_end w.log w.term x.name x.pinned x.working in record { content = end.0; stands = end.1; of = tt } };
         apart = tt;
       })))
 
@@ -187,6 +192,7 @@ module _ (mean : Meaning) (standing : Standing) (w : Node) (a : NodeOk mean w) (
           within = wrote.commit.within;
           of_term = refl;
           kind = (wrote, answer_query mean (w.log ++ entries_of w.term (block_for w.log w.term db base to)) rows answer db w.applied [] ss (w.trail c).seen base to [] r.0 one (omega arith) k.seen (ap (λ d. d.image) (base_append w.log (entries_of w.term (block_for w.log w.term db base to)) w.applied db low)) r.1 r.2);
+          entry = let end = block_end w.log w.term db base to in record { content = end.0; stands = end.1; of = result_of rows answer };
         };
         apart = is;
       })))
@@ -224,13 +230,13 @@ module _ (mean : Meaning) (standing : Standing) (w : Node) (a : NodeOk mean w) (
 
   -- an effect beside the sessions
   affects_ok : (effect : Effect) → NodeOk mean (called w c (Affects effect))
-  affects_ok (HandsOver id) = record { applied = a.applied; leads = a.leads; sessions = a.sessions; idle = a.idle; calm = a.calm; listed = a.listed; absent = a.absent; woven = a.woven; said = said_append mean (take w.applied w.log) w.said _ a.said (record { rows = tt; query = tt; commit = tt }, tt) }
-  affects_ok (JoinsPeer id) = record { applied = a.applied; leads = a.leads; sessions = a.sessions; idle = a.idle; calm = a.calm; listed = a.listed; absent = a.absent; woven = a.woven; said = said_append mean (take w.applied w.log) w.said _ a.said (record { rows = tt; query = tt; commit = tt }, tt) }
-  affects_ok (Weighs weight) = record { applied = a.applied; leads = a.leads; sessions = a.sessions; idle = a.idle; calm = a.calm; listed = a.listed; absent = a.absent; woven = a.woven; said = said_append mean (take w.applied w.log) w.said _ a.said (record { rows = tt; query = tt; commit = tt }, tt) }
+  affects_ok (HandsOver id) = record { applied = a.applied; leads = a.leads; sessions = a.sessions; idle = a.idle; calm = a.calm; listed = a.listed; absent = a.absent; sole = a.sole; woven = a.woven; said = said_append mean (take w.applied w.log) w.said _ a.said (record { rows = tt; query = tt; commit = tt; ends = tt; entry = λ h. absurd (omega (arith, h)) }, tt) }
+  affects_ok (JoinsPeer id) = record { applied = a.applied; leads = a.leads; sessions = a.sessions; idle = a.idle; calm = a.calm; listed = a.listed; absent = a.absent; sole = a.sole; woven = a.woven; said = said_append mean (take w.applied w.log) w.said _ a.said (record { rows = tt; query = tt; commit = tt; ends = tt; entry = λ h. absurd (omega (arith, h)) }, tt) }
+  affects_ok (Weighs weight) = record { applied = a.applied; leads = a.leads; sessions = a.sessions; idle = a.idle; calm = a.calm; listed = a.listed; absent = a.absent; sole = a.sole; woven = a.woven; said = said_append mean (take w.applied w.log) w.said _ a.said (record { rows = tt; query = tt; commit = tt; ends = tt; entry = λ h. absurd (omega (arith, h)) }, tt) }
 
   -- a proposal of an entry without pages
-  other_ok : (name : List ℕ) (content : Content) (kind : Kind) → w.serving ≡ true → ((n : List ℕ) → touches n content ≡ false) → IsPlain true content → ((log : List Entry) (t : Trail) (f : Flight) → KindOk mean log t f kind) → ((o : Option Transaction) → ApartBy kind o) → NodeOk mean (called w c (Proposes (flying (view_of w standing) (w.gate.session c) name (content ∷ []) 0 kind) (content ∷ []) Nothing))
-  other_ok name content kind serves free_of plain fine apart =
+  other_ok : (name : List ℕ) (content : Content) (kind : Kind) → w.serving ≡ true → ((n : List ℕ) → touches n content ≡ false) → IsPlain true content → ((log : List Entry) (t : Trail) (f : Flight) → KindOk mean log t f kind) → IsOf kind name content → ((o : Option Transaction) → ApartBy kind o) → NodeOk mean (called w c (Proposes (flying (view_of w standing) (w.gate.session c) name (content ∷ []) 0 kind) (content ∷ []) Nothing))
+  other_ok name content kind serves free_of plain fine of apart =
       let k = a.sessions c in
       let low = a.applied in
       let at = k.at in
@@ -240,7 +246,7 @@ module _ (mean : Meaning) (standing : Standing) (w : Node) (a : NodeOk mean w) (
         at = k.at;
         seen = k.seen;
         tx = tx_grown mean w.log (entries_of w.term (content ∷ [])) (w.trail c) (w.gate.session c).tx (omega arith) k.tx;
-        flight = record { ahead = omega arith; within = omega arith; of_term = refl; kind = fine _ _ _ };
+        flight = record { ahead = omega arith; within = omega arith; of_term = refl; kind = fine _ _ _; entry = record { content = content; stands = get_right w.log (entries_of w.term (content ∷ [])) 0 (length w.log + 1 - 1) (omega arith); of = of } };
         apart = apart _;
       })
       (λ n. inl (free_of n, tt))
@@ -256,13 +262,13 @@ module _ (mean : Meaning) (standing : Standing) (w : Node) (a : NodeOk mean w) (
   does_ok kind (Tells response) answers serves h = plain_ok (w.gate.session c) (Single response) free here refl tt
   does_ok kind (Sets effect) answers serves h = affects_ok effect
   does_ok kind (Opens name) answers serves h = plain_ok (with_database (w.gate.session c) name) db refl here refl tt
-  does_ok kind (Creates name) answers serves h = cond_both (pages_full (databases w) w.gate name empty_image) _ _ (λ t. NodeOk mean (called w c t)) (λ e. refuse DatabaseFull) (λ e. other_ok name (Does (OpenDb name)) Opening serves (λ n. refl) tt (λ l t f. tt) (λ o. tt))
+  does_ok kind (Creates name) answers serves h = cond_both (pages_full (databases w) w.gate name empty_image) _ _ (λ t. NodeOk mean (called w c t)) (λ e. refuse DatabaseFull) (λ e. other_ok name (Does (OpenDb name)) Opening serves (λ n. refl) tt (λ l t f. tt) refl (λ o. tt))
   does_ok kind (Prepares p tail) answers serves h = plain_ok (with_statements (w.gate.session c) (with_prepared p (w.gate.session c).statements)) (Single (responses.Stmt 0 (free_id (w.gate.session c).statements) p.params tail)) free here refl tt
   does_ok kind (Drops id) answers serves h = plain_ok (with_statements (w.gate.session c) (without_prepared id (w.gate.session c).statements)) empty free here refl tt
   does_ok kind (Begins at_once) answers serves h = cond_both (at_once && other_holds w.gate c (w.gate.session c).database) _ _ (λ t. NodeOk mean (called w c t)) (λ e. refuse Locked) (λ e. begin_ok at_once serves)
   does_ok kind Commits answers serves h = commit_ok (w.gate.session c).tx serves refl
   does_ok kind RollsBack answers serves h = roll_ok serves
-  does_ok kind (Changes servers) answers serves h = cond_both (log_full (view_of w standing)) _ _ (λ t. NodeOk mean (called w c t)) (λ e. refuse LogFull) (λ e. other_ok [] (Configures servers) Configuring serves (λ n. refl) tt (λ l t f. tt) (λ o. tt))
+  does_ok kind (Changes servers) answers serves h = cond_both (log_full (view_of w standing)) _ _ (λ t. NodeOk mean (called w c t)) (λ e. refuse LogFull) (λ e. other_ok [] (Configures servers) Configuring serves (λ n. refl) tt (λ l t f. tt) (servers, refl) (λ o. tt))
   does_ok kind (Runs ss) answers serves h = run_in_ok kind (w.gate.session c).tx ss false answers serves refl tt h
   does_ok kind (Reads s) answers serves h = run_in_ok kind (w.gate.session c).tx (s ∷ []) true answers serves refl (s, refl) h
 

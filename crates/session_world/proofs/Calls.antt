@@ -30,7 +30,7 @@ use Rattle.session_world.specs.Replies.{CommitOk, QueryIs, RowsAre, AllSaid}
 use Rattle.session_world.proofs.Files.{Free, split_free}
 use Rattle.session_world.proofs.Runs.{last_reply, sole_ran}
 use Rattle.session_world.proofs.Invariant.{Calm, WriteOk, FlightIs, Apart, SessionOk, Bare, Held, NodeOk, calm_grown, session_grown, bare_writes, two_cond, said_append, rows_are}
-use Rattle.session_world.proofs.Tables.{none_holds, holds_writes}
+use Rattle.session_world.proofs.Tables.{none_holds, holds_writes, sole_with}
 use Rattle.session_world.proofs.Moves.{no, cond_held}
 use Rattle.session_world.proofs.Weaves.{woven_split}
 use Rattle.session_world.proofs.Wrotes.{block_for, wrote_calm, wrote_commit}
@@ -108,8 +108,9 @@ module _ (mean : Meaning) (standing : Standing) (w : Node) (a : NodeOk mean w) (
     calm = a.calm;
     listed = a.listed;
     absent = a.absent;
+    sole = a.sole;
     woven = a.woven;
-    said = said_append mean (take w.applied w.log) w.said _ a.said (record { rows = tt; query = tt; commit = tt }, tt);
+    said = said_append mean (take w.applied w.log) w.said _ a.said (record { rows = tt; query = tt; commit = tt; ends = tt; entry = λ h. absurd (omega (arith, h)) }, tt);
   }
 
   pub answers_ok : (s : Session) (r : Reply) (note : Note) → s.flight ≡ None → s.there ≡ true → SessionOk mean w.log w.applied w.term s (answered_trail w.applied (w.trail c) note) → (w.serving ≡ false → Bare s) → QueryIs mean (take w.applied w.log) (query_by w.applied (w.trail c) r note) → NodeOk mean (called w c (Answers s r note))
@@ -122,8 +123,9 @@ module _ (mean : Meaning) (standing : Standing) (w : Node) (a : NodeOk mean w) (
     calm = λ x n. ⊎_elim (λ (k : Calm n w.applied w.log). inl k) (λ (k : Held w.gate.session n). inr (cond_held w c n s free k)) (a.calm x n);
     listed = λ d. cond_both (d == c) s (w.gate.session d) (λ y. y.there ≡ true → among w.gate.conns d ≡ true) (λ e z. subst (λ k. among w.gate.conns k ≡ true) (sym (eqb-true d c e)) (a.listed c here)) (λ e z. a.listed d z);
     absent = λ d. cond_both (d == c) s (w.gate.session d) (λ y. y.there ≡ false → Bare y) (λ e z. no (sym z ∙ there)) (λ e. a.absent d);
+    sole = sole_with w.gate.conns w.gate.session c s there a.sole;
     woven = a.woven;
-    said = said_append mean (take w.applied w.log) w.said _ a.said (record { rows = rows_by w.applied (w.trail c) r note; query = query; commit = tt }, tt);
+    said = said_append mean (take w.applied w.log) w.said _ a.said (record { rows = rows_by w.applied (w.trail c) r note; query = query; commit = tt; ends = tt; entry = λ h. absurd (omega (arith, h)) }, tt);
   }
 
   pub proposes_ok : (s : Session) (contents : List Content) (note : Note) → w.serving ≡ true → s.there ≡ true → SessionOk mean (w.log ++ entries_of w.term contents) w.applied w.term s (proposed_trail w.applied (w.trail c) note) → ((n : List ℕ) → Free n (entries_of w.term contents) ⊎ ((writes_to s.flight n ≡ true) × ((d : ℕ) → d ≢ c → writes_to (w.gate.session d).flight n ≡ false))) → Woven (w.log ++ entries_of w.term contents) → NodeOk mean (called w c (Proposes s contents note))
@@ -144,6 +146,7 @@ module _ (mean : Meaning) (standing : Standing) (w : Node) (a : NodeOk mean w) (
             (turn n);
         listed = λ d. cond_both (d == c) s (w.gate.session d) (λ y. y.there ≡ true → among w.gate.conns d ≡ true) (λ e z. subst (λ k. among w.gate.conns k ≡ true) (sym (eqb-true d c e)) (a.listed c here)) (λ e z. a.listed d z);
         absent = λ d. cond_both (d == c) s (w.gate.session d) (λ y. y.there ≡ false → Bare y) (λ e z. no (sym z ∙ there)) (λ e. a.absent d);
+        sole = sole_with w.gate.conns w.gate.session c s there a.sole;
         woven = weaves;
         said = subst (λ l. AllSaid mean l w.said) (sym (take-append-le w.applied w.log es a.applied)) a.said;
       }

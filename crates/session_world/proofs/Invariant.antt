@@ -4,21 +4,24 @@ use Rattle.std.specs.Prelude.{Option, Some, None}
 use Rattle.std.proofs.lemmas.List.{take-append-le, take-take, length-take-le}
 use Rattle.std.proofs.lemmas.Bool.{and_parts, and_from}
 use Rattle.dq_base.specs.Changes.{changed}
-use Rattle.raft_rules.specs.Node.{among}
+use Rattle.raft_rules.specs.Node.{Server, among}
 use Rattle.sql_engine.specs.Replies.{Statement}
 use Rattle.sql_engine.specs.Replies.{Reply as StatementReply}
 use Rattle.sql_engine.specs.Meanings.{Meaning, IsShort}
 use Rattle.sql_engine.specs.Runs.{RanAll}
-use Rattle.session_rules.specs.Entries.{Entry}
+use Rattle.frame_commands.specs.declared.command.Command.TheVariants.{OpenDb}
+use Rattle.session_rules.specs.Causes.{LeadershipLost}
+use Rattle.session_rules.specs.Entries.{Content, Does, Configures, Entry}
 use Rattle.session_rules.specs.Machine.{base_at, image_at}
 use Rattle.session_rules.specs.Engines.{no_pages}
-use Rattle.session_rules.specs.Sessions.{Reply, Refusal, Single, Rows, Kind, Opening, Configuring, Writing, Committing, Flight, Transaction, Session}
+use Rattle.session_rules.specs.Sessions.{Reply, Refusal, Single, Rows, result, empty, db, Kind, Opening, Configuring, Writing, Committing, Flight, Transaction, Session}
 use Rattle.session_rules.specs.Limits.{writes_to, is_write}
 use Rattle.session_rules.proofs.Names.{name_is, same_name}
 use Rattle.session_world.specs.Woven.{Woven}
 use Rattle.session_world.specs.Nodes.{Query, Commit, Said, Trail, Node}
 use Rattle.session_world.specs.Life.{query_for, commit_of}
-use Rattle.session_world.specs.Replies.{QueryOk, CommitOk, change_entries, QueryIs, CommitIs, RowsAre, AllSaid}
+use Rattle.session_world.specs.Replies.{QueryOk, CommitOk, change_entries, StandsAt, EntryOk, QueryIs, CommitIs, RowsAre, AllSaid}
+use Rattle.session_world.proofs.Weaves.{stands_more}
 use Rattle.session_world.proofs.Files.{Free, free_grown, base_append, base_take}
 
 -- no entry past the index does anything to the database, and nothing is pending in it there
@@ -50,11 +53,34 @@ KindOk mean log t f Configuring = Unit {0}
 KindOk mean log t f (Writing reply) = WriteOk mean log t f × QueryIs mean log (query_for reply f.name t.at [] t.ran t.seen)
 KindOk mean log t f Committing = WriteOk mean log t f
 
+-- rows, or how many rows were changed
+pub record IsResult (reply : Reply) : Type 0 where
+  pub not_db : reply ≡ db → ⊥
+  pub not_empty : reply ≡ empty → ⊥
+  pub not_lost : reply ≡ Refusal LeadershipLost → ⊥
+
+pub result_plain : (n : ℕ) → IsResult (result n)
+result_plain n = record { not_db = λ e. cc; not_empty = λ e. cc; not_lost = λ e. cc }
+
+-- what the last entry of a proposal has, by its kind
+abbrev pub IsOf : Kind → List ℕ → Content → Type 0
+IsOf Opening name content = content ≡ Does (OpenDb name)
+IsOf Configuring name content = (servers : List Server) × (content ≡ Configures servers)
+IsOf (Writing reply) name content = IsResult reply
+IsOf Committing name content = Unit {0}
+
+-- the last entry of a flight stands in the log
+pub record LastOk (log : List Entry) (f : Flight) : Type 0 where
+  pub content : Content
+  pub stands : StandsAt log f.last f.term content
+  pub of : IsOf f.kind f.name content
+
 pub record FlightOk (mean : Meaning) (log : List Entry) (applied term : ℕ) (t : Trail) (f : Flight) : Type 0 where
   pub ahead : applied < f.last
   pub within : f.last ≤ length log
   pub of_term : f.term ≡ term
   pub kind : KindOk mean log t f f.kind
+  pub entry : LastOk log f
 
 abbrev pub FlightIs : Meaning → List Entry → ℕ → ℕ → Trail → Option Flight → Type 0
 FlightIs mean log applied term t None = Unit {0}
@@ -87,6 +113,16 @@ pub record Held (session : ℕ → Session) (name : List ℕ) : Type 0 where
   pub conn : ℕ
   pub writes : writes_to (session conn).flight name ≡ true
 
+-- each number once
+abbrev pub Once : List ℕ → Type 0
+Once [] = Unit {0}
+Once (x ∷ xs) = (among xs x ≡ false) × Once xs
+
+-- the connections that are searched are there, each once
+pub record Sole (conns : List ℕ) (session : ℕ → Session) : Type 0 where
+  pub once : Once conns
+  pub there : (c : ℕ) → among conns c ≡ true → (session c).there ≡ true
+
 pub record NodeOk (mean : Meaning) (w : Node) : Type 0 where
   pub applied : w.applied ≤ length w.log
   pub leads : w.serving ≡ true → w.leads ≡ true
@@ -95,6 +131,7 @@ pub record NodeOk (mean : Meaning) (w : Node) : Type 0 where
   pub calm : w.serving ≡ true → (name : List ℕ) → Calm name w.applied w.log ⊎ Held w.gate.session name
   pub listed : (c : ℕ) → (w.gate.session c).there ≡ true → among w.gate.conns c ≡ true
   pub absent : (c : ℕ) → (w.gate.session c).there ≡ false → Bare (w.gate.session c)
+  pub sole : Sole w.gate.conns w.gate.session
   pub woven : Woven w.log
   pub said : AllSaid mean (take w.applied w.log) w.said
 
@@ -166,9 +203,12 @@ module _ (mean : Meaning) where
   commit_is_grown log es None x = tt
   commit_is_grown log es (Some c) x = commit_along log (log ++ es) c (agree_append c.last log es x.within) x
 
+  entry_grown : (log es : List Entry) (x : Said) → EntryOk log x → EntryOk (log ++ es) x
+  entry_grown log es x a = record { content = a.content; stands = stands_more log es x.index x.term a.content a.stands; opens = a.opens; changes = a.changes }
+
   pub said_grown : (log es : List Entry) (xs : List Said) → AllSaid mean log xs → AllSaid mean (log ++ es) xs
   said_grown log es [] a = tt
-  said_grown log es (x ∷ xs) a = (record { rows = a.0.rows; query = query_is_grown log es x.query a.0.query; commit = commit_is_grown log es x.commit a.0.commit }, said_grown log es xs a.1)
+  said_grown log es (x ∷ xs) a = (record { rows = a.0.rows; query = query_is_grown log es x.query a.0.query; commit = commit_is_grown log es x.commit a.0.commit; ends = a.0.ends; entry = λ h. entry_grown log es x (a.0.entry h) }, said_grown log es xs a.1)
 
   pub said_append : (log : List Entry) (xs ys : List Said) → AllSaid mean log xs → AllSaid mean log ys → AllSaid mean log (xs ++ ys)
   said_append log [] ys a b = b
@@ -196,6 +236,7 @@ module _ (mean : Meaning) where
     within = omega (arith, a.within, length-append log es);
     of_term = a.of_term;
     kind = kind_grown log es t f f.kind a.within (λ e. x f.name (and_from _ _ e (same_name f.name))) a.kind;
+    entry = record { content = a.entry.content; stands = stands_more log es f.last f.term a.entry.content a.entry.stands; of = a.entry.of };
   }
 
   pub session_grown : (log es : List Entry) (applied term : ℕ) (s : Session) (t : Trail) → applied ≤ length log → ((n : List ℕ) → writes_to s.flight n ≡ true → Free n es) → SessionOk mean log applied term s t → SessionOk mean (log ++ es) applied term s t

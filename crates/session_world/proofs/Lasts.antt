@@ -1,5 +1,5 @@
 -- What was applied and said stays; when a reply that waited is said.
-use Rattle.std.proofs.Common.{◌≡◌, ◌≢◌, ℕ, suc, ◌≤◌, Bool, true, false, List, [], ◌∷◌, ◌++◌, length, take, refl, sym, ap, ◌∙◌, subst, ⊎_elim, arith, append_assoc}
+use Rattle.std.proofs.Common.{◌≡◌, ◌≢◌, ℕ, suc, ◌<◌, ◌≤◌, Bool, true, false, List, [], ◌∷◌, ◌++◌, length, take, refl, sym, ap, ◌∙◌, subst, ⊎_elim, arith, append_assoc}
 use Rattle.std.specs.Prelude.{◌==◌, Option, Some, None}
 use Rattle.std.proofs.lemmas.List.{take-append-le, take-take, length-take-le, append-nil}
 use Rattle.std.proofs.lemmas.Bool.{cond_both, cases_Bool, eqb-true}
@@ -39,24 +39,24 @@ run_append w (e ∷ es) fs = run_append (happens w e) es fs
 
 -- at its place
 
-here_append : (v : Node) (xs ys : List Said) → AllHere v xs → AllHere v ys → AllHere v (xs ++ ys)
-here_append v [] ys a b = b
-here_append v (x ∷ xs) ys a b = (a.0, here_append v xs ys a.1 b)
+here_append : (w v : Node) (xs ys : List Said) → AllHere w v xs → AllHere w v ys → AllHere w v (xs ++ ys)
+here_append w v [] ys a b = b
+here_append w v (x ∷ xs) ys a b = (a.0, here_append w v xs ys a.1 b)
 
-here_told : (v : Node) (rs : List (ℕ × Reply)) → AllHere v (told_all rs)
-here_told v [] = tt
-here_told v (r ∷ rs) = ((λ h. absurd (omega (arith, h))), here_told v rs)
+here_told : (w v : Node) (rs : List (ℕ × Reply)) → AllHere w v (told_all rs)
+here_told w v [] = tt
+here_told w v (r ∷ rs) = ((λ h. absurd (omega (arith, h))), here_told w v rs)
 
-landed_here : (v : Node) (c : ℕ) (t : Trail) (f : Flight) (k : Kind) → f.last ≡ v.applied → f.term ≡ v.term → v.leads ≡ true → SaidHere v (said_landed c t f k)
-landed_here v c t f Opening i t' l h = (i, t', l)
-landed_here v c t f Configuring i t' l h = (i, t', l)
-landed_here v c t f (Writing reply) i t' l h = (i, t', l)
-landed_here v c t f Committing i t' l h = (i, t', l)
+landed_here : (w v : Node) (c : ℕ) (t : Trail) (f : Flight) (k : Kind) → w.applied < f.last → f.last ≡ v.applied → f.term ≡ v.term → v.leads ≡ true → SaidHere w v (said_landed c t f k)
+landed_here w v c t f Opening low i t' l h = (low, i, t', l)
+landed_here w v c t f Configuring low i t' l h = (low, i, t', l)
+landed_here w v c t f (Writing reply) low i t' l h = (low, i, t', l)
+landed_here w v c t f Committing low i t' l h = (low, i, t', l)
 
 some_none : {A : Type 0} {x : A} → Some x ≡ None → ⊥
 some_none e = cc
 
-called_here : (w : Node) (c : ℕ) (t : Turned) → (more : List Said) × ((called w c t).said ≡ w.said ++ more) × AllHere (called w c t) more
+called_here : (w : Node) (c : ℕ) (t : Turned) → (more : List Said) × ((called w c t).said ≡ w.said ++ more) × AllHere w (called w c t) more
 called_here w c (Refused why) = (_, refl, ((λ h. absurd (omega (arith, h))), tt))
 called_here w c Lacks = ([], sym (append-nil w.said), tt)
 called_here w c (Answers s r note) = (_, refl, ((λ h. absurd (omega (arith, h))), tt))
@@ -64,7 +64,7 @@ called_here w c (Affects effect) = (_, refl, ((λ h. absurd (omega (arith, h))),
 called_here w c (Proposes s contents note) = ([], sym (append-nil w.said), tt)
 
 abbrev pub Answers_here : Node → Node → Type 0
-Answers_here w v = (more : List Said) × (v.said ≡ w.said ++ more) × AllHere v more
+Answers_here w v = (more : List Said) × (v.said ≡ w.said ++ more) × AllHere w v more
 
 module _ (mean : Meaning) (kind : EngineKind) where
   pub lasts_step : (w : Node) (e : Event) → NodeOk mean w → Lasts w (happens w e)
@@ -98,15 +98,15 @@ module _ (mean : Meaning) (kind : EngineKind) where
       let a = run_ok mean kind w es p.0 (started_ok mean kind log applied term s.within s.woven) in
       subst (Lasts (run_from w es)) (sym (run_append w es fs)) (lasts_run (run_from w es) fs p.1 a)
 
-  by_here : (v : Node) (log : List Entry) (before index c : ℕ) (t : Trail) (hung : Bool) (o : Option Flight) → index ≡ v.applied → FlightIs mean log before v.term t o → (o ≢ None → v.leads ≡ true) → AllHere v (said_by index c t hung o)
-  by_here v log before index c t hung None i f l = tt
-  by_here v log before index c t hung (Some x) i f l =
-      cond_both (x.last == index) _ _ (AllHere v) (λ e. cond_both hung _ _ (AllHere v) (λ h. tt) (λ h. (landed_here v c t x x.kind (eqb-true _ _ e ∙ i) f.of_term (l (λ z. some_none z)), tt))) (λ e. tt)
+  by_here : (w v : Node) (log : List Entry) (index c : ℕ) (t : Trail) (hung : Bool) (o : Option Flight) → index ≡ v.applied → FlightIs mean log w.applied v.term t o → (o ≢ None → v.leads ≡ true) → AllHere w v (said_by index c t hung o)
+  by_here w v log index c t hung None i f l = tt
+  by_here w v log index c t hung (Some x) i f l =
+      cond_both (x.last == index) _ _ (AllHere w v) (λ e. cond_both hung _ _ (AllHere w v) (λ h. tt) (λ h. (landed_here w v c t x x.kind f.ahead (eqb-true _ _ e ∙ i) f.of_term (l (λ z. some_none z)), tt))) (λ e. tt)
 
-  applied_here : (w v : Node) (cs : List ℕ) → NodeOk mean w → suc w.applied ≡ v.applied → w.term ≡ v.term → w.leads ≡ v.leads → AllHere v (said_applied (suc w.applied) w.trail w.gate.session cs)
+  applied_here : (w v : Node) (cs : List ℕ) → NodeOk mean w → suc w.applied ≡ v.applied → w.term ≡ v.term → w.leads ≡ v.leads → AllHere w v (said_applied (suc w.applied) w.trail w.gate.session cs)
   applied_here w v [] a i t l = tt
-  applied_here w v (c ∷ cs) a i t l = here_append v _ _
-      (by_here v w.log w.applied (suc w.applied) c (w.trail c) (w.gate.session c).hung (w.gate.session c).flight i
+  applied_here w v (c ∷ cs) a i t l = here_append w v _ _
+      (by_here w v w.log (suc w.applied) c (w.trail c) (w.gate.session c).hung (w.gate.session c).flight i
       (subst (λ k. FlightIs mean w.log w.applied k (w.trail c) (w.gate.session c).flight) t (a.sessions c).flight)
       (λ n. sym l ∙ ⊎_elim (λ (s : w.serving ≡ true). a.leads s) (λ (s : w.serving ≡ false). absurd (n (a.idle s c).flight)) (cases_Bool w.serving)))
       (applied_here w v cs a i t l)
@@ -117,7 +117,7 @@ module _ (mean : Meaning) (kind : EngineKind) where
   step_here w (Hangup c) a = ([], sym (append-nil w.said), tt)
   step_here w (Call c standing r answers) a = cond_both (may_ask (w.gate.session c)) _ w (Answers_here w) (λ e. called_here w c _) (λ e. ([], sym (append-nil w.said), tt))
   step_here w Apply a = (_, refl, applied_here w (happens w Apply) w.gate.conns a refl refl refl)
-  step_here w (Lose t) a = (_, refl, here_told (happens w (Lose t)) (told_lost w.gate))
+  step_here w (Lose t) a = (_, refl, here_told w (happens w (Lose t)) (told_lost w.gate))
   step_here w (Lead t) a = ([], sym (append-nil w.said), tt)
   step_here w Serve a = ([], sym (append-nil w.said), tt)
   step_here w (Append contents) a = ([], sym (append-nil w.said), tt)

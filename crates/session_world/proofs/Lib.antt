@@ -10,9 +10,11 @@ pub mod Calls
 pub mod Asks
 pub mod Lives
 pub mod Lasts
+pub mod Sees
 pub mod Answers
 pub mod Undos
 pub mod Commits
+pub mod Milds
 pub mod Alones
 pub mod Turns
 pub mod Examples

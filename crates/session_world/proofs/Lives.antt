@@ -57,6 +57,7 @@ module _ (mean : Meaning) (kind : EngineKind) where
     calm = λ e n. no e;
     listed = λ c e. no e;
     absent = λ c e. absent_bare;
+    sole = record { once = tt; there = λ c e. no e };
     woven = weaves;
     said = tt;
   }

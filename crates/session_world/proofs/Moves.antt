@@ -18,7 +18,7 @@ use Rattle.session_world.specs.Life.{Connect, Hangup, Lose, Lead, Serve, Append,
 use Rattle.session_world.specs.Replies.{AllSaid}
 use Rattle.session_world.proofs.Files.{Free}
 use Rattle.session_world.proofs.Invariant.{Calm, SessionOk, Bare, Held, NodeOk, calm_grown, session_grown, bare_ok, bare_writes, two_cond, said_append}
-use Rattle.session_world.proofs.Tables.{among_filter, among_append, among_last, absent_bare, lost_bare, lost_there}
+use Rattle.session_world.proofs.Tables.{among_filter, among_append, among_last, absent_bare, lost_bare, lost_there, sole_tidy, sole_joined}
 
 pub no : {A : Type 0} → false ≡ true → A
 no e = absurd (true≢false (sym e))
@@ -61,7 +61,7 @@ module _ (mean : Meaning) where
   -- replies that name a failure
   failures_ok : (log : List Entry) (cs : List ℕ) → AllSaid mean log (told_all (map (λ (c : ℕ). (c, Refusal LeadershipLost)) cs))
   failures_ok log [] = tt
-  failures_ok log (c ∷ cs) = (record { rows = tt; query = tt; commit = tt }, failures_ok log cs)
+  failures_ok log (c ∷ cs) = (record { rows = tt; query = tt; commit = tt; ends = tt; entry = λ h. absurd (omega (arith, h)) }, failures_ok log cs)
 
   lost_said : (log : List Entry) (g : Gateway) → AllSaid mean log (told_all (told_lost g))
   unfolding told_lost
@@ -77,6 +77,7 @@ module _ (mean : Meaning) where
     calm = λ e n. no e;
     listed = λ c e. among_filter (λ d. (lost (w.gate.session d)).there) w.gate.conns c (a.listed c (lost_there (w.gate.session c) e)) e;
     absent = λ c e. lost_bare (w.gate.session c);
+    sole = sole_tidy w.gate.conns (λ c. lost (w.gate.session c)) a.sole.once;
     woven = a.woven;
     said = said_append mean (take w.applied w.log) w.said _ a.said (lost_said (take w.applied w.log) w.gate);
   }
@@ -97,6 +98,7 @@ module _ (mean : Meaning) where
         calm = λ x n. no x;
         listed = a.listed;
         absent = a.absent;
+        sole = a.sole;
         woven = a.woven;
         said = a.said;
       }
@@ -111,6 +113,7 @@ module _ (mean : Meaning) where
     calm = λ x n. inl (record { free = subst (Free n) (sym (drop_all w.applied w.log (omega arith))) tt; still = p n });
     listed = a.listed;
     absent = a.absent;
+    sole = a.sole;
     woven = a.woven;
     said = a.said;
   }
@@ -130,6 +133,7 @@ module _ (mean : Meaning) where
         calm = λ e n. ⊎_elim (λ (k : Calm n w.applied w.log). inl (calm_grown n w.applied w.log es a.applied (free e n) k)) (λ (k : Held w.gate.session n). inr k) (a.calm e n);
         listed = a.listed;
         absent = a.absent;
+        sole = a.sole;
         woven = weaves;
         said = subst (λ l. AllSaid mean l w.said) (sym (take-append-le w.applied w.log es a.applied)) a.said;
       }
@@ -148,6 +152,7 @@ module _ (mean : Meaning) where
         calm = λ x n. no (sym off ∙ x);
         listed = a.listed;
         absent = a.absent;
+        sole = a.sole;
         woven = weaves;
         said = subst (λ l. AllSaid mean l w.said) (sym same) a.said;
       }
@@ -166,6 +171,7 @@ module _ (mean : Meaning) where
         calm = λ x n. ⊎_elim (λ (k : Calm n w.applied w.log). inl k) (λ (k : Held w.gate.session n). inr (cond_held w c n fresh b.flight k)) (a.calm x n);
         listed = λ d. cond_both (d == c) fresh (w.gate.session d) (λ s. s.there ≡ true → among (w.gate.conns ++ c ∷ []) d ≡ true) (λ y z. subst (λ k. among (w.gate.conns ++ c ∷ []) k ≡ true) (sym (eqb-true d c y)) (among_last w.gate.conns c)) (λ y z. among_append w.gate.conns (c ∷ []) d (a.listed d z));
         absent = λ d. cond_both (d == c) fresh (w.gate.session d) (λ s. s.there ≡ false → Bare s) (λ y z. fresh_bare) (λ y z. a.absent d z);
+        sole = sole_joined w.gate.conns w.gate.session c fresh refl (not-true _ (and_parts _ _ e).0) a.sole;
         woven = a.woven;
         said = a.said;
       })
@@ -194,6 +200,7 @@ module _ (mean : Meaning) where
             (a.calm x n);
         listed = λ d e. among_filter (λ k. (cond (k == c) gone (w.gate.session k)).there) w.gate.conns d (a.listed d (cond_both (d == c) gone (w.gate.session d) (λ s. s.there ≡ true → (w.gate.session d).there ≡ true) (λ y z. subst (λ k. (w.gate.session k).there ≡ true) (sym (eqb-true d c y)) (left_there (w.gate.session c) (w.gate.session c).flight z)) (λ y z. z) e)) e;
         absent = λ d. cond_both (d == c) gone (w.gate.session d) (λ s. s.there ≡ false → Bare s) (λ y. left_absent (w.gate.session c) (w.gate.session c).flight (a.absent c)) (λ y. a.absent d);
+        sole = sole_tidy w.gate.conns (λ d. cond (d == c) gone (w.gate.session d)) a.sole.once;
         woven = a.woven;
         said = a.said;
       }

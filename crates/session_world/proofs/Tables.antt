@@ -1,5 +1,5 @@
 -- Who is searched, and sessions that are left or settled.
-use Rattle.std.proofs.Common.{◌≡◌, ◌≢◌, ℕ, Bool, true, false, true≢false, cond, List, [], ◌∷◌, ◌++◌, refl, sym, ap, ◌∙◌, subst, ⊎_elim}
+use Rattle.std.proofs.Common.{◌≡◌, ◌≢◌, ◌⊎◌, inl, inr, ℕ, Bool, true, false, true≢false, cond, List, [], ◌∷◌, ◌++◌, refl, sym, ap, ◌∙◌, subst, ⊎_elim}
 use Rattle.std.specs.Prelude.{◌==◌, ◌&&◌, ◌||◌, not, Option, Some, None}
 use Rattle.std.specs.List.{list_any, filter}
 use Rattle.std.proofs.lemmas.Bool.{cond_both, cases_Bool, eqb-true, or_cases, or_left, or_right, or_parts, and_cases, and_parts, ne_eqb, eq-eqb, eqb-false, not-true, not_from_false}
@@ -7,7 +7,7 @@ use Rattle.raft_rules.specs.Node.{among}
 use Rattle.session_rules.specs.Sessions.{Session, Gateway, Flight, Kind, Opening, Configuring, Writing, Committing, absent}
 use Rattle.session_rules.specs.Limits.{holds, other_holds, writes_to}
 use Rattle.session_rules.specs.Events.{settled_by, landed, lost}
-use Rattle.session_world.proofs.Invariant.{Bare}
+use Rattle.session_world.proofs.Invariant.{Bare, Once, Sole}
 
 pub among_append : (xs : List ℕ) (ys : List ℕ) (c : ℕ) → among xs c ≡ true → among (xs ++ ys) c ≡ true
 among_append [] ys c e = absurd (true≢false (sym e))
@@ -23,6 +23,52 @@ among_filter f (x ∷ xs) c e t =
     cond_both (f x) (x ∷ filter f xs) (filter f xs) (λ l. among l c ≡ true)
     (λ y. ⊎_elim (λ (p : (x == c) ≡ true). or_left (x == c) (among (filter f xs) c) p) (λ (p : among xs c ≡ true). or_right (x == c) (among (filter f xs) c) (among_filter f xs c p t)) (or_cases (x == c) (among xs c) e))
     (λ y. ⊎_elim (λ (p : (x == c) ≡ true). absurd (true≢false (sym t ∙ ap f (sym (eqb-true x c p)) ∙ y))) (λ (p : among xs c ≡ true). among_filter f xs c p t) (or_cases (x == c) (among xs c) e))
+
+-- each connection once
+
+kept_among : (f : ℕ → Bool) (xs : List ℕ) (c : ℕ) → among (filter f xs) c ≡ true → (among xs c ≡ true) × (f c ≡ true)
+kept_among f [] c e = absurd (true≢false (sym e))
+kept_among f (x ∷ xs) c e =
+    cond_both (f x) (x ∷ filter f xs) (filter f xs) (λ l. among l c ≡ true → (among (x ∷ xs) c ≡ true) × (f c ≡ true))
+    (λ y z. ⊎_elim (λ (p : (x == c) ≡ true). (or_left (x == c) (among xs c) p, ap f (sym (eqb-true x c p)) ∙ y)) (λ (p : among (filter f xs) c ≡ true). let r = kept_among f xs c p in (or_right (x == c) (among xs c) r.0, r.1)) (or_cases (x == c) (among (filter f xs) c) z))
+    (λ y z. let r = kept_among f xs c z in (or_right (x == c) (among xs c) r.0, r.1))
+    e
+
+-- what isn't so isn't
+is_false : (b : Bool) → (b ≡ true → ⊥) → b ≡ false
+is_false true h = absurd (h refl)
+is_false false h = refl
+
+once_filter : (f : ℕ → Bool) (xs : List ℕ) → Once xs → Once (filter f xs)
+once_filter f [] h = tt
+once_filter f (x ∷ xs) h = cond_both (f x) (x ∷ filter f xs) (filter f xs) Once
+    (λ y. (is_false (among (filter f xs) x) (λ z. true≢false (sym (kept_among f xs x z).0 ∙ h.0)), once_filter f xs h.1))
+    (λ y. once_filter f xs h.1)
+
+among_two : (xs : List ℕ) (c d : ℕ) → among (xs ++ c ∷ []) d ≡ true → (among xs d ≡ true) ⊎ (c ≡ d)
+among_two [] c d e = ⊎_elim (λ (p : (c == d) ≡ true). inr (eqb-true c d p)) (λ (p : false ≡ true). absurd (true≢false (sym p))) (or_cases (c == d) false e)
+among_two (x ∷ xs) c d e = ⊎_elim
+    (λ (p : (x == d) ≡ true). inl (or_left (x == d) (among xs d) p))
+    (λ (p : among (xs ++ c ∷ []) d ≡ true). ⊎_elim (λ (q : among xs d ≡ true). inl (or_right (x == d) (among xs d) q)) (λ (q : c ≡ d). inr q) (among_two xs c d p))
+    (or_cases (x == d) (among (xs ++ c ∷ []) d) e)
+
+once_last : (xs : List ℕ) (c : ℕ) → Once xs → among xs c ≡ false → Once (xs ++ c ∷ [])
+once_last [] c h e = (refl, tt)
+once_last (x ∷ xs) c h e =
+    let p = or_parts (x == c) (among xs c) e in
+    (is_false (among (xs ++ c ∷ []) x) (λ z. ⊎_elim (λ (q : among xs x ≡ true). true≢false (sym q ∙ h.0)) (λ (q : c ≡ x). true≢false (sym (eq-eqb x c (sym q)) ∙ p.0)) (among_two xs c x z)), once_last xs c h.1 p.1)
+
+pub sole_tidy : (conns : List ℕ) (session : ℕ → Session) → Once conns → Sole (filter (λ k. (session k).there) conns) session
+sole_tidy conns session h = record { once = once_filter (λ k. (session k).there) conns h; there = λ c e. (kept_among (λ k. (session k).there) conns c e).1 }
+
+pub sole_with : (conns : List ℕ) (session : ℕ → Session) (c : ℕ) (s : Session) → s.there ≡ true → Sole conns session → Sole conns (λ d. cond (d == c) s (session d))
+sole_with conns session c s h a = record { once = a.once; there = λ d e. cond_both (d == c) s (session d) (λ x. x.there ≡ true) (λ y. h) (λ y. a.there d e) }
+
+pub sole_joined : (conns : List ℕ) (session : ℕ → Session) (c : ℕ) (s : Session) → s.there ≡ true → (session c).there ≡ false → Sole conns session → Sole (conns ++ c ∷ []) (λ d. cond (d == c) s (session d))
+sole_joined conns session c s h away a = record {
+  once = once_last conns c a.once (is_false (among conns c) (λ z. true≢false (sym (a.there c z) ∙ away)));
+  there = λ d e. cond_both (d == c) s (session d) (λ x. x.there ≡ true) (λ y. h) (λ y. ⊎_elim (λ (p : among conns d ≡ true). a.there d p) (λ (p : c ≡ d). absurd (true≢false (sym (eq-eqb d c (sym p)) ∙ y))) (among_two conns c d e));
+}
 
 any_none : (f : ℕ → Bool) (xs : List ℕ) (d : ℕ) → list_any f xs ≡ false → among xs d ≡ true → f d ≡ false
 any_none f [] d h m = absurd (true≢false (sym m))

@@ -1,6 +1,7 @@
 -- How logs stay woven.
 use Rattle.std.proofs.Common.{◌≡◌, ℕ, zero, suc, ◌+◌, ◌-◌, ◌<◌, ◌≤◌, Bool, true, false, List, [], ◌∷◌, ◌++◌, length, take, drop, refl, sym, ap, ◌∙◌, subst, ⊎_elim, arith}
 use Rattle.std.specs.Prelude.{slice_get, Option, Some}
+use Rattle.std.proofs.lemmas.List.{length-take-le, take-append-drop}
 use Rattle.std.proofs.lemmas.Bool.{cases_lt}
 use Rattle.std.proofs.lemmas.Option.{slice_get_within}
 use Rattle.dq_base.specs.declared.pages.NumberedPage.{NumberedPage}
@@ -9,6 +10,7 @@ use Rattle.frame_commands.specs.Splitting.{split_from, before_last, split}
 use Rattle.session_rules.specs.Entries.{Content, Does, Configures, Other, Entry, tx_of, entries_of}
 use Rattle.session_world.specs.Woven.{Bears, Follows, Woven}
 use Rattle.session_world.specs.Life.{ArePlain}
+use Rattle.session_world.specs.Replies.{StandsAt}
 use Rattle.session_world.proofs.Files.{contents_of}
 
 pub get_left : (xs ys : List Entry) (k : ℕ) → k < length xs → slice_get (xs ++ ys) k ≡ slice_get xs k
@@ -20,6 +22,26 @@ pub get_right : (xs ys : List Entry) (k j : ℕ) → j ≡ length xs + k → sli
 get_right [] ys k j h = let e : j ≡ k = omega arith in ap (slice_get ys) e
 get_right (x ∷ xs) ys k zero h = absurd (omega arith)
 get_right (x ∷ xs) ys k (suc j) h = get_right xs ys k j (omega arith)
+
+-- what stands at an index stands there in a longer list, and in a front that reaches it
+pub stands_more : (log es : List Entry) (i t : ℕ) (c : Content) → StandsAt log i t c → StandsAt (log ++ es) i t c
+stands_more log es i t c a = get_left log es (i - 1) (slice_get_within log (i - 1) _ a) ∙ a
+
+pub stands_front : (log : List Entry) (p i t : ℕ) (c : Content) → 0 < i → i ≤ p → p ≤ length log → StandsAt log i t c → StandsAt (take p log) i t c
+stands_front log p i t c low high h a =
+    let long = length-take-le p log h in
+    sym (get_left (take p log) (drop p log) (i - 1) (omega arith)) ∙ ap (λ l. slice_get l (i - 1)) (take-append-drop p log) ∙ a
+
+content_at : (t : ℕ) (cs : List Content) (k : ℕ) → k < length cs → (c : Content) × (slice_get (entries_of t cs) k ≡ Some (record { term = t; content = c }))
+content_at t [] k h = absurd (omega (arith, h))
+content_at t (c ∷ cs) zero h = (c, refl)
+content_at t (c ∷ cs) (suc k) h = content_at t cs k (omega (arith, h))
+
+-- the last of entries behind a log
+pub last_stands : (log : List Entry) (t : ℕ) (cs : List Content) → 0 < length cs → (c : Content) × StandsAt (log ++ entries_of t cs) (length log + length cs) t c
+last_stands log t cs h =
+    let r = content_at t cs (length cs - 1) (omega arith) in
+    (r.0, get_right log (entries_of t cs) (length cs - 1) (length log + length cs - 1) (omega arith) ∙ r.1)
 
 bears_more : (log es : List Entry) (i : ℕ) (name : List ℕ) (tx : ℕ) (b : Bool) (term : ℕ) (pages : List NumberedPage) → Bears log i name tx b term pages → Bears (log ++ es) i name tx b term pages
 bears_more log es i name tx b term pages a = record { truncate = a.truncate; is = get_left log es (i - 1) (slice_get_within log (i - 1) _ a.is) ∙ a.is }

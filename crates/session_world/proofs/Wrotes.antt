@@ -13,13 +13,18 @@ use Rattle.session_rules.specs.Entries.{Content, Entry, entries_of, tx_of}
 use Rattle.session_rules.specs.Machine.{Base, Machine, files, files_from, base_at, image_at, part}
 use Rattle.session_rules.specs.Engines.{takes}
 use Rattle.session_rules.proofs.Images.{apply_changed}
-use Rattle.session_world.specs.Replies.{CommitOk, change_entries}
+use Rattle.session_world.specs.Replies.{CommitOk, change_entries, StandsAt}
 use Rattle.session_world.proofs.Files.{Free, files_append, base_append, alike_between, contents_of, split_makes, split_some, Splits}
 use Rattle.session_world.proofs.Invariant.{Calm}
+use Rattle.session_world.proofs.Weaves.{last_stands}
 
 -- the commands of a change of pages, as the next entries of a log
 abbrev pub block_for : List Entry → ℕ → List ℕ → Image → Image → List Content
 block_for log term name from to = contents_of (split name (record { tx = tx_of term (suc (length log)); pages = changed from to }))
+
+-- its last entry stands behind the log
+pub block_end : (log : List Entry) (term : ℕ) (name : List ℕ) (from to : Image) → (content : Content) × StandsAt (log ++ entries_of term (block_for log term name from to)) (length log + length (block_for log term name from to)) term content
+block_end log term name from to = last_stands log term (block_for log term name from to) (split_some name (tx_of term (suc (length log))) (before_last (changed from to)) (changed from to))
 
 -- the entries of a change of pages from one image to another, behind a log at whose applied index nothing of the database is on its way
 module _ (log : List Entry) (applied term : ℕ) (name : List ℕ) (from to : Image) (low : applied ≤ length log) (calm : Calm name applied log) (is : image_at log applied name ≡ from) (fits : takes (changed from to) ≡ true) (short : IsShort to) where

@@ -1,20 +1,22 @@
 -- One voter that never stops: what is proposed is applied in the same step. Its run, turn by turn, and that of a script with
 -- its journal.
-use Rattle.std.specs.Prelude.{◌≡◌, ℕ, zero, suc, ◌-◌, Bool, true, false, ◌&&◌, nat_le, List, [], ◌∷◌, ◌++◌, length, drop, map, None, if◌then◌else◌}
+use Rattle.std.specs.Prelude.{◌≡◌, ◌≢◌, ℕ, zero, suc, ◌-◌, ◌<◌, ◌≤◌, Bool, true, false, ◌&&◌, nat_le, List, [], ◌∷◌, ◌++◌, length, drop, map, None, if◌then◌else◌}
 use Rattle.std.specs.List.{filter}
 use Rattle.wire_msgs.specs.declared.request.Request.{Request}
 use Rattle.frame_commands.specs.declared.command.Command.TheVariants.{Checkpoint}
 use Rattle.sql_engine.specs.declared.kind.EngineKind.{EngineKind}
 use Rattle.sql_engine.specs.Meanings.{Meaning}
-use Rattle.session_rules.specs.Entries.{Content, Does, Other}
+use Rattle.session_rules.specs.Causes.{LeadershipLost}
+use Rattle.session_rules.specs.Entries.{Content, Does, Configures, Other, Entry}
 use Rattle.session_rules.specs.Machine.{Machine}
 use Rattle.session_rules.specs.Engines.{Answer, used_for, AllowsFor}
-use Rattle.session_rules.specs.Sessions.{Turned, Refused, Lacks, Answers, Proposes, Affects, may_ask}
+use Rattle.session_rules.specs.Sessions.{Refusal, Turned, Refused, Lacks, Answers, Proposes, Affects, may_ask}
 use Rattle.session_rules.specs.Requests.{on_request, handed}
 use Rattle.session_world.specs.Woven.{Woven}
-use Rattle.session_world.specs.Nodes.{Node, Standing, databases, view_of, started}
+use Rattle.session_world.specs.Nodes.{Said, Node, Standing, databases, view_of, started}
 use Rattle.session_world.specs.Life.{Event, Connect, Hangup, Call, Apply, Lead, Serve, Append, happens, run_from}
 use Rattle.session_world.specs.Replies.{AllSaid}
+use Rattle.session_world.specs.Laws.{Sees}
 
 -- What happens at the node in one turn: a timeout; a connection comes, or goes; a request with the engine's answers.
 pub data Turn : Type 0 where
@@ -74,12 +76,31 @@ abbrev pub AllowsTurns : Meaning → EngineKind → Node → List Turn → Type 
 AllowsTurns m kind w [] = Unit {0}
 AllowsTurns m kind w (t ∷ ts) = AllowsTurn m kind w t × AllowsTurns m kind (takes_turn w t) ts
 
+-- an entry that isn't other servers
+abbrev pub KeepsServers : Content → Type 0
+KeepsServers (Does command) = Unit {0}
+KeepsServers (Configures servers) = ⊥
+KeepsServers Other = Unit {0}
+
+-- no entry of the log changes the servers
+abbrev pub SameServers : List Entry → Type 0
+SameServers [] = Unit {0}
+SameServers (e ∷ es) = KeepsServers e.content × SameServers es
+
+-- none of these replies is the refusal of a lost leadership
+abbrev pub NoneLost : List Said → Type 0
+NoneLost [] = Unit {0}
+NoneLost (x ∷ xs) = (x.reply ≢ Refusal LeadershipLost) × NoneLost xs
+
 -- The one node has applied its whole log; each reply is right by it; the entries of each transaction stand in one piece; and
--- no request waits for its answer. Where it leads, it serves, in term 1.
+-- no request waits for its answer. No entry changes the servers, and no reply says that leadership was lost. Where the node
+-- leads, it serves, in term 1.
 pub record SafeAlone (m : Meaning) (w : Node) : Type 0 where
   pub applied : w.applied ≡ length w.log
   pub said : AllSaid m w.log w.said
   pub woven : Woven w.log
+  pub servers : SameServers w.log
+  pub kept : NoneLost w.said
   pub answered : (conn : ℕ) → (w.gate.session conn).flight ≡ None
   pub serves : w.serving ≡ w.leads
   pub term : w.term ≡ (if w.leads then 1 else 0)
@@ -87,6 +108,37 @@ pub record SafeAlone (m : Meaning) (w : Node) : Type 0 where
 -- So it is after each list of turns.
 abbrev pub AloneIsSafe : Meaning → EngineKind → Type 0
 AloneIsSafe m kind = (ts : List Turn) → AllowsTurns m kind (started [] 0 0) ts → SafeAlone m (alone ts)
+
+-- A reply that waited is said where its entry has been applied since, and the node leads in the entry's term.
+pub record SaidIn (before : ℕ) (v : Node) (x : Said) : Type 0 where
+  pub past : before < x.index
+  pub within : x.index ≤ v.applied
+  pub term : x.term ≡ v.term
+  pub leads : v.leads ≡ true
+
+abbrev pub AllIn : ℕ → Node → List Said → Type 0
+AllIn before v [] = Unit {0}
+AllIn before v (x ∷ xs) = (0 < x.index → SaidIn before v x) × AllIn before v xs
+
+-- What is said from one moment to another: each reply that waited for an entry is said where this entry is applied.
+pub record SaysInTime (w v : Node) : Type 0 where
+  pub later : List Said
+  pub said : v.said ≡ w.said ++ later
+  pub here : AllIn w.applied v later
+
+-- So it is in each turn.
+abbrev pub TurnsSay : Meaning → EngineKind → Type 0
+TurnsSay m kind = (ts : List Turn) (t : Turn) → AllowsTurns m kind (started [] 0 0) ts → AllowsTurn m kind (alone ts) t → SaysInTime (alone ts) (takes_turn (alone ts) t)
+
+-- no connection of this number joins
+abbrev pub NoneJoins : ℕ → List Turn → Type 0
+NoneJoins conn [] = Unit {0}
+NoneJoins conn (t ∷ ts) = (t ≢ Join conn) × NoneJoins conn ts
+
+-- In each stretch of turns in which none of a number joins, what its connection has seen is not below what any of its earlier
+-- replies rests on.
+abbrev pub TurnsSee : Meaning → EngineKind → Type 0
+TurnsSee m kind = (ts us : List Turn) (conn : ℕ) → AllowsTurns m kind (started [] 0 0) ts → AllowsTurns m kind (alone ts) us → NoneJoins conn us → Sees conn (alone ts) (alone_from (alone ts) us)
 
 -- ---- scripts
 

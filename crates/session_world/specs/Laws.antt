@@ -1,5 +1,5 @@
 -- What holds of each life of a node.
-use Rattle.std.specs.Prelude.{◌≡◌, ◌≢◌, ◌⊎◌, ℕ, suc, ◌<◌, ◌≤◌, true, false, List, [], ◌∷◌, ◌++◌, length, Some, None}
+use Rattle.std.specs.Prelude.{◌≡◌, ◌≢◌, ◌⊎◌, ℕ, suc, ◌<◌, ◌≤◌, true, false, List, [], ◌∷◌, ◌++◌, length, Option, Some, None}
 use Rattle.dq_base.specs.Changes.{changed}
 use Rattle.sql_engine.specs.declared.kind.EngineKind.{EngineKind}
 use Rattle.sql_engine.specs.Meanings.{Meaning}
@@ -9,8 +9,8 @@ use Rattle.session_rules.specs.Engines.{no_pages}
 use Rattle.session_rules.specs.Sessions.{Refusal, Flight, Transaction}
 use Rattle.session_rules.specs.Limits.{is_write, holds, other_holds}
 use Rattle.session_world.specs.Woven.{Woven}
-use Rattle.session_world.specs.Nodes.{Said, Node, databases, started, applied_entries}
-use Rattle.session_world.specs.Life.{Event, Apply, Lose, commit_of, happens, run_from, AllFit}
+use Rattle.session_world.specs.Nodes.{Query, Commit, Said, Node, databases, started, applied_entries}
+use Rattle.session_world.specs.Life.{Event, Connect, Apply, Lose, commit_of, happens, run_from, AllFit}
 use Rattle.session_world.specs.Replies.{CommitOk, AllSaid}
 
 -- the node after these events
@@ -40,16 +40,17 @@ pub record Lasts (w v : Node) : Type 0 where
 abbrev pub LivesLast : Meaning → EngineKind → Type 0
 LivesLast m kind = (log : List Entry) (applied term : ℕ) (es fs : List Event) → Starts log applied → AllFit m kind (started log applied term) (es ++ fs) → Lasts (life log applied term es) (life log applied term (es ++ fs))
 
--- A reply that waited for an entry is said where the node, leading in the term of that entry, has just applied it.
-abbrev pub SaidHere : Node → Said → Type 0
-SaidHere w x = 0 < x.index → (x.index ≡ w.applied) × (x.term ≡ w.term) × (w.leads ≡ true)
+-- Between these two moments of a node, a reply that waited for an entry is said where the node, leading in the term of that
+-- entry, has just applied it, which it hadn't before.
+abbrev pub SaidHere : Node → Node → Said → Type 0
+SaidHere w v x = 0 < x.index → (w.applied < x.index) × (x.index ≡ v.applied) × (x.term ≡ v.term) × (v.leads ≡ true)
 
-abbrev pub AllHere : Node → List Said → Type 0
-AllHere w [] = Unit {0}
-AllHere w (x ∷ xs) = SaidHere w x × AllHere w xs
+abbrev pub AllHere : Node → Node → List Said → Type 0
+AllHere w v [] = Unit {0}
+AllHere w v (x ∷ xs) = SaidHere w v x × AllHere w v xs
 
 abbrev pub AnsweredHere : Meaning → EngineKind → Type 0
-AnsweredHere m kind = (log : List Entry) (applied term : ℕ) (es : List Event) (e : Event) → Starts log applied → AllFit m kind (started log applied term) (es ++ e ∷ []) → (more : List Said) × ((life log applied term (es ++ e ∷ [])).said ≡ (life log applied term es).said ++ more) × AllHere (life log applied term (es ++ e ∷ [])) more
+AnsweredHere m kind = (log : List Entry) (applied term : ℕ) (es : List Event) (e : Event) → Starts log applied → AllFit m kind (started log applied term) (es ++ e ∷ []) → (more : List Said) × ((life log applied term (es ++ e ∷ [])).said ≡ (life log applied term es).said ++ more) × AllHere (life log applied term es) (life log applied term (es ++ e ∷ [])) more
 
 -- some reply is to this connection, and such as the test says
 abbrev pub SaidTo : ℕ → (Said → Type 0) → List Said → Type 0
@@ -63,6 +64,50 @@ IsAnswered w conn f = (f.last ≡ suc w.applied → SaidTo conn (λ x. x.index �
 
 abbrev pub AnswersCome : Meaning → EngineKind → Type 0
 AnswersCome m kind = OfLives m kind (λ w. (conn : ℕ) (f : Flight) → (w.gate.session conn).flight ≡ Some f → (w.gate.session conn).hung ≡ false → IsAnswered w conn f)
+
+-- each reply to this connection is such as the test says
+abbrev pub EachTo : ℕ → (Said → Type 0) → List Said → Type 0
+EachTo conn P [] = Unit {0}
+EachTo conn P (x ∷ xs) = (x.conn ≡ conn → P x) × EachTo conn P xs
+
+abbrev pub QueryUpTo : ℕ → Option Query → Type 0
+QueryUpTo n None = Unit {0}
+QueryUpTo n (Some q) = q.at ≤ n
+
+abbrev pub CommitUpTo : ℕ → Option Commit → Type 0
+CommitUpTo n None = Unit {0}
+CommitUpTo n (Some c) = c.last ≤ n
+
+-- the image and the commit that a reply rests on are of indexes up to this one
+pub record RestsUpTo (n : ℕ) (x : Said) : Type 0 where
+  pub query : QueryUpTo n x.query
+  pub commit : CommitUpTo n x.commit
+
+-- what a query counts as seen reaches all that an earlier reply rests on
+abbrev pub HadSeen : Said → Option Query → Type 0
+HadSeen x None = Unit {0}
+HadSeen x (Some q) = RestsUpTo q.seen x
+
+-- Of these replies, the queries of those to the connection had seen all earlier ones to it.
+abbrev pub SeeEarlier : ℕ → List Said → Type 0
+SeeEarlier conn [] = Unit {0}
+SeeEarlier conn (x ∷ xs) = (x.conn ≡ conn → EachTo conn (λ y. HadSeen x y.query) xs) × SeeEarlier conn xs
+
+-- no connection of this number comes
+abbrev pub NoneComes : ℕ → List Event → Type 0
+NoneComes conn [] = Unit {0}
+NoneComes conn (e ∷ es) = (e ≢ Connect conn) × NoneComes conn es
+
+-- from one moment to another the replies to a connection see the earlier ones
+pub record Sees (conn : ℕ) (w v : Node) : Type 0 where
+  pub more : List Said
+  pub said : v.said ≡ w.said ++ more
+  pub see : SeeEarlier conn more
+
+-- What a connection has seen is not below what any of its earlier replies rests on, from where the connection came: a number
+-- that comes again is another connection.
+abbrev pub LivesSee : Meaning → EngineKind → Type 0
+LivesSee m kind = (log : List Entry) (applied term : ℕ) (es fs : List Event) (conn : ℕ) → Starts log applied → AllFit m kind (started log applied term) (es ++ fs) → NoneComes conn fs → Sees conn (life log applied term es) (life log applied term (es ++ fs))
 
 -- The log of each life is woven.
 abbrev pub LivesWeave : Meaning → EngineKind → Type 0

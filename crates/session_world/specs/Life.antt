@@ -65,7 +65,7 @@ proposed_trail applied t (Outside name ss) = record t { at = applied; ran = ss }
 
 -- a reply that rests on nothing and waited for nothing
 abbrev pub tells : ℕ → Reply → Said
-tells conn reply = record { conn = conn; reply = reply; query = None; commit = None; index = 0; term = 0 }
+tells conn reply = record { conn = conn; reply = reply; query = None; commit = None; opened = None; index = 0; term = 0 }
 
 abbrev pub says : Node → List Said → Node
 says w more = record w { said = w.said ++ more }
@@ -77,7 +77,7 @@ called w conn Lacks = w
 called w conn (Answers s reply note) = record w {
   gate = with_session w.gate conn s;
   trail = λ other. if other == conn then answered_trail w.applied (w.trail conn) note else w.trail other;
-  said = w.said ++ record { conn = conn; reply = reply; query = query_by w.applied (w.trail conn) reply note; commit = None; index = 0; term = 0 } ∷ [];
+  said = w.said ++ record { conn = conn; reply = reply; query = query_by w.applied (w.trail conn) reply note; commit = None; opened = None; index = 0; term = 0 } ∷ [];
 }
 called w conn (Proposes s contents note) = record w {
   log = w.log ++ entries_of w.term contents;
@@ -93,10 +93,10 @@ commit_of f ss = record { name = f.name; first = f.first; last = f.last; term = 
 
 -- what is said when a proposal's last entry is applied
 abbrev pub said_landed : ℕ → Trail → Flight → Kind → Said
-said_landed conn t f Opening = record { conn = conn; reply = db; query = None; commit = None; index = f.last; term = f.term }
-said_landed conn t f Configuring = record { conn = conn; reply = empty; query = None; commit = None; index = f.last; term = f.term }
-said_landed conn t f (Writing reply) = record { conn = conn; reply = reply; query = query_for reply f.name t.at [] t.ran t.seen; commit = Some (commit_of f t.ran); index = f.last; term = f.term }
-said_landed conn t f Committing = record { conn = conn; reply = result 0; query = None; commit = Some (commit_of f t.ran); index = f.last; term = f.term }
+said_landed conn t f Opening = record { conn = conn; reply = db; query = None; commit = None; opened = Some f.name; index = f.last; term = f.term }
+said_landed conn t f Configuring = record { conn = conn; reply = empty; query = None; commit = None; opened = None; index = f.last; term = f.term }
+said_landed conn t f (Writing reply) = record { conn = conn; reply = reply; query = query_for reply f.name t.at [] t.ran t.seen; commit = Some (commit_of f t.ran); opened = None; index = f.last; term = f.term }
+said_landed conn t f Committing = record { conn = conn; reply = result 0; query = None; commit = Some (commit_of f t.ran); opened = None; index = f.last; term = f.term }
 
 abbrev pub said_by : ℕ → ℕ → Trail → Bool → Option Flight → List Said
 said_by index conn t hung None = []

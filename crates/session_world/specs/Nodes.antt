@@ -25,13 +25,15 @@ pub record Commit : Type 0 where
   pub term : ℕ
   pub statements : List Statement
 
--- A reply that was said, with the query or the commit that it rests on, if any. Where it waited for a proposal, `index` is
--- that of the proposal's last entry and `term` the proposal's; else the index is 0.
+-- A reply that was said, with the query or the commit that it rests on, if any, and the database that was opened by an entry,
+-- if one was. Where it waited for a proposal, `index` is that of the proposal's last entry and `term` the proposal's; else the
+-- index is 0.
 pub record Said : Type 0 where
   pub conn : ℕ
   pub reply : Reply
   pub query : Option Query
   pub commit : Option Commit
+  pub opened : Option (List ℕ)
   pub index : ℕ
   pub term : ℕ
 

@@ -1,16 +1,18 @@
 -- When a reply is right by a list of entries.
-use Rattle.std.specs.Prelude.{◌≡◌, ℕ, ◌-◌, ◌<◌, ◌≤◌, List, [], ◌∷◌, length, Option, Some, None}
+use Rattle.std.specs.Prelude.{◌≡◌, ℕ, ◌-◌, ◌<◌, ◌≤◌, List, [], ◌∷◌, length, slice_get, Option, Some, None}
 use Rattle.dq_base.specs.declared.images.Image.{Image}
 use Rattle.dq_base.specs.Changes.{changed}
 use Rattle.frame_commands.specs.Splitting.{split}
+use Rattle.frame_commands.specs.declared.command.Command.TheVariants.{OpenDb}
+use Rattle.raft_rules.specs.Node.{Server}
 use Rattle.sql_engine.specs.declared.answer.Ran.{Ran}
 use Rattle.sql_engine.specs.Replies.{Reply as StatementReply}
 use Rattle.sql_engine.specs.Meanings.{Meaning, reply_of}
 use Rattle.sql_engine.specs.Runs.{RanAll}
 use Rattle.std.specs.Prelude.{map}
-use Rattle.session_rules.specs.Entries.{Does, Entry, entries_of, tx_of}
+use Rattle.session_rules.specs.Entries.{Content, Does, Configures, Entry, entries_of, tx_of}
 use Rattle.session_rules.specs.Machine.{image_at, part}
-use Rattle.session_rules.specs.Sessions.{Reply, Refusal, Single, Rows}
+use Rattle.session_rules.specs.Sessions.{Reply, Refusal, Single, Rows, empty, db}
 use Rattle.session_world.specs.Nodes.{Query, Commit, Said}
 
 -- The answer is what the query's statement may give over what the transaction's statements so far reached from an image of
@@ -57,11 +59,36 @@ RowsAre (Refusal cause) o = Unit {0}
 RowsAre (Single response) o = Unit {0}
 RowsAre (Rows answer) o = Answers o answer
 
--- A reply is right by these entries: rows are those of its query, and its query and its commit are as they should be.
+-- a commit, if any, is that of the entry which its reply waited for
+abbrev pub EndsAt : ℕ → ℕ → Option Commit → Type 0
+EndsAt index term None = Unit {0}
+EndsAt index term (Some c) = (c.last ≡ index) × (c.term ≡ term)
+
+-- at the index, from 1, stands an entry of this term with this content
+abbrev pub StandsAt : List Entry → ℕ → ℕ → Content → Type 0
+StandsAt log index term content = slice_get log (index - 1) ≡ Some (record { term = term; content = content })
+
+-- the content opens the database that is told
+abbrev pub IsOpening : Option (List ℕ) → Content → Type 0
+IsOpening None content = ⊥
+IsOpening (Some name) content = content ≡ Does (OpenDb name)
+
+-- The entry that a reply waited for stands in this list, in the reply's term. Where the reply is DB the entry opens the
+-- reply's database, and where it is EMPTY the entry changes the servers.
+pub record EntryOk (log : List Entry) (x : Said) : Type 0 where
+  pub content : Content
+  pub stands : StandsAt log x.index x.term content
+  pub opens : x.reply ≡ db → IsOpening x.opened content
+  pub changes : x.reply ≡ empty → (servers : List Server) × (content ≡ Configures servers)
+
+-- A reply is right by these entries: rows are those of its query, and its query and its commit are as they should be. What it
+-- waited for stands, and a commit is that of the entry which it waited for.
 pub record SaidOk (m : Meaning) (log : List Entry) (x : Said) : Type 0 where
   pub rows : RowsAre x.reply x.query
   pub query : QueryIs m log x.query
   pub commit : CommitIs m log x.commit
+  pub ends : EndsAt x.index x.term x.commit
+  pub entry : 0 < x.index → EntryOk log x
 
 abbrev pub AllSaid : Meaning → List Entry → List Said → Type 0
 AllSaid m log [] = Unit {0}

@@ -3,7 +3,7 @@
 //! come and go. Nothing here runs: each law is the promise of an empty function, and it holds under every engine.
 #![tactic(auto)]
 
-ghost use Rattle.session_world.specs.Alone.{AloneIsSafe, ScriptsAreSafe};
+ghost use Rattle.session_world.specs.Alone.{AloneIsSafe, TurnsSay, TurnsSee, ScriptsAreSafe};
 ghost use Rattle.session_world.specs.Examples.{
   WriteWaits,
   OldImages,
@@ -21,6 +21,7 @@ ghost use Rattle.session_world.specs.Laws.{
   OneTurn,
   CommitsPass,
   FlightsStand,
+  LivesSee,
 };
 ghost use Rattle.session_world.specs.Logs.{OneCommit, CommitsApply, OnlyCommits, UndosClear};
 
@@ -42,6 +43,12 @@ pub fn lives_last<E: Engine>()
 /// A reply that waited for an entry is said where the node, leading in the term of that entry, has just applied it.
 pub fn answered_here<E: Engine>()
     ensures { (kind : _) → AnsweredHere (E.meaning kind) kind }
+{}
+
+/// What a connection has seen is not below what any of its earlier replies rests on, be it a query's image or a commit. It
+/// counts from where the connection came: a number that comes again is another connection.
+pub fn lives_see<E: Engine>()
+    ensures { (kind : _) → LivesSee (E.meaning kind) kind }
 {}
 
 /// A proposal in flight whose client is there is answered in the event that applies its last entry, or with the refusal of
@@ -86,10 +93,13 @@ pub fn flights_stand<E: Engine>()
 {}
 
 /// One voter that never stops: after each turn all of its log is applied, each reply is right by it, its log is woven, and
-/// no request waits. The same of the lines of a script with one journal, of which each request takes its answers off the
+/// no request waits; and a reply that waited for an entry is said in the turn that applies this entry, and what a
+/// connection has seen is not below what its earlier replies rest on. The same of the lines of a script with one journal, of which each request takes its answers off the
 /// front; that run ends before a request that lacks one.
 pub fn alone_is_safe<E: Engine>()
     ensures turns { (kind : _) → AloneIsSafe (E.meaning kind) kind }
+    ensures in_turn { (kind : _) → TurnsSay (E.meaning kind) kind }
+    ensures seen { (kind : _) → TurnsSee (E.meaning kind) kind }
     ensures scripts { (kind : _) → ScriptsAreSafe (E.meaning kind) kind }
 {}
 

@@ -1,0 +1,389 @@
+-- What no request brings about: other servers, and the refusal of a lost leadership.
+use Rattle.std.proofs.Common.{◌≡◌, ◌≢◌, ℕ, Bool, true, false, cond, not, List, [], ◌∷◌, ◌++◌, map, Option, Some, None, Result, Ok, Err, subst, rules}
+use Rattle.std.specs.Prelude.{◌==◌, ◌&&◌}
+use Rattle.std.proofs.lemmas.Bool.{cond_both}
+use Rattle.dq_base.specs.declared.images.Image.{Image}
+use Rattle.dq_base.specs.declared.pages.NumberedPage.{NumberedPage}
+use Rattle.dq_base.specs.Changes.{changed}
+use Rattle.wire_words.specs.declared.value.Value.{Value}
+use Rattle.wire_rows.specs.declared.fault.RowFault.{RowFault}
+use Rattle.wire_rows.specs.declared.fault.RowFault.TheVariants as row_faults
+use Rattle.wire_rows.specs.Answering.{parts_of}
+use Rattle.wire_msgs.specs.declared.request.Request.{Request}
+use Rattle.wire_msgs.specs.declared.response.Response.{Response}
+use Rattle.wire_msgs.specs.declared.request.Request.TheVariants as requests
+use Rattle.frame_commands.specs.declared.command.Command.{Command}
+use Rattle.page_apply.specs.Files.{empty_image}
+use Rattle.sql_scan.specs.declared.pieces.Piece.{Piece}
+use Rattle.sql_scan.specs.declared.fault.ScanFault.{ScanFault}
+use Rattle.sql_scan.specs.declared.fault.ScanFault.TheVariants as scan_faults
+use Rattle.sql_scan.specs.declared.heading.WordKind.{WordKind}
+use Rattle.sql_scan.specs.declared.heading.WordKind.TheVariants as words
+use Rattle.sql_scan.specs.Statements.{scan_of}
+use Rattle.sql_engine.specs.declared.answer.Ran.{Ran}
+use Rattle.sql_engine.specs.declared.fault.EngineFault.{EngineFault}
+use Rattle.sql_engine.specs.declared.fault.EngineFault.TheVariants as engine_faults
+use Rattle.sql_engine.specs.Replies.{Statement}
+use Rattle.sql_engine.specs.declared.kind.EngineKind.{EngineKind}
+use Rattle.sql_engine.specs.Meanings.{Meaning}
+use Rattle.session_rules.specs.Causes.{Cause, scan_cause, engine_cause, LeadershipLost, NotLeader, NoDatabase, LogFull, DatabaseFull, NotAllowed, WrongParameters, OneStatementWanted, Locked, OutOfDate}
+use Rattle.session_rules.specs.Entries.{Content, Does, Entry, entries_of}
+use Rattle.session_rules.specs.Engines.{Answer, no_pages, Ending, Lacking, TooLarge, Stopped, Ended}
+use Rattle.session_rules.specs.Limits.{log_full, pages_full, other_holds, first_cause, hindrance, too_full}
+use Rattle.session_rules.specs.Machine.{Machine}
+use Rattle.session_rules.specs.Sessions.{Prepared, Refusal, Single, Kind, Opening, Configuring, Writing, Committing, Flight, Transaction, Session, Gateway, View, Note, Nothing, Inside, Outside, Turned, Refused, Lacks, Answers, Proposes, Affects, in_tx, may_ask}
+use Rattle.session_rules.specs.Statements.{prepared_from, prepared_at, is_left_out, any_barred, wrong_params, with_params, with_all}
+use Rattle.session_rules.specs.Asking as asking
+use Rattle.session_rules.specs.Asking.{Asked, Never, Tells, Sets, Opens, Creates, Prepares, Drops, Begins, Commits, RollsBack, Changes, Runs, Reads, asked_by}
+use Rattle.session_rules.specs.Requests.{unless, rows_cause, or_cause, row_cause, reply_of, change_of, worked, outside, outside_write, inside, run_in, committed, commit_in, does, on_request}
+use Rattle.session_rules.specs.Events.{connects}
+use Rattle.session_world.specs.Nodes.{Said, Trail, Node, databases, view_of}
+use Rattle.session_world.specs.Life.{Event, Connect, Hangup, Call, Apply, Lose, Lead, Serve, Append, Follow, called, said_landed, said_by, said_applied, happens, run_from, AllFit}
+use Rattle.session_world.specs.Alone.{KeepsServers, SameServers, NoneLost}
+use Rattle.session_world.proofs.Invariant.{FlightIs, IsOf, NodeOk}
+use Rattle.session_world.proofs.Lives.{happens_ok}
+
+-- ---- causes
+
+-- any but a lost leadership
+abbrev NotLost : Cause → Type 0
+NotLost LeadershipLost = ⊥
+NotLost cause = Unit {0}
+
+scan_mild : (fault : ScanFault) → NotLost (scan_cause fault)
+scan_mild (scan_faults.OpenQuote at) = tt
+scan_mild (scan_faults.OpenComment at) = tt
+scan_mild (scan_faults.Named at) = tt
+scan_mild (scan_faults.Number at) = tt
+scan_mild scan_faults.NoMemory = tt
+
+engine_mild : (fault : EngineFault) → NotLost (engine_cause fault)
+engine_mild engine_faults.Constraint = tt
+engine_mild engine_faults.Sql = tt
+engine_mild (engine_faults.Float row column) = tt
+engine_mild (engine_faults.NotText row column) = tt
+engine_mild engine_faults.Unopened = tt
+engine_mild engine_faults.NoMemory = tt
+
+abbrev NoneOrMild : Option Cause → Type 0
+NoneOrMild None = Unit {0}
+NoneOrMild (Some cause) = NotLost cause
+
+first_mild : (b : Bool) (cause : Cause) (o : Option Cause) → NotLost cause → NoneOrMild o → NoneOrMild (first_cause b cause o)
+first_mild true cause o a b = a
+first_mild false cause o a b = b
+
+or_mild : (o later : Option Cause) → NoneOrMild o → NoneOrMild later → NoneOrMild (or_cause o later)
+or_mild None later a b = b
+or_mild (Some cause) later a b = a
+
+rows_mild : (r : Result (List (List ℕ)) RowFault) → NoneOrMild (rows_cause r)
+rows_mild (Ok parts) = tt
+rows_mild (Err (row_faults.Nul row column)) = tt
+rows_mild (Err (row_faults.TooBig bytes)) = tt
+rows_mild (Err row_faults.NoMemory) = tt
+
+row_mild : (rows : Bool) (answer : Ran) (o : Option Cause) → NoneOrMild o → NoneOrMild (row_cause rows answer o)
+unfolding row_cause
+row_mild true answer o a = or_mild (rows_cause (parts_of answer.columns answer.rows)) o (rows_mild (parts_of answer.columns answer.rows)) a
+row_mild false answer o a = a
+
+hindrance_mild : (m : Machine) (g : Gateway) (c : ℕ) (name : List ℕ) (mark : ℕ) (pages : List NumberedPage) (to : Image) → NoneOrMild (hindrance m g c name mark pages to)
+unfolding hindrance
+hindrance_mild m g c name mark pages to =
+    let full = first_cause (too_full m g name pages to) DatabaseFull None in
+    let old = not ((m.base name).newest == mark) in
+    first_mild (other_holds g c name) Locked (first_cause old OutOfDate full) tt (first_mild old OutOfDate full tt (first_mild (too_full m g name pages to) DatabaseFull None tt tt))
+
+-- ---- what is asked
+
+abbrev IsMild : Asked → Type 0
+IsMild (Never cause) = NotLost cause
+IsMild (Tells response) = Unit {0}
+IsMild (Sets effect) = Unit {0}
+IsMild (Opens name) = Unit {0}
+IsMild (Creates name) = Unit {0}
+IsMild (Prepares p tail) = Unit {0}
+IsMild (Drops id) = Unit {0}
+IsMild (Begins at_once) = Unit {0}
+IsMild Commits = Unit {0}
+IsMild RollsBack = Unit {0}
+IsMild (Changes servers) = ⊥
+IsMild (Runs ss) = Unit {0}
+IsMild (Reads s) = Unit {0}
+
+either : (b : Bool) (x y : Asked) → IsMild x → IsMild y → IsMild (cond b x y)
+either true x y a b = a
+either false x y a b = b
+
+kind_mild : (active : Bool) (word : WordKind) (s : Statement) → IsMild (asking.asks_kind active word s)
+kind_mild true (words.Begin at_once) s = tt
+kind_mild false (words.Begin at_once) s = tt
+kind_mild true words.Commit s = tt
+kind_mild false words.Commit s = tt
+kind_mild true words.Rollback s = tt
+kind_mild false words.Rollback s = tt
+kind_mild active words.Write s = tt
+kind_mild active words.LeftOut s = tt
+kind_mild active words.Other s = tt
+
+one_mild : (active : Bool) (p : Prepared) (params : List Value) → IsMild (asking.asks_one active p params)
+one_mild active p params =
+    either (is_left_out p.word) (Never NotAllowed) (cond (wrong_params (p ∷ []) params) (Never WrongParameters) (asking.asks_kind active p.word (with_all p params))) tt
+    (either (wrong_params (p ∷ []) params) (Never WrongParameters) (asking.asks_kind active p.word (with_all p params)) tt (kind_mild active p.word (with_all p params)))
+
+several_mild : (ps : List Prepared) (params : List Value) → IsMild (asking.asks_several ps params)
+several_mild ps params =
+    either (any_barred ps) (Never NotAllowed) (cond (wrong_params ps params) (Never WrongParameters) (Runs (with_params ps params))) tt
+    (either (wrong_params ps params) (Never WrongParameters) (Runs (with_params ps params)) tt tt)
+
+statements_mild : (active : Bool) (ps : List Prepared) (params : List Value) → IsMild (asking.asks_statements active ps params)
+statements_mild active [] params = several_mild [] params
+statements_mild active (p ∷ []) params = one_mild active p params
+statements_mild active (p ∷ q ∷ ps) params = several_mild (p ∷ q ∷ ps) params
+
+text_mild : (active : Bool) (sql : List ℕ) (r : Result (List Piece) ScanFault) (params : List Value) → IsMild (asking.asks_text active sql r params)
+text_mild active sql (Err fault) params = scan_mild fault
+text_mild active sql (Ok pieces) params = statements_mild active (map (prepared_from sql) pieces) params
+
+query_mild : (p : Prepared) (params : List Value) → IsMild (asking.asks_query p params)
+query_mild p params =
+    either (any_barred (p ∷ [])) (Never NotAllowed) (cond (wrong_params (p ∷ []) params) (Never WrongParameters) (Reads (with_all p params))) tt
+    (either (wrong_params (p ∷ []) params) (Never WrongParameters) (Reads (with_all p params)) tt tt)
+
+not_one_mild : (ps : List Prepared) → IsMild (asking.not_one ps)
+not_one_mild ps = either (any_barred ps) (Never NotAllowed) (Never OneStatementWanted) tt tt
+
+sole_mild : (ps : List Prepared) (params : List Value) → IsMild (asking.asks_sole ps params)
+sole_mild [] params = not_one_mild []
+sole_mild (p ∷ []) params = query_mild p params
+sole_mild (p ∷ q ∷ ps) params = not_one_mild (p ∷ q ∷ ps)
+
+told_mild : (sql : List ℕ) (r : Result (List Piece) ScanFault) (params : List Value) → IsMild (asking.asks_rows sql r params)
+told_mild sql (Err fault) params = scan_mild fault
+told_mild sql (Ok pieces) params = sole_mild (map (prepared_from sql) pieces) params
+
+exec_mild : (active : Bool) (o : Option Prepared) (params : List Value) → IsMild (asking.asks_exec active o params)
+exec_mild active None params = tt
+exec_mild active (Some p) params = one_mild active p params
+
+prepared_mild : (o : Option Prepared) (params : List Value) → IsMild (asking.asks_prepared_query o params)
+prepared_mild None params = tt
+prepared_mild (Some p) params = query_mild p params
+
+finalize_mild : (o : Option Prepared) (id : ℕ) → IsMild (asking.asks_finalize o id)
+finalize_mild None id = tt
+finalize_mild (Some p) id = tt
+
+room_mild : (s : Session) (p : Prepared) (tail : Option ℕ) → IsMild (asking.with_room s p tail)
+room_mild s p tail = search (rules, either)
+
+pieces_mild : (s : Session) (sql : List ℕ) (wide : Bool) (pieces : List Piece) → IsMild (asking.asks_prepare_pieces s sql wide pieces)
+pieces_mild s sql wide [] = tt
+pieces_mild s sql wide (p ∷ []) = either (is_left_out p.word) (Never NotAllowed) (asking.with_room s (prepared_from sql p) (asking.tail_of wide p)) tt (room_mild s (prepared_from sql p) (asking.tail_of wide p))
+pieces_mild s sql wide (p ∷ q ∷ ps) =
+    either (any_barred (map (prepared_from sql) (p ∷ q ∷ ps))) (Never NotAllowed) (cond wide (asking.with_room s (prepared_from sql p) (asking.tail_of wide p)) (Never OneStatementWanted)) tt
+    (either wide (asking.with_room s (prepared_from sql p) (asking.tail_of wide p)) (Never OneStatementWanted) (room_mild s (prepared_from sql p) (asking.tail_of wide p)) tt)
+
+prepare_mild : (s : Session) (sql : List ℕ) (wide : Bool) (r : Result (List Piece) ScanFault) → IsMild (asking.asks_prepare s sql wide r)
+prepare_mild s sql wide (Err fault) = scan_mild fault
+prepare_mild s sql wide (Ok pieces) = pieces_mild s sql wide pieces
+
+module _ (v : View) (s : Session) where
+  in_mild : (db : ℕ) (x : Asked) → IsMild x → IsMild (asking.in_database s db x)
+  in_mild db x a = either (asking.no_database s db) (Never NoDatabase) x tt a
+
+  at_mild : (x : Asked) → IsMild x → IsMild (asking.at_leader v x)
+  at_mild x a = either v.serving x (Never NotLeader) a tt
+
+  served : (db : ℕ) (x : Asked) → IsMild x → IsMild (asking.at_leader v (asking.in_database s db x))
+  served db x a = at_mild (asking.in_database s db x) (in_mild db x a)
+
+request_mild : (v : View) (m : Machine) (g : Gateway) (s : Session) (r : Request) → IsMild (asked_by v m g s r)
+unfolding asked_by
+request_mild v m g s requests.Leader = tt
+request_mild v m g s (requests.Client id) = tt
+request_mild v m g s (requests.Open name flags vfs) = search (rules, either)
+request_mild v m g s (requests.Prepare db sql wide) = served v s db (asking.asks_prepare s sql wide (scan_of sql)) (prepare_mild s sql wide (scan_of sql))
+request_mild v m g s (requests.Exec db id params wide) = served v s db (asking.asks_exec (in_tx s) (prepared_at s.statements id) params) (exec_mild (in_tx s) (prepared_at s.statements id) params)
+request_mild v m g s (requests.Query db id params wide) = served v s db (asking.asks_prepared_query (prepared_at s.statements id) params) (prepared_mild (prepared_at s.statements id) params)
+request_mild v m g s (requests.Finalize db id) = in_mild v s db (asking.asks_finalize (prepared_at s.statements id) id) (finalize_mild (prepared_at s.statements id) id)
+request_mild v m g s (requests.ExecSql db sql params wide) = served v s db (asking.asks_text (in_tx s) sql (scan_of sql) params) (text_mild (in_tx s) sql (scan_of sql) params)
+request_mild v m g s (requests.QuerySql db sql params wide) = served v s db (asking.asks_rows sql (scan_of sql) params) (told_mild sql (scan_of sql) params)
+request_mild v m g s (requests.Interrupt db) = search (rules, either)
+request_mild v m g s (requests.Connect id address) = search (rules, either)
+request_mild v m g s (requests.Add id address) = search (rules, either)
+request_mild v m g s (requests.Assign id role) = search (rules, either)
+request_mild v m g s (requests.Remove id) = search (rules, either)
+request_mild v m g s (requests.Dump name) = search (rules, either)
+request_mild v m g s (requests.Cluster format) = search (rules, either)
+request_mild v m g s (requests.Transfer id) = search (rules, either)
+request_mild v m g s (requests.Describe format) = search (rules, either)
+request_mild v m g s (requests.Weight weight) = tt
+
+-- ---- what comes of it
+
+abbrev pub AllContents : List Content → Type 0
+AllContents [] = Unit {0}
+AllContents (c ∷ cs) = KeepsServers c × AllContents cs
+
+pub does_contents : (cs : List Command) → AllContents (map Does cs)
+does_contents [] = tt
+does_contents (c ∷ cs) = (tt, does_contents cs)
+
+abbrev TurnedMild : Turned → Type 0
+TurnedMild (Refused cause) = NotLost cause
+TurnedMild Lacks = Unit {0}
+TurnedMild (Answers s reply note) = reply ≢ Refusal LeadershipLost
+TurnedMild (Proposes s contents note) = AllContents contents
+TurnedMild (Affects effect) = Unit {0}
+
+unless_mild : (o : Option Cause) (t : Turned) → NoneOrMild o → TurnedMild t → TurnedMild (unless o t)
+unless_mild None t a b = b
+unless_mild (Some cause) t a b = a
+
+single_mild : (r : Response) → Single r ≢ Refusal LeadershipLost
+single_mild r e = cc
+
+reply_mild : (rows : Bool) (answer : Ran) → reply_of rows answer ≢ Refusal LeadershipLost
+reply_mild true answer e = cc
+reply_mild false answer e = cc
+
+change_mild : (v : View) (name : List ℕ) (pages : List NumberedPage) → AllContents (change_of v name pages)
+change_mild v name pages = does_contents _
+
+module _ (v : View) (m : Machine) (g : Gateway) (c : ℕ) (s : Session) where
+  -- pages are proposed, where nothing hinders that
+  proposed_mild : (o : Option Cause) (t : Session) (name : List ℕ) (pages : List NumberedPage) (note : Note) → NoneOrMild o → TurnedMild (unless (first_cause (log_full v) LogFull o) (Proposes t (change_of v name pages) note))
+  proposed_mild o t name pages note a = unless_mild (first_cause (log_full v) LogFull o) (Proposes t (change_of v name pages) note) (first_mild (log_full v) LogFull o tt a) (change_mild v name pages)
+
+  commit_mild : (o : Option Transaction) → TurnedMild (commit_in v m g c s o)
+  unfolding committed
+  commit_mild None = tt
+  commit_mild (Some x) =
+      let pages = changed x.pinned x.working in
+      cond_both (no_pages pages) _ _ TurnedMild (λ e. single_mild _)
+      (λ e. proposed_mild (hindrance m g c x.name x.mark pages x.working) _ x.name pages Nothing (hindrance_mild m g c x.name x.mark pages x.working))
+
+  outside_mild : (ss : List Statement) (rows : Bool) (end : Ending) → TurnedMild (outside v m g c s ss rows end)
+  unfolding outside outside_write
+  outside_mild ss rows Lacking = tt
+  outside_mild ss rows (TooLarge answer) =
+      let o = row_cause rows answer (hindrance m g c s.database (m.base s.database).newest answer.after.pages (m.base s.database).image) in
+      unless_mild (first_cause (log_full v) LogFull o) (Refused DatabaseFull) (first_mild (log_full v) LogFull o tt (row_mild rows answer (hindrance m g c s.database (m.base s.database).newest answer.after.pages (m.base s.database).image) (hindrance_mild m g c s.database (m.base s.database).newest answer.after.pages (m.base s.database).image))) tt
+  outside_mild ss rows (Stopped fault) = engine_mild fault
+  outside_mild ss rows (Ended to answer) =
+      let pages = changed (m.base s.database).image to in
+      cond_both (no_pages pages) _ _ TurnedMild
+      (λ e. unless_mild (row_cause rows answer None) (Answers s (reply_of rows answer) (Outside s.database ss)) (row_mild rows answer None tt) (reply_mild rows answer))
+      (λ e. proposed_mild (row_cause rows answer (hindrance m g c s.database (m.base s.database).newest pages to)) _ s.database pages (Outside s.database ss) (row_mild rows answer (hindrance m g c s.database (m.base s.database).newest pages to) (hindrance_mild m g c s.database (m.base s.database).newest pages to)))
+
+  inside_mild : (x : Transaction) (ss : List Statement) (rows : Bool) (end : Ending) → TurnedMild (inside m g c s x ss rows end)
+  unfolding inside
+  inside_mild x ss rows Lacking = tt
+  inside_mild x ss rows (TooLarge answer) =
+      let o = hindrance m g c x.name x.mark answer.after.pages x.working in
+      unless_mild (row_cause rows answer o) (Refused DatabaseFull) (row_mild rows answer o (hindrance_mild m g c x.name x.mark answer.after.pages x.working)) tt
+  inside_mild x ss rows (Stopped fault) = engine_mild fault
+  inside_mild x ss rows (Ended to answer) =
+      let o = hindrance m g c x.name x.mark (changed x.working to) to in
+      cond_both (no_pages (changed x.working to)) _ _ TurnedMild
+      (λ e. unless_mild (row_cause rows answer None) (Answers (worked s x to x.turn) (reply_of rows answer) (Inside x.name ss)) (row_mild rows answer None tt) (reply_mild rows answer))
+      (λ e. unless_mild (row_cause rows answer o) (Answers (worked s x to true) (reply_of rows answer) (Inside x.name ss)) (row_mild rows answer o (hindrance_mild m g c x.name x.mark (changed x.working to) to)) (reply_mild rows answer))
+
+  run_mild : (o : Option Transaction) (ss : List Statement) (rows : Bool) (answers : List Answer) → TurnedMild (run_in v m g c s o ss rows answers)
+  run_mild None ss rows answers = outside_mild ss rows _
+  run_mild (Some x) ss rows answers = inside_mild x ss rows _
+
+  does_mild : (x : Asked) (answers : List Answer) → IsMild x → TurnedMild (does v m g c s x answers)
+  unfolding does
+  does_mild (Never cause) answers h = h
+  does_mild (Tells response) answers h = single_mild response
+  does_mild (Sets effect) answers h = tt
+  does_mild (Opens name) answers h = single_mild _
+  does_mild (Creates name) answers h = cond_both (pages_full m g name empty_image) _ _ TurnedMild (λ e. tt) (λ e. (tt, tt))
+  does_mild (Prepares p tail) answers h = single_mild _
+  does_mild (Drops id) answers h = single_mild _
+  does_mild (Begins at_once) answers h = cond_both (at_once && other_holds g c s.database) _ _ TurnedMild (λ e. tt) (λ e. single_mild _)
+  does_mild Commits answers h = commit_mild s.tx
+  does_mild RollsBack answers h = single_mild _
+  does_mild (Changes servers) answers h = absurd h
+  does_mild (Runs ss) answers h = run_mild s.tx ss false answers
+  does_mild (Reads st) answers h = run_mild s.tx (st ∷ []) true answers
+
+turned_mild : (v : View) (m : Machine) (g : Gateway) (c : ℕ) (r : Request) (answers : List Answer) → TurnedMild (on_request v m g c r answers)
+unfolding on_request
+turned_mild v m g c r answers = does_mild v m g c (g.session c) (asked_by v m g (g.session c) r) answers (request_mild v m g (g.session c) r)
+
+-- ---- events
+
+pub record Mild (w : Node) : Type 0 where
+  pub servers : SameServers w.log
+  pub kept : NoneLost w.said
+
+servers_append : (xs ys : List Entry) → SameServers xs → SameServers ys → SameServers (xs ++ ys)
+servers_append [] ys a b = b
+servers_append (x ∷ xs) ys a b = (a.0, servers_append xs ys a.1 b)
+
+servers_of : (t : ℕ) (cs : List Content) → AllContents cs → SameServers (entries_of t cs)
+servers_of t [] a = tt
+servers_of t (c ∷ cs) a = (a.0, servers_of t cs a.1)
+
+lost_append : (xs ys : List Said) → NoneLost xs → NoneLost ys → NoneLost (xs ++ ys)
+lost_append [] ys a b = b
+lost_append (x ∷ xs) ys a b = (a.0, lost_append xs ys a.1 b)
+
+refusal_mild : (cause : Cause) → NotLost cause → Refusal cause ≢ Refusal LeadershipLost
+refusal_mild cause h e = subst NotLost (same_cause e) h
+  where
+    same_cause : {x y : Cause} → Refusal x ≡ Refusal y → x ≡ y
+    same_cause q = cc
+
+called_mild : (w : Node) (c : ℕ) (t : Turned) → TurnedMild t → Mild w → Mild (called w c t)
+called_mild w c (Refused cause) h a = record { servers = a.servers; kept = lost_append w.said _ a.kept (refusal_mild cause h, tt) }
+called_mild w c Lacks h a = a
+called_mild w c (Answers s r note) h a = record { servers = a.servers; kept = lost_append w.said _ a.kept (h, tt) }
+called_mild w c (Proposes s contents note) h a = record { servers = servers_append w.log _ a.servers (servers_of w.term contents h); kept = a.kept }
+called_mild w c (Affects effect) h a = record { servers = a.servers; kept = lost_append w.said _ a.kept (single_mild _, tt) }
+
+landed_kept : (c : ℕ) (t : Trail) (f : Flight) (k : Kind) (content : Content) → IsOf k f.name content → (said_landed c t f k).reply ≢ Refusal LeadershipLost
+landed_kept c t f Opening content h = single_mild _
+landed_kept c t f Configuring content h = single_mild _
+landed_kept c t f (Writing reply) content h = h.not_lost
+landed_kept c t f Committing content h = single_mild _
+
+-- what one voter does by itself
+abbrev pub IsLone : Event → Type 0
+IsLone (Lose term) = ⊥
+IsLone (Follow entries) = ⊥
+IsLone (Append contents) = AllContents contents
+IsLone e = Unit {0}
+
+abbrev pub AllLone : List Event → Type 0
+AllLone [] = Unit {0}
+AllLone (e ∷ es) = IsLone e × AllLone es
+
+module _ (mean : Meaning) (kind : EngineKind) where
+  by_kept : (log : List Entry) (before index term c : ℕ) (t : Trail) (hung : Bool) (o : Option Flight) → FlightIs mean log before term t o → NoneLost (said_by index c t hung o)
+  by_kept log before index term c t hung None a = tt
+  by_kept log before index term c t hung (Some f) a = cond_both (f.last == index) _ _ NoneLost (λ e. cond_both hung _ _ NoneLost (λ z. tt) (λ z. (landed_kept c t f f.kind a.entry.content a.entry.of, tt))) (λ e. tt)
+
+  applied_kept : (w : Node) (index : ℕ) (cs : List ℕ) → NodeOk mean w → NoneLost (said_applied index w.trail w.gate.session cs)
+  applied_kept w index [] a = tt
+  applied_kept w index (c ∷ cs) a = lost_append _ _ (by_kept w.log w.applied index w.term c (w.trail c) (w.gate.session c).hung (w.gate.session c).flight (a.sessions c).flight) (applied_kept w index cs a)
+
+  mild_event : (w : Node) (e : Event) → IsLone e → NodeOk mean w → Mild w → Mild (happens w e)
+  unfolding happens
+  mild_event w (Connect c) h a m = cond_both (connects w.gate c) _ w Mild (λ e. record { servers = m.servers; kept = m.kept }) (λ e. m)
+  mild_event w (Hangup c) h a m = record { servers = m.servers; kept = m.kept }
+  mild_event w (Call c standing r answers) h a m = cond_both (may_ask (w.gate.session c)) _ w Mild (λ e. called_mild w c _ (turned_mild (view_of w standing) (databases w) w.gate c r answers) m) (λ e. m)
+  mild_event w Apply h a m = record { servers = m.servers; kept = lost_append w.said _ m.kept (applied_kept w _ w.gate.conns a) }
+  mild_event w (Lose t) h a m = absurd h
+  mild_event w (Lead t) h a m = record { servers = m.servers; kept = m.kept }
+  mild_event w Serve h a m = record { servers = m.servers; kept = m.kept }
+  mild_event w (Append contents) h a m = record { servers = servers_append w.log _ m.servers (servers_of w.term contents h); kept = m.kept }
+  mild_event w (Follow es) h a m = absurd h
+
+  pub mild_run : (w : Node) (es : List Event) → AllLone es → AllFit mean kind w es → NodeOk mean w → Mild w → Mild (run_from w es)
+  mild_run w [] l h a m = m
+  mild_run w (e ∷ es) l h a m = mild_run (happens w e) es l.1 h.1 (happens_ok mean kind w e h.0 a) (mild_event w e l.0 a m)
