@@ -4,11 +4,11 @@ use Rattle.dq_base.specs.declared.pages.NumberedPage.{NumberedPage}
 use Rattle.dq_base.specs.Changes.{changed}
 use Rattle.session_rules.specs.Asking.{Commits}
 use Rattle.session_rules.specs.Causes as causes
-use Rattle.session_rules.specs.Engines.{Answer, no_pages}
+use Rattle.session_rules.specs.Engines.{Answer}
 use Rattle.session_rules.specs.Machine.{Machine}
 use Rattle.session_rules.specs.Sessions.{Session, Gateway, View, Transaction}
 use Rattle.session_rules.specs.Limits.{log_full, first_cause, hindrance}
-use Rattle.session_rules.specs.Requests.{does, commit_in, committed}
+use Rattle.session_rules.specs.Requests.{does, commit_in, has_nothing, committed}
 use Rattle.session_table.specs.declared.cause.Cause.TheVariants as code_causes
 use Rattle.session_turns.specs.declared.turn.Turn.{Turn}
 use Rattle.session_turns.specs.declared.turn.Turn.TheVariants as turns
@@ -20,7 +20,7 @@ unfolding committed
 plain_commit v m g conn s None = tt
 plain_commit v m g conn s (Some x) =
     let pages : List NumberedPage = changed x.pinned x.working in
-    plain_if (no_pages pages) _ _ tt
+    plain_if (has_nothing x) _ _ tt
     (plain_unless (first_cause (log_full v) causes.LogFull (hindrance m g conn x.name x.mark pages x.working)) _
     (plain_first (log_full v) causes.LogFull (hindrance m g conn x.name x.mark pages x.working) tt (plain_hindrance m g conn x.name x.mark pages x.working)) tt)
 

@@ -21,11 +21,11 @@ use Rattle.session_rules.specs.Asking as asking
 use Rattle.session_rules.specs.Asking.{Asked, asked_by}
 use Rattle.session_rules.specs.Causes as causes
 use Rattle.session_rules.specs.Causes.{Cause}
-use Rattle.session_rules.specs.Engines.{Answer, Handed, no_pages}
+use Rattle.session_rules.specs.Engines.{Answer, Handed}
 use Rattle.session_rules.specs.Entries.{Does}
 use Rattle.session_rules.specs.Limits.{pages_full, other_holds, log_full, first_cause, hindrance, too_full}
 use Rattle.session_rules.specs.Machine.{Machine, machine_of}
-use Rattle.session_rules.specs.Requests.{does, handed_for, handed, on_request, creates, begins, begun, flying, commit_in, committed, unless, change_of, with_tx}
+use Rattle.session_rules.specs.Requests.{does, handed_for, handed, on_request, creates, begins, begun, flying, commit_in, has_nothing, committed, unless, change_of, with_tx}
 use Rattle.session_rules.specs.Sessions.{may_ask, Session, Gateway, View, Transaction, Turned, Refused, Lacks, Answers, Proposes, Affects, Opening, Committing, Nothing, Began, result}
 use Rattle.statement_runs.specs.Running.{TellsAll}
 use Rattle.session_table.specs.declared.cause.Cause.TheVariants as told
@@ -103,7 +103,7 @@ module _ (v : View) (m : Machine) (g : Gateway) (conn : ℕ) (s : Session) (answ
   ends_plain : (x : Transaction) → IsPlain (committed v m g conn s x)
   unfolding committed
   ends_plain x =
-      either (no_pages (changed x.pinned x.working)) (Answers (with_tx s None) (result 0) Nothing)
+      either (has_nothing x) (Answers (with_tx s None) (result 0) Nothing)
       (unless (first_cause (log_full v) causes.LogFull (hindrance m g conn x.name x.mark (changed x.pinned x.working) x.working)) (Proposes (flying v s x.name (change_of v x.name (changed x.pinned x.working)) (page_count x.working) Committing) (change_of v x.name (changed x.pinned x.working)) Nothing)) tt
       (unless_plain (first_cause (log_full v) causes.LogFull (hindrance m g conn x.name x.mark (changed x.pinned x.working) x.working)) (Proposes (flying v s x.name (change_of v x.name (changed x.pinned x.working)) (page_count x.working) Committing) (change_of v x.name (changed x.pinned x.working)) Nothing) (hindered x) tt)
 

@@ -75,8 +75,12 @@ impl Gateway {
     /// A refused request has changed nothing. `Err` is want of memory; then nothing has changed either but what the engine
     /// told.
     ///
-    /// Costs, besides the engine's, in the order of the request's bytes and of the pages that it changes. Outside a
-    /// transaction a statement's image is copied once, inside one it is not.
+    /// Costs, besides the engine's, in the order of the request's bytes and of the pages that it changes, but for what is in
+    /// the order of an image. Outside a transaction statements have the newest image copied once, and where there are several,
+    /// the copy that they worked on is compared with it at the end. BEGIN copies the newest image. In a transaction one
+    /// statement copies its own changes alone; of several, the first that changes pages has the transaction's image copied, and
+    /// the two are compared at the end. COMMIT compares the pages of the two images of a transaction that took the turn to
+    /// write, and looks at no page of another.
     pub fn on_request<E: Engine>(
         &mut self,
         conn: u64,

@@ -46,8 +46,8 @@ fn name_of(alloc: Global, text: &str) -> Result<Option<Name>, AllocError>
     Ok(Name::new(String::from_str(alloc, text)?))
 }
 
-/// The database of a name.
-fn database_of<'a>(databases: &'a [Database], name: &str) -> Option<&'a Database>
+/// The database of a name, lent; `None` exactly where there is none. Looks at the databases; takes no memory.
+pub fn database_named<'a>(databases: &'a [Database], name: &str) -> Option<&'a Database>
     ensures { MatchOption result (named name.now databases.now ≡ None) (λ database. named name.now databases.now ≡ Some database.now) }
 {
     for database in databases {
@@ -174,7 +174,7 @@ pub(crate) fn wanted_by_dump(
 ) -> Result<Wanted, AllocError>
     ensures { IfOk result (λ wanted. meant [] wanted ≡ rules.asks_dump (machine_of machine.now) name.now) }
 {
-    let Some(database) = database_of(machine.databases(), name) else {
+    let Some(database) = database_named(machine.databases(), name) else {
         return Ok(Wanted::Never(Cause::NoDatabase));
     };
     if is_too_big(name, database.lengths()) {

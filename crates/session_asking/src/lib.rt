@@ -13,6 +13,7 @@ mod texts;
 mod view;
 mod wanted;
 
+pub use databases::database_named;
 pub use names::all_names;
 pub use pages::pages_full;
 pub use request::{params_of, wanted_by};

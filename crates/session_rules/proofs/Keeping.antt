@@ -26,7 +26,7 @@ use Rattle.session_rules.specs.Statements.{any_barred, is_left_out, wrong_params
 use Rattle.session_rules.specs.Limits.{other_holds, change_in_flight, one_too_many, pages_full, log_full, first_cause, hindrance}
 use Rattle.session_rules.specs.Asking
 use Rattle.session_rules.specs.Asking.{Asked, Never, Tells, Sets, Opens, Creates, Prepares, Drops, Begins, Commits, RollsBack, Changes, Runs, Reads, asked, asked_by, at_leader, in_database}
-use Rattle.session_rules.specs.Requests.{worked, flying, unless, row_cause, reply_of, change_of, outside_write, outside, inside, ground, run_in, committed, commit_in, does, on_request, handed_over, handed_for, handed}
+use Rattle.session_rules.specs.Requests.{worked, flying, unless, row_cause, reply_of, change_of, outside_write, outside, inside, ground, run_in, has_nothing, committed, commit_in, does, on_request, handed_over, handed_for, handed}
 use Rattle.session_rules.specs.Outcomes.{reply_at_once}
 use Rattle.session_rules.specs.Laws.{IsFailure, IsRefusal, IsRefused, NothingDone, RefusalsKeep, NoteTells, TurnedTells, NotesTell, IsChange, IsSole, ProposalIs, ProposesPages}
 
@@ -84,7 +84,7 @@ commit_good : (v : View) (m : Machine) (g : Gateway) (c : ℕ) (s : Session) (o 
 unfolding committed
 commit_good v m g c s None = tt
 commit_good v m g c s (Some x) =
-    cond_both (no_pages (changed x.pinned x.working)) _ _ (Good None v)
+    cond_both (has_nothing x) _ _ (Good None v)
     (λ e. ((λ h. h), tt))
     (λ e. unless_good None v (first_cause (log_full v) LogFull (hindrance m g c x.name x.mark (changed x.pinned x.working) x.working)) (Proposes (flying v s x.name (change_of v x.name (changed x.pinned x.working)) (page_count x.working) Committing) (change_of v x.name (changed x.pinned x.working)) Nothing) (inl (changes v x.name x.pinned x.working), tt))
 

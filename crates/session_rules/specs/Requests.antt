@@ -1,5 +1,5 @@
 -- What comes of a request at a session, with the answers of an engine to the statements that it is handed.
-use Rattle.std.specs.Prelude.{ℕ, suc, ◌+◌, Bool, true, false, ◌&&◌, ◌==◌, List, [], ◌∷◌, length, map, Option, Some, None, Result, Ok, Err, if◌then◌else◌}
+use Rattle.std.specs.Prelude.{ℕ, suc, ◌+◌, Bool, true, false, not, ◌&&◌, ◌||◌, ◌==◌, List, [], ◌∷◌, length, map, Option, Some, None, Result, Ok, Err, if◌then◌else◌}
 use Rattle.dq_base.specs.declared.images.Image.{Image}
 use Rattle.dq_base.specs.declared.pages.NumberedPage.{NumberedPage}
 use Rattle.dq_base.specs.Images.{page_count}
@@ -123,11 +123,15 @@ run_in v m g conn s (Some x) ss rows answers = inside m g conn s x ss rows (runs
 
 -- ---- the end of a transaction
 
--- A commit proposes the pages that differ between pinned and working image; where none differ, the transaction is over.
+-- whether a transaction has nothing to commit: it never took the turn to write, or no page differs
+abbrev pub has_nothing : Transaction → Bool
+has_nothing x = not x.turn || no_pages (changed x.pinned x.working)
+
+-- A commit proposes the pages that differ between pinned and working image; with nothing to commit the transaction is over.
 unfoldable pub committed : View → Machine → Gateway → ℕ → Session → Transaction → Turned
 committed v m g conn s x =
     let pages = changed x.pinned x.working in
-    if no_pages pages
+    if has_nothing x
     then Answers (with_tx s None) (result 0) Nothing
     else unless (first_cause (log_full v) LogFull (hindrance m g conn x.name x.mark pages x.working))
     (Proposes (flying v s x.name (change_of v x.name pages) (page_count x.working) Committing) (change_of v x.name pages) Nothing)

@@ -1,7 +1,7 @@
 -- What a commit comes to, by what code tells.
-use Rattle.std.proofs.Common.{◌≡◌, ℕ, Bool, true, false, cond, is_none, List, Option, Some, None, Result, Ok, Err, IfOk, inl, inr, refl, sym, subst}
+use Rattle.std.proofs.Common.{◌≡◌, ℕ, Bool, true, false, cond, is_none, not, List, Option, Some, None, Result, Ok, Err, IfOk, inl, inr, refl, sym, ap, subst}
 use Rattle.std.specs.declared.alloc.AllocError.{AllocError}
-use Rattle.std.proofs.lemmas.Bool.{cases_Bool, both_ways}
+use Rattle.std.proofs.lemmas.Bool.{cases_Bool, both_ways, or_from}
 use Rattle.dq_base.specs.declared.images.Image.{Image}
 use Rattle.dq_base.specs.declared.pages.NumberedPage.{NumberedPage}
 use Rattle.dq_base.specs.Applying.{page_fault}
@@ -13,7 +13,7 @@ use Rattle.session_rules.specs.Causes.{Cause as RuleCause, LogFull}
 use Rattle.session_rules.specs.Engines.{Answer, no_pages}
 use Rattle.session_rules.specs.Limits.{log_full, first_cause, hindrance}
 use Rattle.session_rules.specs.Machine.{Machine}
-use Rattle.session_rules.specs.Requests.{unless, flying, change_of, with_tx, commit_in, committed, does}
+use Rattle.session_rules.specs.Requests.{unless, flying, change_of, with_tx, commit_in, has_nothing, committed, does}
 use Rattle.session_rules.specs.Sessions.{Session, Gateway, View, Transaction, Turned, Answers, Proposes, Committing, Nothing, result}
 use Rattle.session_table.specs.declared.cause.Cause.{Cause}
 use Rattle.session_table.specs.Named.{cause_named}
@@ -56,12 +56,12 @@ commit_of v m g conn s x pages =
     unless (first_cause (log_full v) LogFull (hindrance m g conn x.name x.mark pages x.working))
     (Proposes (flying v s x.name (change_of v x.name pages) (page_count x.working) Committing) (change_of v x.name pages) Nothing)
 
-pub commits : (v : View) (m : Machine) (g : Gateway) (conn : ℕ) (s : Session) (x : Transaction) (pages : List NumberedPage) (r : Result Turn AllocError) (answers : List Answer) → s.tx ≡ Some x → pages ≡ changed x.pinned x.working
+pub commits : (v : View) (m : Machine) (g : Gateway) (conn : ℕ) (s : Session) (x : Transaction) (pages : List NumberedPage) (r : Result Turn AllocError) (answers : List Answer) → s.tx ≡ Some x → x.turn ≡ true → pages ≡ changed x.pinned x.working
     → no_pages pages ≡ false → IfOk r (ComesTo v m s (commit_of v m g conn s x pages)) → IfOk r (ComesTo v m s (does v m g conn s Commits answers))
 unfolding does committed
-commits v m g conn s x pages r answers begun is some comes =
+commits v m g conn s x pages r answers begun turn is some comes =
     let all = changed x.pinned x.working in
-    let here : no_pages all ≡ false = subst (λ (ps : List NumberedPage). no_pages ps ≡ false) is some in
+    let here : has_nothing x ≡ false = or_from (not x.turn) (no_pages all) (ap not turn) (subst (λ (ps : List NumberedPage). no_pages ps ≡ false) is some) in
     let there : IfOk r (ComesTo v m s (commit_of v m g conn s x all)) = subst (λ (ps : List NumberedPage). IfOk r (ComesTo v m s (commit_of v m g conn s x ps))) is comes in
     subst (λ (o : Option Transaction). IfOk r (ComesTo v m s (commit_in v m g conn s o))) (sym begun)
     (subst (λ (b : Bool). IfOk r (ComesTo v m s (cond b (Answers (with_tx s None) (result 0) Nothing) (commit_of v m g conn s x all)))) (sym here) there)

@@ -1,3 +1,4 @@
+pub mod Earlier
 pub mod Hindered
 pub mod Pages
 pub mod Runs

@@ -23,15 +23,15 @@ ghost use Rattle.session_asking.specs.Meant.{IsServed};
 ghost use Rattle.session_turns.specs.Turning.{ComesTo};
 ghost use Rattle.session_turns.specs.Hindered.{LeadsTo, Hinders};
 
-use crate::pinned::{are_none, changed_since, lengths_of};
+use crate::earlier::{are_none, changed_since, lengths_of, pinned};
+use crate::hindering::{hindrance, log_full};
+use crate::turn::Turn;
+use crate::writing::{change_entries, transaction_number};
 use dq_base::{Items, Name, NumberedPage, PageSet};
 use page_apply::Machine;
 use raft_vote::Entries;
 use session_asking::View;
 use session_table::{Cause, Flight, FlightKind, Session, Transaction};
-use crate::turn::Turn;
-use crate::hindering::{hindrance, log_full};
-use crate::writing::{change_entries, transaction_number};
 use std::alloc::{AllocError, Global};
 
 /// The pages that a transaction has changed, which lead to its working image. `Err` is want of memory.
@@ -45,7 +45,8 @@ fn pages_of(
     ensures leads { IfOk result (λ pages. LeadsTo pages.items transaction.now.working) }
 {
     let _ = lengths_of(&transaction.working);
-    changed_since(alloc, machine, &transaction.pin, &transaction.working)
+    let earlier = pinned(machine, &transaction.pin);
+    changed_since(alloc, &earlier, &transaction.working)
 }
 
 /// A commit of entries that come next in the log, which isn't full. `Err` is want of memory.
@@ -160,9 +161,9 @@ fn commit(
     }
 }
 
-/// What COMMIT comes to at a session of a node that serves: its transaction is over, where it has changed no page; else its
-/// changes are proposed, where nothing hinders them. The image that the transaction has pinned is read page by page; what is
-/// copied are the pages that it has changed. `Err` is want of memory.
+/// What COMMIT comes to at a session of a node that serves: its transaction is over, where it never took the turn to write or
+/// has changed no page; else its changes are proposed, where nothing hinders them. Where it took the turn, each page of the working image is compared with that of the pinned one, for
+/// which both are copied, one at a time; the pages that differ are kept. `Err` is want of memory.
 #[tactic(auto, unfolding(session_rules::specs::Requests::does, session_rules::specs::Requests::committed))]
 pub fn commit_turn(
     alloc: Global,
@@ -180,6 +181,9 @@ pub fn commit_turn(
     let Some(transaction) = &session.transaction else {
         return Ok(Turn::Refused(Cause::NoTransaction));
     };
+    if !transaction.turn {
+        return Ok(Turn::Ends);
+    }
     let pages = pages_of(alloc, machine, transaction)?;
     if are_none(&pages) {
         return Ok(Turn::Ends);

@@ -3,12 +3,12 @@
 #![tactic(auto)]
 
 mod commit;
+mod earlier;
 mod ends;
 mod hindered;
 mod hindering;
 mod inside;
 mod outside;
-mod pinned;
 mod plain;
 mod rows;
 mod running;

@@ -16,18 +16,19 @@ ghost use Rattle.session_table.specs.declared.cause.Cause.TheVariants as causes;
 ghost use Rattle.session_table.specs.Table.{database_of, session_of, table_of, AreApart};
 ghost use Rattle.session_turns.specs.declared.turn.Turn.TheVariants as turns;
 ghost use Rattle.session_turns.specs.Turning.{ComesTo};
-ghost use Rattle.session_turns.specs.Runs.{IsWellFormed, RunsTo, ran_in};
+ghost use Rattle.session_turns.specs.Runs.{IsWellFormed, RunsTo, ran_in, whole_of};
 
+use crate::earlier::{changed_since, newest};
 use crate::inside::turn_inside;
 use crate::outside::turn_outside;
-use dq_base::Name;
+use crate::turn::Turn;
+use crate::writing::transaction_number;
+use dq_base::{Items, Name, PageSet};
 use page_apply::Machine;
 use session_asking::{Script, View};
 use session_table::{Prepared, Session, name_of, newest_image};
-use crate::turn::Turn;
-use crate::writing::transaction_number;
 use sql_engine::Engine;
-use statement_runs::{Ending, run_all, run_one};
+use statement_runs::{AllRan, Ending, Worked, run_all, run_one, run_over};
 use std::alloc::{AllocError, Global};
 use wire_words::Value;
 
@@ -64,7 +65,56 @@ fn run_statement<E: Engine>(
     }
 }
 
-/// The same of the statements of a text, one after another.
+/// The ending of statements that worked in place over the newest image of the database of a name. `Err` is want of memory.
+fn whole(
+    alloc: Global,
+    machine: &Machine,
+    name: &str,
+    tx: u64,
+    worked: Worked,
+) -> Result<Ending, AllocError>
+    ensures { IfOk result (λ ending. ending ≡ whole_of tx ((machine_of machine.now).base name.now).image worked) }
+{
+    match worked {
+        Worked::Short(ending) => Ok(ending),
+        Worked::Through(image, answer) => {
+            let earlier = newest(machine, name);
+            let pages = Items::new(changed_since(alloc, &earlier, &image)?);
+            let together = Some(PageSet { tx, pages });
+            Ok(Ending::Ended(AllRan { together, answer }))
+        }
+    }
+}
+
+/// Runs the statements of a text one after another over a copy of the newest image of the database of a name. `Err` is want of
+/// memory.
+fn run_newest<E: Engine>(
+    alloc: Global,
+    machine: &Machine,
+    name: &str,
+    script: &Script,
+    params: &[Value],
+    tx: u64,
+    engine: &mut E,
+) -> Result<Ending, AllocError>
+    requires { CanRun params.now (wanted.RunsAll script.now) }
+    ensures kind { E.kind engine.new ≡ E.kind engine.old }
+    ensures openings { E.refused_openings engine.old ≤ E.refused_openings engine.new }
+    ensures unopened { IfOk result (λ ending. ends_unopened ending ≡ true → E.refused_openings engine.old < E.refused_openings engine.new) }
+    ensures ran { IfOk result (RanTo (E.meaning (E.kind engine.old)) (E.kind engine.old) tx ((machine_of machine.now).base name.now).image (assigned script.now.text script.now.pieces params.now) (E.told engine.old) (E.told engine.new)) }
+{
+    let text = script.text.as_str();
+    let pieces = script.pieces.as_slice();
+    let image = newest_image(alloc, machine, name)?;
+    if let [_] = pieces {
+        let ending = run_all(alloc, engine, &image, text, pieces, params, tx)?;
+        return Ok(ending);
+    }
+    let worked = run_over(alloc, engine, image, text, pieces, params, tx)?;
+    whole(alloc, machine, name, tx, worked)
+}
+
+/// Runs the statements of a text one after another over the image of a session. `Err` is want of memory.
 fn run_statements<E: Engine>(
     alloc: Global,
     machine: &Machine,
@@ -80,17 +130,17 @@ fn run_statements<E: Engine>(
     ensures unopened { IfOk result (λ ending. ends_unopened ending ≡ true → E.refused_openings engine.old < E.refused_openings engine.new) }
     ensures ran { IfOk result (RanTo (E.meaning (E.kind engine.old)) (E.kind engine.old) tx (ground (machine_of machine.now) (session_of machine.now session.now) (session_of machine.now session.now).tx) (assigned script.now.text script.now.pieces params.now) (E.told engine.old) (E.told engine.new)) }
 {
-    let text = script.text.as_str();
-    let pieces = script.pieces.as_slice();
     match &session.transaction {
         Some(transaction) => {
+            let text = script.text.as_str();
+            let pieces = script.pieces.as_slice();
             let working = &transaction.working;
             let ending = run_all(alloc, engine, working, text, pieces, params, tx)?;
             Ok(ending)
         }
         None => {
-            let image = newest_image(alloc, machine, name_of(&session.database))?;
-            let ending = run_all(alloc, engine, &image, text, pieces, params, tx)?;
+            let name = name_of(&session.database);
+            let ending = run_newest(alloc, machine, name, script, params, tx, engine)?;
             Ok(ending)
         }
     }
@@ -158,8 +208,10 @@ pub fn run_prepared<E: Engine>(
 }
 
 /// What the statements of a text come to, which run one after another with as many parameters as each counts, and whose rows are
-/// dropped, at a session of a node that serves. Nothing has changed yet. The newest image of the database is copied outside a
-/// transaction, and of several statements the first that changes pages has the image copied. `Err` is want of memory.
+/// dropped, at a session of a node that serves. Nothing has changed yet. Outside a transaction the newest image of the database
+/// is copied once; where there are several statements, they work on the copy in place, and it is compared with the newest image
+/// at the end. Inside one the first of several that changes pages has the working image copied, and the two are compared at the
+/// end. `Err` is want of memory.
 pub fn run_script<E: Engine>(
     alloc: Global,
     view: &View,

@@ -1,8 +1,8 @@
 -- What comes of a request keeps the invariant.
 use Rattle.std.proofs.Common.{◌≡◌, inl, ℕ, ◌+◌, ◌-◌, Bool, true, false, cond, List, [], ◌∷◌, ◌++◌, length, take, refl, sym, ap, ◌∙◌, subst, ⊎_elim, arith, length-append}
-use Rattle.std.specs.Prelude.{◌==◌, ◌&&◌, nat_lt, nat_le, map, Option, Some, None}
+use Rattle.std.specs.Prelude.{◌==◌, ◌&&◌, not, nat_lt, nat_le, map, Option, Some, None}
 use Rattle.std.proofs.lemmas.List.{length-take-le}
-use Rattle.std.proofs.lemmas.Bool.{cond_both, cases_Bool}
+use Rattle.std.proofs.lemmas.Bool.{cond_both, cases_Bool, or_parts}
 use Rattle.dq_base.specs.declared.images.Image.{Image}
 use Rattle.dq_base.specs.Images.{page_count}
 use Rattle.dq_base.specs.Changes.{changed}
@@ -25,7 +25,7 @@ use Rattle.session_rules.specs.Sessions.{Prepared, Reply, Single, result, empty,
 use Rattle.session_rules.specs.Statements.{prepared_at, with_prepared, without_prepared, free_id}
 use Rattle.session_rules.specs.Limits.{other_holds, pages_full, log_full, first_cause, hindrance}
 use Rattle.session_rules.specs.Asking.{Asked, Never, Tells, Sets, Opens, Creates, Prepares, Drops, Begins, Commits, RollsBack, Changes, Runs, Reads, asked_by, at_leader, asks_finalize, no_database, is_other_node, files_of, within_size, body_size, info_of}
-use Rattle.session_rules.specs.Requests.{with_tx, with_statements, with_database, begun, worked, flying, row_cause, reply_of, outside_write, outside, inside, ground, run_in, committed, commit_in, does, on_request, handed_for, handed}
+use Rattle.session_rules.specs.Requests.{with_tx, with_statements, with_database, begun, worked, flying, row_cause, reply_of, outside_write, outside, inside, ground, run_in, has_nothing, committed, commit_in, does, on_request, handed_for, handed}
 use Rattle.session_rules.proofs.Images.{changed_same}
 use Rattle.session_world.specs.Nodes.{Trail, Node, Standing, databases, view_of}
 use Rattle.session_world.specs.Life.{query_by, called, IsPlain}
@@ -139,14 +139,14 @@ module _ (mean : Meaning) (standing : Standing) (w : Node) (a : NodeOk mean w) (
   commit_ok (Some x) serves is =
       let k = a.sessions c in
       let ok = subst (TxIs mean w.log (w.trail c)) is k.tx in
-      cond_both (no_pages (changed x.pinned x.working)) _ _ (λ t. NodeOk mean (called w c t))
+      cond_both (has_nothing x) _ _ (λ t. NodeOk mean (called w c t))
       (λ e. answers_ok mean standing w a c free here (with_tx (w.gate.session c) None) (result 0) Nothing free here (record { at = k.at; seen = k.seen; tx = tt; flight = no_flight mean standing w a c free here w.log _; apart = not_apart mean standing w a c free here _ }) (λ y. no (sym y ∙ serves)) tt)
       (λ e. unless_ok _ _ (λ t. NodeOk mean (called w c t)) refuse
       (λ z.
       let f = first_none (log_full (view_of w standing)) LogFull (hindrance (databases w) w.gate c x.name x.mark (changed x.pinned x.working) x.working) z in
       let u = hindrance_none (databases w) w.gate c x.name x.mark (changed x.pinned x.working) x.working f.1 in
       let same : image_at w.log w.applied x.name ≡ x.pinned = (counts_between w.log (w.trail c).at w.applied x.name k.at).same (u.newest ∙ ok.mark) ∙ sym ok.pinned in
-      write_ok mean standing w a c free here x.name x.pinned x.working (page_count x.working) Committing Nothing (w.trail c).ran ok.replies serves f.0 refl (record { turn = u.turn; newest = refl; fits = u.fits }) same ok.ran refl (ok.led e)
+      write_ok mean standing w a c free here x.name x.pinned x.working (page_count x.working) Committing Nothing (w.trail c).ran ok.replies serves f.0 refl (record { turn = u.turn; newest = refl; fits = u.fits }) same ok.ran refl (ok.led (or_parts (not x.turn) (no_pages (changed x.pinned x.working)) e).1)
       (λ wrote.
       let low = a.applied in
       let at = k.at in

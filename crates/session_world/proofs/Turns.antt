@@ -21,13 +21,13 @@ use Rattle.session_rules.specs.Sessions.{Reply, Single, result, empty, db, Kind,
 use Rattle.session_rules.specs.Statements.{free_id, with_prepared, without_prepared}
 use Rattle.session_rules.specs.Limits.{writes_to, has_turn, holds, other_holds, is_write, pages_full, first_cause, hindrance, log_full}
 use Rattle.session_rules.specs.Asking.{Asked, Never, Tells, Sets, Opens, Creates, Prepares, Drops, Begins, Commits, RollsBack, Changes, Runs, Reads, asked}
-use Rattle.session_rules.specs.Requests.{with_tx, with_statements, with_database, begun, worked, flying, row_cause, reply_of, outside_write, outside, inside, run_in, committed, commit_in, does, on_request, with_session}
+use Rattle.session_rules.specs.Requests.{with_tx, with_statements, with_database, begun, worked, flying, row_cause, reply_of, outside_write, outside, inside, run_in, has_nothing, committed, commit_in, does, on_request, with_session}
 use Rattle.session_rules.specs.Events.{tidy, settled_by, landed, on_applied, left, on_hangup, connects, connected}
 use Rattle.session_rules.proofs.Images.{unchanged, changed_same}
 use Rattle.session_rules.proofs.Names.{name_is, is_name, same_name}
 use Rattle.session_world.specs.Nodes.{Node, Standing, databases, view_of, started}
 use Rattle.session_world.specs.Life.{Event, Connect, Hangup, Call, Apply, Lose, Lead, Serve, Append, Follow, ArePlain, called, happens, run_from, Fits, AllFit}
-use Rattle.session_world.specs.Laws.{Starts, life, OneTurn, CommitsPass}
+use Rattle.session_world.specs.Laws.{Starts, life, OneTurn, ChangesTakeTurns, CommitsPass}
 use Rattle.session_world.proofs.Files.{Free, touches, alike_between, base_append, split_free}
 use Rattle.session_world.proofs.Invariant.{Calm, Apart, ApartBy, Bare, NodeOk, calm_grown}
 use Rattle.session_world.proofs.Tables.{none_holds, others_none}
@@ -215,7 +215,7 @@ module _ (mean : Meaning) (standing : Standing) (w : Node) (a : NodeOk mean w) (
   commit_turn None is = refuse NoTransaction
   commit_turn (Some x) is =
       let f = subst (TurnIs w.log w.applied (w.gate.session c).flight) is (t.each c) in
-      cond_both (no_pages (changed x.pinned x.working)) _ _ (λ y. WTurn (called w c y))
+      cond_both (has_nothing x) _ _ (λ y. WTurn (called w c y))
       (λ e. less (with_tx (w.gate.session c) None) (result 0) Nothing (λ n y. ⊎_elim (λ (z : writes_to (w.gate.session c).flight n ≡ true). no (sym (off n) ∙ z)) (λ (z : false ≡ true). no z) (or_cases (writes_to (w.gate.session c).flight n) false y)) tt)
       (λ e. unless_ok (first_cause (log_full (view_of w standing)) LogFull (hindrance (databases w) w.gate c x.name x.mark (changed x.pinned x.working) x.working)) _ (λ y. WTurn (called w c y)) refuse
       (λ z.
@@ -391,6 +391,12 @@ module _ (mean : Meaning) (kind : EngineKind) where
 
   pub one_turn_holds : OneTurn mean kind
   one_turn_holds log applied term es s h c d n ne x y = (turn_of log applied term es s h).single c d n ne x y
+
+  pub changes_take_turns : ChangesTakeTurns mean kind
+  changes_take_turns log applied term es s h c x is without =
+      let w = life log applied term es in
+      let f = subst (TurnIs w.log w.applied (w.gate.session c).flight) is ((turn_of log applied term es s h).each c) in
+      sym (f.kept without)
 
   pub commits_pass_hold : CommitsPass mean kind
   unfolding holds

@@ -117,6 +117,10 @@ LivesWeave m kind = OfLives m kind (λ w. Woven w.log)
 abbrev pub OneTurn : Meaning → EngineKind → Type 0
 OneTurn m kind = OfLives m kind (λ w. (one other : ℕ) (name : List ℕ) → one ≢ other → holds (w.gate.session one) name ≡ true → holds (w.gate.session other) name ≡ true → ⊥)
 
+-- A transaction that never took the write turn has the image that it pinned.
+abbrev pub ChangesTakeTurns : Meaning → EngineKind → Type 0
+ChangesTakeTurns m kind = OfLives m kind (λ w. (conn : ℕ) (x : Transaction) → (w.gate.session conn).tx ≡ Some x → x.turn ≡ false → x.working ≡ x.pinned)
+
 -- The commit of a transaction meets nothing that others did: nobody else has the turn, and no commit came between.
 pub record Passes (w : Node) (conn : ℕ) (x : Transaction) : Type 0 where
   pub turn : other_holds w.gate conn x.name ≡ false

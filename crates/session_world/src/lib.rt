@@ -19,6 +19,7 @@ ghost use Rattle.session_world.specs.Laws.{
   AnswersCome,
   LivesWeave,
   OneTurn,
+  ChangesTakeTurns,
   CommitsPass,
   FlightsStand,
   LivesSee,
@@ -60,6 +61,12 @@ pub fn answers_come<E: Engine>()
 /// At most one session has the write turn of a database, at any time.
 pub fn one_turn<E: Engine>()
     ensures { (kind : _) → OneTurn (E.meaning kind) kind }
+{}
+
+/// A transaction that never took the write turn has the image that it pinned: no change is lost where its COMMIT ends it at
+/// once.
+pub fn changes_take_turns<E: Engine>()
+    ensures { (kind : _) → ChangesTakeTurns (E.meaning kind) kind }
 {}
 
 /// Where a transaction changed pages, nobody else has the turn of its database and no commit came since it began: its

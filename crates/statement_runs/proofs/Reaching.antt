@@ -1,5 +1,5 @@
 -- Statements that ran so far, and how running them ends.
-use Rattle.std.proofs.Common.{◌≡◌, ◌<◌, ◌+◌, ◌^◌, ℕ, suc, Bool, true, false, cond, List, [], ◌∷◌, ◌++◌, length, Option, Some, None, is_none, Ok, Err, ◌⊎◌, inl, inr, refl, sym, ap, subst, ◌∙◌, append_assoc, append-nil, length-append, arith}
+use Rattle.std.proofs.Common.{◌≡◌, ◌+◌, ℕ, suc, Bool, true, false, List, [], ◌∷◌, ◌++◌, length, Option, Some, None, is_none, Ok, Err, ◌⊎◌, inl, inr, refl, sym, ap, subst, ◌∙◌, append_assoc, append-nil, length-append, arith}
 use Rattle.std.proofs.lemmas.Bool.{cases_Bool, cond-true, cond-false}
 use Rattle.dq_base.specs.declared.images.Image.{Image}
 use Rattle.dq_base.specs.declared.pages.NumberedPage.{NumberedPage}
@@ -15,11 +15,11 @@ use Rattle.sql_engine.specs.Meanings.{Meaning, Answers, Faults, IsShort, Told, T
 use Rattle.sql_engine.proofs.ChangeLists.{changed_none}
 use Rattle.sql_engine.proofs.Leading.{leads_on}
 use Rattle.statement_runs.proofs.Changing.{change_leads}
-use Rattle.session_rules.specs.Engines.{Answer, Ending, TooLarge, Stopped, Ended, no_pages, takes, no_answer, runs, used, AllowsRest, AllowsAll}
+use Rattle.session_rules.specs.Engines.{Answer, Ending, TooLarge, takes, no_answer, runs, used, AllowsRest, AllowsAll}
 use Rattle.statement_runs.specs.declared.ending.AllRan.{AllRan}
 use Rattle.statement_runs.specs.declared.ending.Ending.{Ending as CodeEnding}
 use Rattle.statement_runs.specs.declared.ending.Ending.TheVariants as codes
-use Rattle.statement_runs.specs.Running.{TellsAll, change_in, Shows, RanTo, ending_of, Went, WentTooFar, Failed}
+use Rattle.statement_runs.specs.Running.{TellsAll, change_in, Shows, RanTo, ending_of, Led, Went, WentTooFar, Failed}
 
 -- The answers so far lead from the first image to the one that was reached, with these statements still to run.
 pub record Reached (m : Meaning) (kind : EngineKind) (base : Image) (statements rest : List Statement) (told_before told_now : Option Told) (cur : Image) (last : Ran) : Type 0 where
@@ -127,6 +127,28 @@ reached_end m kind tx base statements before now cur last ran r answer change =
     tt
     refl
     (ran, refl, answer, change, change_shown base cur r.short)
+
+pub reached_led : (m : Meaning) (kind : EngineKind) (base : Image) (statements : List Statement) (before now : Option Told) (cur : Image) (last : Ran) → Reached m kind base statements [] before now cur last → Led m kind base statements before now cur last
+unfolding runs used
+reached_led m kind base statements before now cur last r = record {
+  answers = r.answers ++ [];
+  allowed = r.allows_on [] tt;
+  told = subst (λ (answers : List Answer). TellsAll answers before now) (sym (append-nil r.answers)) r.told;
+  exact = r.uses_on [] ∙ sym (length-append r.answers []);
+  ends = r.runs_on [];
+  leads = change_shown base cur r.short;
+}
+
+-- statements that all ran, with the change from the first image to the one that they led to
+pub led_ran : (m : Meaning) (kind : EngineKind) (tx : ℕ) (image : Image) (statements : List Statement) (before now : Option Told) (to : Image) (answer : Ran) → Led m kind image statements before now to answer
+    → RanTo m kind tx image statements before now (codes.Ended (record { together = Some (record { tx = tx; pages = changed image to }); answer = answer }))
+led_ran m kind tx image statements before now to answer led = record {
+  answers = led.answers;
+  allowed = led.allowed;
+  told = led.told;
+  exact = led.exact;
+  ends = subst (λ (e : Ending). Shows tx image e (codes.Ended (record { together = Some (record { tx = tx; pages = changed image to }); answer = answer }))) (sym led.ends) (record { together = Some (record { tx = tx; pages = changed image to }); answer = answer }, refl, refl, refl, led.leads);
+}
 
 pub reached_fault : (m : Meaning) (kind : EngineKind) (tx : ℕ) (base : Image) (statements : List Statement) (s : Statement) (rest : List Statement) (before now next : Option Told) (cur : Image) (last : Ran) (fault : EngineFault)
     → Reached m kind base statements (s ∷ rest) before now cur last → Failed m kind cur s now next fault → RanTo m kind tx base statements before next (codes.Stopped fault)

@@ -1,28 +1,25 @@
 -- Where running the statements of a text stands.
-use Rattle.std.proofs.Common.{◌≡◌, ℕ, ◌+◌, ◌-◌, ◌≤◌, List, [], ◌∷◌, length, take, drop, map, Option, Some, None, refl, sym, ap, subst, ◌∙◌, arith}
+use Rattle.std.proofs.Common.{◌≡◌, ℕ, ◌+◌, ◌≤◌, List, ◌∷◌, length, take, drop, Option, Some, None, refl, sym, ap, subst, ◌∙◌, arith}
 use Rattle.std.proofs.lemmas.List.{drop_all}
 use Rattle.std.proofs.lemmas.List.Sums.{sum_by-cons}
 use Rattle.dq_base.specs.declared.images.Image.{Image}
-use Rattle.dq_base.specs.Changes.{changed}
 use Rattle.wire_words.specs.declared.value.Value.{Value}
 use Rattle.sql_scan.specs.declared.pieces.Piece.{Piece}
 use Rattle.sql_engine.specs.declared.kind.EngineKind.{EngineKind}
-use Rattle.sql_engine.specs.declared.answer.Ran.{Ran}
 use Rattle.sql_engine.specs.Replies.{Statement}
 use Rattle.sql_engine.specs.Meanings.{Meaning, Told}
 use Rattle.session_rules.specs.Statements.{prepared_from}
-use Rattle.statement_runs.specs.declared.ending.AllRan.{AllRan}
 use Rattle.statement_runs.specs.declared.ending.Ending.{Ending as CodeEnding}
 use Rattle.statement_runs.specs.declared.ending.Ending.TheVariants as codes
 use Rattle.statement_runs.specs.declared.running.Progress.{Progress}
 use Rattle.statement_runs.specs.Texts.{wants, assigned}
-use Rattle.statement_runs.specs.Running.{current, Went, WentTooFar, Failed, Stepped, RanTo, change_in}
-use Rattle.statement_runs.proofs.Reaching.{Reached, reached_more, reached_end, reached_fault, reached_too_far}
+use Rattle.statement_runs.specs.Running.{current, Led, Stepped, RanTo}
+use Rattle.statement_runs.proofs.Reaching.{Reached, reached_more, reached_led, reached_fault, reached_too_far}
 
-pub record Standing (m : Meaning) (kind now : EngineKind) (image : Image) (text : List ℕ) (pieces : List Piece) (params : List Value) (i : ℕ) (rest : List Value) (told_before told_now : Option Told) (progress : Progress) : Type 0 where
+pub record Standing (m : Meaning) (kind now : EngineKind) (image base : Image) (text : List ℕ) (pieces : List Piece) (params : List Value) (i : ℕ) (rest : List Value) (told_before told_now : Option Told) (progress : Progress) : Type 0 where
   pub same_kind : now ≡ kind
   pub fit : wants (drop i pieces) ≡ length rest
-  pub reached : Reached m kind image (assigned text pieces params) (assigned text (drop i pieces) rest) told_before told_now (current image progress.working) progress.answer
+  pub reached : Reached m kind image (assigned text pieces params) (assigned text (drop i pieces) rest) told_before told_now (current base progress.working) progress.answer
 
 -- the statements from a place on, where the next stands
 assigned_from : (text : List ℕ) (pieces others : List Piece) (p : Piece) (one : List ℕ) (rest own later : List Value) → pieces ≡ p ∷ others → one ≡ (prepared_from text p).text → own ≡ take p.params rest → later ≡ drop p.params rest
@@ -33,42 +30,39 @@ assigned_from text pieces others p one rest own later next is front back = rw (n
 pub fits_next : (pieces others : List Piece) (p : Piece) (rest : List Value) → pieces ≡ p ∷ others → wants pieces ≡ length rest → p.params + wants others ≡ length rest
 fits_next pieces others p rest next fit = sym (sum_by-cons (λ (q : Piece). q.params) p others) ∙ ap wants (sym next) ∙ fit
 
-module _ (meaning : EngineKind → Meaning) (kind now next : EngineKind) (tx : ℕ) (image : Image) (text : List ℕ) (pieces : List Piece) (params : List Value) (i : ℕ) (rest own later : List Value) (told_before told_now told_next : Option Told) (before after : Progress) (p : Piece) (one : List ℕ) (o : Option CodeEnding)
-    (s : Standing (meaning kind) kind now image text pieces params i rest told_before told_now before)
-    (step : Stepped (meaning now) now tx (current image before.working) (record { text = one; params = own }) told_now told_next (current image after.working) after.answer o)
+module _ (meaning : EngineKind → Meaning) (kind now next : EngineKind) (tx : ℕ) (image base : Image) (text : List ℕ) (pieces : List Piece) (params : List Value) (i : ℕ) (rest own later : List Value) (told_before told_now told_next : Option Told) (before after : Progress) (p : Piece) (one : List ℕ) (o : Option CodeEnding)
+    (s : Standing (meaning kind) kind now image base text pieces params i rest told_before told_now before)
+    (step : Stepped (meaning now) now tx (current base before.working) (record { text = one; params = own }) told_now told_next (current base after.working) after.answer o)
     (is : one ≡ (prepared_from text p).text) (cut : drop i pieces ≡ p ∷ drop (i + 1) pieces) (front : own ≡ take p.params rest) (back : later ≡ drop p.params rest) where
   statement : Statement
   statement = record { text = one; params = own }
 
-  there : Reached (meaning kind) kind image (assigned text pieces params) (statement ∷ assigned text (drop (i + 1) pieces) later) told_before told_now (current image before.working) before.answer
+  there : Reached (meaning kind) kind image (assigned text pieces params) (statement ∷ assigned text (drop (i + 1) pieces) later) told_before told_now (current base before.working) before.answer
   unfolding statement
-  there = subst (λ (ss : List Statement). Reached (meaning kind) kind image (assigned text pieces params) ss told_before told_now (current image before.working) before.answer) (assigned_from text (drop i pieces) (drop (i + 1) pieces) p one rest own later cut is front back) s.reached
+  there = subst (λ (ss : List Statement). Reached (meaning kind) kind image (assigned text pieces params) ss told_before told_now (current base before.working) before.answer) (assigned_from text (drop i pieces) (drop (i + 1) pieces) p one rest own later cut is front back) s.reached
 
-  stepped : (e : Option CodeEnding) → o ≡ e → Stepped (meaning kind) kind tx (current image before.working) statement told_now told_next (current image after.working) after.answer e
+  stepped : (e : Option CodeEnding) → o ≡ e → Stepped (meaning kind) kind tx (current base before.working) statement told_now told_next (current base after.working) after.answer e
   unfolding statement
-  stepped e same = subst (λ (x : Option CodeEnding). Stepped (meaning kind) kind tx (current image before.working) statement told_now told_next (current image after.working) after.answer x) same (subst (λ (k : EngineKind). Stepped (meaning k) k tx (current image before.working) statement told_now told_next (current image after.working) after.answer o) s.same_kind step)
+  stepped e same = subst (λ (x : Option CodeEnding). Stepped (meaning kind) kind tx (current base before.working) statement told_now told_next (current base after.working) after.answer x) same (subst (λ (k : EngineKind). Stepped (meaning k) k tx (current base before.working) statement told_now told_next (current base after.working) after.answer o) s.same_kind step)
 
-  pub standing_more : next ≡ now → length later + p.params ≡ length rest → o ≡ None → Standing (meaning kind) kind next image text pieces params (i + 1) later told_before told_next after
+  pub standing_more : next ≡ now → length later + p.params ≡ length rest → o ≡ None → Standing (meaning kind) kind next image base text pieces params (i + 1) later told_before told_next after
   standing_more kept back_length none = record {
     same_kind = kept ∙ s.same_kind;
     fit = let f = fits_next (drop i pieces) (drop (i + 1) pieces) p rest cut s.fit in omega arith;
-    reached = reached_more (meaning kind) kind tx image (assigned text pieces params) statement (assigned text (drop (i + 1) pieces) later) told_before told_now told_next (current image before.working) (current image after.working) before.answer after.answer there (stepped None none);
+    reached = reached_more (meaning kind) kind tx image (assigned text pieces params) statement (assigned text (drop (i + 1) pieces) later) told_before told_now told_next (current base before.working) (current base after.working) before.answer after.answer there (stepped None none);
   }
 
-  stops : (e : CodeEnding) → Stepped (meaning kind) kind tx (current image before.working) statement told_now told_next (current image after.working) after.answer (Some e) → RanTo (meaning kind) kind tx image (assigned text pieces params) told_before told_next e
+  stops : (e : CodeEnding) → Stepped (meaning kind) kind tx (current base before.working) statement told_now told_next (current base after.working) after.answer (Some e) → RanTo (meaning kind) kind tx image (assigned text pieces params) told_before told_next e
   stops (codes.Ended all) step = absurd step
-  stops (codes.TooLarge answer) step = reached_too_far (meaning kind) kind tx image (assigned text pieces params) statement (assigned text (drop (i + 1) pieces) later) told_before told_now told_next (current image before.working) before.answer answer there step
-  stops (codes.Stopped fault) step = reached_fault (meaning kind) kind tx image (assigned text pieces params) statement (assigned text (drop (i + 1) pieces) later) told_before told_now told_next (current image before.working) before.answer fault there step
+  stops (codes.TooLarge answer) step = reached_too_far (meaning kind) kind tx image (assigned text pieces params) statement (assigned text (drop (i + 1) pieces) later) told_before told_now told_next (current base before.working) before.answer answer there step
+  stops (codes.Stopped fault) step = reached_fault (meaning kind) kind tx image (assigned text pieces params) statement (assigned text (drop (i + 1) pieces) later) told_before told_now told_next (current base before.working) before.answer fault there step
 
   pub standing_stops : (e : CodeEnding) → o ≡ Some e → RanTo (meaning kind) kind tx image (assigned text pieces params) told_before told_next e
   standing_stops e same = stops e (stepped (Some e) same)
 
-abbrev together : ℕ → Image → Progress → AllRan
-together tx image progress = record { together = Some (record { tx = tx; pages = changed image (current image progress.working) }); answer = progress.answer }
-
-pub standing_ends : (m : Meaning) (kind now : EngineKind) (tx : ℕ) (image : Image) (text : List ℕ) (pieces : List Piece) (params : List Value) (i : ℕ) (rest : List Value) (told_before told_now : Option Told) (progress : Progress) (ending : CodeEnding)
-    → Standing m kind now image text pieces params i rest told_before told_now progress → length pieces ≤ i → ending ≡ codes.Ended (together tx image progress)
-    → RanTo m kind tx image (assigned text pieces params) told_before told_now ending
-standing_ends m kind now tx image text pieces params i rest told_before told_now progress ending s past is =
-    let r : Reached m kind image (assigned text pieces params) [] told_before told_now (current image progress.working) progress.answer = subst (λ (ps : List Piece). Reached m kind image (assigned text pieces params) (assigned text ps rest) told_before told_now (current image progress.working) progress.answer) (drop_all i pieces past) s.reached in
-    rw is (reached_end m kind tx image (assigned text pieces params) told_before told_now (current image progress.working) progress.answer (together tx image progress) r refl refl)
+pub standing_ends : (m : Meaning) (kind now : EngineKind) (image base : Image) (text : List ℕ) (pieces : List Piece) (params : List Value) (i : ℕ) (rest : List Value) (told_before told_now : Option Told) (progress : Progress)
+    → Standing m kind now image base text pieces params i rest told_before told_now progress → length pieces ≤ i
+    → Led m kind image (assigned text pieces params) told_before told_now (current base progress.working) progress.answer
+standing_ends m kind now image base text pieces params i rest told_before told_now progress s past =
+    reached_led m kind image (assigned text pieces params) told_before told_now (current base progress.working) progress.answer
+    (subst (λ (ps : List Piece). Reached m kind image (assigned text pieces params) (assigned text ps rest) told_before told_now (current base progress.working) progress.answer) (drop_all i pieces past) s.reached)

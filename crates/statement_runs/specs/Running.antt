@@ -1,5 +1,5 @@
 -- What running statements one after another came to.
-use Rattle.std.specs.Prelude.{◌≡◌, ℕ, Bool, true, false, List, [], ◌∷◌, length, unwrap_or, Option, Some, None, Result, Ok, Err, if◌then◌else◌}
+use Rattle.std.specs.Prelude.{◌≡◌, ℕ, Bool, true, false, List, [], ◌∷◌, length, unwrap_or, Option, Some, None, Ok, Err, if◌then◌else◌}
 use Rattle.dq_base.specs.declared.images.Image.{Image}
 use Rattle.dq_base.specs.declared.pages.PageSet.{PageSet}
 use Rattle.dq_base.specs.Applying.{applied}
@@ -14,6 +14,8 @@ use Rattle.session_rules.specs.Engines.{Answer, Ending, Lacking, TooLarge, Stopp
 use Rattle.statement_runs.specs.declared.ending.AllRan.{AllRan}
 use Rattle.statement_runs.specs.declared.ending.Ending.{Ending as CodeEnding}
 use Rattle.statement_runs.specs.declared.ending.Ending.TheVariants as codes
+use Rattle.statement_runs.specs.declared.ending.Worked.{Worked}
+use Rattle.statement_runs.specs.declared.ending.Worked.TheVariants as works
 
 -- the engine told these answers one after the other
 unfoldable pub TellsAll : List Answer → Option Told → Option Told → Type 0
@@ -39,6 +41,26 @@ pub record RanTo (m : Meaning) (kind : EngineKind) (tx : ℕ) (image : Image) (s
   pub exact : used image statements answers ≡ length answers
   pub ends : Shows tx image (runs image no_answer statements answers) ending
 
+-- All ran: there are answers that the engine may give and told, all of them are used, and by them the statements lead to this
+-- image and this last answer.
+pub record Led (m : Meaning) (kind : EngineKind) (image : Image) (statements : List Statement) (told_before told_now : Option Told) (to : Image) (answer : Ran) : Type 0 where
+  pub answers : List Answer
+  pub allowed : AllowsAll m kind image statements answers
+  pub told : TellsAll answers told_before told_now
+  pub exact : used image statements answers ≡ length answers
+  pub ends : runs image no_answer statements answers ≡ Ended to answer
+  pub leads : applied image (changed image to) ≡ to
+
+-- what running came to that works on its image in place
+abbrev pub WorkedTo : Meaning → EngineKind → ℕ → Image → List Statement → Option Told → Option Told → Worked → Type 0
+WorkedTo m kind tx image ss before now (works.Through to answer) = Led m kind image ss before now to answer
+WorkedTo m kind tx image ss before now (works.Short ending) = RanTo m kind tx image ss before now ending
+
+-- what it came to where it ended so, or else led to this image and this last answer
+abbrev pub AdvancedTo : Meaning → EngineKind → ℕ → Image → List Statement → Option Told → Option Told → Image → Ran → Option CodeEnding → Type 0
+AdvancedTo m kind tx image ss before now to answer None = Led m kind image ss before now to answer
+AdvancedTo m kind tx image ss before now to answer (Some ending) = RanTo m kind tx image ss before now ending
+
 abbrev pub is_unopened : EngineFault → Bool
 is_unopened faults.Constraint = false
 is_unopened faults.Sql = false
@@ -56,6 +78,10 @@ ends_unopened (codes.Stopped fault) = is_unopened fault
 abbrev pub stops_unopened : Option CodeEnding → Bool
 stops_unopened None = false
 stops_unopened (Some ending) = ends_unopened ending
+
+abbrev pub works_unopened : Worked → Bool
+works_unopened (works.Through to answer) = false
+works_unopened (works.Short ending) = ends_unopened ending
 
 -- how running the only statement ends by its answer
 abbrev pub ending_of : Ran → CodeEnding

@@ -9,10 +9,10 @@ ghost use Rattle.statement_runs.specs.declared.ending.Ending.TheVariants as endi
 ghost use Rattle.session_rules.specs.Statements.{prepared_from};
 ghost use Rattle.statement_runs.specs.Texts.{assigned, wants};
 ghost use Rattle.statement_runs.specs.Running as running;
-ghost use Rattle.statement_runs.specs.Running.{RanTo, Stepped};
+ghost use Rattle.statement_runs.specs.Running.{AdvancedTo, RanTo, Stepped, WorkedTo};
 
 use crate::change::change_between;
-use crate::ending::{AllRan, Ending};
+use crate::ending::{AllRan, Ending, Worked};
 use dq_base::{Image, Items, NumberedPage, PageSet, apply_pages, set_lengths};
 use sql_engine::{Engine, Ran};
 use sql_scan::Piece;
@@ -190,6 +190,38 @@ fn step<E: Engine>(
     }
 }
 
+/// Runs the statements of a text one after another, from where nothing ran yet. How running ends, where that is for another
+/// reason than that all ran.
+fn advance<E: Engine>(
+    alloc: Global,
+    engine: &mut E,
+    base: &Image,
+    progress: &mut Progress,
+    text: &str,
+    pieces: &[Piece],
+    params: &[Value],
+    tx: u64,
+) -> Result<Option<Ending>, AllocError>
+    requires stand { All (StandsIn text.now) pieces.now }
+    requires fit { wants pieces.now ≡ length params.now }
+    requires start { progress.old.answer ≡ rules.no_answer }
+    ensures kind { E.kind engine.new ≡ E.kind engine.old }
+    ensures openings { E.refused_openings engine.old ≤ E.refused_openings engine.new }
+    ensures unopened { IfOk result (λ ending. running.stops_unopened ending ≡ true → E.refused_openings engine.old < E.refused_openings engine.new) }
+    ensures ran { IfOk result (AdvancedTo (E.meaning (E.kind engine.old)) (E.kind engine.old) tx (running.current base.now progress.old.working) (assigned text.now pieces.now params.now) (E.told engine.old) (E.told engine.new) (running.current base.now progress.new.working) progress.new.answer) }
+{
+    let mut rest = params;
+    for piece in pieces {
+        let (own, later) = rest.split_at(piece.params as usize);
+        let one = piece_text(text, piece);
+        match step(alloc, engine, base, progress, one, own, tx)? {
+            Some(ending) => return Ok(Some(ending)),
+            None => rest = later,
+        }
+    }
+    Ok(None)
+}
+
 /// Runs the statements of a text one after another, each over the image that the one before it left, for the transaction of
 /// a number. Each takes as many parameters as it counts, in order; together they take all.
 ///
@@ -220,15 +252,55 @@ pub fn run_all<E: Engine>(
         working: None,
         answer: no_answer(alloc),
     };
-    let mut rest = params;
-    for piece in pieces {
-        let (own, later) = rest.split_at(piece.params as usize);
-        let one = piece_text(text, piece);
-        match step(alloc, engine, image, &mut progress, one, own, tx)? {
-            Some(ending) => return Ok(ending),
-            None => rest = later,
-        }
+    match advance(
+        alloc,
+        engine,
+        image,
+        &mut progress,
+        text,
+        pieces,
+        params,
+        tx,
+    )? {
+        Some(ending) => Ok(ending),
+        None => progress.finish(alloc, image, tx),
     }
-    let ending = progress.finish(alloc, image, tx)?;
-    Ok(ending)
+}
+
+/// The same over an image that is worked on in place, and given back where all ran. Nothing of it is copied, and nothing
+/// compared.
+pub fn run_over<E: Engine>(
+    alloc: Global,
+    engine: &mut E,
+    image: Image,
+    text: &str,
+    pieces: &[Piece],
+    params: &[Value],
+    tx: u64,
+) -> Result<Worked, AllocError>
+    requires stand { All (StandsIn text.now) pieces.now }
+    requires fit { wants pieces.now ≡ length params.now }
+    ensures kind { E.kind engine.new ≡ E.kind engine.old }
+    ensures openings { E.refused_openings engine.old ≤ E.refused_openings engine.new }
+    ensures unopened { IfOk result (λ worked. running.works_unopened worked ≡ true → E.refused_openings engine.old < E.refused_openings engine.new) }
+    ensures ran { IfOk result (WorkedTo (E.meaning (E.kind engine.old)) (E.kind engine.old) tx image (assigned text.now pieces.now params.now) (E.told engine.old) (E.told engine.new)) }
+{
+    let nothing = Image::new(alloc);
+    let mut progress = Progress {
+        working: Some(image),
+        answer: no_answer(alloc),
+    };
+    match advance(
+        alloc,
+        engine,
+        &nothing,
+        &mut progress,
+        text,
+        pieces,
+        params,
+        tx,
+    )? {
+        Some(ending) => Ok(Worked::Short(ending)),
+        None => Ok(Worked::Through(progress.working.unwrap_or(nothing), progress.answer)),
+    }
 }

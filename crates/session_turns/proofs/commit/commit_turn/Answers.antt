@@ -12,5 +12,5 @@ returns c = λ weight answers.
     let x = transaction_of machine c.in-Some.transaction in
     let s = session_of machine c.args.session.now in
     commits c.args.view.now (machine_of machine) (table_of machine c.args.sessions.now weight) c.args.session.now.conn s x c.in_ok-pages.pages.items c.commit.result answers
-    (ap (λ (t : Option Transaction). option_map (transaction_of machine) t) c.in-Some.is) c.in_ok-pages.ensures.change (sym c.are_none.ensures ∙ c.if-are_none.false)
+    (ap (λ (t : Option Transaction). option_map (transaction_of machine) t) c.in-Some.is) c.if-not-transaction.false c.in_ok-pages.ensures.change (sym c.are_none.ensures ∙ c.if-are_none.false)
     (c.commit.ensures weight s x.working c.in_ok-pages.ensures.leads)

@@ -1,7 +1,7 @@
 use Rattle.std.proofs.Common.{List, sym, subst}
 use Rattle.std.proofs.lemmas.Result.{IfOk-weaker}
 use Rattle.dq_base.specs.declared.pages.NumberedPage.{NumberedPage}
-use Rattle.session_table.specs.Table.{image_pinned}
+use Rattle.session_turns.specs.Earlier.{image_of}
 use Rattle.session_turns.specs.Hindered.{LeadsTo}
 use Rattle.session_turns.proofs.Leading.{change_leads}
 use Rattle.session_turns.proofs.commit.pages_of.Goals as goal
@@ -10,4 +10,4 @@ pub returns-clause-leads : goal.returns-clause-leads
 returns-clause-leads c =
     let x = c.args.transaction.now in
     IfOk-weaker c.changed_since.result _ _
-    (λ pages is. subst (λ (ps : List NumberedPage). LeadsTo ps x.working) (sym is) (change_leads (image_pinned c.args.machine.now x.pin) x.working c.lengths_of.ensures.main_fits c.lengths_of.ensures.side_fits)) c.changed_since.ensures
+    (λ pages is. subst (λ (ps : List NumberedPage). LeadsTo ps x.working) (sym is) (change_leads (image_of c.pinned-earlier.result) x.working c.lengths_of.ensures.main_fits c.lengths_of.ensures.side_fits)) c.changed_since.ensures

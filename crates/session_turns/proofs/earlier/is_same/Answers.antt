@@ -1,24 +1,24 @@
 use Rattle.std.proofs.Common.{ℕ, length, sym, ap, ◌∙◌}
-use Rattle.session_table.specs.Table.{image_pinned}
+use Rattle.session_turns.specs.Earlier.{image_of}
 use Rattle.session_turns.specs.Pages.{ends_within}
 use Rattle.session_turns.proofs.SamePages.{another_page, other_sizes, same_ends}
-use Rattle.session_turns.proofs.pinned.is_same.Goals as goal
+use Rattle.session_turns.proofs.earlier.is_same.Goals as goal
 
 pub returns-then-not-are_none : goal.returns-then-not-are_none
 returns-then-not-are_none c =
     let lengths = c.lengths_of-lengths.ensures in
-    another_page (image_pinned c.args.machine.now c.args.pin.now) c.args.after.now c.args.pages.now.items c.requires.differ lengths.main_fits lengths.side_fits
+    another_page (image_of c.args.earlier.now) c.args.after.now c.args.pages.now.items c.requires.differ lengths.main_fits lengths.side_fits
     (sym c.are_none.ensures ∙ c.if-not-are_none.true)
 
 pub returns-then-not-has_sizes : goal.returns-then-not-has_sizes
 returns-then-not-has_sizes c =
     let lengths = c.lengths_of-lengths.ensures in
-    other_sizes (image_pinned c.args.machine.now c.args.pin.now) c.args.after.now c.args.pages.now.items c.requires.differ lengths.main_fits lengths.side_fits
+    other_sizes (image_of c.args.earlier.now) c.args.after.now c.args.pages.now.items c.requires.differ lengths.main_fits lengths.side_fits
     (sym c.has_sizes.ensures ∙ c.if-not-has_sizes.true)
 
 pub returns : goal.returns
 returns c =
-    let before = image_pinned c.args.machine.now c.args.pin.now in
+    let before = image_of c.args.earlier.now in
     let after = c.args.after.now in
     let lengths = c.lengths_of-lengths.ensures in
     c.ends_within.ensures

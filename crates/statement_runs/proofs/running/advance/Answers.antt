@@ -1,16 +1,16 @@
-use Rattle.std.proofs.Common.{◌≡◌, ◌<◌, ◌≤◌, length, refl, ap, ◌∙◌, arith}
+use Rattle.std.proofs.Common.{◌<◌, ◌≤◌, length, refl, ap, ◌∙◌, arith}
 use Rattle.std.proofs.lemmas.List.{drop_more}
 use Rattle.statement_runs.specs.Running.{stops_unopened}
 use Rattle.statement_runs.proofs.Reaching.{reached_start}
 use Rattle.statement_runs.proofs.Standing.{standing_more, standing_stops, standing_ends}
-use Rattle.statement_runs.proofs.running.run_all.Goals as goal
+use Rattle.statement_runs.proofs.running.advance.Goals as goal
 
 pub loop-piece-init : goal.loop-piece-init
 loop-piece-init g c = record {
   standing = record {
     same_kind = refl;
     fit = c.requires.fit;
-    reached = rw c.no_answer.ensures (reached_start _ _ _ _ _);
+    reached = rw c.requires.start (reached_start _ _ _ _ _);
   };
   counted = omega arith;
 }
@@ -19,7 +19,7 @@ pub loop-piece-preserved : goal.loop-piece-preserved
 loop-piece-preserved g c =
     let at : c.loop-piece.piece-index < length c.args.pieces.now = omega arith in
     record {
-      standing = standing_more g.E.Engine.meaning _ _ _ _ _ _ _ _ _ _ _ _ _ _ _ _ _ _ _ _ c.loop-piece.invariant.standing c.in_ok-ending.ensures.step c.piece_text-one-in-loop-piece.ensures (drop_more _ _ _ at) c.split_at.ensures.front c.split_at.ensures.back
+      standing = standing_more g.E.Engine.meaning _ _ _ _ _ _ _ _ _ _ _ _ _ _ _ _ _ _ _ _ _ c.loop-piece.invariant.standing c.in_ok-ending.ensures.step c.piece_text-one.ensures (drop_more _ _ _ at) c.split_at.ensures.front c.split_at.ensures.back
           c.step.ensures.kind c.split_at.ensures.back_len c.in-None.is;
       counted = let more = c.step.ensures.openings in omega arith;
     }
@@ -27,13 +27,13 @@ loop-piece-preserved g c =
 pub returns-in-Some-clause-ran : goal.returns-in-Some-clause-ran
 returns-in-Some-clause-ran g c =
     let at : c.loop-piece.piece-index < length c.args.pieces.now = omega arith in
-    standing_stops g.E.Engine.meaning _ _ (g.E.Engine.kind c.step.new.engine) _ _ _ _ _ _ _ _ _ _ _ _ _ c.step.new.progress _ _ _ c.loop-piece.invariant.standing c.in_ok-ending.ensures.step c.piece_text-one-in-loop-piece.ensures (drop_more _ _ _ at) c.split_at.ensures.front c.split_at.ensures.back
+    standing_stops g.E.Engine.meaning _ _ (g.E.Engine.kind c.step.new.engine) _ _ _ _ _ _ _ _ _ _ _ _ _ _ c.step.new.progress _ _ _ c.loop-piece.invariant.standing c.in_ok-ending.ensures.step c.piece_text-one.ensures (drop_more _ _ _ at) c.split_at.ensures.front c.split_at.ensures.back
     _ c.in-Some.is
 
 pub returns-clause-ran : goal.returns-clause-ran
 returns-clause-ran g c =
     let past : length c.args.pieces.now ≤ c.loop-piece.piece-index = omega arith in
-    standing_ends _ _ _ _ _ _ _ _ _ _ _ _ _ _ c.loop-piece.invariant.standing past c.in_ok-ending-2.ensures
+    standing_ends _ _ _ _ _ _ _ _ _ _ _ _ _ c.loop-piece.invariant.standing past
 
 pub returns-in-Some-clause-unopened : goal.returns-in-Some-clause-unopened
 returns-in-Some-clause-unopened g c = λ unopened.
