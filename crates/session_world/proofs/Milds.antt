@@ -35,7 +35,7 @@ use Rattle.session_rules.specs.Sessions.{Prepared, Refusal, Single, Kind, Openin
 use Rattle.session_rules.specs.Statements.{prepared_from, prepared_at, is_left_out, any_barred, wrong_params, with_params, with_all}
 use Rattle.session_rules.specs.Asking as asking
 use Rattle.session_rules.specs.Asking.{Asked, Never, Tells, Sets, Opens, Creates, Prepares, Drops, Begins, Commits, RollsBack, Changes, Runs, Reads, asked_by}
-use Rattle.session_rules.specs.Requests.{unless, rows_cause, or_cause, row_cause, reply_of, change_of, worked, outside, outside_write, inside, run_in, committed, commit_in, does, on_request}
+use Rattle.session_rules.specs.Requests.{unless, rows_cause, or_cause, row_cause, reply_of, change_of, worked, outside, outside_write, inside, run_in, has_nothing, committed, commit_in, does, on_request}
 use Rattle.session_rules.specs.Events.{connects}
 use Rattle.session_world.specs.Nodes.{Said, Trail, Node, databases, view_of}
 use Rattle.session_world.specs.Life.{Event, Connect, Hangup, Call, Apply, Lose, Lead, Serve, Append, Follow, called, said_landed, said_by, said_applied, happens, run_from, AllFit}
@@ -262,7 +262,7 @@ module _ (v : View) (m : Machine) (g : Gateway) (c : ℕ) (s : Session) where
   commit_mild None = tt
   commit_mild (Some x) =
       let pages = changed x.pinned x.working in
-      cond_both (no_pages pages) _ _ TurnedMild (λ e. single_mild _)
+      cond_both (has_nothing x) _ _ TurnedMild (λ e. single_mild _)
       (λ e. proposed_mild (hindrance m g c x.name x.mark pages x.working) _ x.name pages Nothing (hindrance_mild m g c x.name x.mark pages x.working))
 
   outside_mild : (ss : List Statement) (rows : Bool) (end : Ending) → TurnedMild (outside v m g c s ss rows end)
