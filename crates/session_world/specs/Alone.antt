@@ -116,6 +116,7 @@ pub record SaidIn (before : ℕ) (v : Node) (x : Said) : Type 0 where
   pub term : x.term ≡ v.term
   pub leads : v.leads ≡ true
 
+-- so it is with each of these replies that waited
 abbrev pub AllIn : ℕ → Node → List Said → Type 0
 AllIn before v [] = Unit {0}
 AllIn before v (x ∷ xs) = (0 < x.index → SaidIn before v x) × AllIn before v xs

@@ -70,10 +70,12 @@ abbrev pub EachTo : ℕ → (Said → Type 0) → List Said → Type 0
 EachTo conn P [] = Unit {0}
 EachTo conn P (x ∷ xs) = (x.conn ≡ conn → P x) × EachTo conn P xs
 
+-- the query's image, if there is one, is of an index up to this one
 abbrev pub QueryUpTo : ℕ → Option Query → Type 0
 QueryUpTo n None = Unit {0}
 QueryUpTo n (Some q) = q.at ≤ n
 
+-- the commit, if there is one, ends at an index up to this one
 abbrev pub CommitUpTo : ℕ → Option Commit → Type 0
 CommitUpTo n None = Unit {0}
 CommitUpTo n (Some c) = c.last ≤ n
