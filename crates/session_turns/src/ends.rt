@@ -15,12 +15,12 @@ ghost use Rattle.session_rules.specs.Sessions.{Session, View as RuleView, Turned
 ghost use Rattle.session_table.specs.Named.{cause_named, kind_named};
 ghost use Rattle.session_turns.specs.Turning.{ComesTo};
 
+use crate::rows::told;
+use crate::turn::Turn;
 use dq_base::{Name, PageSet};
 use raft_vote::Entries;
 use session_asking::View;
 use session_table::{Cause, Change, Flight, FlightKind};
-use crate::turn::Turn;
-use crate::rows::told;
 use sql_engine::Ran;
 use std::alloc::{AllocError, Global};
 

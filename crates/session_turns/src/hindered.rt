@@ -16,12 +16,12 @@ ghost use Rattle.session_turns.specs.Hindered.{LeadsTo, Hinders};
 ghost use Rattle.session_turns.specs.Runs.{AreTaken};
 ghost use Rattle.session_table.specs.Table.{table_of, AreApart};
 
+use crate::hindering::hindrance;
+use crate::writing::change_entries;
 use dq_base::{Name, PageSet};
 use page_apply::Machine;
 use raft_vote::Entries;
 use session_table::{Cause, Session, newest};
-use crate::hindering::hindrance;
-use crate::writing::change_entries;
 use sql_engine::Ran;
 use statement_runs::AllRan;
 use std::alloc::{AllocError, Global};

@@ -20,10 +20,10 @@ ghost use Rattle.session_turns.specs.Runs.{IsWellFormed};
 
 use crate::ends::{idle, refused, worked};
 use crate::hindered::{hindered, hindering, is_unchanged};
+use crate::turn::Turn;
 use dq_base::{Items, PageSet};
 use page_apply::Machine;
 use session_table::{Cause, Session, Transaction};
-use crate::turn::Turn;
 use sql_engine::Ran;
 use statement_runs::{AllRan, Ending};
 use std::alloc::{AllocError, Global};

@@ -20,12 +20,12 @@ ghost use Rattle.session_turns.specs.Runs.{IsWellFormed, write_of};
 
 use crate::ends::{idle, proposed, refused};
 use crate::hindered::{entries_of, hindered, hindering, is_unchanged, newest_of};
+use crate::hindering::log_full;
+use crate::turn::Turn;
 use dq_base::Name;
 use page_apply::Machine;
 use session_asking::View;
 use session_table::{Cause, Session};
-use crate::turn::Turn;
-use crate::hindering::log_full;
 use sql_engine::Ran;
 use statement_runs::{AllRan, Ending};
 use std::alloc::{AllocError, Global};

@@ -11,7 +11,11 @@ use wire_msgs::Response;
 
 /// The reply to statements that ran with this answer of the last: its rows, where these are to be told; or why they can't be.
 /// `Err` is want of memory.
-pub(crate) fn told(alloc: Global, rows: bool, answer: Ran) -> Result<Result<Reply, Cause>, AllocError>
+pub(crate) fn told(
+    alloc: Global,
+    rows: bool,
+    answer: Ran,
+) -> Result<Result<Reply, Cause>, AllocError>
     requires { IsTable answer.columns answer.rows }
     ensures { IfOk result (TellsReply rows answer) }
 {
