@@ -112,8 +112,8 @@ impl Gateway {
     }
 
     /// An entry of a term is applied: the proposal that ends with it is done, and its client, if it is there, is answered. The
-    /// machine has the entry applied. (A proposal in flight is of the node's term, so its index tells it alone.) `Err` is want of memory; nothing has
-    /// changed then.
+    /// machine has the entry applied. (A proposal in flight is of the node's term, so its index tells it alone.) `Err` is want
+    /// of memory; nothing has changed then.
     pub fn on_applied(
         &mut self,
         index: u64,

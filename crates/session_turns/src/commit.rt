@@ -162,8 +162,9 @@ fn commit(
 }
 
 /// What COMMIT comes to at a session of a node that serves: its transaction is over, where it never took the turn to write or
-/// has changed no page; else its changes are proposed, where nothing hinders them. Where it took the turn, each page of the working image is compared with that of the pinned one, for
-/// which both are copied, one at a time; the pages that differ are kept. `Err` is want of memory.
+/// has changed no page; else its changes are proposed, where nothing hinders them. Where it took the turn, each page of the
+/// working image is compared with that of the pinned one, for which both are copied, one at a time; the pages that differ are
+/// kept. `Err` is want of memory.
 #[tactic(auto, unfolding(session_rules::specs::Requests::does, session_rules::specs::Requests::committed))]
 pub fn commit_turn(
     alloc: Global,

@@ -100,9 +100,9 @@ pub fn flights_stand<E: Engine>()
 {}
 
 /// One voter that never stops: after each turn all of its log is applied, each reply is right by it, its log is woven, and
-/// no request waits; and a reply that waited for an entry is said in the turn that applies this entry, and what a
-/// connection has seen is not below what its earlier replies rest on. The same of the lines of a script with one journal, of which each request takes its answers off the
-/// front; that run ends before a request that lacks one.
+/// no request waits; a reply that waited for an entry is said in the turn that applies this entry; and what a connection has
+/// seen is not below what its earlier replies rest on. The same of the lines of a script with one journal, of which each
+/// request takes its answers off the front; that run ends before a request that lacks one.
 pub fn alone_is_safe<E: Engine>()
     ensures turns { (kind : _) → AloneIsSafe (E.meaning kind) kind }
     ensures in_turn { (kind : _) → TurnsSay (E.meaning kind) kind }
