@@ -42,6 +42,18 @@ fn apply_all(image: &mut Image, pages: &[NumberedPage]) -> Result<(), AllocError
     }
 }
 
+/// Puts the numbers of pages above 1 behind others, for which there is room.
+fn note_numbers(touched: &mut Vec<u64>, pages: &[NumberedPage])
+    requires { vec_len touched.old + length pages.now ≤ vec_capacity touched.old }
+    ensures { touched.new.items ≡ touched.old.items ++ numbers_of pages.now }
+{
+    for page in pages {
+        if page.number > 1 {
+            let _room = touched.push(page.number);
+        }
+    }
+}
+
 /// What a transaction becomes that has changed these pages. `Err` is want of memory; it is then unchanged.
 fn work(transaction: &mut Option<Transaction>, pages: &[NumberedPage]) -> Result<(), AllocError>
     ensures ok { OnOk result ((databases : List Database) → option_map (transaction_of databases) transaction.new ≡ worked_on pages.now (option_map (transaction_of databases) transaction.old)) }
@@ -49,7 +61,9 @@ fn work(transaction: &mut Option<Transaction>, pages: &[NumberedPage]) -> Result
     ensures pin { pin_of transaction.new ≡ pin_of transaction.old }
 {
     if let Some(transaction) = transaction {
+        transaction.touched.reserve(pages.len())?;
         apply_all(&mut transaction.working, pages)?;
+        note_numbers(&mut transaction.touched, pages);
         transaction.turn = true;
     }
     Ok(())

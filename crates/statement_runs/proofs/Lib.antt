@@ -4,3 +4,4 @@ pub mod Changing
 pub mod Reaching
 pub mod Standing
 pub mod Opened
+pub mod InOrder
