@@ -5,6 +5,7 @@ ghost use Rattle.std.specs.List.{AllByRecursion};
 ghost use Rattle.page_apply.specs.Pins.{IsPinned};
 ghost use Rattle.session_rules.specs.Machine.{machine_of};
 ghost use Rattle.session_rules.specs.Requests.{handed, on_request};
+ghost use Rattle.session_rules.specs.Touched.{IsListed};
 ghost use Rattle.session_table.specs.declared.cause.Cause.TheVariants.{NotADatabase};
 ghost use Rattle.session_table.specs.declared.session.Session.{Session as SessionValue};
 ghost use Rattle.session_table.specs.Changing.{StandsAt};
@@ -40,6 +41,7 @@ fn turn_of<E: Engine>(
     requires apart { AreApart sessions.now }
     requires term { HasShortTerm view.now }
     requires live { AllByRecursion (IsPinned machine.now) (pin_of session.now.transaction) }
+    requires listed { IsListed (session_of machine.now session.now).tx }
     requires can { CanBeDone view.now (session_of machine.now session.now) params.now wanted }
     ensures kind { E.kind engine.new ≡ E.kind engine.old }
     ensures openings { E.refused_openings engine.old ≤ E.refused_openings engine.new }
@@ -87,6 +89,7 @@ pub(crate) fn decide<E: Engine>(
     requires apart { AreApart sessions.now }
     requires place { StandsAt conn sessions.now place }
     requires marks { AllByRecursion (IsPinned machine.now) (pins_of sessions.now) }
+    requires listed { IsListed ((table_of machine.now sessions.now weight).session conn).tx }
     requires name { NameHasNoNul request.now }
     requires term { HasShortTerm view.now }
     ensures kind { E.kind engine.new ≡ E.kind engine.old }

@@ -4,6 +4,8 @@ use Rattle.std.proofs.lemmas.Result.{IfOk-weaker}
 use Rattle.wire_words.specs.declared.value.Value.{Value}
 use Rattle.page_apply.specs.Pins.{IsPinned}
 use Rattle.session_rules.specs.Machine.{machine_of}
+use Rattle.session_rules.specs.Sessions.{Session as RuleSession}
+use Rattle.session_rules.specs.Touched.{IsListed}
 use Rattle.session_table.specs.declared.session.Session.{Session}
 use Rattle.session_table.specs.Table.{pin_of, session_of, table_of}
 use Rattle.session_asking.specs.Meant.{meant}
@@ -13,6 +15,12 @@ use Rattle.gateway.proofs.deciding.decide.Goals as goal
 pub turn_of-requires-clause-live : goal.turn_of-requires-clause-live
 turn_of-requires-clause-live g c =
     subst (λ (s : Session). AllByRecursion (IsPinned c.args.machine.now) (pin_of s.transaction)) (sym c.index-sessions-place.is) (pins_part c.args.machine.now c.args.sessions.now c.args.place c.index-sessions-place.result c.requires.place.within c.requires.marks)
+
+pub turn_of-requires-clause-listed : goal.turn_of-requires-clause-listed
+turn_of-requires-clause-listed g c =
+    subst (λ (s : RuleSession). IsListed s.tx)
+    (sym (ap (session_of c.args.machine.now) c.index-sessions-place.is ∙ here_at c.args.machine.now c.args.sessions.now c.args.weight c.args.conn c.args.place c.index-sessions-place.result c.requires.apart c.requires.place))
+    c.requires.listed
 
 pub returns-clause-ran : goal.returns-clause-ran
 returns-clause-ran g c =

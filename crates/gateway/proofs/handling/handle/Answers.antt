@@ -2,6 +2,7 @@ use Rattle.std.proofs.Common.{◌≡◌, List, sym, subst, ◌∙◌}
 use Rattle.std.proofs.lemmas.Option.{MatchOption-at_some}
 use Rattle.std.proofs.lemmas.Result.{IfOk-weaker}
 use Rattle.session_rules.specs.Machine.{machine_of}
+use Rattle.session_rules.specs.Touched.{IsListed}
 use Rattle.session_table.specs.Table.{table_of}
 use Rattle.session_table.specs.declared.session.Session.{Session}
 use Rattle.session_table.specs.Changing.{IsAbsent, StandsAt}
@@ -12,6 +13,10 @@ use Rattle.gateway.proofs.handling.handle.Goals as goal
 pub unwrap-place-requires : goal.unwrap-place-requires
 unwrap-place-requires g c =
     is_found c.find.result _ _ c.find.ensures (λ none. stands_somewhere c.args.machine.now c.args.sessions.now.items c.args.weight.now c.args.conn c.requires.there (subst (IsAbsent c.args.conn) c.as_slice.ensures.value none))
+
+pub decide-requires-clause-listed : goal.decide-requires-clause-listed
+decide-requires-clause-listed g c =
+    subst (λ (ss : List Session). IsListed ((table_of c.args.machine.now ss c.args.weight.now).session c.args.conn).tx) (sym c.as_slice-known.ensures.value) c.requires.listed
 
 pub carry_out-requires-clause-can : goal.carry_out-requires-clause-can
 carry_out-requires-clause-can g c = λ session.
