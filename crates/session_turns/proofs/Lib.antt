@@ -12,4 +12,3 @@ pub mod NeverUnopened
 pub mod Committing
 pub mod Leading
 pub mod SamePages
-pub mod Worked

@@ -4,3 +4,5 @@ pub mod Changing
 pub mod Reaching
 pub mod Standing
 pub mod Opened
+pub mod ComingBack
+pub mod Touching

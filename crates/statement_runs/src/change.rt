@@ -1,6 +1,7 @@
 //! The pages that lead from one image to another.
 
-ghost use Rattle.std.specs.Prelude.{◌≡◌, ◌≤◌, ◌^◌, ◌++◌, IfOk, OnOk};
+ghost use Rattle.std.specs.Prelude.{◌≡◌, ◌≤◌, ◌^◌, ◌++◌, None, IfOk, OnOk};
+ghost use Rattle.dq_base.specs.Images.{page_at};
 ghost use Rattle.dq_base.specs.Changes.{changed, changed_page, changed_from, same_image, numbers_above_one, sizes_of};
 
 use dq_base::{Image, NumberedPage, PAGE_SIZE, Page, page_at};
@@ -52,6 +53,17 @@ pub fn add_changed(
     }
     pages.push(NumberedPage { number, page })?;
     Ok(())
+}
+
+/// Adds the page that an image has at a number, where it has one. `Err` is want of memory.
+pub(crate) fn add_page(
+    pages: &mut Vec<NumberedPage>,
+    image: &Image,
+    number: u64,
+) -> Result<(), AllocError>
+    ensures { OnOk result (pages.new.items ≡ pages.old.items ++ changed_page number None (page_at image.now number)) }
+{
+    add_changed(pages, number, None, page_at(image, number))
 }
 
 /// The pages above 1 that differ, or are new, in order.
