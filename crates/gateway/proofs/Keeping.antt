@@ -36,7 +36,7 @@ still_image old new (Some pin) still live = (still pin).same_image live.0
 still_pin : (old new : List Database) (tx : Option Transaction) → ((pin : Pinning) → StillPinned old new pin) → AllByRecursion (IsPinned old) (pin_of tx) → IsSame old new tx
 still_pin old new None still live = refl
 still_pin old new (Some x) still live =
-    ap (λ (image : Image). Some (record { name = x.name; mark = x.mark; pinned = image; working = x.working; turn = x.turn })) (still_image old new x.pin still live)
+    ap (λ (image : Image). Some (record { name = x.name; mark = x.mark; pinned = image; working = x.working; turn = x.turn; touched = x.touched.items })) (still_image old new x.pin still live)
 
 still_pins : (old new : List Database) (ss : List Session) → ((pin : Pinning) → StillPinned old new pin) → AllByRecursion (IsPinned old) (tables.pins_of ss) → AllByRecursion (λ (s : Session). IsSame old new s.transaction) ss
 still_pins old new [] still live = tt

@@ -1,5 +1,6 @@
 pub mod Names
 pub mod Images
+pub mod Touched
 pub mod Keeping
 pub mod Following
 pub mod Seeing

@@ -3,6 +3,7 @@ pub mod Entries
 pub mod Machine
 pub mod Engines
 pub mod Sessions
+pub mod Touched
 pub mod Statements
 pub mod Limits
 pub mod Asking

@@ -1,5 +1,5 @@
 -- What comes of a request at a session, with the answers of an engine to the statements that it is handed.
-use Rattle.std.specs.Prelude.{ℕ, suc, ◌+◌, Bool, true, false, not, ◌&&◌, ◌||◌, ◌==◌, List, [], ◌∷◌, length, map, Option, Some, None, Result, Ok, Err, if◌then◌else◌}
+use Rattle.std.specs.Prelude.{ℕ, suc, ◌+◌, Bool, true, false, not, ◌&&◌, ◌||◌, ◌==◌, List, [], ◌∷◌, ◌++◌, length, map, Option, Some, None, Result, Ok, Err, if◌then◌else◌}
 use Rattle.dq_base.specs.declared.images.Image.{Image}
 use Rattle.dq_base.specs.declared.pages.NumberedPage.{NumberedPage}
 use Rattle.dq_base.specs.Images.{page_count}
@@ -21,6 +21,7 @@ use Rattle.session_rules.specs.Engines.{Answer, no_pages, Ending, Lacking, TooLa
 use Rattle.session_rules.specs.Sessions.{Reply, Single, Rows, result, empty, db, Prepared, Kind, Opening, Configuring, Writing, Committing, Flight, Transaction, Session, Gateway, View, Nothing, Began, Inside, Outside, Effect, HandsOver, JoinsPeer, Weighs, Turned, Refused, Lacks, Answers, Proposes, Affects}
 use Rattle.session_rules.specs.Statements.{free_id, with_prepared, without_prepared}
 use Rattle.session_rules.specs.Limits.{other_holds, pages_full, log_full, first_cause, hindrance}
+use Rattle.session_rules.specs.Touched.{numbers_of}
 use Rattle.session_rules.specs.Asking.{Asked, Never, Tells, Sets, Opens, Creates, Prepares, Drops, Begins, Commits, RollsBack, Changes, Runs, Reads, asked}
 
 -- ---- the session after it
@@ -40,14 +41,14 @@ with_database s name = record { there = s.there; hung = s.hung; database = name;
 
 -- a transaction over the newest image of a database
 abbrev pub begun_over : List ℕ → Base → Bool → Transaction
-begun_over name base at_once = record { name = name; mark = base.newest; pinned = base.image; working = base.image; turn = at_once }
+begun_over name base at_once = record { name = name; mark = base.newest; pinned = base.image; working = base.image; turn = at_once; touched = [] }
 
 abbrev pub begun : Machine → Session → Bool → Session
 begun m s at_once = with_tx s (Some (begun_over s.database (m.base s.database) at_once))
 
--- the transaction with another image of its own
+-- the transaction with another image of its own, for which its statements changed pages
 abbrev pub worked : Session → Transaction → Image → Bool → Session
-worked s x to turn = with_tx s (Some (record { name = x.name; mark = x.mark; pinned = x.pinned; working = to; turn = turn }))
+worked s x to turn = with_tx s (Some (record { name = x.name; mark = x.mark; pinned = x.pinned; working = to; turn = turn; touched = x.touched ++ numbers_of (changed x.working to) }))
 
 -- a proposal of these entries, which come next in the log
 abbrev pub flying : View → Session → List ℕ → List Content → ℕ → Kind → Session

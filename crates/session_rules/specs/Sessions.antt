@@ -63,13 +63,15 @@ pub record Flight : Type 0 where
   pub kind : Kind
 
 -- An open transaction: its database; how many commits this had when the transaction began, and the image then; that image
--- with the transaction's own changes; and whether it has the write turn.
+-- with the transaction's own changes; whether it has the write turn; and the numbers of the pages that its statements changed,
+-- in the order in which they did.
 pub record Transaction : Type 0 where
   pub name : List ℕ
   pub mark : ℕ
   pub pinned : Image
   pub working : Image
   pub turn : Bool
+  pub touched : List ℕ
 
 -- A session. `there` is false of a connection that has none. A session is `hung` whose client has gone while its proposal
 -- is in flight. The database is the empty name where none was opened. A statement's number is its place in the list.

@@ -35,7 +35,7 @@ same_image gone old new (Some pin) released beside live = (released.still pin be
 pub same_pin : (gone : List Pinning) (old new : List Database) (tx : Option Transaction) → Released gone old new → AreBeside gone (pin_of tx) → AllByRecursion (IsPinned old) (pin_of tx) → IsSame old new tx
 same_pin gone old new None released beside live = refl
 same_pin gone old new (Some x) released beside live =
-    ap (λ (image : _). Some (record { name = x.name; mark = x.mark; pinned = image; working = x.working; turn = x.turn })) (same_image gone old new x.pin released beside live)
+    ap (λ (image : _). Some (record { name = x.name; mark = x.mark; pinned = image; working = x.working; turn = x.turn; touched = x.touched.items })) (same_image gone old new x.pin released beside live)
 
 -- so it is with all sessions whose marks stay
 pub same_pins : (gone : List Pinning) (old new : List Database) (ss : List Session) → Released gone old new → AreBeside gone (pins_of ss) → AllByRecursion (IsPinned old) (pins_of ss) → AllByRecursion (λ (s : Session). IsSame old new s.transaction) ss

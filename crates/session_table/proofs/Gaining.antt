@@ -153,7 +153,7 @@ still_image old new (Some pin) still live = (still pin).same_image live.0
 still_pin : (old new : List Database) (tx : Option Transaction) → ((pin : Pinning) → StillPinned old new pin) → AllByRecursion (IsPinned old) (pin_of tx) → IsSame old new tx
 still_pin old new None still live = refl
 still_pin old new (Some x) still live =
-    ap (λ (image : Image). Some (record { name = x.name; mark = x.mark; pinned = image; working = x.working; turn = x.turn })) (still_image old new x.pin still live)
+    ap (λ (image : Image). Some (record { name = x.name; mark = x.mark; pinned = image; working = x.working; turn = x.turn; touched = x.touched.items })) (still_image old new x.pin still live)
 
 -- where all marks still show what they showed, all transactions have pinned the same images
 pub still_pins : (old new : List Database) (ss : List Session) → ((pin : Pinning) → StillPinned old new pin) → AllByRecursion (IsPinned old) (pins_of ss) → AllByRecursion (λ (s : Session). IsSame old new s.transaction) ss

@@ -1,10 +1,11 @@
 -- What a request changes of its own session, and where the session stands.
-use Rattle.std.specs.Prelude.{◌≡◌, ◌≢◌, ℕ, ◌<◌, Bool, true, List, [], length, get_or, Option, Some, None, IsSome, if◌then◌else◌}
+use Rattle.std.specs.Prelude.{◌≡◌, ◌≢◌, ℕ, ◌<◌, Bool, true, List, [], ◌++◌, length, get_or, Option, Some, None, IsSome, if◌then◌else◌}
 use Rattle.std.specs.List.{AllByRecursion}
 use Rattle.dq_base.specs.declared.pages.NumberedPage.{NumberedPage}
 use Rattle.dq_base.specs.Applying.{applied}
 use Rattle.page_apply.specs.declared.database.Database.{Database}
 use Rattle.session_rules.specs.Sessions.{Gateway, fresh, Prepared, Transaction as RuleTransaction, Session as RuleSession}
+use Rattle.session_rules.specs.Touched.{numbers_of}
 use Rattle.session_rules.specs.Statements.{with_prepared, without_prepared, prepared_at}
 use Rattle.session_rules.specs.Requests.{with_tx, with_flight, with_statements, with_database}
 use Rattle.session_rules.specs.Events.{connects, connected}
@@ -26,7 +27,7 @@ pub record StandsAt (conn : ℕ) (sessions : List Session) (place : ℕ) : Type 
 -- a transaction that has changed pages, and so has the turn
 abbrev pub worked_on : List NumberedPage → Option RuleTransaction → Option RuleTransaction
 worked_on pages None = None
-worked_on pages (Some x) = Some (record { name = x.name; mark = x.mark; pinned = x.pinned; working = applied x.working pages; turn = true })
+worked_on pages (Some x) = Some (record { name = x.name; mark = x.mark; pinned = x.pinned; working = applied x.working pages; turn = true; touched = x.touched ++ numbers_of pages })
 
 -- the session after a change
 abbrev pub changed_by : RuleSession → Change → RuleSession

@@ -23,7 +23,7 @@ image_pinned databases (Some pin) = pinned_image databases pin
 
 -- an open transaction, with the image that its mark shows
 abbrev pub transaction_of : List Database → Transaction → RuleTransaction
-transaction_of databases x = record { name = x.name; mark = x.mark; pinned = image_pinned databases x.pin; working = x.working; turn = x.turn }
+transaction_of databases x = record { name = x.name; mark = x.mark; pinned = image_pinned databases x.pin; working = x.working; turn = x.turn; touched = x.touched.items }
 
 abbrev pub session_of : List Database → Session → RuleSession
 session_of databases s = record { there = true; hung = s.hung; database = database_of s.database; statements = s.statements.items; tx = option_map (transaction_of databases) s.transaction; flight = s.flight }

@@ -68,6 +68,7 @@ fn transaction_over(
         pin,
         working,
         turn,
+        touched: Vec::new(alloc),
     })
 }
 

@@ -1,10 +1,11 @@
 //! What a request changes of its own session.
 
-ghost use Rattle.std.specs.Prelude.{◌≡◌, ℕ, List, get_or, OnOk, OnErr};
+ghost use Rattle.std.specs.Prelude.{◌≡◌, ◌≤◌, ◌+◌, ◌++◌, ℕ, List, length, vec_len, vec_capacity, get_or, IsOk, OnOk, OnErr};
 ghost use Rattle.std.specs.Option.{option_map};
 ghost use Rattle.dq_base.specs.Applying.{applied};
 ghost use Rattle.page_apply.specs.declared.database.Database.{Database};
 ghost use Rattle.session_rules.specs.Requests.{with_session};
+ghost use Rattle.session_rules.specs.Touched.{numbers_of};
 ghost use Rattle.session_table.specs.declared.session.Session.{Session};
 ghost use Rattle.session_table.specs.Table.{session_of, table_of, pins_of, IsTable, AreApart, pin_of, transaction_of};
 ghost use Rattle.session_table.specs.Changing.{StandsAt, changed_by, worked_on, CanChange};
@@ -42,14 +43,29 @@ fn apply_all(image: &mut Image, pages: &[NumberedPage]) -> Result<(), AllocError
     }
 }
 
+/// Puts the numbers of pages above 1 behind others. `Err` is want of memory, which doesn't come where there is room.
+fn note_numbers(touched: &mut Vec<u64>, pages: &[NumberedPage]) -> Result<(), AllocError>
+    ensures noted { OnOk result (touched.new.items ≡ touched.old.items ++ numbers_of pages.now) }
+    ensures room { vec_len touched.old + length pages.now ≤ vec_capacity touched.old → IsOk result }
+{
+    for page in pages {
+        if page.number > 1 {
+            touched.push(page.number)?;
+        }
+    }
+    Ok(())
+}
+
 /// What a transaction becomes that has changed these pages. `Err` is want of memory; it is then unchanged.
 fn work(transaction: &mut Option<Transaction>, pages: &[NumberedPage]) -> Result<(), AllocError>
     ensures ok { OnOk result ((databases : List Database) → option_map (transaction_of databases) transaction.new ≡ worked_on pages.now (option_map (transaction_of databases) transaction.old)) }
-    ensures kept { OnErr result (transaction.new ≡ transaction.old) }
+    ensures kept { OnErr result ((databases : List Database) → option_map (transaction_of databases) transaction.new ≡ option_map (transaction_of databases) transaction.old) }
     ensures pin { pin_of transaction.new ≡ pin_of transaction.old }
 {
     if let Some(transaction) = transaction {
+        transaction.touched.reserve(pages.len())?;
         apply_all(&mut transaction.working, pages)?;
+        note_numbers(&mut transaction.touched, pages)?;
         transaction.turn = true;
     }
     Ok(())

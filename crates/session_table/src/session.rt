@@ -76,6 +76,8 @@ pub struct Transaction {
     pub working: Image,
     /// Whether it has the turn to write.
     pub turn: bool,
+    /// The numbers above 1 of the pages that its statements changed, in the order in which they did.
+    pub touched: Vec<u64>,
 }
 
 /// A session of a connection.

@@ -6,3 +6,4 @@ pub mod Standing
 pub mod Opened
 pub mod ComingBack
 pub mod Touching
+pub mod InOrder
