@@ -1,5 +1,5 @@
 -- Pages that were applied to an image come off it again.
-use Rattle.std.proofs.Common.{◌≡◌, ℕ, ◌+◌, ◌-◌, ◌<◌, ◌≤◌, ◌⊎◌, min, Bool, true, false, cond, ltb, List, [], ◌∷◌, ◌++◌, length, get_or, take, drop, Option, Some, None, Ok, Err, OnOk, OnErr, refl, sym, ap, subst, ◌∙◌, append_assoc, append-nil, arith, inl, inr}
+use Rattle.std.proofs.Common.{◌≡◌, ℕ, ◌+◌, ◌<◌, ◌≤◌, ◌⊎◌, min, Bool, true, false, cond, ltb, List, [], ◌∷◌, ◌++◌, length, get_or, take, drop, Option, Some, None, Ok, Err, OnOk, OnErr, refl, sym, ap, subst, ◌∙◌, append_assoc, append-nil, arith, inl, inr}
 use Rattle.std.specs.Prelude.{Result, ◌==◌, is_none}
 use Rattle.std.specs.List.{AllByRecursion}
 use Rattle.std.proofs.lemmas.Bool.{cases_lt, cases_Bool, both_ways, eqb-true, cond-true, cond-false, and_parts, leb-true, lt-ltb, ltb-true}
@@ -10,7 +10,7 @@ use Rattle.dq_base.specs.declared.page_fault.PageFault.{PageFault}
 use Rattle.dq_base.specs.declared.sizes.Lengths.{Lengths}
 use Rattle.dq_base.specs.Images.{resized, page_from, page_start, is_main, is_side, file_of, page_at}
 use Rattle.dq_base.specs.Changes.{changed, changed_page, changed_from, numbers_above_one, sizes_of, same_image}
-use Rattle.dq_base.specs.Applying.{replaced, put_pages, applied, page_fault, fault_before, StateLengths}
+use Rattle.dq_base.specs.Applying.{replaced, put_pages, applied, page_fault, StateLengths}
 use Rattle.dq_base.proofs.FileBytes.{length-resized, get_or-resized, length-page_from, length-replaced, get_or-replaced_before, get_or-replaced_after}
 use Rattle.dq_base.proofs.PutPages.{SomeOf, SomeOf-append_left, SomeOf-append_right, All-append, Shows, Covers, length-put_pages, get_or-put_pages}
 use Rattle.dq_base.proofs.ChangedPages.{numbered, page_at_inside, page_at_is, changed_from_all}

@@ -159,9 +159,11 @@ led_ran m kind tx image statements before now to answer led = record {
 -- where they all led, told by the pages that they touched
 pub came_through : (m : Meaning) (kind : EngineKind) (tx : ℕ) (image : Image) (ss : List Statement) (before now : Option Told) (to : Image) (answer : Ran) (o : Option CodeEnding) (touched known : List ℕ) (reached : There) → o ≡ None
     → AdvancedTo m kind tx image ss before now to answer o → (o ≡ None → ListsAll touched image to) → IsShort to → known ≡ touched → reached ≡ reached_at (put_in_order [] known) to → CameTo m kind tx image ss before now answer (came.Through reached)
-came_through m kind tx image ss before now to answer o touched known reached none ran touches short same is =
-    (to, subst (AdvancedTo m kind tx image ss before now to answer) none ran,
-    ap (change_to image) (is ∙ ap (λ (ns : List ℕ). reached_at (put_in_order [] ns) to) same) ∙ arrives touched image to (touches none) short)
+came_through m kind tx image ss before now to answer o touched known reached none ran touches short same is = (
+  to,
+  subst (AdvancedTo m kind tx image ss before now to answer) none ran,
+  ap (change_to image) (is ∙ ap (λ (ns : List ℕ). reached_at (put_in_order [] ns) to) same) ∙ arrives touched image to (touches none) short,
+)
 
 -- how running ends that came to this
 pub came_ran : (m : Meaning) (kind : EngineKind) (tx : ℕ) (image back : Image) (ss : List Statement) (before now : Option Told) (answer : Ran) (c : Came) (ending : CodeEnding) → CameTo m kind tx image ss before now answer c → back ≡ image → ending ≡ ended tx back answer c → RanTo m kind tx image ss before now ending

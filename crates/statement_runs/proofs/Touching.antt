@@ -1,14 +1,12 @@
 -- The change to where statements led, by the pages that they touched.
-use Rattle.std.proofs.Common.{◌≡◌, ℕ, ◌+◌, ◌<◌, ◌≤◌, Bool, true, false, cond, ltb, List, [], ◌∷◌, ◌++◌, length, get_or, drop, Option, Some, None, refl, sym, ap, subst, ◌∙◌, append_assoc, append-nil, arith}
+use Rattle.std.proofs.Common.{◌≡◌, ℕ, ◌+◌, ◌<◌, ◌≤◌, Bool, true, false, cond, ltb, List, [], ◌∷◌, ◌++◌, length, get_or, drop, Option, Some, None, refl, sym, ap, subst, ◌∙◌, append_assoc, append-nil}
 use Rattle.std.specs.Prelude.{◌&&◌}
-use Rattle.std.specs.List.{AllByRecursion}
 use Rattle.std.proofs.lemmas.List.{at_drop_more, at_drop_all}
 use Rattle.dq_base.specs.declared.images.Image.{Image}
 use Rattle.dq_base.specs.declared.pages.NumberedPage.{NumberedPage}
 use Rattle.dq_base.specs.Applying.{applied}
 use Rattle.dq_base.specs.Images.{page_at}
 use Rattle.dq_base.specs.Changes.{changed_page, changed, sizes_of}
-use Rattle.dq_base.proofs.PutPages.{All-append}
 use Rattle.sql_engine.specs.declared.answer.Ran.{Ran}
 use Rattle.sql_engine.specs.Replies.{Statement}
 use Rattle.sql_engine.specs.Meanings.{Meaning, Answers, IsShort}
@@ -16,7 +14,6 @@ use Rattle.sql_engine.proofs.Leading.{leads_on}
 use Rattle.session_rules.specs.Engines.{no_pages}
 use Rattle.session_rules.specs.Touched.{numbers_of, changed_at, same_lengths, put_in_order, ListsAll}
 use Rattle.session_rules.proofs.Touched.{lists_next, change_in_order}
-use Rattle.statement_runs.specs.declared.reached.Reached.{Reached}
 use Rattle.statement_runs.specs.Undoing.{IsChange}
 use Rattle.statement_runs.specs.Reached.{pages_at, newer, reached_at, change_to}
 

@@ -33,10 +33,7 @@ fn add_number(numbers: &mut Vec<u64>, number: u64) -> Result<(), AllocError>
 }
 
 /// Adds the numbers of pages, but for that of the sizes page. `Err` is want of memory.
-pub(crate) fn add_numbers(
-    numbers: &mut Vec<u64>,
-    pages: &[NumberedPage],
-) -> Result<(), AllocError>
+pub(crate) fn add_numbers(numbers: &mut Vec<u64>, pages: &[NumberedPage]) -> Result<(), AllocError>
     ensures { OnOk result (numbers.new.items ≡ numbers.old.items ++ numbers_of pages.now) }
 {
     for page in pages {
@@ -46,11 +43,7 @@ pub(crate) fn add_numbers(
 }
 
 /// The pages that an image has at these numbers, in their order. `Err` is want of memory.
-fn pages_at(
-    alloc: Global,
-    image: &Image,
-    numbers: &[u64],
-) -> Result<Vec<NumberedPage>, AllocError>
+fn pages_at(alloc: Global, image: &Image, numbers: &[u64]) -> Result<Vec<NumberedPage>, AllocError>
     ensures { IfOk result (λ pages. pages.items ≡ there.pages_at numbers.now image.now) }
 {
     let mut pages = Vec::new(alloc);

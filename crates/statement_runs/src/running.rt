@@ -300,7 +300,16 @@ fn run_several<E: Engine>(
     ensures ran { IfOk result (RanTo (E.meaning (E.kind engine.old)) (E.kind engine.old) tx image.old (assigned text.now pieces.now params.now) (E.told engine.old) (E.told engine.new)) }
 {
     let mut progress = Progress::new(alloc);
-    let came = lead(alloc, engine, image, &mut progress, text, pieces, params, tx);
+    let came = lead(
+        alloc,
+        engine,
+        image,
+        &mut progress,
+        text,
+        pieces,
+        params,
+        tx,
+    );
     put_back_all(alloc, &mut progress.undoes, image);
     ended(alloc, image, came?, progress.answer, tx)
 }

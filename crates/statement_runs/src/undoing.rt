@@ -38,11 +38,7 @@ fn is_within(image: &Image, lengths: Lengths) -> bool
 }
 
 /// Adds the page that an image has at a number above 1. `Err` is want of memory.
-fn add_under(
-    under: &mut Vec<NumberedPage>,
-    image: &Image,
-    number: u64,
-) -> Result<(), AllocError>
+fn add_under(under: &mut Vec<NumberedPage>, image: &Image, number: u64) -> Result<(), AllocError>
     ensures { OnOk result (under.new.items ≡ under.old.items ++ undoing.page_under image.now number) }
 {
     if number <= 1 {

@@ -1,4 +1,4 @@
-use Rattle.std.proofs.Common.{◌≡◌, [], sym, rules}
+use Rattle.std.proofs.Common.{◌≡◌, [], rules}
 use Rattle.std.proofs.lemmas.List.{nil_from_length}
 use Rattle.statement_runs.proofs.ComingBack.{popped, none_left}
 use Rattle.statement_runs.proofs.undoing.put_back_all.Goals as goal

@@ -1,4 +1,4 @@
-use Rattle.std.proofs.Common.{◌≡◌, ℕ, vec_len}
+use Rattle.std.proofs.Common.{◌≡◌, vec_len}
 use Rattle.statement_runs.specs.Undoing.{all_undone}
 use Rattle.statement_runs.proofs.undoing.put_back_all.Given as goal
 
