@@ -1,15 +1,17 @@
-use Rattle.std.proofs.Common.{◌≡◌, true, Option, Some, None, option_map, refl, sym, ap, subst, ◌∙◌}
+use Rattle.std.proofs.Common.{◌≡◌, ◌++◌, ℕ, List, true, Option, Some, None, option_map, refl, sym, ap, subst, ◌∙◌}
 use Rattle.dq_base.specs.declared.images.Image.{Image}
-use Rattle.session_rules.specs.Sessions.{Transaction as RuleTransaction}
+use Rattle.session_rules.specs.Touched.{numbers_of}
 use Rattle.session_table.specs.declared.session.Transaction.{Transaction}
 use Rattle.session_table.specs.Table.{image_pinned, transaction_of}
 use Rattle.session_table.specs.Changing.{worked_on}
 use Rattle.session_table.proofs.change.work.Goals as goal
 
-pub returns-in_ok-apply_all-clause-ok : goal.returns-in_ok-apply_all-clause-ok
-returns-in_ok-apply_all-clause-ok c = λ databases.
+pub returns-in_ok-note_numbers-clause-ok : goal.returns-in_ok-note_numbers-clause-ok
+returns-in_ok-note_numbers-clause-ok c = λ databases.
     let x : Transaction = c.in-Some.transaction in
-    ap (λ (image : Image). Some (record { name = x.name; mark = x.mark; pinned = image_pinned databases x.pin; working = image; turn = true })) c.in_ok-apply_all.ensures.ok
+    let pages = c.args.pages.now in
+    let touched : c.note_numbers.new.touched.items ≡ x.touched.items ++ numbers_of pages = c.in_ok-note_numbers.ensures.noted ∙ ap (λ (ns : List ℕ). ns ++ numbers_of pages) c.reserve.ensures.items in
+    (λ i. Some (record { name = x.name; mark = x.mark; pinned = image_pinned databases x.pin; working = c.in_ok-apply_all.ensures.ok i; turn = true; touched = touched i }))
     ∙ sym (ap (λ (tx : Option Transaction). worked_on c.args.pages.now (option_map (transaction_of databases) tx)) c.in-Some.is)
 
 pub returns-in_default-clause-ok : goal.returns-in_default-clause-ok
