@@ -1,5 +1,5 @@
 -- Statements that ran in a transaction, by how they ended.
-use Rattle.std.proofs.Common.{◌≡◌, ℕ, Bool, true, false, cond, List, [], ◌∷◌, Option, Some, None, Result, Ok, Err, IfOk, refl, sym, ap, subst, ◌∙◌}
+use Rattle.std.proofs.Common.{◌≡◌, ℕ, Bool, true, false, cond, List, [], ◌∷◌, ◌++◌, append-nil, Option, Some, None, Result, Ok, Err, IfOk, refl, sym, ap, subst, ◌∙◌}
 use Rattle.std.specs.declared.alloc.AllocError.{AllocError}
 use Rattle.dq_base.specs.declared.images.Image.{Image}
 use Rattle.dq_base.specs.declared.pages.NumberedPage.{NumberedPage}
@@ -14,10 +14,12 @@ use Rattle.session_rules.specs.Engines.{no_pages, Ending, Lacking, TooLarge, Sto
 use Rattle.session_rules.specs.Machine.{Machine}
 use Rattle.session_rules.specs.Sessions.{Session, Gateway, View, Transaction, Note, Inside, Turned, Refused, Answers}
 use Rattle.session_rules.specs.Limits.{hindrance}
-use Rattle.session_rules.specs.Requests.{unless, row_cause, reply_of, worked, inside}
-use Rattle.session_rules.proofs.Images.{unchanged}
+use Rattle.session_rules.specs.Requests.{unless, row_cause, reply_of, with_tx, worked, inside}
+use Rattle.session_rules.specs.Touched.{numbers_of}
+use Rattle.session_rules.proofs.Images.{unchanged, changed_same}
 use Rattle.session_table.specs.declared.cause.Cause.{Cause}
 use Rattle.session_table.specs.Named.{cause_named}
+use Rattle.session_table.specs.Changing.{worked_on}
 use Rattle.session_turns.specs.declared.turn.Turn.{Turn}
 use Rattle.session_turns.specs.declared.turn.Turn.TheVariants as turns
 use Rattle.session_turns.specs.Turning.{ComesTo}
@@ -26,11 +28,26 @@ use Rattle.statement_runs.specs.Running.{change_in}
 use Rattle.session_turns.proofs.Shown.{AllShown, change_leads}
 use Rattle.session_turns.specs.Hindered.{LeadsTo}
 
+no_page : (pages : List NumberedPage) → no_pages pages ≡ true → pages ≡ []
+no_page [] e = refl
+no_page (p ∷ ps) e = absurd cc
+
+-- an image that stays lists no page
+nothing_more : (ns : List ℕ) (a : Image) → ns ++ numbers_of (changed a a) ≡ ns
+nothing_more ns a = ap (λ (pages : List NumberedPage). ns ++ numbers_of pages) (no_page (changed a a) (changed_same a)) ∙ append-nil ns
+
 -- the transaction with the image and the turn that it has
 same_worked : (s : Session) (x : Transaction) (to : Image) → s.tx ≡ Some x → x.working ≡ to → worked s x to x.turn ≡ s
 same_worked s x to begun is =
     ap (λ (image : Image). worked s x image x.turn) (sym is)
+    ∙ ap (λ (ns : List ℕ). with_tx s (Some (record { name = x.name; mark = x.mark; pinned = x.pinned; working = x.working; turn = x.turn; touched = ns }))) (nothing_more x.touched x.working)
     ∙ ap (λ (tx : Option Transaction). record { there = s.there; hung = s.hung; database = s.database; statements = s.statements; tx = tx; flight = s.flight }) (sym begun)
+
+-- the transaction with the pages that lead to another image
+pub works_on : (s : Session) (x : Transaction) (set : PageSet) (to : Image) → s.tx ≡ Some x → applied x.working set.pages ≡ to → set.pages ≡ changed x.working to → worked s x to true ≡ with_tx s (worked_on set.pages s.tx)
+works_on s x set to begun reaches lists =
+    (λ i. with_tx s (Some (record { name = x.name; mark = x.mark; pinned = x.pinned; working = sym reaches i; turn = true; touched = x.touched ++ numbers_of (sym lists i) })))
+    ∙ ap (λ (tx : Option Transaction). with_tx s (worked_on set.pages tx)) (sym begun)
 
 module _ (v : View) (m : Machine) (g : Gateway) (conn : ℕ) (s : Session) (x : Transaction) (ss : List Statement) (rows : Bool) (e : Ending) where
   pub stopped_inside : (fault : EngineFault) (cause : Cause) → e ≡ Stopped fault → cause_named cause ≡ engine_cause fault → ComesTo v m s (inside m g conn s x ss rows e) (turns.Refused cause)
@@ -44,7 +61,7 @@ module _ (v : View) (m : Machine) (g : Gateway) (conn : ℕ) (s : Session) (x : 
   large_inside r answer is comes = subst (λ (y : Ending). IfOk r (ComesTo v m s (inside m g conn s x ss rows y))) (sym is) comes
 
   module _ (r : Result Turn AllocError) (tx : ℕ) (ran : AllRan) (all : AllShown tx x.working e ran) where
-    pages_inside : (change_in ran).pages ≡ changed x.working all.to
+    pub pages_inside : (change_in ran).pages ≡ changed x.working all.to
     pages_inside = ap (λ (set : PageSet). set.pages) all.change
 
     ended_inside : (turned : Turned) → inside m g conn s x ss rows (Ended all.to ran.answer) ≡ turned → IfOk r (ComesTo v m s turned) → IfOk r (ComesTo v m s (inside m g conn s x ss rows e))

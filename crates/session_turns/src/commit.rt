@@ -16,6 +16,7 @@ ghost use Rattle.session_rules.specs.Limits as limits;
 ghost use Rattle.session_rules.specs.Machine.{Machine as RuleMachine, machine_of};
 ghost use Rattle.session_rules.specs.Requests.{unless, flying, with_flight, change_of, does};
 ghost use Rattle.session_rules.specs.Seen.{HasSpelling};
+ghost use Rattle.session_rules.specs.Touched.{IsListed, ListsAll};
 ghost use Rattle.session_rules.specs.Sessions as rules;
 ghost use Rattle.session_rules.specs.Sessions.{Session as RuleSession};
 ghost use Rattle.session_table.specs.Table.{image_pinned, mark_of, pin_of, session_of, table_of, AreApart};
@@ -23,7 +24,7 @@ ghost use Rattle.session_asking.specs.Meant.{IsServed};
 ghost use Rattle.session_turns.specs.Turning.{ComesTo};
 ghost use Rattle.session_turns.specs.Hindered.{LeadsTo, Hinders};
 
-use crate::earlier::{are_none, changed_since, lengths_of, pinned};
+use crate::earlier::{are_none, change_by, lengths_of, pinned};
 use crate::hindering::{hindrance, log_full};
 use crate::turn::Turn;
 use crate::writing::{change_entries, transaction_number};
@@ -40,13 +41,19 @@ fn pages_of(
     machine: &Machine,
     transaction: &Transaction,
 ) -> Result<Vec<NumberedPage>, AllocError>
-    requires { AllByRecursion (IsPinned machine.now) (mark_of transaction.now.pin) }
+    requires live { AllByRecursion (IsPinned machine.now) (mark_of transaction.now.pin) }
+    requires listed { ListsAll transaction.now.touched.items (image_pinned machine.now transaction.now.pin) transaction.now.working }
     ensures change { IfOk result (λ pages. pages.items ≡ changed (image_pinned machine.now transaction.now.pin) transaction.now.working) }
     ensures leads { IfOk result (λ pages. LeadsTo pages.items transaction.now.working) }
 {
     let _ = lengths_of(&transaction.working);
     let earlier = pinned(machine, &transaction.pin);
-    changed_since(alloc, &earlier, &transaction.working)
+    change_by(
+        alloc,
+        &earlier,
+        &transaction.working,
+        transaction.touched.as_slice(),
+    )
 }
 
 /// A commit of entries that come next in the log, which isn't full. `Err` is want of memory.
@@ -162,9 +169,9 @@ fn commit(
 }
 
 /// What COMMIT comes to at a session of a node that serves: its transaction is over, where it never took the turn to write or
-/// has changed no page; else its changes are proposed, where nothing hinders them. Where it took the turn, each page of the
-/// working image is compared with that of the pinned one, for which both are copied, one at a time; the pages that differ are
-/// kept. `Err` is want of memory.
+/// has changed no page; else its changes are proposed, where nothing hinders them. Where it took the turn, the pages that its
+/// statements changed are compared with those of the pinned image, for which both are copied, one at a time; those that differ
+/// are kept. No other page is looked at but three. `Err` is want of memory.
 #[tactic(auto, unfolding(session_rules::specs::Requests::does, session_rules::specs::Requests::committed))]
 pub fn commit_turn(
     alloc: Global,
@@ -177,6 +184,7 @@ pub fn commit_turn(
     requires term { view.now.serving ≡ true → view.now.term ≤ 4294967295 }
     requires served { IsServed view.now (session_of machine.now session.now) }
     requires live { AllByRecursion (IsPinned machine.now) (pin_of session.now.transaction) }
+    requires listed { IsListed (session_of machine.now session.now).tx }
     ensures { (weight : ℕ) (answers : List Answer) → IfOk result (ComesTo view.now (machine_of machine.now) (session_of machine.now session.now) (does view.now (machine_of machine.now) (table_of machine.now sessions.now weight) session.now.conn (session_of machine.now session.now) Commits answers)) }
 {
     let Some(transaction) = &session.transaction else {

@@ -1,6 +1,6 @@
 //! An earlier image of a database, read page by page from the machine and compared with a later one.
 
-ghost use Rattle.std.specs.Prelude.{◌≡◌, ◌≤◌, ◌<◌, ◌^◌, length, is_none, IfOk};
+ghost use Rattle.std.specs.Prelude.{◌≡◌, ◌≤◌, ◌<◌, ◌^◌, ◌&&◌, length, is_none, IfOk};
 ghost use Rattle.std.specs.List.{AllByRecursion};
 ghost use Rattle.dq_base.specs.Changes.{changed, changed_from, numbers_above_one, same_image};
 ghost use Rattle.dq_base.specs.Images.{page_at};
@@ -8,13 +8,14 @@ ghost use Rattle.page_apply.specs.Pins.{IsPinned};
 ghost use Rattle.session_turns.specs.Earlier.{image_of, IsShown};
 ghost use Rattle.session_turns.specs.Pages as pages_of_images;
 ghost use Rattle.session_rules.specs.Engines.{no_pages};
+ghost use Rattle.session_rules.specs.Touched.{ListsAll, changed_at, same_lengths};
 ghost use Rattle.session_rules.specs.Machine.{machine_of};
 ghost use Rattle.session_table.specs.Table.{image_pinned, mark_of};
 
 use dq_base::{Image, Lengths, NumberedPage, PAGE_SIZE, Page, page_at};
 use page_apply::{Database, Machine, Pin};
 use session_asking::database_named;
-use statement_runs::{add_changed, numbers_above_one, sizes_of};
+use statement_runs::{add_changed, in_order, numbers_above_one, sizes_of};
 use std::alloc::{AllocError, Global};
 
 /// An earlier image of a database, lent by the machine.
@@ -179,6 +180,72 @@ pub(crate) fn changed_since(
 {
     let mut pages = changed_pages(alloc, earlier, after)?;
     if is_same(alloc, earlier, after, &pages) {
+        return Ok(pages);
+    }
+    pages.push(sizes_of(after))?;
+    Ok(pages)
+}
+
+/// The pages at these numbers that a later image has and the earlier has not or has otherwise, in their order. `Err` is want of
+/// memory.
+fn changed_at(
+    alloc: Global,
+    earlier: &Earlier,
+    after: &Image,
+    numbers: &[u64],
+) -> Result<Vec<NumberedPage>, AllocError>
+    requires { IsShown earlier.now }
+    ensures { IfOk result (λ pages. pages.items ≡ changed_at numbers.now (image_of earlier.now) after.now) }
+{
+    let mut pages = Vec::new(alloc);
+    for number in numbers {
+        let number = *number;
+        let before = earlier_page(alloc, earlier, number);
+        add_changed(&mut pages, number, before, page_at(after, number))?;
+    }
+    Ok(pages)
+}
+
+/// Whether the files of the earlier image are as long as those of a later one. Looks at three pages.
+fn same_lengths(alloc: Global, earlier: &Earlier, after: &Image) -> bool
+    requires { IsShown earlier.now }
+    ensures { result ≡ same_lengths (image_of earlier.now) after.now }
+{
+    let lengths = lengths_of(after);
+    if !has_sizes(alloc, earlier, after) {
+        return false;
+    }
+    ends_within(alloc, earlier, lengths)
+}
+
+/// Whether the earlier image is a later one, where only these pages above 1 differ.
+fn is_unchanged(alloc: Global, earlier: &Earlier, after: &Image, pages: &Vec<NumberedPage>) -> bool
+    requires { IsShown earlier.now }
+    ensures { result ≡ no_pages pages.now.items && same_lengths (image_of earlier.now) after.now }
+{
+    if !are_none(pages) {
+        return false;
+    }
+    same_lengths(alloc, earlier, after)
+}
+
+/// The pages that lead from an earlier image to a later one, which differ only in the pages of these numbers: none where they
+/// are the same; else those pages that the later has and the earlier has not or has otherwise, in order, and its sizes page.
+/// Copies the pages of the numbers, one at a time, and keeps those that it lists. `Err` is want of memory.
+pub(crate) fn change_by(
+    alloc: Global,
+    earlier: &Earlier,
+    after: &Image,
+    touched: &[u64],
+) -> Result<Vec<NumberedPage>, AllocError>
+    requires shown { IsShown earlier.now }
+    requires listed { ListsAll touched.now (image_of earlier.now) after.now }
+    ensures { IfOk result (λ pages. pages.items ≡ changed (image_of earlier.now) after.now) }
+{
+    let _ = lengths_of(after);
+    let numbers = in_order(alloc, touched)?;
+    let mut pages = changed_at(alloc, earlier, after, numbers.as_slice())?;
+    if is_unchanged(alloc, earlier, after, &pages) {
         return Ok(pages);
     }
     pages.push(sizes_of(after))?;

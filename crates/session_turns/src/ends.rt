@@ -2,7 +2,9 @@
 
 ghost use Rattle.std.specs.Prelude.{◌≡◌, ℕ, List, Option, Some, None, true, false, IfOk};
 ghost use Rattle.std.specs.List.{AllByRecursion};
+ghost use Rattle.dq_base.specs.declared.images.Image.{Image};
 ghost use Rattle.dq_base.specs.Applying.{applied};
+ghost use Rattle.dq_base.specs.Changes.{changed};
 ghost use Rattle.sql_engine.specs.Replies.{IsTable};
 ghost use Rattle.session_rules.specs.Causes.{Cause as RuleCause};
 ghost use Rattle.session_rules.specs.Entries.{Content, written};
@@ -52,6 +54,7 @@ pub(crate) fn idle(alloc: Global, rows: bool, answer: Ran) -> Result<Turn, Alloc
 }
 
 /// Statements that changed pages in a transaction are answered. `Err` is want of memory.
+#[tactic(auto, using(crate::proofs::InsideRun::works_on))]
 pub(crate) fn worked(
     alloc: Global,
     rows: bool,
@@ -59,7 +62,7 @@ pub(crate) fn worked(
     set: PageSet,
 ) -> Result<Turn, AllocError>
     requires { IsTable answer.columns answer.rows }
-    ensures { (v : RuleView) (m : Machine) (s : Session) (x : Transaction) (note : Note) → s.tx ≡ Some x → IfOk result (ComesTo v m s (unless (row_cause rows answer None) (sessions.Answers (worked s x (applied x.working set.pages) true) (reply_of rows answer) note))) }
+    ensures { (v : RuleView) (m : Machine) (s : Session) (x : Transaction) (note : Note) (to : Image) → s.tx ≡ Some x → applied x.working set.pages ≡ to → set.pages ≡ changed x.working to → IfOk result (ComesTo v m s (unless (row_cause rows answer None) (sessions.Answers (worked s x to true) (reply_of rows answer) note))) }
 {
     match told(alloc, rows, answer)? {
         Ok(reply) => Ok(Turn::Answers(Change::Works(set), reply)),

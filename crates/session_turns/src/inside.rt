@@ -3,6 +3,7 @@
 ghost use Rattle.std.specs.Prelude.{◌≡◌, ℕ, List, Some, true, false, IfOk};
 ghost use Rattle.dq_base.specs.declared.images.Image.{Image};
 ghost use Rattle.dq_base.specs.Applying.{applied};
+ghost use Rattle.dq_base.specs.Changes.{changed};
 ghost use Rattle.sql_engine.specs.Replies.{IsTable, Statement};
 ghost use Rattle.session_rules.specs.Causes.{DatabaseFull};
 ghost use Rattle.session_rules.specs.Engines as engines;
@@ -78,7 +79,7 @@ fn work(
     requires apart { AreApart sessions.now }
     requires table { IsTable ran.answer.columns ran.answer.rows }
     requires some { engines.no_pages (change_in ran).pages ≡ false }
-    ensures { (weight : ℕ) (v : RuleView) (s : RuleSession) (x : RuleTransaction) (note : Note) (to : Image) → LeadsTo (change_in ran).pages to → s.tx ≡ Some x → applied x.working (change_in ran).pages ≡ to → IfOk result (ComesTo v (machine_of machine.now) s (unless (row_cause rows ran.answer (limits.hindrance (machine_of machine.now) (table_of machine.now sessions.now weight) conn transaction.now.name transaction.now.mark (change_in ran).pages to)) (rules.Answers (requests.worked s x to true) (reply_of rows ran.answer) note))) }
+    ensures { (weight : ℕ) (v : RuleView) (s : RuleSession) (x : RuleTransaction) (note : Note) (to : Image) → LeadsTo (change_in ran).pages to → s.tx ≡ Some x → applied x.working (change_in ran).pages ≡ to → (change_in ran).pages ≡ changed x.working to → IfOk result (ComesTo v (machine_of machine.now) s (unless (row_cause rows ran.answer (limits.hindrance (machine_of machine.now) (table_of machine.now sessions.now weight) conn transaction.now.name transaction.now.mark (change_in ran).pages to)) (rules.Answers (requests.worked s x to true) (reply_of rows ran.answer) note))) }
 {
     let name = &transaction.name;
     let hindered = hindered(alloc, machine, sessions, conn, name, transaction.mark, &ran)?;

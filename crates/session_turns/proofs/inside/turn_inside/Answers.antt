@@ -3,7 +3,7 @@ use Rattle.statement_runs.specs.Running.{Shows}
 use Rattle.session_rules.specs.Machine.{machine_of}
 use Rattle.session_table.specs.Table.{table_of, session_of, transaction_of}
 use Rattle.session_turns.proofs.Shown.{shows_stopped, shows_large, shows_ended}
-use Rattle.session_turns.proofs.InsideRun.{stopped_inside, large_inside, idle_inside, work_inside, leads_inside, applied_inside}
+use Rattle.session_turns.proofs.InsideRun.{stopped_inside, large_inside, idle_inside, work_inside, leads_inside, applied_inside, pages_inside}
 use Rattle.session_turns.proofs.inside.turn_inside.Goals as goal
 
 pub returns-in-Stopped : goal.returns-in-Stopped
@@ -23,4 +23,5 @@ pub returns-else-is_unchanged : goal.returns-else-is_unchanged
 returns-else-is_unchanged c = λ weight tx v statements ended shows.
     let all = shows_ended tx c.args.transaction.now.working ended c.in-Ended.ran (subst (Shows tx c.args.transaction.now.working ended) c.in-Ended.is shows) in
     work_inside v (machine_of c.args.machine.now) (table_of c.args.machine.now c.args.sessions.now weight) c.args.session.now.conn (session_of c.args.machine.now c.args.session.now) (transaction_of c.args.machine.now c.args.transaction.now) statements c.args.rows ended c.work.result tx c.in-Ended.ran all (sym c.is_unchanged.ensures ∙ c.if-is_unchanged.false)
-    (c.work.ensures weight v (session_of c.args.machine.now c.args.session.now) (transaction_of c.args.machine.now c.args.transaction.now) _ all.to (leads_inside v (machine_of c.args.machine.now) (table_of c.args.machine.now c.args.sessions.now weight) c.args.session.now.conn (session_of c.args.machine.now c.args.session.now) (transaction_of c.args.machine.now c.args.transaction.now) statements c.args.rows ended c.work.result tx c.in-Ended.ran all) (ap (option_map (transaction_of c.args.machine.now)) c.requires.open) (applied_inside v (machine_of c.args.machine.now) (table_of c.args.machine.now c.args.sessions.now weight) c.args.session.now.conn (session_of c.args.machine.now c.args.session.now) (transaction_of c.args.machine.now c.args.transaction.now) statements c.args.rows ended c.work.result tx c.in-Ended.ran all))
+    (c.work.ensures weight v (session_of c.args.machine.now c.args.session.now) (transaction_of c.args.machine.now c.args.transaction.now) _ all.to (leads_inside v (machine_of c.args.machine.now) (table_of c.args.machine.now c.args.sessions.now weight) c.args.session.now.conn (session_of c.args.machine.now c.args.session.now) (transaction_of c.args.machine.now c.args.transaction.now) statements c.args.rows ended c.work.result tx c.in-Ended.ran all) (ap (option_map (transaction_of c.args.machine.now)) c.requires.open) (applied_inside v (machine_of c.args.machine.now) (table_of c.args.machine.now c.args.sessions.now weight) c.args.session.now.conn (session_of c.args.machine.now c.args.session.now) (transaction_of c.args.machine.now c.args.transaction.now) statements c.args.rows ended c.work.result tx c.in-Ended.ran all)
+    (pages_inside v (machine_of c.args.machine.now) (table_of c.args.machine.now c.args.sessions.now weight) c.args.session.now.conn (session_of c.args.machine.now c.args.session.now) (transaction_of c.args.machine.now c.args.transaction.now) statements c.args.rows ended c.work.result tx c.in-Ended.ran all))

@@ -1,0 +1,24 @@
+use Rattle.std.proofs.Common.{◌≡◌, [], ◌∷◌, ◌++◌, List, ℕ, ap, subst, ◌∙◌}
+use Rattle.dq_base.specs.Changes.{sizes_of}
+use Rattle.dq_base.specs.declared.pages.NumberedPage.{NumberedPage}
+use Rattle.session_rules.specs.Touched.{changed_at, put_in_order}
+use Rattle.session_turns.specs.Earlier.{image_of}
+use Rattle.session_turns.proofs.ListedPages.{nothing_changed, all_changed}
+use Rattle.session_turns.proofs.earlier.change_by.Goals as goal
+
+pub returns-then-is_unchanged : goal.returns-then-is_unchanged
+returns-then-is_unchanged c =
+    let before = image_of c.args.earlier.now in
+    let after = c.args.after.now in
+    let fits = c.lengths_of.ensures in
+    nothing_changed before after c.args.touched.now c.in_ok-numbers.numbers.items c.in_ok-pages.pages.items c.requires.listed c.in_ok-numbers.ensures (c.in_ok-pages.ensures ∙ ap (λ (ns : List ℕ). changed_at ns before after) c.as_slice.ensures.value)
+    fits.main_fits fits.side_fits _ c.is_unchanged.ensures c.if-is_unchanged.true
+
+pub returns : goal.returns
+returns c =
+    let before = image_of c.args.earlier.now in
+    let after = c.args.after.now in
+    let fits = c.lengths_of.ensures in
+    let pushed : c.push.new.self.items ≡ c.in_ok-pages.pages.items ++ c.sizes_of.result ∷ [] = c.in_ok-push.ensures.items in
+    all_changed before after c.args.touched.now c.in_ok-numbers.numbers.items c.in_ok-pages.pages.items c.requires.listed c.in_ok-numbers.ensures (c.in_ok-pages.ensures ∙ ap (λ (ns : List ℕ). changed_at ns before after) c.as_slice.ensures.value)
+    fits.main_fits fits.side_fits _ _ c.is_unchanged.ensures c.if-is_unchanged.false (pushed ∙ ap (λ (p : NumberedPage). c.in_ok-pages.pages.items ++ p ∷ []) c.sizes_of.ensures)
