@@ -13,6 +13,5 @@ pub mod Committing
 pub mod Leading
 pub mod SamePages
 pub mod Placed
-pub mod Worked
 pub mod SameLengths
 pub mod ListedPages
