@@ -48,20 +48,21 @@ fn turn_of<E: Engine>(
     ensures unopened { IfOk result (λ turn. turn ≡ turns.Refused NotADatabase → E.refused_openings engine.old < E.refused_openings engine.new) }
     ensures ran { (own : SessionValue) (weight : ℕ) → IfOk result (TurnsTo (E.meaning (E.kind engine.old)) (E.kind engine.old) view.now (machine_of machine.now) (table_of machine.now sessions.old weight) (get_or sessions.old place own).conn (session_of machine.now (get_or sessions.old place own)) (meant params.now wanted) (E.told engine.old) (E.told engine.new)) }
 {
-    let session = &sessions[place];
+    let known = &*sessions;
+    let session = &known[place];
     match wanted {
         Wanted::Never(cause) => Ok(Turn::Refused(cause)),
         Wanted::Tells(response) => Ok(telling(response)),
         Wanted::Sets(effect) => Ok(Turn::Affects(effect)),
         Wanted::Opens(name) => Ok(opened(name)),
-        Wanted::Creates(name) => creating(alloc, view, machine, sessions, session, name),
+        Wanted::Creates(name) => creating(alloc, view, machine, known, session, name),
         Wanted::Prepares(prepared, tail) => Ok(preparing(session, prepared, tail)),
         Wanted::Drops(id) => Ok(finalizing(session, id)),
-        Wanted::Begins(at_once) => Ok(beginning(sessions, session.conn, session, at_once)),
-        Wanted::Commits => commit_turn(alloc, view, machine, sessions, session),
+        Wanted::Begins(at_once) => Ok(beginning(known, session.conn, session, at_once)),
+        Wanted::Commits => commit_turn(alloc, view, machine, known, session),
         Wanted::RollsBack => Ok(Turn::Ends),
         Wanted::RunsOne(prepared) => run_prepared(
-            alloc, view, machine, sessions, session, false, &prepared, params, engine,
+            alloc, view, machine, known, session, false, &prepared, params, engine,
         ),
         Wanted::RunsAll(script) => {
             run_script(
@@ -69,7 +70,7 @@ fn turn_of<E: Engine>(
             )
         }
         Wanted::Reads(prepared) => run_prepared(
-            alloc, view, machine, sessions, session, true, &prepared, params, engine,
+            alloc, view, machine, known, session, true, &prepared, params, engine,
         ),
     }
 }
@@ -98,8 +99,9 @@ pub(crate) fn decide<E: Engine>(
     ensures unopened { IfOk result (λ turn. turn ≡ turns.Refused NotADatabase → E.refused_openings engine.old < E.refused_openings engine.new) }
     ensures ran { IfOk result (ComesBy (E.meaning (E.kind engine.old)) (E.kind engine.old) view.now (machine_of machine.now) ((table_of machine.now sessions.old weight).session conn) (handed view.now (machine_of machine.now) (table_of machine.now sessions.old weight) conn request.now) (on_request view.now (machine_of machine.now) (table_of machine.now sessions.old weight) conn request.now) (E.told engine.old) (E.told engine.new)) }
 {
-    let session = &sessions[place];
-    let wanted = wanted_by(alloc, view, machine, sessions, weight, session, request)?;
+    let known = &*sessions;
+    let session = &known[place];
+    let wanted = wanted_by(alloc, view, machine, known, weight, session, request)?;
     let params = params_of(request);
     turn_of(
         alloc, view, machine, sessions, place, wanted, params, engine,
