@@ -6,6 +6,7 @@ use Rattle.client_connection.specs.declared.connection.CloseReason.{CloseReason}
 use Rattle.client_connection.specs.Connection.{Conn, opened, received, reason_of}
 use Rattle.session_rules.specs.Sessions.{Session, Gateway, no_sessions, is_busy}
 use Rattle.session_rules.specs.Events.{connects, connected, on_hangup}
+use Rattle.session_rules.specs.Touched.{IsListed}
 use Rattle.client_sessions.specs.Sending.{FlightCanSend}
 use Rattle.client_sessions.specs.declared.joining.Joining.{Joining}
 use Rattle.client_sessions.specs.declared.joining.Joining.TheVariants.{Joined, Full, Taken}
@@ -125,7 +126,9 @@ abbrev pub Fits : Option Conn → Session → Type 0
 Fits None s = (s.there ≡ true → (s.hung ≡ true) × (is_busy s ≡ true)) × (is_busy s ≡ true → s.there ≡ true)
 Fits (Some stream) s = (s.there ≡ true) × (s.hung ≡ false)
 
--- So it is with every connection; and the reply that a proposal in flight gets can be sent.
+-- So it is with every connection; the reply that a proposal in flight gets can be sent; and an open transaction has the numbers
+-- of all pages that it changed.
 pub record Sound (k : Clients) : Type 0 where
   pub fits : (conn : ℕ) → Fits (k.streams conn) (k.sessions.session conn)
   pub sends : (conn : ℕ) → FlightCanSend (k.sessions.session conn).flight
+  pub listed : (conn : ℕ) → IsListed (k.sessions.session conn).tx

@@ -7,6 +7,7 @@ ghost use Rattle.session_rules.specs.Asking.{Commits};
 ghost use Rattle.session_rules.specs.Engines.{Answer};
 ghost use Rattle.session_rules.specs.Machine.{machine_of};
 ghost use Rattle.session_rules.specs.Requests.{does};
+ghost use Rattle.session_rules.specs.Touched.{IsListed};
 ghost use Rattle.session_table.specs.declared.cause.Cause.TheVariants.{NotADatabase};
 ghost use Rattle.session_table.specs.Table.{AreApart, pin_of, session_of, table_of};
 ghost use Rattle.session_asking.specs.Meant.{IsServed};
@@ -32,6 +33,7 @@ pub(crate) fn commit_turn(
     requires term { HasShortTerm view.now }
     requires served { IsServed view.now (session_of machine.now session.now) }
     requires live { AllByRecursion (IsPinned machine.now) (pin_of session.now.transaction) }
+    requires listed { IsListed (session_of machine.now session.now).tx }
     requires open { IsSome session.now.transaction }
     ensures opened { IfOk result (λ turn. turn ≢ turns.Refused NotADatabase) }
     ensures comes { (weight : ℕ) (answers : List Answer) → IfOk result (ComesTo view.now (machine_of machine.now) (session_of machine.now session.now) (does view.now (machine_of machine.now) (table_of machine.now sessions.now weight) session.now.conn (session_of machine.now session.now) Commits answers)) }

@@ -5,6 +5,7 @@ ghost use Rattle.std.specs.List.{AllByRecursion};
 ghost use Rattle.page_apply.specs.Pins.{IsPinned};
 ghost use Rattle.session_rules.specs.Machine.{machine_of};
 ghost use Rattle.session_rules.specs.Requests.{handed, on_request};
+ghost use Rattle.session_rules.specs.Touched.{IsListed};
 ghost use Rattle.session_table.specs.declared.cause.Cause.TheVariants.{NotADatabase};
 ghost use Rattle.session_table.specs.declared.session.Session.{Session as SessionValue};
 ghost use Rattle.session_table.specs.Changing.{StandsAt};
@@ -41,6 +42,7 @@ fn turn_of<E: Engine>(
     requires within { place < length sessions.old }
     requires term { HasShortTerm view.now }
     requires live { (own : SessionValue) → AllByRecursion (IsPinned machine.now) (pin_of (get_or sessions.old place own).transaction) }
+    requires listed { (own : SessionValue) → IsListed (session_of machine.now (get_or sessions.old place own)).tx }
     requires can { (own : SessionValue) → CanBeDone view.now (session_of machine.now (get_or sessions.old place own)) params.now wanted }
     ensures kept { sessions.new ≡ sessions.old }
     ensures kind { E.kind engine.new ≡ E.kind engine.old }

@@ -3,6 +3,7 @@
 ghost use Rattle.std.specs.Prelude.{◌≡◌, ◌<◌, ◌≤◌, ◌∷◌, [], true, OnErr, IfOk};
 ghost use Rattle.session_rules.specs.Causes.{NotADatabase, failure};
 ghost use Rattle.session_rules.specs.Machine.{machine_of};
+ghost use Rattle.session_rules.specs.Touched.{IsListed};
 ghost use Rattle.session_table.specs.Marks.{AreMarks};
 ghost use Rattle.session_table.specs.Table.{table_of, pins_of, IsTable};
 ghost use Rattle.session_asking.specs.Meant.{NameHasNoNul};
@@ -32,6 +33,7 @@ pub(crate) fn handle<E: Engine>(
 ) -> Result<Act, AllocError>
     requires table { IsTable sessions.old.items }
     requires marks { AreMarks (pins_of sessions.old.items) machine.old }
+    requires listed { IsListed ((table_of machine.old sessions.old.items weight.old).session conn).tx }
     requires there { ((table_of machine.old sessions.old.items weight.old).session conn).there ≡ true }
     requires name { NameHasNoNul request.now }
     requires term { HasShortTerm view.now }

@@ -6,6 +6,7 @@ ghost use Rattle.page_apply.specs.declared.database.Database.{Database};
 ghost use Rattle.session_rules.specs.Causes.{NotADatabase, failure};
 ghost use Rattle.session_rules.specs.Sessions.{no_sessions, is_busy, may_ask};
 ghost use Rattle.session_rules.specs.Machine.{machine_of};
+ghost use Rattle.session_rules.specs.Touched.{IsListed};
 ghost use Rattle.session_rules.specs.Events as events;
 ghost use Rattle.session_table.specs.Sweeping.{all_told};
 ghost use Rattle.gateway.specs.Calls.{TurnedBy, HasNoNul, HasShortTerm};
@@ -91,6 +92,8 @@ impl Gateway {
     ) -> Result<Act, AllocError>
         requires ready { may_ask ((seen self.old machine.old).session conn) ≡ true }
         requires pins { PinsOf self.old machine.old }
+        // Its open transaction has the numbers of all pages that it changed, as each request leaves it.
+        requires listed { IsListed ((seen self.old machine.old).session conn).tx }
         requires text { HasNoNul request.now }
         requires term { HasShortTerm view.now }
         // The definition's outcome, by answers that the engine may give and told.

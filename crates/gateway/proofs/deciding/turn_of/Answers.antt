@@ -11,7 +11,7 @@ use Rattle.session_asking.specs.declared.wanted.Wanted.{Wanted}
 use Rattle.session_asking.specs.Meant.{meant, IsPlainCause, IsAllowed}
 use Rattle.session_turns.specs.declared.turn.Turn.TheVariants as turns
 use Rattle.gateway.proofs.Decided.{nothing_handed, never_unopened, creates_plain, begins_plain, commits_plain}
-use Rattle.gateway.proofs.Placed.{can_there, turned_there, came_there}
+use Rattle.gateway.proofs.Placed.{allowed_there, allowed_at, fits_there, listed_there, outside_too, some_inside, turned_there, came_there}
 use Rattle.gateway.proofs.deciding.turn_of.Goals as goal
 
 pub returns-in-Never-clause-ran : goal.returns-in-Never-clause-ran
@@ -20,7 +20,7 @@ returns-in-Never-clause-ran g c = λ own weight. turned_there c.args.sessions.no
 
 pub returns-in-Never-clause-unopened : goal.returns-in-Never-clause-unopened
 returns-in-Never-clause-unopened g c = λ e.
-    let plain : IsPlainCause (cause_named c.in-Never.cause) = subst (λ (w : Wanted). IsAllowed c.args.view.now (session_of c.args.machine.now c.index-known-place.result) (meant c.args.params.now w)) c.in-Never.is (can_there c.args.sessions.now c.args.place c.index-known-place.result c.requires.within c.index-known-place.is c.args.view.now c.args.machine.now c.args.params.now c.args.wanted c.requires.can).allowed in
+    let plain : IsPlainCause (cause_named c.in-Never.cause) = allowed_there c.args.sessions.now c.args.place c.index-known-place.result c.requires.within c.index-known-place.is c.args.view.now c.args.machine.now c.args.params.now c.args.wanted _ c.in-Never.is c.requires.can in
     absurd (never_unopened c.args.view.now (machine_of c.args.machine.now) (session_of c.args.machine.now c.index-known-place.result) (Refused (cause_named c.in-Never.cause)) (turns.Refused c.in-Never.cause) plain refl e)
 
 pub returns-in-Sets-clause-ran : goal.returns-in-Sets-clause-ran
@@ -73,3 +73,42 @@ returns-in-Creates-clause-unopened g c = IfOk-weaker c.creating.result _ _ (λ t
 
 pub returns-in-Commits-clause-ran : goal.returns-in-Commits-clause-ran
 returns-in-Commits-clause-ran g c = λ own weight. came_there c.args.sessions.now c.args.place c.index-known-place.result c.requires.within c.index-known-place.is _ _ c.args.view.now c.args.machine.now c.args.params.now c.args.wanted _ _ own weight c.commit_turn.result (IfOk-weaker c.commit_turn.result _ _ (λ turn h. nothing_handed _ _ c.args.view.now (machine_of c.args.machine.now) (table_of c.args.machine.now c.args.sessions.now weight) c.index-known-place.result.conn (session_of c.args.machine.now c.index-known-place.result) c.args.params.now c.args.wanted _ _ turn c.in-Commits.is refl h) (c.commit_turn.ensures.comes weight []))
+
+-- ---- what the calls require
+
+pub creating-requires-clause-room : goal.creating-requires-clause-room
+creating-requires-clause-room g c = allowed_there c.args.sessions.now c.args.place c.index-known-place.result c.requires.within c.index-known-place.is c.args.view.now c.args.machine.now c.args.params.now c.args.wanted _ c.in-Creates.is c.requires.can
+
+pub preparing-requires : goal.preparing-requires
+preparing-requires g c = fits_there c.args.sessions.now c.args.place c.index-known-place.result c.requires.within c.index-known-place.is c.args.view.now c.args.machine.now c.args.params.now c.args.wanted _ c.in-Prepares.is c.requires.can
+
+pub finalizing-requires : goal.finalizing-requires
+finalizing-requires g c = fits_there c.args.sessions.now c.args.place c.index-known-place.result c.requires.within c.index-known-place.is c.args.view.now c.args.machine.now c.args.params.now c.args.wanted _ c.in-Drops.is c.requires.can
+
+pub beginning-requires-clause-outside : goal.beginning-requires-clause-outside
+beginning-requires-clause-outside g c = λ databases. outside_too c.args.machine.now databases c.index-known-place.result.transaction (allowed_there c.args.sessions.now c.args.place c.index-known-place.result c.requires.within c.index-known-place.is c.args.view.now c.args.machine.now c.args.params.now c.args.wanted _ c.in-Begins.is c.requires.can).1
+
+pub beginning-requires-clause-open : goal.beginning-requires-clause-open
+beginning-requires-clause-open g c = λ databases. (allowed_there c.args.sessions.now c.args.place c.index-known-place.result c.requires.within c.index-known-place.is c.args.view.now c.args.machine.now c.args.params.now c.args.wanted _ c.in-Begins.is c.requires.can).0.opened
+
+pub commit_turn-requires-clause-served : goal.commit_turn-requires-clause-served
+commit_turn-requires-clause-served g c = (allowed_there c.args.sessions.now c.args.place c.index-known-place.result c.requires.within c.index-known-place.is c.args.view.now c.args.machine.now c.args.params.now c.args.wanted _ c.in-Commits.is c.requires.can).0
+
+pub commit_turn-requires-clause-listed : goal.commit_turn-requires-clause-listed
+commit_turn-requires-clause-listed g c = listed_there c.args.sessions.now c.args.place c.index-known-place.result c.requires.within c.index-known-place.is c.args.machine.now c.requires.listed
+
+pub commit_turn-requires-clause-open : goal.commit_turn-requires-clause-open
+commit_turn-requires-clause-open g c = some_inside c.args.machine.now c.index-known-place.result.transaction (allowed_there c.args.sessions.now c.args.place c.index-known-place.result c.requires.within c.index-known-place.is c.args.view.now c.args.machine.now c.args.params.now c.args.wanted _ c.in-Commits.is c.requires.can).1
+
+pub run_prepared-requires-clause-served : goal.run_prepared-requires-clause-served
+run_prepared-requires-clause-served g c = allowed_there c.args.sessions.now c.args.place c.index-known-place.result c.requires.within c.index-known-place.is c.args.view.now c.args.machine.now c.args.params.now c.args.wanted _ c.in-RunsOne.is c.requires.can
+
+pub run_script-requires-clause-served : goal.run_script-requires-clause-served
+run_script-requires-clause-served g c = λ own. allowed_at c.args.sessions.now c.args.place c.index-known-place.result c.requires.within c.index-known-place.is c.args.view.now c.args.machine.now c.args.params.now c.args.wanted _ c.in-RunsAll.is c.requires.can own
+
+pub run_script-requires-clause-fits : goal.run_script-requires-clause-fits
+run_script-requires-clause-fits g c = fits_there c.args.sessions.now c.args.place c.index-known-place.result c.requires.within c.index-known-place.is c.args.view.now c.args.machine.now c.args.params.now c.args.wanted _ c.in-RunsAll.is c.requires.can
+
+pub run_prepared-requires-in-Reads-clause-served :
+    goal.run_prepared-requires-in-Reads-clause-served
+run_prepared-requires-in-Reads-clause-served g c = allowed_there c.args.sessions.now c.args.place c.index-known-place.result c.requires.within c.index-known-place.is c.args.view.now c.args.machine.now c.args.params.now c.args.wanted _ c.in-Reads.is c.requires.can

@@ -2,6 +2,7 @@ use Rattle.std.proofs.Common.{◌≡◌, true, refl, sym, subst, ◌∙◌}
 use Rattle.std.proofs.lemmas.Result.{IfOk-weaker, on_err_weaker}
 use Rattle.session_rules.specs.Sessions.{Gateway}
 use Rattle.session_rules.specs.Machine.{machine_of}
+use Rattle.session_rules.specs.Touched.{IsListed}
 use Rattle.session_table.specs.Table.{table_of}
 use Rattle.gateway.specs.Seen.{seen}
 use Rattle.gateway.proofs.Decided.{its_name, there_if, turned_so}
@@ -10,6 +11,10 @@ use Rattle.gateway.proofs.sessions.Gateway.on_request.Goals as goal
 
 pub handle-requires-clause-marks : goal.handle-requires-clause-marks
 handle-requires-clause-marks g c = marks_of c.self.inside.sessions.items c.self.inside.weight c.args.self.now c.args.machine.now c.self.view_is c.requires.pins
+
+pub handle-requires-clause-listed : goal.handle-requires-clause-listed
+handle-requires-clause-listed g c =
+    subst (λ (h : Gateway). IsListed (h.session c.args.conn).tx) (sym (seen_now c.self.inside.sessions.items c.self.inside.weight c.args.self.now c.args.machine.now c.self.view_is)) c.requires.listed
 
 pub handle-requires-clause-there : goal.handle-requires-clause-there
 handle-requires-clause-there g c =
