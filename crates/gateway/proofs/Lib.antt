@@ -5,3 +5,4 @@ pub mod Decided
 pub mod Unopened
 pub mod RunTurns
 pub mod CommitTurns
+pub mod Placed

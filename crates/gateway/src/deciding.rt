@@ -1,6 +1,6 @@
 //! What comes of a request, before anything has changed.
 
-ghost use Rattle.std.specs.Prelude.{◌≡◌, ◌<◌, ◌≤◌, ℕ, List, IfOk, get_or};
+ghost use Rattle.std.specs.Prelude.{◌≡◌, ◌<◌, ◌≤◌, ℕ, List, length, get_or, IfOk};
 ghost use Rattle.std.specs.List.{AllByRecursion};
 ghost use Rattle.page_apply.specs.Pins.{IsPinned};
 ghost use Rattle.session_rules.specs.Machine.{machine_of};
@@ -27,48 +27,52 @@ use std::alloc::{AllocError, Global};
 use wire_msgs::Request;
 use wire_words::Value;
 
-/// What comes of what is wanted of a session. `Err` is want of memory; nothing has changed but what the engine told.
+/// What comes of what is wanted of the session at a place. `Err` is want of memory; nothing has changed but what the engine told.
 fn turn_of<E: Engine>(
     alloc: Global,
     view: &View,
     machine: &Machine,
-    sessions: &[Session],
-    session: &Session,
+    sessions: &mut [Session],
+    place: usize,
     wanted: Wanted,
     params: &[Value],
     engine: &mut E,
 ) -> Result<Turn, AllocError>
-    requires apart { AreApart sessions.now }
+    requires apart { AreApart sessions.old }
+    requires within { place < length sessions.old }
     requires term { HasShortTerm view.now }
-    requires live { AllByRecursion (IsPinned machine.now) (pin_of session.now.transaction) }
-    requires listed { IsListed (session_of machine.now session.now).tx }
-    requires can { CanBeDone view.now (session_of machine.now session.now) params.now wanted }
+    requires live { (own : SessionValue) → AllByRecursion (IsPinned machine.now) (pin_of (get_or sessions.old place own).transaction) }
+    requires listed { (own : SessionValue) → IsListed (session_of machine.now (get_or sessions.old place own)).tx }
+    requires can { (own : SessionValue) → CanBeDone view.now (session_of machine.now (get_or sessions.old place own)) params.now wanted }
+    ensures kept { sessions.new ≡ sessions.old }
     ensures kind { E.kind engine.new ≡ E.kind engine.old }
     ensures openings { E.refused_openings engine.old ≤ E.refused_openings engine.new }
     ensures unopened { IfOk result (λ turn. turn ≡ turns.Refused NotADatabase → E.refused_openings engine.old < E.refused_openings engine.new) }
-    ensures ran { (weight : ℕ) → IfOk result (TurnsTo (E.meaning (E.kind engine.old)) (E.kind engine.old) view.now (machine_of machine.now) (table_of machine.now sessions.now weight) session.now.conn (session_of machine.now session.now) (meant params.now wanted) (E.told engine.old) (E.told engine.new)) }
+    ensures ran { (own : SessionValue) (weight : ℕ) → IfOk result (TurnsTo (E.meaning (E.kind engine.old)) (E.kind engine.old) view.now (machine_of machine.now) (table_of machine.now sessions.old weight) (get_or sessions.old place own).conn (session_of machine.now (get_or sessions.old place own)) (meant params.now wanted) (E.told engine.old) (E.told engine.new)) }
 {
+    let known = &*sessions;
+    let session = &known[place];
     match wanted {
         Wanted::Never(cause) => Ok(Turn::Refused(cause)),
         Wanted::Tells(response) => Ok(telling(response)),
         Wanted::Sets(effect) => Ok(Turn::Affects(effect)),
         Wanted::Opens(name) => Ok(opened(name)),
-        Wanted::Creates(name) => creating(alloc, view, machine, sessions, session, name),
+        Wanted::Creates(name) => creating(alloc, view, machine, known, session, name),
         Wanted::Prepares(prepared, tail) => Ok(preparing(session, prepared, tail)),
         Wanted::Drops(id) => Ok(finalizing(session, id)),
-        Wanted::Begins(at_once) => Ok(beginning(sessions, session.conn, session, at_once)),
-        Wanted::Commits => commit_turn(alloc, view, machine, sessions, session),
+        Wanted::Begins(at_once) => Ok(beginning(known, session.conn, session, at_once)),
+        Wanted::Commits => commit_turn(alloc, view, machine, known, session),
         Wanted::RollsBack => Ok(Turn::Ends),
         Wanted::RunsOne(prepared) => run_prepared(
-            alloc, view, machine, sessions, session, false, &prepared, params, engine,
+            alloc, view, machine, known, session, false, &prepared, params, engine,
         ),
         Wanted::RunsAll(script) => {
             run_script(
-                alloc, view, machine, sessions, session, &script, params, engine,
+                alloc, view, machine, sessions, place, &script, params, engine,
             )
         }
         Wanted::Reads(prepared) => run_prepared(
-            alloc, view, machine, sessions, session, true, &prepared, params, engine,
+            alloc, view, machine, known, session, true, &prepared, params, engine,
         ),
     }
 }
@@ -77,7 +81,7 @@ fn turn_of<E: Engine>(
 /// changed but what the engine told.
 pub(crate) fn decide<E: Engine>(
     alloc: Global,
-    sessions: &[Session],
+    sessions: &mut [Session],
     weight: u64,
     place: usize,
     conn: u64,
@@ -86,21 +90,22 @@ pub(crate) fn decide<E: Engine>(
     machine: &Machine,
     engine: &mut E,
 ) -> Result<Turn, AllocError>
-    requires apart { AreApart sessions.now }
-    requires place { StandsAt conn sessions.now place }
-    requires marks { AllByRecursion (IsPinned machine.now) (pins_of sessions.now) }
-    requires listed { IsListed ((table_of machine.now sessions.now weight).session conn).tx }
+    requires apart { AreApart sessions.old }
+    requires place { StandsAt conn sessions.old place }
+    requires marks { AllByRecursion (IsPinned machine.now) (pins_of sessions.old) }
     requires name { NameHasNoNul request.now }
     requires term { HasShortTerm view.now }
+    ensures kept { sessions.new ≡ sessions.old }
     ensures kind { E.kind engine.new ≡ E.kind engine.old }
     ensures openings { E.refused_openings engine.old ≤ E.refused_openings engine.new }
     ensures unopened { IfOk result (λ turn. turn ≡ turns.Refused NotADatabase → E.refused_openings engine.old < E.refused_openings engine.new) }
-    ensures ran { IfOk result (ComesBy (E.meaning (E.kind engine.old)) (E.kind engine.old) view.now (machine_of machine.now) ((table_of machine.now sessions.now weight).session conn) (handed view.now (machine_of machine.now) (table_of machine.now sessions.now weight) conn request.now) (on_request view.now (machine_of machine.now) (table_of machine.now sessions.now weight) conn request.now) (E.told engine.old) (E.told engine.new)) }
+    ensures ran { IfOk result (ComesBy (E.meaning (E.kind engine.old)) (E.kind engine.old) view.now (machine_of machine.now) ((table_of machine.now sessions.old weight).session conn) (handed view.now (machine_of machine.now) (table_of machine.now sessions.old weight) conn request.now) (on_request view.now (machine_of machine.now) (table_of machine.now sessions.old weight) conn request.now) (E.told engine.old) (E.told engine.new)) }
 {
-    let session = &sessions[place];
-    let wanted = wanted_by(alloc, view, machine, sessions, weight, session, request)?;
+    let known = &*sessions;
+    let session = &known[place];
+    let wanted = wanted_by(alloc, view, machine, known, weight, session, request)?;
     let params = params_of(request);
     turn_of(
-        alloc, view, machine, sessions, session, wanted, params, engine,
+        alloc, view, machine, sessions, place, wanted, params, engine,
     )
 }

@@ -47,7 +47,7 @@ pub(crate) fn handle<E: Engine>(
     ensures unopened { IfOk result (λ act. act ≡ Act.Reply (failure NotADatabase ∷ []) → E.refused_openings engine.old < E.refused_openings engine.new) }
 {
     let place = find(sessions.as_slice(), conn).unwrap();
-    let known = sessions.as_slice();
+    let known = sessions.as_mut_slice();
     let turn = decide(
         alloc, known, *weight, place, conn, request, view, machine, engine,
     )?;

@@ -1,16 +1,16 @@
 -- What comes of requests for new databases and transactions.
-use Rattle.std.proofs.Common.{◌≡◌, ℕ, List, Option, Some, None, Bool, true, false, cond, not, [], ◌∷◌, refl, sym, ap, subst, ◌∙◌}
+use Rattle.std.proofs.Common.{◌≡◌, ℕ, List, Option, Some, None, Bool, true, false, not, [], ◌∷◌, refl, sym, subst}
 use Rattle.std.proofs.lemmas.Bool.{cond-true, cond-false}
-use Rattle.std.specs.Prelude.{is_none, nat_lt, ◌&&◌}
+use Rattle.std.specs.Prelude.{is_none, nat_lt}
 use Rattle.frame_commands.specs.declared.command.Command.TheVariants.{OpenDb}
 use Rattle.page_apply.specs.Files.{empty_image}
 use Rattle.session_rules.specs.Asking.{has_database}
 use Rattle.session_rules.specs.Causes.{DatabaseFull, Locked}
-use Rattle.session_rules.specs.Entries.{Content, Does}
+use Rattle.session_rules.specs.Entries.{Does}
 use Rattle.session_rules.specs.Limits.{pages_with, pages_full, other_holds}
 use Rattle.session_rules.specs.Machine.{Machine}
 use Rattle.session_rules.specs.Requests.{flying, creates, begins, begun}
-use Rattle.session_rules.specs.Sessions.{Kind, Opening, Session, Gateway, View, Turned, Refused, Answers, Proposes, Nothing, Began, result, in_tx}
+use Rattle.session_rules.specs.Sessions.{Opening, Session, Gateway, View, Turned, Refused, Answers, Proposes, Nothing, Began, result, in_tx}
 use Rattle.session_table.specs.declared.cause.Cause.TheVariants as causes
 use Rattle.session_turns.specs.declared.turn.Turn.{Turn}
 use Rattle.session_turns.specs.declared.turn.Turn.TheVariants as turns

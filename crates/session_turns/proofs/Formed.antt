@@ -1,16 +1,13 @@
 -- The answers of an engine are tables, so what running came to is well formed.
-use Rattle.std.proofs.Common.{◌≡◌, ℕ, Bool, true, false, cond, List, [], ◌∷◌, Option, Some, None, Result, Ok, Err, refl, sym, ap, subst, ◌∙◌}
+use Rattle.std.proofs.Common.{◌≡◌, ℕ, Bool, true, false, cond, List, [], ◌∷◌, Ok, Err, refl, sym, subst}
 use Rattle.dq_base.specs.declared.images.Image.{Image}
 use Rattle.page_apply.specs.Files.{image_after}
 use Rattle.sql_engine.specs.declared.answer.Ran.{Ran}
 use Rattle.sql_engine.specs.declared.kind.EngineKind.{EngineKind}
-use Rattle.sql_engine.specs.declared.fault.EngineFault.{EngineFault}
 use Rattle.sql_engine.specs.Replies.{Statement, IsTable}
 use Rattle.sql_engine.specs.Meanings.{Meaning}
 use Rattle.session_rules.specs.Engines.{Answer, takes, no_answer, runs, Ending, Lacking, TooLarge, Stopped, Ended, AllowsRest, AllowsAll}
-use Rattle.statement_runs.specs.declared.ending.AllRan.{AllRan}
 use Rattle.statement_runs.specs.declared.ending.Ending.{Ending as CodeEnding}
-use Rattle.statement_runs.specs.declared.ending.Ending.TheVariants as codes
 use Rattle.statement_runs.specs.Running.{Shows}
 use Rattle.session_turns.specs.Runs.{IsWellFormed}
 

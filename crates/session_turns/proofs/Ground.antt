@@ -1,11 +1,9 @@
 -- The image that statements run over, and the database of a session.
-use Rattle.std.proofs.Common.{◌≡◌, ℕ, ◌<◌, ◌≤◌, Bool, true, false, List, [], ◌∷◌, length, Option, Some, None, option_map, IsSome, suc, refl, sym, ap, subst, ◌∙◌, arith}
-use Rattle.std.specs.Prelude.{nat_lt, nat_le}
+use Rattle.std.proofs.Common.{◌≡◌, ℕ, ◌<◌, Bool, true, false, List, length, Option, Some, None, option_map, IsSome, refl, ap, arith}
+use Rattle.std.specs.Prelude.{nat_lt}
 use Rattle.std.proofs.lemmas.Bool.{leb-false}
-use Rattle.dq_base.specs.declared.images.Image.{Image}
 use Rattle.sql_engine.specs.Replies.{Statement}
 use Rattle.page_apply.specs.declared.database.Database.{Database}
-use Rattle.session_rules.specs.Entries.{tx_of}
 use Rattle.session_rules.specs.Engines.{Answer, no_answer, runs}
 use Rattle.session_rules.specs.Limits.{log_full}
 use Rattle.session_rules.specs.Machine.{Machine, machine_of}

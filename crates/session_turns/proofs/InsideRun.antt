@@ -1,5 +1,5 @@
 -- Statements that ran in a transaction, by how they ended.
-use Rattle.std.proofs.Common.{◌≡◌, ℕ, Bool, true, false, cond, List, [], ◌∷◌, ◌++◌, append-nil, Option, Some, None, Result, Ok, Err, IfOk, refl, sym, ap, subst, ◌∙◌}
+use Rattle.std.proofs.Common.{◌≡◌, ℕ, Bool, true, false, cond, List, [], ◌∷◌, ◌++◌, append-nil, Option, Some, None, Result, IfOk, refl, sym, ap, subst, ◌∙◌}
 use Rattle.std.specs.declared.alloc.AllocError.{AllocError}
 use Rattle.dq_base.specs.declared.images.Image.{Image}
 use Rattle.dq_base.specs.declared.pages.NumberedPage.{NumberedPage}
@@ -10,9 +10,9 @@ use Rattle.sql_engine.specs.declared.answer.Ran.{Ran}
 use Rattle.sql_engine.specs.declared.fault.EngineFault.{EngineFault}
 use Rattle.sql_engine.specs.Replies.{Statement}
 use Rattle.session_rules.specs.Causes.{DatabaseFull, engine_cause}
-use Rattle.session_rules.specs.Engines.{no_pages, Ending, Lacking, TooLarge, Stopped, Ended}
+use Rattle.session_rules.specs.Engines.{no_pages, Ending, TooLarge, Stopped, Ended}
 use Rattle.session_rules.specs.Machine.{Machine}
-use Rattle.session_rules.specs.Sessions.{Session, Gateway, View, Transaction, Note, Inside, Turned, Refused, Answers}
+use Rattle.session_rules.specs.Sessions.{Session, Gateway, View, Transaction, Inside, Turned, Refused, Answers}
 use Rattle.session_rules.specs.Limits.{hindrance}
 use Rattle.session_rules.specs.Requests.{unless, row_cause, reply_of, with_tx, worked, inside}
 use Rattle.session_rules.specs.Touched.{numbers_of}

@@ -12,6 +12,6 @@ pub mod NeverUnopened
 pub mod Committing
 pub mod Leading
 pub mod SamePages
-pub mod Worked
+pub mod Placed
 pub mod SameLengths
 pub mod ListedPages

@@ -1,18 +1,17 @@
 -- Statements that ran outside a transaction, by how they ended.
-use Rattle.std.proofs.Common.{◌≡◌, ℕ, Bool, true, false, cond, List, [], ◌∷◌, Option, Some, None, Result, Ok, Err, IfOk, refl, sym, ap, subst, ◌∙◌}
+use Rattle.std.proofs.Common.{◌≡◌, ℕ, Bool, true, false, cond, List, None, Result, IfOk, sym, ap, subst, ◌∙◌}
 use Rattle.std.specs.declared.alloc.AllocError.{AllocError}
 use Rattle.dq_base.specs.declared.images.Image.{Image}
 use Rattle.dq_base.specs.declared.pages.NumberedPage.{NumberedPage}
 use Rattle.dq_base.specs.declared.pages.PageSet.{PageSet}
 use Rattle.dq_base.specs.Changes.{changed}
-use Rattle.dq_base.specs.Applying.{applied}
 use Rattle.sql_engine.specs.declared.answer.Ran.{Ran}
 use Rattle.sql_engine.specs.declared.fault.EngineFault.{EngineFault}
 use Rattle.sql_engine.specs.Replies.{Statement}
 use Rattle.session_rules.specs.Causes.{LogFull, DatabaseFull, engine_cause}
-use Rattle.session_rules.specs.Engines.{no_pages, Ending, Lacking, TooLarge, Stopped, Ended}
+use Rattle.session_rules.specs.Engines.{no_pages, Ending, TooLarge, Stopped, Ended}
 use Rattle.session_rules.specs.Machine.{Machine}
-use Rattle.session_rules.specs.Sessions.{Session, Gateway, View, Note, Outside, Turned, Refused, Answers}
+use Rattle.session_rules.specs.Sessions.{Session, Gateway, View, Outside, Turned, Refused, Answers}
 use Rattle.session_rules.specs.Limits.{log_full, first_cause, hindrance}
 use Rattle.session_rules.specs.Requests.{unless, row_cause, reply_of, outside, outside_write}
 use Rattle.session_table.specs.declared.cause.Cause.{Cause}

@@ -1,10 +1,10 @@
 -- Rows that are told, or not.
-use Rattle.std.proofs.Common.{◌≡◌, ℕ, Bool, true, false, cond, List, Option, Some, None, Result, Ok, Err, refl, sym, ap, subst, ◌∙◌}
+use Rattle.std.proofs.Common.{◌≡◌, Bool, true, false, cond, Option, Some, Ok, Err, sym, ap, ◌∙◌}
 use Rattle.wire_msgs.specs.declared.response.Response.TheVariants as responses
 use Rattle.wire_rows.specs.Answering.{parts_of}
 use Rattle.sql_engine.specs.declared.answer.Ran.{Ran}
 use Rattle.session_rules.specs.Causes.{Cause as RuleCause}
-use Rattle.session_rules.specs.Sessions.{Reply, Single, Rows}
+use Rattle.session_rules.specs.Sessions.{Single, Rows}
 use Rattle.session_rules.specs.Requests.{rows_cause, or_cause, row_cause, reply_of}
 use Rattle.session_table.specs.declared.cause.Cause.{Cause}
 use Rattle.session_table.specs.Named.{cause_named, TellsRows}

@@ -1,15 +1,14 @@
 -- Whether two images are equally long, by three of the pages of the one.
-use Rattle.std.proofs.Common.{◌≡◌, ℕ, ◌+◌, ◌*◌, ◌/◌, ◌%◌, ◌^◌, ◌<◌, ◌≤◌, Bool, true, false, eqb, List, ◌++◌, length, drop, Option, Some, None, inl, inr, refl, sym, ap, subst, ◌∙◌, append_assoc, arith}
+use Rattle.std.proofs.Common.{◌≡◌, ℕ, ◌+◌, ◌*◌, ◌/◌, ◌%◌, ◌^◌, ◌<◌, ◌≤◌, Bool, true, false, eqb, List, ◌++◌, length, drop, Option, inl, inr, refl, sym, ap, subst, ◌∙◌, append_assoc, arith}
 use Rattle.std.specs.Prelude.{◌&&◌, ◌==◌, is_none}
 use Rattle.std.specs.Str.{bytes_eq}
-use Rattle.std.proofs.lemmas.Bool.{cases_Bool, cases_lt, both_ways, and_parts, and_from, and_left, and_right, cond-true, cond-false, eq-eqb, eqb-true, ne_eqb, false_from_ne_true}
+use Rattle.std.proofs.lemmas.Bool.{cases_Bool, cases_lt, both_ways, and_parts, and_from, and_left, cond-true, cond-false, eq-eqb, eqb-true, ne_eqb, false_from_ne_true}
 use Rattle.std.proofs.lemmas.List.{drop_at}
 use Rattle.std.proofs.lemmas.Slice.Eq.{bytes_eq-Decides}
 use Rattle.byteorder.specs.Endian.{little_bytes, little_number}
 use Rattle.byteorder.specs.Numbers.{little_from-bytes}
 use Rattle.dq_base.specs.declared.images.Image.{Image}
 use Rattle.dq_base.specs.Images.{zeros, sizes_page, page_at, page_start, file_of, pages_of}
-use Rattle.dq_base.specs.Changes.{sizes_of}
 use Rattle.dq_base.specs.Applying.{stated_main, stated_side}
 use Rattle.dq_base.proofs.ChangeLaw.{stated_main-sizes_page, stated_side-sizes_page}
 use Rattle.dq_base.proofs.ChangedPages.{page_at_inside, page_at_past, page_at-one}

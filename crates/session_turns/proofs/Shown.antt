@@ -1,10 +1,9 @@
 -- The ending of the rules, by that of code.
-use Rattle.std.proofs.Common.{◌≡◌, ℕ, zero, suc, Bool, true, false, cond, bytes_eq, List, [], ◌∷◌, ◌++◌, length, Option, Some, None, Result, Ok, Err, refl, sym, ap, subst, ◌∙◌}
+use Rattle.std.proofs.Common.{◌≡◌, ℕ, zero, suc, Bool, true, false, cond, bytes_eq, List, [], ◌∷◌, ◌++◌, length, Option, Some, None, refl, sym, ap, ◌∙◌}
 use Rattle.std.specs.Prelude.{◌==◌}
 use Rattle.std.specs.List.{AllByRecursion}
 use Rattle.dq_base.specs.declared.images.Image.{Image}
 use Rattle.dq_base.specs.declared.pages.NumberedPage.{NumberedPage}
-use Rattle.dq_base.specs.declared.pages.PageSet.{PageSet}
 use Rattle.dq_base.specs.Images.{page_at, page_from, page_start, file_of, sizes_page, reaches}
 use Rattle.dq_base.specs.Applying.{applied}
 use Rattle.dq_base.specs.Changes.{same_image, changed_page, changed_from, numbers_above_one, sizes_of, changed}

@@ -2,7 +2,6 @@
 use Rattle.std.specs.Prelude.{◌≡◌, ℕ, Bool, true, false, is_none, List, length, Option, Some, None, Result, Ok, Err}
 use Rattle.dq_base.specs.declared.images.Image.{Image}
 use Rattle.dq_base.specs.declared.pages.NumberedPage.{NumberedPage}
-use Rattle.dq_base.specs.Changes.{changed}
 use Rattle.dq_base.specs.Images.{page_count}
 use Rattle.dq_base.specs.Applying.{page_fault}
 use Rattle.sql_engine.specs.declared.answer.Ran.{Ran}
@@ -18,8 +17,6 @@ use Rattle.session_rules.specs.Requests.{unless, row_cause, reply_of, change_of,
 use Rattle.session_table.specs.declared.cause.Cause.{Cause}
 use Rattle.statement_runs.specs.declared.ending.Ending.{Ending}
 use Rattle.statement_runs.specs.declared.ending.Ending.TheVariants as endings
-use Rattle.statement_runs.specs.declared.ending.Worked.{Worked}
-use Rattle.statement_runs.specs.declared.ending.Worked.TheVariants as works
 use Rattle.statement_runs.specs.Running.{TellsAll}
 use Rattle.session_turns.specs.declared.turn.Turn.{Turn}
 use Rattle.session_turns.specs.Turning.{ComesTo}
@@ -29,11 +26,6 @@ abbrev pub IsWellFormed : Ending → Type 0
 IsWellFormed (endings.Ended ran) = IsTable ran.answer.columns ran.answer.rows
 IsWellFormed (endings.TooLarge answer) = IsTable answer.columns answer.rows × (takes answer.after.pages ≡ false)
 IsWellFormed (endings.Stopped fault) = Unit {0}
-
--- the ending of statements that worked on their image in place, with the change from the first image
-abbrev pub whole_of : ℕ → Image → Worked → Ending
-whole_of tx image (works.Through to answer) = endings.Ended (record { together = Some (record { tx = tx; pages = changed image to }); answer = answer })
-whole_of tx image (works.Short ending) = ending
 
 -- where nothing hinders pages they can be applied
 abbrev pub AreTaken : List NumberedPage → Result ℕ Cause → Type 0

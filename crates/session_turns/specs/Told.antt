@@ -1,5 +1,5 @@
 -- The reply to statements that ran, or why their rows can't be told; what hinders a change of pages.
-use Rattle.std.specs.Prelude.{◌≡◌, ℕ, Bool, List, Option, Some, None, Result, Ok, Err}
+use Rattle.std.specs.Prelude.{◌≡◌, Bool, Option, Some, Result, Ok, Err}
 use Rattle.sql_engine.specs.declared.answer.Ran.{Ran}
 use Rattle.session_rules.specs.Causes.{Cause as RuleCause}
 use Rattle.session_rules.specs.Requests.{row_cause, reply_of}

@@ -9,7 +9,7 @@ use Rattle.session_rules.specs.Entries.{written}
 use Rattle.session_rules.specs.Machine.{Machine}
 use Rattle.session_rules.specs.Requests.{with_tx, with_flight, begun, does, handed_for}
 use Rattle.session_rules.specs.Seen.{HasSpelling}
-use Rattle.session_rules.specs.Sessions.{Session, Gateway, View, result, Turned, Refused, Lacks, Answers, Proposes, Affects}
+use Rattle.session_rules.specs.Sessions.{Session, Gateway, View, result, Turned, Refused, Answers, Proposes, Affects}
 use Rattle.statement_runs.specs.Running.{TellsAll}
 use Rattle.session_table.specs.Changing.{changed_by, CanChange}
 use Rattle.session_table.specs.Named.{cause_named, reply_named}

@@ -1,6 +1,6 @@
 //! Statements of a request, run by an engine at a session.
 
-ghost use Rattle.std.specs.Prelude.{◌≡◌, ◌<◌, ◌≤◌, ℕ, List, [], ◌∷◌, true, false, suc, IsSome, IfOk};
+ghost use Rattle.std.specs.Prelude.{◌≡◌, ◌<◌, ◌≤◌, ℕ, List, [], ◌∷◌, true, false, suc, length, get_or, IsSome, IfOk};
 ghost use Rattle.sql_engine.specs.Replies.{Statement};
 ghost use Rattle.session_rules.specs.Engines as engines;
 ghost use Rattle.session_rules.specs.Entries.{tx_of};
@@ -13,22 +13,22 @@ ghost use Rattle.session_asking.specs.Meant.{CanRun, IsServed};
 ghost use Rattle.statement_runs.specs.Texts.{assigned};
 ghost use Rattle.statement_runs.specs.Running.{RanTo, Shows, ends_unopened};
 ghost use Rattle.session_table.specs.declared.cause.Cause.TheVariants as causes;
+ghost use Rattle.session_table.specs.declared.session.Session.{Session as SessionValue};
 ghost use Rattle.session_table.specs.Table.{database_of, session_of, table_of, AreApart};
 ghost use Rattle.session_turns.specs.declared.turn.Turn.TheVariants as turns;
 ghost use Rattle.session_turns.specs.Turning.{ComesTo};
-ghost use Rattle.session_turns.specs.Runs.{IsWellFormed, RunsTo, ran_in, whole_of};
+ghost use Rattle.session_turns.specs.Runs.{IsWellFormed, RunsTo, ran_in};
 
-use crate::earlier::{changed_since, newest};
 use crate::inside::turn_inside;
 use crate::outside::turn_outside;
 use crate::turn::Turn;
 use crate::writing::transaction_number;
-use dq_base::{Items, Name, PageSet};
+use dq_base::Name;
 use page_apply::Machine;
 use session_asking::{Script, View};
 use session_table::{Prepared, Session, name_of, newest_image};
 use sql_engine::Engine;
-use statement_runs::{AllRan, Ending, Worked, run_all, run_one, run_over};
+use statement_runs::{Ending, run_all, run_one};
 use std::alloc::{AllocError, Global};
 use wire_words::Value;
 
@@ -65,27 +65,6 @@ fn run_statement<E: Engine>(
     }
 }
 
-/// The ending of statements that worked in place over the newest image of the database of a name. `Err` is want of memory.
-fn whole(
-    alloc: Global,
-    machine: &Machine,
-    name: &str,
-    tx: u64,
-    worked: Worked,
-) -> Result<Ending, AllocError>
-    ensures { IfOk result (λ ending. ending ≡ whole_of tx ((machine_of machine.now).base name.now).image worked) }
-{
-    match worked {
-        Worked::Short(ending) => Ok(ending),
-        Worked::Through(image, answer) => {
-            let earlier = newest(machine, name);
-            let pages = Items::new(changed_since(alloc, &earlier, &image)?);
-            let together = Some(PageSet { tx, pages });
-            Ok(Ending::Ended(AllRan { together, answer }))
-        }
-    }
-}
-
 /// Runs the statements of a text one after another over a copy of the newest image of the database of a name. `Err` is want of
 /// memory.
 fn run_newest<E: Engine>(
@@ -105,36 +84,33 @@ fn run_newest<E: Engine>(
 {
     let text = script.text.as_str();
     let pieces = script.pieces.as_slice();
-    let image = newest_image(alloc, machine, name)?;
-    if let [_] = pieces {
-        let ending = run_all(alloc, engine, &image, text, pieces, params, tx)?;
-        return Ok(ending);
-    }
-    let worked = run_over(alloc, engine, image, text, pieces, params, tx)?;
-    whole(alloc, machine, name, tx, worked)
+    let mut image = newest_image(alloc, machine, name)?;
+    let ending = run_all(alloc, engine, &mut image, text, pieces, params, tx)?;
+    Ok(ending)
 }
 
-/// Runs the statements of a text one after another over the image of a session. `Err` is want of memory.
+/// Runs the statements of a text one after another over the image of a session, which is put back. `Err` is want of memory.
 fn run_statements<E: Engine>(
     alloc: Global,
     machine: &Machine,
-    session: &Session,
+    session: &mut Session,
     script: &Script,
     params: &[Value],
     tx: u64,
     engine: &mut E,
 ) -> Result<Ending, AllocError>
     requires { CanRun params.now (wanted.RunsAll script.now) }
+    ensures kept { session.new ≡ session.old }
     ensures kind { E.kind engine.new ≡ E.kind engine.old }
     ensures openings { E.refused_openings engine.old ≤ E.refused_openings engine.new }
     ensures unopened { IfOk result (λ ending. ends_unopened ending ≡ true → E.refused_openings engine.old < E.refused_openings engine.new) }
-    ensures ran { IfOk result (RanTo (E.meaning (E.kind engine.old)) (E.kind engine.old) tx (ground (machine_of machine.now) (session_of machine.now session.now) (session_of machine.now session.now).tx) (assigned script.now.text script.now.pieces params.now) (E.told engine.old) (E.told engine.new)) }
+    ensures ran { IfOk result (RanTo (E.meaning (E.kind engine.old)) (E.kind engine.old) tx (ground (machine_of machine.now) (session_of machine.now session.old) (session_of machine.now session.old).tx) (assigned script.now.text script.now.pieces params.now) (E.told engine.old) (E.told engine.new)) }
 {
-    match &session.transaction {
+    match &mut session.transaction {
         Some(transaction) => {
             let text = script.text.as_str();
             let pieces = script.pieces.as_slice();
-            let working = &transaction.working;
+            let working = &mut transaction.working;
             let ending = run_all(alloc, engine, working, text, pieces, params, tx)?;
             Ok(ending)
         }
@@ -144,6 +120,29 @@ fn run_statements<E: Engine>(
             Ok(ending)
         }
     }
+}
+
+/// The same at the session at a place.
+fn run_at<E: Engine>(
+    alloc: Global,
+    machine: &Machine,
+    sessions: &mut [Session],
+    place: usize,
+    script: &Script,
+    params: &[Value],
+    tx: u64,
+    engine: &mut E,
+) -> Result<Ending, AllocError>
+    requires within { place < length sessions.old }
+    requires fits { CanRun params.now (wanted.RunsAll script.now) }
+    ensures kept { sessions.new ≡ sessions.old }
+    ensures kind { E.kind engine.new ≡ E.kind engine.old }
+    ensures openings { E.refused_openings engine.old ≤ E.refused_openings engine.new }
+    ensures unopened { IfOk result (λ ending. ends_unopened ending ≡ true → E.refused_openings engine.old < E.refused_openings engine.new) }
+    ensures ran { (own : SessionValue) → IfOk result (RanTo (E.meaning (E.kind engine.old)) (E.kind engine.old) tx (ground (machine_of machine.now) (session_of machine.now (get_or sessions.old place own)) (session_of machine.now (get_or sessions.old place own)).tx) (assigned script.now.text script.now.pieces params.now) (E.told engine.old) (E.told engine.new)) }
+{
+    let session = &mut sessions[place];
+    run_statements(alloc, machine, session, script, params, tx, engine)
 }
 
 /// The name of the database that a session has opened.
@@ -208,30 +207,33 @@ pub fn run_prepared<E: Engine>(
 }
 
 /// What the statements of a text come to, which run one after another with as many parameters as each counts, and whose rows are
-/// dropped, at a session of a node that serves. Nothing has changed yet. Outside a transaction the newest image of the database
-/// is copied once; where there are several statements, they work on the copy in place, and it is compared with the newest image
-/// at the end. Inside one the first of several that changes pages has the working image copied, and the two are compared at the
-/// end. `Err` is want of memory.
+/// dropped, at the session at a place, of a node that serves. Nothing has changed yet: the statements work on the transaction's
+/// image in place, and it is put back; outside a transaction they work so on a copy of the newest image of the database. Besides
+/// that copy, only pages are copied that they change. `Err` is want of memory.
 pub fn run_script<E: Engine>(
     alloc: Global,
     view: &View,
     machine: &Machine,
-    sessions: &[Session],
-    session: &Session,
+    sessions: &mut [Session],
+    place: usize,
     script: &Script,
     params: &[Value],
     engine: &mut E,
 ) -> Result<Turn, AllocError>
-    requires apart { AreApart sessions.now }
+    requires apart { AreApart sessions.old }
+    requires within { place < length sessions.old }
     requires term { view.now.serving ≡ true → view.now.term ≤ 4294967295 }
-    requires served { IsServed view.now (session_of machine.now session.now) }
+    requires served { (own : SessionValue) → IsServed view.now (session_of machine.now (get_or sessions.old place own)) }
     requires fits { CanRun params.now (wanted.RunsAll script.now) }
+    ensures kept { sessions.new ≡ sessions.old }
     ensures kind { E.kind engine.new ≡ E.kind engine.old }
     ensures openings { E.refused_openings engine.old ≤ E.refused_openings engine.new }
     ensures unopened { IfOk result (λ turn. turn ≡ turns.Refused causes.NotADatabase → E.refused_openings engine.old < E.refused_openings engine.new) }
-    ensures ran { (weight : ℕ) → IfOk result (RunsTo (E.meaning (E.kind engine.old)) (E.kind engine.old) view.now (machine_of machine.now) (table_of machine.now sessions.now weight) session.now.conn (session_of machine.now session.now) (assigned script.now.text script.now.pieces params.now) false (E.told engine.old) (E.told engine.new)) }
+    ensures ran { (own : SessionValue) (weight : ℕ) → IfOk result (RunsTo (E.meaning (E.kind engine.old)) (E.kind engine.old) view.now (machine_of machine.now) (table_of machine.now sessions.old weight) (get_or sessions.old place own).conn (session_of machine.now (get_or sessions.old place own)) (assigned script.now.text script.now.pieces params.now) false (E.told engine.old) (E.told engine.new)) }
 {
     let tx = next_transaction(view);
-    let ending = run_statements(alloc, machine, session, script, params, tx, engine)?;
-    turn_of(alloc, view, machine, sessions, session, false, ending)
+    let ending = run_at(alloc, machine, sessions, place, script, params, tx, engine)?;
+    let known = &*sessions;
+    let session = &known[place];
+    turn_of(alloc, view, machine, known, session, false, ending)
 }

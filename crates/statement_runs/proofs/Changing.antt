@@ -1,5 +1,5 @@
 -- The change between two images, page by page.
-use Rattle.std.proofs.Common.{◌≡◌, ℕ, suc, ◌+◌, ◌-◌, ◌<◌, ◌≤◌, true, false, List, [], ◌∷◌, ◌++◌, length, Option, None, ◌⊎◌, inl, inr, refl, sym, ap, ◌∙◌, append_assoc, append-nil, arith}
+use Rattle.std.proofs.Common.{◌≡◌, ℕ, suc, ◌+◌, ◌-◌, ◌<◌, ◌≤◌, true, false, List, [], ◌∷◌, ◌++◌, length, inl, inr, refl, sym, ap, ◌∙◌, append_assoc, append-nil, arith}
 use Rattle.std.specs.Str.{bytes_eq}
 use Rattle.std.proofs.lemmas.Bool.{cases_Bool, both_ways, and_from, cond-true, cond-false}
 use Rattle.std.proofs.lemmas.Slice.Eq.{bytes_eq-Decides}
@@ -10,10 +10,8 @@ use Rattle.dq_base.specs.Applying.{applied}
 use Rattle.dq_base.specs.Changes.{same_image, changed_page, changed_from, numbers_above_one, sizes_of, changed}
 use Rattle.dq_base.proofs.ChangeLaw.{applied_change}
 use Rattle.sql_engine.specs.Meanings.{IsShort}
-use Rattle.sql_engine.proofs.ChangeLists.{changed_none}
 use Rattle.session_rules.specs.Engines.{no_pages}
 use Rattle.session_rules.proofs.Images.{unchanged}
-use Rattle.statement_runs.specs.Running.{current}
 
 pub changed_next : (a b : Image) (pages grown whole : List NumberedPage) (n e : ℕ) → n < e → grown ≡ pages ++ changed_page n (page_at a n) (page_at b n) → pages ++ changed_from n (e - n) a b ≡ whole → grown ++ changed_from (n + 1) (e - (n + 1)) a b ≡ whole
 unfolding changed_from
@@ -39,9 +37,6 @@ change_none a b same = cond-true (same_image a b) [] (changed_from 2 (numbers_ab
 pub change_some : (a b : Image) → same_image a b ≡ false → changed a b ≡ changed_from 2 (numbers_above_one b) a b ++ sizes_of b ∷ []
 unfolding changed
 change_some a b other = cond-false (same_image a b) [] (changed_from 2 (numbers_above_one b) a b ++ sizes_of b ∷ []) other
-
-pub none_changed : (base : Image) (working : Option Image) → working ≡ None → changed base (current base working) ≡ []
-none_changed base working e = ap (λ (w : Option Image). changed base (current base w)) e ∙ changed_none base
 
 pub applied_empty : (image : Image) (pages : List NumberedPage) → length pages ≡ 0 → image ≡ applied image pages
 unfolding applied

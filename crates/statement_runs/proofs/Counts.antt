@@ -1,12 +1,11 @@
 -- The statements of a text from a place on, and how many parameters they take.
-use Rattle.std.proofs.Common.{◌≡◌, ◌≢◌, ℕ, ◌+◌, ◌<◌, ◌≤◌, Bool, true, false, ◌||◌, List, [], ◌∷◌, length, map, take, drop, get_or, sum_by, refl, sym, ap, ◌∙◌, arith}
-use Rattle.std.proofs.lemmas.List.{drop_more, at_drop_more}
+use Rattle.std.proofs.Common.{◌≡◌, ℕ, ◌+◌, ◌<◌, ◌||◌, List, [], ◌∷◌, length, take, drop, get_or, sum_by, refl, sym, ap, ◌∙◌}
+use Rattle.std.proofs.lemmas.List.{at_drop_more}
 use Rattle.std.proofs.lemmas.List.Sums.{sum_by-drop_more, sum_by-cons}
 use Rattle.wire_words.specs.declared.value.Value.{Value}
 use Rattle.sql_scan.specs.declared.pieces.Piece.{Piece}
-use Rattle.sql_engine.specs.Replies.{Statement}
 use Rattle.session_rules.specs.Sessions.{Prepared}
-use Rattle.session_rules.specs.Statements.{prepared_from, is_control, is_left_out, any_barred, with_params}
+use Rattle.session_rules.specs.Statements.{prepared_from, is_control, is_left_out, any_barred}
 use Rattle.statement_runs.specs.Texts.{cut_at, wants, assigned}
 
 pub wants_next : (pieces : List Piece) (i : ℕ) (d : Piece) → i < length pieces → wants (drop i pieces) ≡ (get_or pieces i d).params + wants (drop (i + 1) pieces)

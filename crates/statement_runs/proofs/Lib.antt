@@ -4,4 +4,6 @@ pub mod Changing
 pub mod Reaching
 pub mod Standing
 pub mod Opened
+pub mod ComingBack
+pub mod Touching
 pub mod InOrder

@@ -1,5 +1,5 @@
 -- An engine's count of refused openings rose where running ended for one.
-use Rattle.std.proofs.Common.{◌≡◌, ℕ, ◌<◌, Bool, true, false, Ok, Err, refl, ap}
+use Rattle.std.proofs.Common.{◌≡◌, ℕ, ◌<◌, true, Err, refl, ap}
 use Rattle.std.specs.Prelude.{Result}
 use Rattle.std.proofs.lemmas.Bool.{false≢true}
 use Rattle.sql_engine.specs.declared.answer.Ran.{Ran}

@@ -19,7 +19,13 @@ use Rattle.session_rules.specs.Engines.{Answer, Ending, TooLarge, takes, no_answ
 use Rattle.statement_runs.specs.declared.ending.AllRan.{AllRan}
 use Rattle.statement_runs.specs.declared.ending.Ending.{Ending as CodeEnding}
 use Rattle.statement_runs.specs.declared.ending.Ending.TheVariants as codes
-use Rattle.statement_runs.specs.Running.{TellsAll, change_in, Shows, RanTo, ending_of, Led, Went, WentTooFar, Failed}
+use Rattle.session_rules.specs.Touched.{put_in_order, ListsAll}
+use Rattle.statement_runs.specs.declared.reached.Reached.{Reached as There}
+use Rattle.statement_runs.specs.declared.running.Came.{Came}
+use Rattle.statement_runs.specs.declared.running.Came.TheVariants as came
+use Rattle.statement_runs.specs.Reached.{reached_at, change_to}
+use Rattle.statement_runs.proofs.Touching.{arrives}
+use Rattle.statement_runs.specs.Running.{AdvancedTo, CameTo, ended, TellsAll, change_in, Shows, RanTo, ending_of, Led, Went, WentTooFar, Failed}
 
 -- The answers so far lead from the first image to the one that was reached, with these statements still to run.
 pub record Reached (m : Meaning) (kind : EngineKind) (base : Image) (statements rest : List Statement) (told_before told_now : Option Told) (cur : Image) (last : Ran) : Type 0 where
@@ -149,6 +155,23 @@ led_ran m kind tx image statements before now to answer led = record {
   exact = led.exact;
   ends = subst (λ (e : Ending). Shows tx image e (codes.Ended (record { together = Some (record { tx = tx; pages = changed image to }); answer = answer }))) (sym led.ends) (record { together = Some (record { tx = tx; pages = changed image to }); answer = answer }, refl, refl, refl, led.leads);
 }
+
+-- where they all led, told by the pages that they touched
+pub came_through : (m : Meaning) (kind : EngineKind) (tx : ℕ) (image : Image) (ss : List Statement) (before now : Option Told) (to : Image) (answer : Ran) (o : Option CodeEnding) (touched known : List ℕ) (reached : There) → o ≡ None
+    → AdvancedTo m kind tx image ss before now to answer o → (o ≡ None → ListsAll touched image to) → IsShort to → known ≡ touched → reached ≡ reached_at (put_in_order [] known) to → CameTo m kind tx image ss before now answer (came.Through reached)
+came_through m kind tx image ss before now to answer o touched known reached none ran touches short same is = (
+  to,
+  subst (AdvancedTo m kind tx image ss before now to answer) none ran,
+  ap (change_to image) (is ∙ ap (λ (ns : List ℕ). reached_at (put_in_order [] ns) to) same) ∙ arrives touched image to (touches none) short,
+)
+
+-- how running ends that came to this
+pub came_ran : (m : Meaning) (kind : EngineKind) (tx : ℕ) (image back : Image) (ss : List Statement) (before now : Option Told) (answer : Ran) (c : Came) (ending : CodeEnding) → CameTo m kind tx image ss before now answer c → back ≡ image → ending ≡ ended tx back answer c → RanTo m kind tx image ss before now ending
+came_ran m kind tx image back ss before now answer (came.Through reached) ending (to, led, change) same is =
+    subst (RanTo m kind tx image ss before now)
+    (sym (is ∙ ap (λ (pages : List NumberedPage). codes.Ended (record { together = Some (record { tx = tx; pages = pages }); answer = answer })) (ap (λ (i : Image). change_to i reached) same ∙ change)))
+    (led_ran m kind tx image ss before now to answer led)
+came_ran m kind tx image back ss before now answer (came.Short ended) ending ran same is = subst (RanTo m kind tx image ss before now) (sym is) ran
 
 pub reached_fault : (m : Meaning) (kind : EngineKind) (tx : ℕ) (base : Image) (statements : List Statement) (s : Statement) (rest : List Statement) (before now next : Option Told) (cur : Image) (last : Ran) (fault : EngineFault)
     → Reached m kind base statements (s ∷ rest) before now cur last → Failed m kind cur s now next fault → RanTo m kind tx base statements before next (codes.Stopped fault)

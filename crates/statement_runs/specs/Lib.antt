@@ -1,2 +1,4 @@
 pub mod Texts
+pub mod Undoing
+pub mod Reached
 pub mod Running

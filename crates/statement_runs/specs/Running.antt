@@ -14,8 +14,9 @@ use Rattle.session_rules.specs.Engines.{Answer, Ending, Lacking, TooLarge, Stopp
 use Rattle.statement_runs.specs.declared.ending.AllRan.{AllRan}
 use Rattle.statement_runs.specs.declared.ending.Ending.{Ending as CodeEnding}
 use Rattle.statement_runs.specs.declared.ending.Ending.TheVariants as codes
-use Rattle.statement_runs.specs.declared.ending.Worked.{Worked}
-use Rattle.statement_runs.specs.declared.ending.Worked.TheVariants as works
+use Rattle.statement_runs.specs.declared.running.Came.{Came}
+use Rattle.statement_runs.specs.declared.running.Came.TheVariants as came
+use Rattle.statement_runs.specs.Reached.{change_to}
 
 -- the engine told these answers one after the other
 unfoldable pub TellsAll : List Answer → Option Told → Option Told → Type 0
@@ -51,15 +52,15 @@ pub record Led (m : Meaning) (kind : EngineKind) (image : Image) (statements : L
   pub ends : runs image no_answer statements answers ≡ Ended to answer
   pub leads : applied image (changed image to) ≡ to
 
--- what running came to that works on its image in place
-abbrev pub WorkedTo : Meaning → EngineKind → ℕ → Image → List Statement → Option Told → Option Told → Worked → Type 0
-WorkedTo m kind tx image ss before now (works.Through to answer) = Led m kind image ss before now to answer
-WorkedTo m kind tx image ss before now (works.Short ending) = RanTo m kind tx image ss before now ending
-
 -- what it came to where it ended so, or else led to this image and this last answer
 abbrev pub AdvancedTo : Meaning → EngineKind → ℕ → Image → List Statement → Option Told → Option Told → Image → Ran → Option CodeEnding → Type 0
 AdvancedTo m kind tx image ss before now to answer None = Led m kind image ss before now to answer
 AdvancedTo m kind tx image ss before now to answer (Some ending) = RanTo m kind tx image ss before now ending
+
+-- what it came to where it ended so, or else led to where this is told of, with this last answer
+abbrev pub CameTo : Meaning → EngineKind → ℕ → Image → List Statement → Option Told → Option Told → Ran → Came → Type 0
+CameTo m kind tx image ss before now answer (came.Through reached) = (to : Image) × Led m kind image ss before now to answer × (change_to image reached ≡ changed image to)
+CameTo m kind tx image ss before now answer (came.Short ending) = RanTo m kind tx image ss before now ending
 
 abbrev pub is_unopened : EngineFault → Bool
 is_unopened faults.Constraint = false
@@ -79,18 +80,18 @@ abbrev pub stops_unopened : Option CodeEnding → Bool
 stops_unopened None = false
 stops_unopened (Some ending) = ends_unopened ending
 
-abbrev pub works_unopened : Worked → Bool
-works_unopened (works.Through to answer) = false
-works_unopened (works.Short ending) = ends_unopened ending
+abbrev pub came_unopened : Came → Bool
+came_unopened (came.Through reached) = false
+came_unopened (came.Short ending) = ends_unopened ending
 
 -- how running the only statement ends by its answer
 abbrev pub ending_of : Ran → CodeEnding
 ending_of ran = if takes ran.after.pages then codes.Ended (record { together = None; answer = ran }) else codes.TooLarge ran
 
--- the image that statements have reached
-abbrev pub current : Image → Option Image → Image
-current base None = base
-current base (Some image) = image
+-- how running ended that came to this over an image, with this last answer
+abbrev pub ended : ℕ → Image → Ran → Came → CodeEnding
+ended tx image answer (came.Through reached) = codes.Ended (record { together = Some (record { tx = tx; pages = change_to image reached }); answer = answer })
+ended tx image answer (came.Short ending) = ending
 
 -- one more statement ran: its answer, and the image after its pages
 pub record Went (m : Meaning) (tx : ℕ) (from : Image) (s : Statement) (told_before told_now : Option Told) (to : Image) (ran : Ran) : Type 0 where

@@ -1,18 +1,11 @@
 //! The pages that lead from one image to another.
 
-ghost use Rattle.std.specs.Prelude.{◌≡◌, ◌≤◌, ◌^◌, ◌++◌, IfOk, OnOk};
-ghost use Rattle.dq_base.specs.Changes.{changed, changed_page, changed_from, same_image, numbers_above_one, sizes_of};
+ghost use Rattle.std.specs.Prelude.{◌≡◌, ◌≤◌, ◌^◌, ◌++◌, None, OnOk};
+ghost use Rattle.dq_base.specs.Images.{page_at};
+ghost use Rattle.dq_base.specs.Changes.{changed_page, numbers_above_one, sizes_of};
 
 use dq_base::{Image, NumberedPage, PAGE_SIZE, Page, page_at};
-use std::alloc::{AllocError, Global};
-
-/// Whether two images have the same files.
-fn same_image(before: &Image, after: &Image) -> bool
-    ensures { result ≡ same_image before.now after.now }
-{
-    before.main.as_slice() == after.main.as_slice()
-        && before.side.as_slice() == after.side.as_slice()
-}
+use std::alloc::AllocError;
 
 /// How many numbers there are from 2 up to the highest that an image has. Takes no memory.
 pub fn numbers_above_one(image: &Image) -> u64
@@ -54,40 +47,13 @@ pub fn add_changed(
     Ok(())
 }
 
-/// The pages above 1 that differ, or are new, in order.
-fn changed_pages(
-    alloc: Global,
-    before: &Image,
-    after: &Image,
-) -> Result<Vec<NumberedPage>, AllocError>
-    ensures { IfOk result (λ pages. pages.items ≡ changed_from 2 (numbers_above_one after.now) before.now after.now) }
+/// Adds the page that an image has at a number, where it has one. `Err` is want of memory.
+pub(crate) fn add_page(
+    pages: &mut Vec<NumberedPage>,
+    image: &Image,
+    number: u64,
+) -> Result<(), AllocError>
+    ensures { OnOk result (pages.new.items ≡ pages.old.items ++ changed_page number None (page_at image.now number)) }
 {
-    let mut pages = Vec::new(alloc);
-    let count = numbers_above_one(after);
-    for number in 2..2 + count {
-        add_changed(
-            &mut pages,
-            number,
-            page_at(before, number),
-            page_at(after, number),
-        )?;
-    }
-    Ok(pages)
-}
-
-/// The pages that lead from one image to another: none where they are the same; else the pages above 1 that the later has
-/// and the earlier has not or has otherwise, in order, and its sizes page. Compares both whole. `Err` is want of memory.
-pub fn change_between(
-    alloc: Global,
-    before: &Image,
-    after: &Image,
-) -> Result<Vec<NumberedPage>, AllocError>
-    ensures { IfOk result (λ pages. pages.items ≡ changed before.now after.now) }
-{
-    if same_image(before, after) {
-        return Ok(Vec::new(alloc));
-    }
-    let mut pages = changed_pages(alloc, before, after)?;
-    pages.push(sizes_of(after))?;
-    Ok(pages)
+    add_changed(pages, number, None, page_at(image, number))
 }

@@ -3,7 +3,7 @@
 ghost use Rattle.std.specs.Prelude.{◌≡◌};
 ghost use Rattle.statement_runs.specs.Running.{change_in};
 
-use dq_base::{Image, PageSet};
+use dq_base::PageSet;
 use sql_engine::{EngineFault, Ran};
 
 /// Statements that all ran.
@@ -37,13 +37,4 @@ pub enum Ending {
     TooLarge(Ran),
     /// The engine refused one.
     Stopped(EngineFault),
-}
-
-/// How running statements one after another ended that worked on their image in place.
-#[derive(Debug, Drop)]
-pub enum Worked {
-    /// All ran: the image that they led to, and the answer of the last one; where none ran, one that affected nothing.
-    Through(Image, Ran),
-    /// They ended before.
-    Short(Ending),
 }

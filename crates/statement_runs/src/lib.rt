@@ -3,12 +3,14 @@
 
 mod change;
 mod ending;
+mod reached;
 mod running;
 mod text;
 mod touched;
+mod undoing;
 
-pub use change::{add_changed, change_between, numbers_above_one, sizes_of};
-pub use ending::{AllRan, Ending, Worked};
-pub use running::{run_all, run_one, run_over, takes};
+pub use change::{add_changed, numbers_above_one, sizes_of};
+pub use ending::{AllRan, Ending};
+pub use running::{run_all, run_one, takes};
 pub use text::{any_barred, is_control, is_left_out, params_fit};
 pub use touched::in_order;

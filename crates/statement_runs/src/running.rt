@@ -1,19 +1,21 @@
 //! Statements one after another, by an engine.
 
-ghost use Rattle.std.specs.Prelude.{◌≡◌, ◌≤◌, ◌<◌, true, false, None, [], ◌∷◌, length, All, IfOk, OnOk};
+ghost use Rattle.std.specs.Prelude.{◌≡◌, ◌≤◌, ◌<◌, true, false, None, Some, [], ◌∷◌, ◌++◌, length, All, IfOk};
 ghost use Rattle.dq_base.specs.Applying.{applied, page_fault};
-ghost use Rattle.dq_base.specs.Changes.{changed};
 ghost use Rattle.sql_scan.specs.Places.{StandsIn};
 ghost use Rattle.session_rules.specs.Engines as rules;
 ghost use Rattle.statement_runs.specs.declared.ending.Ending.TheVariants as endings;
 ghost use Rattle.session_rules.specs.Statements.{prepared_from};
 ghost use Rattle.statement_runs.specs.Texts.{assigned, wants};
+ghost use Rattle.session_rules.specs.Touched.{ListsAll, numbers_of};
 ghost use Rattle.statement_runs.specs.Running as running;
-ghost use Rattle.statement_runs.specs.Running.{AdvancedTo, RanTo, Stepped, WorkedTo};
+ghost use Rattle.statement_runs.specs.Running.{AdvancedTo, CameTo, RanTo, Stepped};
+ghost use Rattle.statement_runs.specs.Undoing.{IsChange, all_undone};
 
-use crate::change::change_between;
-use crate::ending::{AllRan, Ending, Worked};
-use dq_base::{Image, Items, NumberedPage, PageSet, apply_pages, set_lengths};
+use crate::ending::{AllRan, Ending};
+use crate::reached::{Reached, add_numbers};
+use crate::undoing::{Undo, apply_noted, put_back_all};
+use dq_base::{Image, Items, NumberedPage, PageSet, set_lengths};
 use sql_engine::{Engine, Ran};
 use sql_scan::Piece;
 use std::alloc::{AllocError, Global};
@@ -70,43 +72,86 @@ pub fn run_one<E: Engine>(
     }
 }
 
-/// Where running several statements stands.
+/// Where running several statements stands, which work on an image in place.
 #[derive(Drop)]
 struct Progress {
-    /// The image with what they changed, once there is something.
-    working: Option<Image>,
+    /// What puts the image back, the last statement's last.
+    undoes: Vec<Undo>,
+    /// The numbers above 1 of the pages that they changed.
+    touched: Vec<u64>,
     /// The answer of the last one.
     answer: Ran,
 }
 
-/// Applies pages that can be applied. `Err` is want of memory.
-fn apply_all(image: &mut Image, pages: &[NumberedPage]) -> Result<(), AllocError>
-    ensures { OnOk result (image.new ≡ applied image.old pages.now) }
-{
-    match apply_pages(image, pages) {
-        Ok(()) => Ok(()),
-        Err(_) => Err(AllocError),
-    }
+/// What running several statements came to, before the image is put back.
+#[derive(Drop)]
+enum Came {
+    /// All ran, and led there.
+    Through(Reached),
+    /// They ended before.
+    Short(Ending),
 }
 
-/// The image that was reached after pages more; a copy of the first is made where there is none yet.
-fn worked(
-    alloc: Global,
-    base: &Image,
-    working: Option<Image>,
-    pages: &[NumberedPage],
-) -> Result<Option<Image>, AllocError>
-    ensures { IfOk result (λ after. running.current base.now after ≡ applied (running.current base.now working) pages.now) }
-{
-    if pages.is_empty() {
-        return Ok(working);
+impl Progress {
+    /// Where nothing ran yet.
+    fn new(alloc: Global) -> Progress
+        ensures undoes { result.undoes.items ≡ [] }
+        ensures touched { result.touched.items ≡ [] }
+        ensures answer { result.answer ≡ rules.no_answer }
+    {
+        Progress {
+            undoes: Vec::new(alloc),
+            touched: Vec::new(alloc),
+            answer: no_answer(alloc),
+        }
     }
-    let mut image = match working {
-        Some(image) => image,
-        None => base.try_clone(alloc)?,
-    };
-    apply_all(&mut image, pages)?;
-    Ok(Some(image))
+
+    /// Applies pages to the image, and notes what they touch and what puts it back; false where they can't be applied. `Err`
+    /// is want of memory.
+    fn apply(
+        &mut self,
+        alloc: Global,
+        image: &mut Image,
+        pages: &[NumberedPage],
+    ) -> Result<bool, AllocError>
+        requires change { IsChange image.old pages.now }
+        ensures taken { IfOk result (λ taken. taken ≡ rules.takes pages.now) }
+        ensures done { IfOk result (λ taken. taken ≡ true → image.new ≡ applied image.old pages.now) }
+        ensures touched { IfOk result (λ taken. taken ≡ true → self.new.touched.items ≡ self.old.touched.items ++ numbers_of pages.now) }
+        ensures kept { all_undone self.new.undoes.items image.new ≡ all_undone self.old.undoes.items image.old }
+    {
+        if pages.is_empty() {
+            return Ok(true);
+        }
+        match set_lengths(pages) {
+            Err(_) => Ok(false),
+            Ok(lengths) => {
+                add_numbers(&mut self.touched, pages)?;
+                apply_noted(alloc, &mut self.undoes, image, pages, lengths)?;
+                Ok(true)
+            }
+        }
+    }
+
+    /// Takes an answer in, or says how running ends with it. `Err` is want of memory.
+    fn take(
+        &mut self,
+        alloc: Global,
+        image: &mut Image,
+        ran: Ran,
+    ) -> Result<Option<Ending>, AllocError>
+        requires change { IsChange image.old ran.after.pages }
+        ensures took { IfOk result (running.TookIn image.old ran image.new self.new.answer) }
+        ensures opened { IfOk result (λ ending. running.stops_unopened ending ≡ false) }
+        ensures touched { IfOk result (λ ending. ending ≡ None → self.new.touched.items ≡ self.old.touched.items ++ numbers_of ran.after.pages) }
+        ensures kept { all_undone self.new.undoes.items image.new ≡ all_undone self.old.undoes.items image.old }
+    {
+        if !self.apply(alloc, image, ran.after.pages.as_slice())? {
+            return Ok(Some(Ending::TooLarge(ran)));
+        }
+        self.answer = ran;
+        Ok(None)
+    }
 }
 
 /// The answer where no statement ran.
@@ -124,49 +169,11 @@ fn no_answer(alloc: Global) -> Ran
     }
 }
 
-impl Progress {
-    /// Takes an answer in, or says how running ends with it. `Err` is want of memory.
-    fn take(&mut self, alloc: Global, base: &Image, ran: Ran) -> Result<Option<Ending>, AllocError>
-        ensures took { IfOk result (running.TookIn (running.current base.now self.old.working) ran (running.current base.now self.new.working) self.new.answer) }
-        ensures opened { IfOk result (λ ending. running.stops_unopened ending ≡ false) }
-    {
-        let pages = ran.after.pages.as_slice();
-        if !takes(pages) {
-            return Ok(Some(Ending::TooLarge(ran)));
-        }
-        self.working = worked(alloc, base, self.working.take(), pages)?;
-        self.answer = ran;
-        Ok(None)
-    }
-
-    /// The pages that were changed so far. `Err` is want of memory.
-    fn changed(&self, alloc: Global, base: &Image) -> Result<Vec<NumberedPage>, AllocError>
-        ensures { IfOk result (λ pages. pages.items ≡ changed base.now (running.current base.now self.now.working)) }
-    {
-        match &self.working {
-            Some(image) => change_between(alloc, base, image),
-            None => Ok(Vec::new(alloc)),
-        }
-    }
-
-    /// How it ends where all ran. `Err` is want of memory.
-    fn finish(self, alloc: Global, base: &Image, tx: u64) -> Result<Ending, AllocError>
-        ensures { IfOk result (λ ending. ending ≡ endings.Ended (record { together = Some (record { tx = tx; pages = changed base.now (running.current base.now self.working) }); answer = self.answer })) }
-    {
-        let pages = Items::new(self.changed(alloc, base)?);
-        Ok(Ending::Ended(AllRan {
-            together: Some(PageSet { tx, pages }),
-            answer: self.answer,
-        }))
-    }
-}
-
-/// Runs one more statement over the image that was reached. How running ends, where this is the last for another reason
-/// than that all ran.
+/// Runs one more statement over the image. How running ends, where this is the last for another reason than that all ran.
 fn step<E: Engine>(
     alloc: Global,
     engine: &mut E,
-    base: &Image,
+    image: &mut Image,
     progress: &mut Progress,
     text: &str,
     params: &[Value],
@@ -175,15 +182,13 @@ fn step<E: Engine>(
     ensures kind { E.kind engine.new ≡ E.kind engine.old }
     ensures openings { E.refused_openings engine.old ≤ E.refused_openings engine.new }
     ensures unopened { IfOk result (λ ending. running.stops_unopened ending ≡ true → E.refused_openings engine.old < E.refused_openings engine.new) }
-    ensures step { IfOk result (Stepped (E.meaning (E.kind engine.old)) (E.kind engine.old) tx (running.current base.now progress.old.working) (record { text = text.now; params = params.now }) (E.told engine.old) (E.told engine.new) (running.current base.now progress.new.working) progress.new.answer) }
+    ensures step { IfOk result (Stepped (E.meaning (E.kind engine.old)) (E.kind engine.old) tx image.old (record { text = text.now; params = params.now }) (E.told engine.old) (E.told engine.new) image.new progress.new.answer) }
+    ensures touched { IfOk result (λ ending. ending ≡ None → progress.new.touched.items ≡ progress.old.touched.items ++ numbers_of progress.new.answer.after.pages) }
+    ensures kept { all_undone progress.new.undoes.items image.new ≡ all_undone progress.old.undoes.items image.old }
 {
-    let reached = match &progress.working {
-        Some(image) => image,
-        None => base,
-    };
-    match engine.run(reached, text, params, tx) {
+    match engine.run(image, text, params, tx) {
         Ok(ran) => {
-            let ending = progress.take(alloc, base, ran)?;
+            let ending = progress.take(alloc, image, ran)?;
             Ok(ending)
         }
         Err(fault) => Ok(Some(Ending::Stopped(fault))),
@@ -195,7 +200,7 @@ fn step<E: Engine>(
 fn advance<E: Engine>(
     alloc: Global,
     engine: &mut E,
-    base: &Image,
+    image: &mut Image,
     progress: &mut Progress,
     text: &str,
     pieces: &[Piece],
@@ -205,16 +210,19 @@ fn advance<E: Engine>(
     requires stand { All (StandsIn text.now) pieces.now }
     requires fit { wants pieces.now ≡ length params.now }
     requires start { progress.old.answer ≡ rules.no_answer }
+    requires untouched { progress.old.touched.items ≡ [] }
     ensures kind { E.kind engine.new ≡ E.kind engine.old }
     ensures openings { E.refused_openings engine.old ≤ E.refused_openings engine.new }
     ensures unopened { IfOk result (λ ending. running.stops_unopened ending ≡ true → E.refused_openings engine.old < E.refused_openings engine.new) }
-    ensures ran { IfOk result (AdvancedTo (E.meaning (E.kind engine.old)) (E.kind engine.old) tx (running.current base.now progress.old.working) (assigned text.now pieces.now params.now) (E.told engine.old) (E.told engine.new) (running.current base.now progress.new.working) progress.new.answer) }
+    ensures ran { IfOk result (AdvancedTo (E.meaning (E.kind engine.old)) (E.kind engine.old) tx image.old (assigned text.now pieces.now params.now) (E.told engine.old) (E.told engine.new) image.new progress.new.answer) }
+    ensures touched { IfOk result (λ ending. ending ≡ None → ListsAll progress.new.touched.items image.old image.new) }
+    ensures kept { all_undone progress.new.undoes.items image.new ≡ all_undone progress.old.undoes.items image.old }
 {
     let mut rest = params;
     for piece in pieces {
         let (own, later) = rest.split_at(piece.params as usize);
         let one = piece_text(text, piece);
-        match step(alloc, engine, base, progress, one, own, tx)? {
+        match step(alloc, engine, image, progress, one, own, tx)? {
             Some(ending) => return Ok(Some(ending)),
             None => rest = later,
         }
@@ -222,16 +230,62 @@ fn advance<E: Engine>(
     Ok(None)
 }
 
-/// Runs the statements of a text one after another, each over the image that the one before it left, for the transaction of
-/// a number. Each takes as many parameters as it counts, in order; together they take all.
-///
-/// One alone copies nothing of the image. Of several, the first one that changes pages has a copy made, and at the end both
-/// images are compared. `Err` is want of memory; the engine has then run some of the statements, and nothing else has
-/// changed.
-pub fn run_all<E: Engine>(
+/// Runs the statements of a text one after another, and tells where they led, or how they ended before. The image isn't put
+/// back.
+fn lead<E: Engine>(
     alloc: Global,
     engine: &mut E,
+    image: &mut Image,
+    progress: &mut Progress,
+    text: &str,
+    pieces: &[Piece],
+    params: &[Value],
+    tx: u64,
+) -> Result<Came, AllocError>
+    requires stand { All (StandsIn text.now) pieces.now }
+    requires fit { wants pieces.now ≡ length params.now }
+    requires start { progress.old.answer ≡ rules.no_answer }
+    requires untouched { progress.old.touched.items ≡ [] }
+    ensures kind { E.kind engine.new ≡ E.kind engine.old }
+    ensures openings { E.refused_openings engine.old ≤ E.refused_openings engine.new }
+    ensures unopened { IfOk result (λ came. running.came_unopened came ≡ true → E.refused_openings engine.old < E.refused_openings engine.new) }
+    ensures ran { IfOk result (CameTo (E.meaning (E.kind engine.old)) (E.kind engine.old) tx image.old (assigned text.now pieces.now params.now) (E.told engine.old) (E.told engine.new) progress.new.answer) }
+    ensures kept { all_undone progress.new.undoes.items image.new ≡ all_undone progress.old.undoes.items image.old }
+{
+    match advance(alloc, engine, image, progress, text, pieces, params, tx)? {
+        Some(ending) => Ok(Came::Short(ending)),
+        None => {
+            let reached = Reached::of(alloc, image, progress.touched.as_slice())?;
+            Ok(Came::Through(reached))
+        }
+    }
+}
+
+/// How running ended that came to this, over the image that was put back; `answer` is the last one's. `Err` is want of memory.
+fn ended(
+    alloc: Global,
     image: &Image,
+    came: Came,
+    answer: Ran,
+    tx: u64,
+) -> Result<Ending, AllocError>
+    ensures { IfOk result (λ ending. ending ≡ running.ended tx image.now answer came) }
+{
+    match came {
+        Came::Short(ending) => Ok(ending),
+        Came::Through(reached) => {
+            let pages = Items::new(reached.change_from(alloc, image)?);
+            let together = Some(PageSet { tx, pages });
+            Ok(Ending::Ended(AllRan { together, answer }))
+        }
+    }
+}
+
+/// Runs several statements of a text, or none, as `run_all` does.
+fn run_several<E: Engine>(
+    alloc: Global,
+    engine: &mut E,
+    image: &mut Image,
     text: &str,
     pieces: &[Piece],
     params: &[Value],
@@ -239,20 +293,14 @@ pub fn run_all<E: Engine>(
 ) -> Result<Ending, AllocError>
     requires stand { All (StandsIn text.now) pieces.now }
     requires fit { wants pieces.now ≡ length params.now }
+    ensures kept { image.new ≡ image.old }
     ensures kind { E.kind engine.new ≡ E.kind engine.old }
     ensures openings { E.refused_openings engine.old ≤ E.refused_openings engine.new }
     ensures unopened { IfOk result (λ ending. running.ends_unopened ending ≡ true → E.refused_openings engine.old < E.refused_openings engine.new) }
-    ensures ran { IfOk result (RanTo (E.meaning (E.kind engine.old)) (E.kind engine.old) tx image.now (assigned text.now pieces.now params.now) (E.told engine.old) (E.told engine.new)) }
+    ensures ran { IfOk result (RanTo (E.meaning (E.kind engine.old)) (E.kind engine.old) tx image.old (assigned text.now pieces.now params.now) (E.told engine.old) (E.told engine.new)) }
 {
-    if let [piece] = pieces {
-        let one = piece_text(text, piece);
-        return Ok(run_one(engine, image, one, params, tx));
-    }
-    let mut progress = Progress {
-        working: None,
-        answer: no_answer(alloc),
-    };
-    match advance(
+    let mut progress = Progress::new(alloc);
+    let came = lead(
         alloc,
         engine,
         image,
@@ -261,46 +309,38 @@ pub fn run_all<E: Engine>(
         pieces,
         params,
         tx,
-    )? {
-        Some(ending) => Ok(ending),
-        None => progress.finish(alloc, image, tx),
-    }
+    );
+    put_back_all(alloc, &mut progress.undoes, image);
+    ended(alloc, image, came?, progress.answer, tx)
 }
 
-/// The same over an image that is worked on in place, and given back where all ran. Nothing of it is copied, and nothing
-/// compared.
-pub fn run_over<E: Engine>(
+/// Runs the statements of a text one after another, each over the image that the one before it left, for the transaction of
+/// a number. Each takes as many parameters as it counts, in order; together they take all.
+///
+/// The statements work on the image in place, and it is put back whatever the outcome. One alone copies nothing of it. Of
+/// several, each keeps the pages that it changes, as they were before, and at the end the pages that they changed are compared
+/// with those of the first image; a statement that makes a file shorter keeps a copy of the image. `Err` is want of memory; the
+/// engine has then run some of the statements, and nothing else has changed.
+pub fn run_all<E: Engine>(
     alloc: Global,
     engine: &mut E,
-    image: Image,
+    image: &mut Image,
     text: &str,
     pieces: &[Piece],
     params: &[Value],
     tx: u64,
-) -> Result<Worked, AllocError>
+) -> Result<Ending, AllocError>
     requires stand { All (StandsIn text.now) pieces.now }
     requires fit { wants pieces.now ≡ length params.now }
+    ensures kept { image.new ≡ image.old }
     ensures kind { E.kind engine.new ≡ E.kind engine.old }
     ensures openings { E.refused_openings engine.old ≤ E.refused_openings engine.new }
-    ensures unopened { IfOk result (λ worked. running.works_unopened worked ≡ true → E.refused_openings engine.old < E.refused_openings engine.new) }
-    ensures ran { IfOk result (WorkedTo (E.meaning (E.kind engine.old)) (E.kind engine.old) tx image (assigned text.now pieces.now params.now) (E.told engine.old) (E.told engine.new)) }
+    ensures unopened { IfOk result (λ ending. running.ends_unopened ending ≡ true → E.refused_openings engine.old < E.refused_openings engine.new) }
+    ensures ran { IfOk result (RanTo (E.meaning (E.kind engine.old)) (E.kind engine.old) tx image.old (assigned text.now pieces.now params.now) (E.told engine.old) (E.told engine.new)) }
 {
-    let nothing = Image::new(alloc);
-    let mut progress = Progress {
-        working: Some(image),
-        answer: no_answer(alloc),
-    };
-    match advance(
-        alloc,
-        engine,
-        &nothing,
-        &mut progress,
-        text,
-        pieces,
-        params,
-        tx,
-    )? {
-        Some(ending) => Ok(Worked::Short(ending)),
-        None => Ok(Worked::Through(progress.working.unwrap_or(nothing), progress.answer)),
+    if let [piece] = pieces {
+        let one = piece_text(text, piece);
+        return Ok(run_one(engine, image, one, params, tx));
     }
+    run_several(alloc, engine, image, text, pieces, params, tx)
 }

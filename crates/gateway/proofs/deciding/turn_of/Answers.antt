@@ -11,64 +11,104 @@ use Rattle.session_asking.specs.declared.wanted.Wanted.{Wanted}
 use Rattle.session_asking.specs.Meant.{meant, IsPlainCause, IsAllowed}
 use Rattle.session_turns.specs.declared.turn.Turn.TheVariants as turns
 use Rattle.gateway.proofs.Decided.{nothing_handed, never_unopened, creates_plain, begins_plain, commits_plain}
+use Rattle.gateway.proofs.Placed.{allowed_there, allowed_at, fits_there, listed_there, outside_too, some_inside, turned_there, came_there}
 use Rattle.gateway.proofs.deciding.turn_of.Goals as goal
 
 pub returns-in-Never-clause-ran : goal.returns-in-Never-clause-ran
 unfolding does
-returns-in-Never-clause-ran g c = λ weight. nothing_handed _ _ c.args.view.now (machine_of c.args.machine.now) (table_of c.args.machine.now c.args.sessions.now weight) c.args.session.now.conn (session_of c.args.machine.now c.args.session.now) c.args.params.now c.args.wanted _ _ _ c.in-Never.is refl refl
+returns-in-Never-clause-ran g c = λ own weight. turned_there c.args.sessions.now c.args.place c.index-known-place.result c.requires.within c.index-known-place.is _ _ c.args.view.now c.args.machine.now c.args.params.now c.args.wanted _ _ own weight _ (nothing_handed _ _ c.args.view.now (machine_of c.args.machine.now) (table_of c.args.machine.now c.args.sessions.now weight) c.index-known-place.result.conn (session_of c.args.machine.now c.index-known-place.result) c.args.params.now c.args.wanted _ _ _ c.in-Never.is refl refl)
 
 pub returns-in-Never-clause-unopened : goal.returns-in-Never-clause-unopened
 returns-in-Never-clause-unopened g c = λ e.
-    let plain : IsPlainCause (cause_named c.in-Never.cause) = subst (λ (w : Wanted). IsAllowed c.args.view.now (session_of c.args.machine.now c.args.session.now) (meant c.args.params.now w)) c.in-Never.is c.requires.can.allowed in
-    absurd (never_unopened c.args.view.now (machine_of c.args.machine.now) (session_of c.args.machine.now c.args.session.now) (Refused (cause_named c.in-Never.cause)) (turns.Refused c.in-Never.cause) plain refl e)
+    let plain : IsPlainCause (cause_named c.in-Never.cause) = allowed_there c.args.sessions.now c.args.place c.index-known-place.result c.requires.within c.index-known-place.is c.args.view.now c.args.machine.now c.args.params.now c.args.wanted _ c.in-Never.is c.requires.can in
+    absurd (never_unopened c.args.view.now (machine_of c.args.machine.now) (session_of c.args.machine.now c.index-known-place.result) (Refused (cause_named c.in-Never.cause)) (turns.Refused c.in-Never.cause) plain refl e)
 
 pub returns-in-Sets-clause-ran : goal.returns-in-Sets-clause-ran
 unfolding does
-returns-in-Sets-clause-ran g c = λ weight. nothing_handed _ _ c.args.view.now (machine_of c.args.machine.now) (table_of c.args.machine.now c.args.sessions.now weight) c.args.session.now.conn (session_of c.args.machine.now c.args.session.now) c.args.params.now c.args.wanted _ _ _ c.in-Sets.is refl refl
+returns-in-Sets-clause-ran g c = λ own weight. turned_there c.args.sessions.now c.args.place c.index-known-place.result c.requires.within c.index-known-place.is _ _ c.args.view.now c.args.machine.now c.args.params.now c.args.wanted _ _ own weight _ (nothing_handed _ _ c.args.view.now (machine_of c.args.machine.now) (table_of c.args.machine.now c.args.sessions.now weight) c.index-known-place.result.conn (session_of c.args.machine.now c.index-known-place.result) c.args.params.now c.args.wanted _ _ _ c.in-Sets.is refl refl)
 
 pub returns-in-Tells-clause-ran : goal.returns-in-Tells-clause-ran
-returns-in-Tells-clause-ran g c = λ weight. nothing_handed _ _ c.args.view.now (machine_of c.args.machine.now) (table_of c.args.machine.now c.args.sessions.now weight) c.args.session.now.conn (session_of c.args.machine.now c.args.session.now) c.args.params.now c.args.wanted _ _ c.telling.result c.in-Tells.is refl (c.telling.ensures c.args.view.now (machine_of c.args.machine.now) (table_of c.args.machine.now c.args.sessions.now weight) c.args.session.now.conn (session_of c.args.machine.now c.args.session.now) [])
+returns-in-Tells-clause-ran g c = λ own weight. turned_there c.args.sessions.now c.args.place c.index-known-place.result c.requires.within c.index-known-place.is _ _ c.args.view.now c.args.machine.now c.args.params.now c.args.wanted _ _ own weight _ (nothing_handed _ _ c.args.view.now (machine_of c.args.machine.now) (table_of c.args.machine.now c.args.sessions.now weight) c.index-known-place.result.conn (session_of c.args.machine.now c.index-known-place.result) c.args.params.now c.args.wanted _ _ c.telling.result c.in-Tells.is refl (c.telling.ensures c.args.view.now (machine_of c.args.machine.now) (table_of c.args.machine.now c.args.sessions.now weight) c.index-known-place.result.conn (session_of c.args.machine.now c.index-known-place.result) []))
 
 pub returns-in-Tells-clause-unopened : goal.returns-in-Tells-clause-unopened
 unfolding does
-returns-in-Tells-clause-unopened g c = λ e. absurd (never_unopened c.args.view.now (machine_of c.args.machine.now) (session_of c.args.machine.now c.args.session.now) (does c.args.view.now (machine_of c.args.machine.now) (table_of c.args.machine.now c.args.sessions.now 0) c.args.session.now.conn (session_of c.args.machine.now c.args.session.now) (asking.Tells c.in-Tells.response) []) c.telling.result tt (c.telling.ensures c.args.view.now (machine_of c.args.machine.now) (table_of c.args.machine.now c.args.sessions.now 0) c.args.session.now.conn (session_of c.args.machine.now c.args.session.now) []) e)
+returns-in-Tells-clause-unopened g c = λ e. absurd (never_unopened c.args.view.now (machine_of c.args.machine.now) (session_of c.args.machine.now c.index-known-place.result) (does c.args.view.now (machine_of c.args.machine.now) (table_of c.args.machine.now c.args.sessions.now 0) c.index-known-place.result.conn (session_of c.args.machine.now c.index-known-place.result) (asking.Tells c.in-Tells.response) []) c.telling.result tt (c.telling.ensures c.args.view.now (machine_of c.args.machine.now) (table_of c.args.machine.now c.args.sessions.now 0) c.index-known-place.result.conn (session_of c.args.machine.now c.index-known-place.result) []) e)
 
 pub returns-in-Opens-clause-ran : goal.returns-in-Opens-clause-ran
-returns-in-Opens-clause-ran g c = λ weight. nothing_handed _ _ c.args.view.now (machine_of c.args.machine.now) (table_of c.args.machine.now c.args.sessions.now weight) c.args.session.now.conn (session_of c.args.machine.now c.args.session.now) c.args.params.now c.args.wanted _ _ c.opened.result c.in-Opens.is refl (c.opened.ensures c.args.view.now (machine_of c.args.machine.now) (table_of c.args.machine.now c.args.sessions.now weight) c.args.session.now.conn (session_of c.args.machine.now c.args.session.now) [])
+returns-in-Opens-clause-ran g c = λ own weight. turned_there c.args.sessions.now c.args.place c.index-known-place.result c.requires.within c.index-known-place.is _ _ c.args.view.now c.args.machine.now c.args.params.now c.args.wanted _ _ own weight _ (nothing_handed _ _ c.args.view.now (machine_of c.args.machine.now) (table_of c.args.machine.now c.args.sessions.now weight) c.index-known-place.result.conn (session_of c.args.machine.now c.index-known-place.result) c.args.params.now c.args.wanted _ _ c.opened.result c.in-Opens.is refl (c.opened.ensures c.args.view.now (machine_of c.args.machine.now) (table_of c.args.machine.now c.args.sessions.now weight) c.index-known-place.result.conn (session_of c.args.machine.now c.index-known-place.result) []))
 
 pub returns-in-Opens-clause-unopened : goal.returns-in-Opens-clause-unopened
 unfolding does
-returns-in-Opens-clause-unopened g c = λ e. absurd (never_unopened c.args.view.now (machine_of c.args.machine.now) (session_of c.args.machine.now c.args.session.now) (does c.args.view.now (machine_of c.args.machine.now) (table_of c.args.machine.now c.args.sessions.now 0) c.args.session.now.conn (session_of c.args.machine.now c.args.session.now) (asking.Opens c.in-Opens.name) []) c.opened.result tt (c.opened.ensures c.args.view.now (machine_of c.args.machine.now) (table_of c.args.machine.now c.args.sessions.now 0) c.args.session.now.conn (session_of c.args.machine.now c.args.session.now) []) e)
+returns-in-Opens-clause-unopened g c = λ e. absurd (never_unopened c.args.view.now (machine_of c.args.machine.now) (session_of c.args.machine.now c.index-known-place.result) (does c.args.view.now (machine_of c.args.machine.now) (table_of c.args.machine.now c.args.sessions.now 0) c.index-known-place.result.conn (session_of c.args.machine.now c.index-known-place.result) (asking.Opens c.in-Opens.name) []) c.opened.result tt (c.opened.ensures c.args.view.now (machine_of c.args.machine.now) (table_of c.args.machine.now c.args.sessions.now 0) c.index-known-place.result.conn (session_of c.args.machine.now c.index-known-place.result) []) e)
 
 pub returns-in-Prepares-clause-ran : goal.returns-in-Prepares-clause-ran
-returns-in-Prepares-clause-ran g c = λ weight. nothing_handed _ _ c.args.view.now (machine_of c.args.machine.now) (table_of c.args.machine.now c.args.sessions.now weight) c.args.session.now.conn (session_of c.args.machine.now c.args.session.now) c.args.params.now c.args.wanted _ _ c.preparing.result c.in-Prepares.is refl (c.preparing.ensures c.args.view.now (machine_of c.args.machine.now) (table_of c.args.machine.now c.args.sessions.now weight) c.args.session.now.conn c.args.machine.now [])
+returns-in-Prepares-clause-ran g c = λ own weight. turned_there c.args.sessions.now c.args.place c.index-known-place.result c.requires.within c.index-known-place.is _ _ c.args.view.now c.args.machine.now c.args.params.now c.args.wanted _ _ own weight _ (nothing_handed _ _ c.args.view.now (machine_of c.args.machine.now) (table_of c.args.machine.now c.args.sessions.now weight) c.index-known-place.result.conn (session_of c.args.machine.now c.index-known-place.result) c.args.params.now c.args.wanted _ _ c.preparing.result c.in-Prepares.is refl (c.preparing.ensures c.args.view.now (machine_of c.args.machine.now) (table_of c.args.machine.now c.args.sessions.now weight) c.index-known-place.result.conn c.args.machine.now []))
 
 pub returns-in-Prepares-clause-unopened : goal.returns-in-Prepares-clause-unopened
 unfolding does
-returns-in-Prepares-clause-unopened g c = λ e. absurd (never_unopened c.args.view.now (machine_of c.args.machine.now) (session_of c.args.machine.now c.args.session.now) (does c.args.view.now (machine_of c.args.machine.now) (table_of c.args.machine.now c.args.sessions.now 0) c.args.session.now.conn (session_of c.args.machine.now c.args.session.now) (asking.Prepares c.in-Prepares.prepared c.in-Prepares.tail) []) c.preparing.result tt (c.preparing.ensures c.args.view.now (machine_of c.args.machine.now) (table_of c.args.machine.now c.args.sessions.now 0) c.args.session.now.conn c.args.machine.now []) e)
+returns-in-Prepares-clause-unopened g c = λ e. absurd (never_unopened c.args.view.now (machine_of c.args.machine.now) (session_of c.args.machine.now c.index-known-place.result) (does c.args.view.now (machine_of c.args.machine.now) (table_of c.args.machine.now c.args.sessions.now 0) c.index-known-place.result.conn (session_of c.args.machine.now c.index-known-place.result) (asking.Prepares c.in-Prepares.prepared c.in-Prepares.tail) []) c.preparing.result tt (c.preparing.ensures c.args.view.now (machine_of c.args.machine.now) (table_of c.args.machine.now c.args.sessions.now 0) c.index-known-place.result.conn c.args.machine.now []) e)
 
 pub returns-in-Drops-clause-ran : goal.returns-in-Drops-clause-ran
-returns-in-Drops-clause-ran g c = λ weight. nothing_handed _ _ c.args.view.now (machine_of c.args.machine.now) (table_of c.args.machine.now c.args.sessions.now weight) c.args.session.now.conn (session_of c.args.machine.now c.args.session.now) c.args.params.now c.args.wanted _ _ c.finalizing.result c.in-Drops.is refl (c.finalizing.ensures c.args.view.now (machine_of c.args.machine.now) (table_of c.args.machine.now c.args.sessions.now weight) c.args.session.now.conn c.args.machine.now [])
+returns-in-Drops-clause-ran g c = λ own weight. turned_there c.args.sessions.now c.args.place c.index-known-place.result c.requires.within c.index-known-place.is _ _ c.args.view.now c.args.machine.now c.args.params.now c.args.wanted _ _ own weight _ (nothing_handed _ _ c.args.view.now (machine_of c.args.machine.now) (table_of c.args.machine.now c.args.sessions.now weight) c.index-known-place.result.conn (session_of c.args.machine.now c.index-known-place.result) c.args.params.now c.args.wanted _ _ c.finalizing.result c.in-Drops.is refl (c.finalizing.ensures c.args.view.now (machine_of c.args.machine.now) (table_of c.args.machine.now c.args.sessions.now weight) c.index-known-place.result.conn c.args.machine.now []))
 
 pub returns-in-Drops-clause-unopened : goal.returns-in-Drops-clause-unopened
 unfolding does
-returns-in-Drops-clause-unopened g c = λ e. absurd (never_unopened c.args.view.now (machine_of c.args.machine.now) (session_of c.args.machine.now c.args.session.now) (does c.args.view.now (machine_of c.args.machine.now) (table_of c.args.machine.now c.args.sessions.now 0) c.args.session.now.conn (session_of c.args.machine.now c.args.session.now) (asking.Drops c.in-Drops.id) []) c.finalizing.result tt (c.finalizing.ensures c.args.view.now (machine_of c.args.machine.now) (table_of c.args.machine.now c.args.sessions.now 0) c.args.session.now.conn c.args.machine.now []) e)
+returns-in-Drops-clause-unopened g c = λ e. absurd (never_unopened c.args.view.now (machine_of c.args.machine.now) (session_of c.args.machine.now c.index-known-place.result) (does c.args.view.now (machine_of c.args.machine.now) (table_of c.args.machine.now c.args.sessions.now 0) c.index-known-place.result.conn (session_of c.args.machine.now c.index-known-place.result) (asking.Drops c.in-Drops.id) []) c.finalizing.result tt (c.finalizing.ensures c.args.view.now (machine_of c.args.machine.now) (table_of c.args.machine.now c.args.sessions.now 0) c.index-known-place.result.conn c.args.machine.now []) e)
 
 pub returns-in-Begins-clause-ran : goal.returns-in-Begins-clause-ran
-returns-in-Begins-clause-ran g c = λ weight. nothing_handed _ _ c.args.view.now (machine_of c.args.machine.now) (table_of c.args.machine.now c.args.sessions.now weight) c.args.session.now.conn (session_of c.args.machine.now c.args.session.now) c.args.params.now c.args.wanted _ _ c.beginning.result c.in-Begins.is refl (c.beginning.ensures c.args.view.now c.args.machine.now weight [])
+returns-in-Begins-clause-ran g c = λ own weight. turned_there c.args.sessions.now c.args.place c.index-known-place.result c.requires.within c.index-known-place.is _ _ c.args.view.now c.args.machine.now c.args.params.now c.args.wanted _ _ own weight _ (nothing_handed _ _ c.args.view.now (machine_of c.args.machine.now) (table_of c.args.machine.now c.args.sessions.now weight) c.index-known-place.result.conn (session_of c.args.machine.now c.index-known-place.result) c.args.params.now c.args.wanted _ _ c.beginning.result c.in-Begins.is refl (c.beginning.ensures c.args.view.now c.args.machine.now weight []))
 
 pub returns-in-Begins-clause-unopened : goal.returns-in-Begins-clause-unopened
-returns-in-Begins-clause-unopened g c = λ e. absurd (never_unopened c.args.view.now (machine_of c.args.machine.now) (session_of c.args.machine.now c.args.session.now) (does c.args.view.now (machine_of c.args.machine.now) (table_of c.args.machine.now c.args.sessions.now 0) c.args.session.now.conn (session_of c.args.machine.now c.args.session.now) (asking.Begins c.in-Begins.at_once) []) c.beginning.result (begins_plain c.args.view.now (machine_of c.args.machine.now) (table_of c.args.machine.now c.args.sessions.now 0) c.args.session.now.conn (session_of c.args.machine.now c.args.session.now) [] c.in-Begins.at_once) (c.beginning.ensures c.args.view.now c.args.machine.now 0 []) e)
+returns-in-Begins-clause-unopened g c = λ e. absurd (never_unopened c.args.view.now (machine_of c.args.machine.now) (session_of c.args.machine.now c.index-known-place.result) (does c.args.view.now (machine_of c.args.machine.now) (table_of c.args.machine.now c.args.sessions.now 0) c.index-known-place.result.conn (session_of c.args.machine.now c.index-known-place.result) (asking.Begins c.in-Begins.at_once) []) c.beginning.result (begins_plain c.args.view.now (machine_of c.args.machine.now) (table_of c.args.machine.now c.args.sessions.now 0) c.index-known-place.result.conn (session_of c.args.machine.now c.index-known-place.result) [] c.in-Begins.at_once) (c.beginning.ensures c.args.view.now c.args.machine.now 0 []) e)
 
 pub returns-in-RollsBack-clause-ran : goal.returns-in-RollsBack-clause-ran
 unfolding does
-returns-in-RollsBack-clause-ran g c = λ weight. nothing_handed _ _ c.args.view.now (machine_of c.args.machine.now) (table_of c.args.machine.now c.args.sessions.now weight) c.args.session.now.conn (session_of c.args.machine.now c.args.session.now) c.args.params.now c.args.wanted _ _ _ c.in-RollsBack.is refl (refl, refl)
+returns-in-RollsBack-clause-ran g c = λ own weight. turned_there c.args.sessions.now c.args.place c.index-known-place.result c.requires.within c.index-known-place.is _ _ c.args.view.now c.args.machine.now c.args.params.now c.args.wanted _ _ own weight _ (nothing_handed _ _ c.args.view.now (machine_of c.args.machine.now) (table_of c.args.machine.now c.args.sessions.now weight) c.index-known-place.result.conn (session_of c.args.machine.now c.index-known-place.result) c.args.params.now c.args.wanted _ _ _ c.in-RollsBack.is refl (refl, refl))
 
 pub returns-in-Creates-clause-ran : goal.returns-in-Creates-clause-ran
-returns-in-Creates-clause-ran g c = λ weight. IfOk-weaker c.creating.result _ _ (λ turn h. nothing_handed _ _ c.args.view.now (machine_of c.args.machine.now) (table_of c.args.machine.now c.args.sessions.now weight) c.args.session.now.conn (session_of c.args.machine.now c.args.session.now) c.args.params.now c.args.wanted _ _ turn c.in-Creates.is refl h) (c.creating.ensures weight c.args.session.now.conn [])
+returns-in-Creates-clause-ran g c = λ own weight. came_there c.args.sessions.now c.args.place c.index-known-place.result c.requires.within c.index-known-place.is _ _ c.args.view.now c.args.machine.now c.args.params.now c.args.wanted _ _ own weight c.creating.result (IfOk-weaker c.creating.result _ _ (λ turn h. nothing_handed _ _ c.args.view.now (machine_of c.args.machine.now) (table_of c.args.machine.now c.args.sessions.now weight) c.index-known-place.result.conn (session_of c.args.machine.now c.index-known-place.result) c.args.params.now c.args.wanted _ _ turn c.in-Creates.is refl h) (c.creating.ensures weight c.index-known-place.result.conn []))
 
 pub returns-in-Creates-clause-unopened : goal.returns-in-Creates-clause-unopened
-returns-in-Creates-clause-unopened g c = IfOk-weaker c.creating.result _ _ (λ turn h e. absurd (never_unopened c.args.view.now (machine_of c.args.machine.now) (session_of c.args.machine.now c.args.session.now) (does c.args.view.now (machine_of c.args.machine.now) (table_of c.args.machine.now c.args.sessions.now 0) c.args.session.now.conn (session_of c.args.machine.now c.args.session.now) (asking.Creates c.in-Creates.name) []) turn (creates_plain c.args.view.now (machine_of c.args.machine.now) (table_of c.args.machine.now c.args.sessions.now 0) c.args.session.now.conn (session_of c.args.machine.now c.args.session.now) [] c.in-Creates.name) h e)) (c.creating.ensures 0 c.args.session.now.conn [])
+returns-in-Creates-clause-unopened g c = IfOk-weaker c.creating.result _ _ (λ turn h e. absurd (never_unopened c.args.view.now (machine_of c.args.machine.now) (session_of c.args.machine.now c.index-known-place.result) (does c.args.view.now (machine_of c.args.machine.now) (table_of c.args.machine.now c.args.sessions.now 0) c.index-known-place.result.conn (session_of c.args.machine.now c.index-known-place.result) (asking.Creates c.in-Creates.name) []) turn (creates_plain c.args.view.now (machine_of c.args.machine.now) (table_of c.args.machine.now c.args.sessions.now 0) c.index-known-place.result.conn (session_of c.args.machine.now c.index-known-place.result) [] c.in-Creates.name) h e)) (c.creating.ensures 0 c.index-known-place.result.conn [])
 
 pub returns-in-Commits-clause-ran : goal.returns-in-Commits-clause-ran
-returns-in-Commits-clause-ran g c = λ weight. IfOk-weaker c.commit_turn.result _ _ (λ turn h. nothing_handed _ _ c.args.view.now (machine_of c.args.machine.now) (table_of c.args.machine.now c.args.sessions.now weight) c.args.session.now.conn (session_of c.args.machine.now c.args.session.now) c.args.params.now c.args.wanted _ _ turn c.in-Commits.is refl h) (c.commit_turn.ensures.comes weight [])
+returns-in-Commits-clause-ran g c = λ own weight. came_there c.args.sessions.now c.args.place c.index-known-place.result c.requires.within c.index-known-place.is _ _ c.args.view.now c.args.machine.now c.args.params.now c.args.wanted _ _ own weight c.commit_turn.result (IfOk-weaker c.commit_turn.result _ _ (λ turn h. nothing_handed _ _ c.args.view.now (machine_of c.args.machine.now) (table_of c.args.machine.now c.args.sessions.now weight) c.index-known-place.result.conn (session_of c.args.machine.now c.index-known-place.result) c.args.params.now c.args.wanted _ _ turn c.in-Commits.is refl h) (c.commit_turn.ensures.comes weight []))
+
+-- ---- what the calls require
+
+pub creating-requires-clause-room : goal.creating-requires-clause-room
+creating-requires-clause-room g c = allowed_there c.args.sessions.now c.args.place c.index-known-place.result c.requires.within c.index-known-place.is c.args.view.now c.args.machine.now c.args.params.now c.args.wanted _ c.in-Creates.is c.requires.can
+
+pub preparing-requires : goal.preparing-requires
+preparing-requires g c = fits_there c.args.sessions.now c.args.place c.index-known-place.result c.requires.within c.index-known-place.is c.args.view.now c.args.machine.now c.args.params.now c.args.wanted _ c.in-Prepares.is c.requires.can
+
+pub finalizing-requires : goal.finalizing-requires
+finalizing-requires g c = fits_there c.args.sessions.now c.args.place c.index-known-place.result c.requires.within c.index-known-place.is c.args.view.now c.args.machine.now c.args.params.now c.args.wanted _ c.in-Drops.is c.requires.can
+
+pub beginning-requires-clause-outside : goal.beginning-requires-clause-outside
+beginning-requires-clause-outside g c = λ databases. outside_too c.args.machine.now databases c.index-known-place.result.transaction (allowed_there c.args.sessions.now c.args.place c.index-known-place.result c.requires.within c.index-known-place.is c.args.view.now c.args.machine.now c.args.params.now c.args.wanted _ c.in-Begins.is c.requires.can).1
+
+pub beginning-requires-clause-open : goal.beginning-requires-clause-open
+beginning-requires-clause-open g c = λ databases. (allowed_there c.args.sessions.now c.args.place c.index-known-place.result c.requires.within c.index-known-place.is c.args.view.now c.args.machine.now c.args.params.now c.args.wanted _ c.in-Begins.is c.requires.can).0.opened
+
+pub commit_turn-requires-clause-served : goal.commit_turn-requires-clause-served
+commit_turn-requires-clause-served g c = (allowed_there c.args.sessions.now c.args.place c.index-known-place.result c.requires.within c.index-known-place.is c.args.view.now c.args.machine.now c.args.params.now c.args.wanted _ c.in-Commits.is c.requires.can).0
+
+pub commit_turn-requires-clause-listed : goal.commit_turn-requires-clause-listed
+commit_turn-requires-clause-listed g c = listed_there c.args.sessions.now c.args.place c.index-known-place.result c.requires.within c.index-known-place.is c.args.machine.now c.requires.listed
+
+pub commit_turn-requires-clause-open : goal.commit_turn-requires-clause-open
+commit_turn-requires-clause-open g c = some_inside c.args.machine.now c.index-known-place.result.transaction (allowed_there c.args.sessions.now c.args.place c.index-known-place.result c.requires.within c.index-known-place.is c.args.view.now c.args.machine.now c.args.params.now c.args.wanted _ c.in-Commits.is c.requires.can).1
+
+pub run_prepared-requires-clause-served : goal.run_prepared-requires-clause-served
+run_prepared-requires-clause-served g c = allowed_there c.args.sessions.now c.args.place c.index-known-place.result c.requires.within c.index-known-place.is c.args.view.now c.args.machine.now c.args.params.now c.args.wanted _ c.in-RunsOne.is c.requires.can
+
+pub run_script-requires-clause-served : goal.run_script-requires-clause-served
+run_script-requires-clause-served g c = λ own. allowed_at c.args.sessions.now c.args.place c.index-known-place.result c.requires.within c.index-known-place.is c.args.view.now c.args.machine.now c.args.params.now c.args.wanted _ c.in-RunsAll.is c.requires.can own
+
+pub run_script-requires-clause-fits : goal.run_script-requires-clause-fits
+run_script-requires-clause-fits g c = fits_there c.args.sessions.now c.args.place c.index-known-place.result c.requires.within c.index-known-place.is c.args.view.now c.args.machine.now c.args.params.now c.args.wanted _ c.in-RunsAll.is c.requires.can
+
+pub run_prepared-requires-in-Reads-clause-served :
+    goal.run_prepared-requires-in-Reads-clause-served
+run_prepared-requires-in-Reads-clause-served g c = allowed_there c.args.sessions.now c.args.place c.index-known-place.result c.requires.within c.index-known-place.is c.args.view.now c.args.machine.now c.args.params.now c.args.wanted _ c.in-Reads.is c.requires.can

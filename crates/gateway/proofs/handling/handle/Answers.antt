@@ -16,16 +16,16 @@ unwrap-place-requires g c =
 
 pub decide-requires-clause-listed : goal.decide-requires-clause-listed
 decide-requires-clause-listed g c =
-    subst (λ (ss : List Session). IsListed ((table_of c.args.machine.now ss c.args.weight.now).session c.args.conn).tx) (sym c.as_slice-known.ensures.value) c.requires.listed
+    subst (λ (ss : List Session). IsListed ((table_of c.args.machine.now ss c.args.weight.now).session c.args.conn).tx) (sym c.as_mut_slice-known.ensures.value) c.requires.listed
 
 pub carry_out-requires-clause-can : goal.carry_out-requires-clause-can
 carry_out-requires-clause-can g c = λ session.
     let at : StandsAt c.args.conn c.args.sessions.now.items c.unwrap-place.result = subst (λ (ss : List Session). StandsAt c.args.conn ss c.unwrap-place.result) c.as_slice.ensures.value (MatchOption-at_some _ _ c.unwrap-place.result c.unwrap-place.ensures c.find.ensures) in
-    carry_at _ _ c.args.view.now c.args.machine.now c.args.sessions.now.items c.as_slice-known.result.now c.args.weight.now c.args.conn c.unwrap-place.result session c.args.request.now _ _ c.in_ok-turn.turn c.as_slice-known.ensures.value c.requires.table.apart at c.in_ok-turn.ensures.ran
+    carry_at _ _ c.args.view.now c.args.machine.now c.args.sessions.now.items c.as_mut_slice-known.result.now c.args.weight.now c.args.conn c.unwrap-place.result session c.args.request.now _ _ c.in_ok-turn.turn c.as_mut_slice-known.ensures.value c.requires.table.apart at c.in_ok-turn.ensures.ran
 
 pub returns-clause-unopened : goal.returns-clause-unopened
 returns-clause-unopened g c =
-    let ran = moved _ _ c.args.view.now c.args.machine.now c.args.sessions.now.items c.as_slice-known.result.now c.args.weight.now c.args.conn c.args.request.now _ _ c.in_ok-turn.turn c.as_slice-known.ensures.value c.in_ok-turn.ensures.ran in
+    let ran = moved _ _ c.args.view.now c.args.machine.now c.args.sessions.now.items c.as_mut_slice-known.result.now c.args.weight.now c.args.conn c.args.request.now _ _ c.in_ok-turn.turn c.as_mut_slice-known.ensures.value c.in_ok-turn.ensures.ran in
     IfOk-weaker c.carry_out.result _ _
     (λ act h is. c.in_ok-turn.ensures.unopened (unopened_turn c.args.view.now (machine_of c.args.machine.now) (table_of c.args.machine.now c.args.sessions.now.items c.args.weight.now) c.args.conn c.args.request.now ran.answers _ act is c.in_ok-turn.turn ran.is h))
     c.carry_out.ensures.done

@@ -1,7 +1,6 @@
-use Rattle.std.proofs.Common.{◌≡◌, [], ◌∷◌, ◌++◌, List, ℕ, ap, subst, ◌∙◌}
-use Rattle.dq_base.specs.Changes.{sizes_of}
+use Rattle.std.proofs.Common.{◌≡◌, [], ◌∷◌, ◌++◌, List, ℕ, ap, ◌∙◌}
 use Rattle.dq_base.specs.declared.pages.NumberedPage.{NumberedPage}
-use Rattle.session_rules.specs.Touched.{changed_at, put_in_order}
+use Rattle.session_rules.specs.Touched.{changed_at}
 use Rattle.session_turns.specs.Earlier.{image_of}
 use Rattle.session_turns.proofs.ListedPages.{nothing_changed, all_changed}
 use Rattle.session_turns.proofs.earlier.change_by.Goals as goal

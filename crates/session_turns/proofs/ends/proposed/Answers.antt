@@ -1,4 +1,4 @@
-use Rattle.std.proofs.Common.{◌≡◌, None, sym, ap, subst, ◌∙◌}
+use Rattle.std.proofs.Common.{None, sym, ap, subst, ◌∙◌}
 use Rattle.session_rules.specs.Sessions.{Reply, Writing, Proposes}
 use Rattle.session_rules.specs.Requests.{row_cause, reply_of, flying}
 use Rattle.session_turns.specs.declared.turn.Turn.TheVariants as turns

@@ -1,4 +1,4 @@
-use Rattle.std.proofs.Common.{◌≡◌, false, List, IfOk, sym, subst, ap, ◌∙◌}
+use Rattle.std.proofs.Common.{IfOk, sym, subst, ap, ◌∙◌}
 use Rattle.dq_base.specs.declared.pages.PageSet.{PageSet}
 use Rattle.session_rules.specs.Engines.{no_pages}
 use Rattle.session_rules.specs.Limits.{hindrance}

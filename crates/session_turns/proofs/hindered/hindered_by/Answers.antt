@@ -1,4 +1,4 @@
-use Rattle.std.proofs.Common.{◌≡◌, ℕ, false, List, IfOk, sym, subst, ap, ◌∙◌}
+use Rattle.std.proofs.Common.{ℕ, List, IfOk, sym, subst, ap, ◌∙◌}
 use Rattle.dq_base.specs.declared.pages.NumberedPage.{NumberedPage}
 use Rattle.session_rules.specs.Engines.{no_pages}
 use Rattle.session_rules.specs.Limits.{hindrance}

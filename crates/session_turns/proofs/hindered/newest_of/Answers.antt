@@ -1,4 +1,4 @@
-use Rattle.std.proofs.Common.{◌≡◌, ℕ, List, ap, ◌∙◌}
+use Rattle.std.proofs.Common.{ℕ, List, ap, ◌∙◌}
 use Rattle.session_rules.specs.Machine.{machine_of}
 use Rattle.session_turns.proofs.hindered.newest_of.Goals as goal
 

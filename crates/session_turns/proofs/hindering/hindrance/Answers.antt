@@ -1,4 +1,4 @@
-use Rattle.std.proofs.Common.{ℕ, Option, sym, subst}
+use Rattle.std.proofs.Common.{subst}
 use Rattle.session_rules.specs.Machine.{machine_of}
 use Rattle.session_rules.specs.Limits.{too_full}
 use Rattle.session_table.specs.Table.{table_of}

@@ -1,4 +1,4 @@
-use Rattle.std.proofs.Common.{◌≡◌, ℕ, ◌+◌, is_none, Option, ap, sym, ◌∙◌}
+use Rattle.std.proofs.Common.{ℕ, ◌+◌, is_none, Option, ap, sym, ◌∙◌}
 use Rattle.dq_base.specs.Images.{pages_of}
 use Rattle.dq_base.specs.declared.page_fault.PageFault.{PageFault}
 use Rattle.session_turns.proofs.Hinders.{counted}

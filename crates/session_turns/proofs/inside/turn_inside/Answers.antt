@@ -1,4 +1,4 @@
-use Rattle.std.proofs.Common.{◌≡◌, Some, option_map, sym, ap, subst, ◌∙◌}
+use Rattle.std.proofs.Common.{option_map, sym, ap, subst, ◌∙◌}
 use Rattle.statement_runs.specs.Running.{Shows}
 use Rattle.session_rules.specs.Machine.{machine_of}
 use Rattle.session_table.specs.Table.{table_of, session_of, transaction_of}

@@ -1,5 +1,4 @@
-use Rattle.std.proofs.Common.{◌≡◌, true, Option, None, Ok, Err, IfOk, sym, ap, subst, ◌∙◌}
-use Rattle.dq_base.specs.declared.images.Image.{Image}
+use Rattle.std.proofs.Common.{◌≡◌, true, Option, Ok, IfOk, sym, ap, subst, ◌∙◌}
 use Rattle.dq_base.specs.declared.pages.PageSet.{PageSet}
 use Rattle.dq_base.specs.Applying.{applied}
 use Rattle.session_rules.specs.Causes.{Cause}

@@ -1,11 +1,9 @@
-use Rattle.std.proofs.Common.{◌≡◌, sym, ap, subst, ◌∙◌}
-use Rattle.statement_runs.specs.Running.{Shows, change_in}
-use Rattle.statement_runs.specs.declared.ending.Ending.{Ending}
+use Rattle.std.proofs.Common.{sym, ap, subst, ◌∙◌}
+use Rattle.statement_runs.specs.Running.{Shows}
 use Rattle.session_rules.specs.Machine.{machine_of}
-use Rattle.session_rules.specs.Sessions.{Outside}
 use Rattle.dq_base.specs.declared.pages.PageSet.{PageSet}
 use Rattle.session_table.specs.Table.{table_of, session_of}
-use Rattle.session_turns.proofs.Shown.{AllShown, shows_stopped, shows_large, shows_ended}
+use Rattle.session_turns.proofs.Shown.{shows_stopped, shows_large, shows_ended}
 use Rattle.session_turns.proofs.OutsideRun.{stopped_comes, large_comes, idle_comes, write_comes, leads}
 use Rattle.session_turns.proofs.outside.turn_outside.Goals as goal
 

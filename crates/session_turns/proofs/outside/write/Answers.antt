@@ -1,4 +1,4 @@
-use Rattle.std.proofs.Common.{◌≡◌, ℕ, true, false, Option, Result, Ok, Err, map, sym, ap, subst, ◌∙◌}
+use Rattle.std.proofs.Common.{◌≡◌, ℕ, false, Ok, Err, map, sym, ap, subst, ◌∙◌}
 use Rattle.dq_base.specs.Images.{page_count}
 use Rattle.frame_commands.specs.Splitting.{split}
 use Rattle.session_rules.specs.Entries.{Does, written}
@@ -7,9 +7,8 @@ use Rattle.session_rules.specs.Limits.{log_full, hindrance}
 use Rattle.session_rules.specs.Machine.{machine_of}
 use Rattle.session_rules.specs.Requests.{row_cause, change_of}
 use Rattle.session_table.specs.Table.{table_of}
-use Rattle.session_table.specs.declared.cause.Cause.{Cause}
 use Rattle.statement_runs.specs.Running.{change_in}
-use Rattle.session_turns.specs.Hindered.{LeadsTo, Hinders}
+use Rattle.session_turns.specs.Hindered.{Hinders}
 use Rattle.session_turns.specs.Runs.{AreTaken}
 use Rattle.session_turns.proofs.Turned.{behind_log, goes_on, proposes}
 use Rattle.session_turns.proofs.outside.write.Goals as goal

@@ -1,4 +1,4 @@
-use Rattle.std.proofs.Common.{◌≡◌, ℕ, List, sym, ap, ◌∙◌}
+use Rattle.std.proofs.Common.{sym, ap, ◌∙◌}
 use Rattle.session_rules.specs.Limits.{other_holds}
 use Rattle.session_rules.specs.Machine.{machine_of}
 use Rattle.session_rules.specs.Requests.{does}

@@ -1,4 +1,4 @@
-use Rattle.std.proofs.Common.{◌≡◌, true, Ok, Err, subst}
+use Rattle.std.proofs.Common.{subst}
 use Rattle.session_table.specs.Named.{TellsRows}
 use Rattle.session_turns.proofs.RowsTold.{plain_told, rows_told, rows_refused}
 use Rattle.session_turns.proofs.rows.told.Goals as goal

@@ -1,11 +1,11 @@
-use Rattle.std.proofs.Common.{◌≡◌, ℕ, false, List, [], ◌∷◌, IfOk, sym, ap, subst, ◌∙◌}
+use Rattle.std.proofs.Common.{[], ◌∷◌, sym, subst}
 use Rattle.std.proofs.lemmas.Result.{IfOk-weaker}
 use Rattle.session_rules.specs.Engines.{no_answer, runs}
 use Rattle.session_rules.specs.Machine.{machine_of}
 use Rattle.session_rules.specs.Requests.{ground}
 use Rattle.session_rules.specs.Sessions.{Turned}
 use Rattle.session_rules.specs.Statements.{with_all}
-use Rattle.session_table.specs.Table.{database_of, table_of, session_of}
+use Rattle.session_table.specs.Table.{table_of, session_of}
 use Rattle.session_turns.specs.Turning.{ComesTo}
 use Rattle.session_turns.proofs.Formed.{well_formed}
 use Rattle.session_turns.proofs.Ground.{has_opened, run_is}

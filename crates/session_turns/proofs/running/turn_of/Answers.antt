@@ -1,8 +1,8 @@
-use Rattle.std.proofs.Common.{◌≡◌, ℕ, List, Option, Some, None, IfOk, sym, ap, subst, ◌∙◌}
+use Rattle.std.proofs.Common.{ℕ, List, Option, IfOk, sym, ap, subst, ◌∙◌}
 use Rattle.dq_base.specs.declared.images.Image.{Image}
 use Rattle.session_rules.specs.Machine.{machine_of}
 use Rattle.session_rules.specs.Sessions.{Transaction as RuleTransaction}
-use Rattle.session_table.specs.Table.{database_of, table_of, session_of}
+use Rattle.session_table.specs.Table.{table_of, session_of}
 use Rattle.session_turns.specs.Turning.{ComesTo}
 use Rattle.statement_runs.specs.Running.{Shows}
 use Rattle.session_turns.specs.Runs.{ran_in}

@@ -2,7 +2,8 @@ use Rattle.std.proofs.Common.{◌<◌, ◌≤◌, length, refl, ap, ◌∙◌, a
 use Rattle.std.proofs.lemmas.List.{drop_more}
 use Rattle.statement_runs.specs.Running.{stops_unopened}
 use Rattle.statement_runs.proofs.Reaching.{reached_start}
-use Rattle.statement_runs.proofs.Standing.{standing_more, standing_stops, standing_ends}
+use Rattle.statement_runs.proofs.Standing.{standing_more, standing_stops, standing_ends, touches_step}
+use Rattle.session_rules.proofs.Touched.{lists_nothing}
 use Rattle.statement_runs.proofs.running.advance.Goals as goal
 
 pub loop-piece-init : goal.loop-piece-init
@@ -13,21 +14,27 @@ loop-piece-init g c = record {
     reached = rw c.requires.start (reached_start _ _ _ _ _);
   };
   counted = omega arith;
+  listed = rw c.requires.untouched (lists_nothing _);
+  kept = refl;
 }
 
 pub loop-piece-preserved : goal.loop-piece-preserved
 loop-piece-preserved g c =
     let at : c.loop-piece.piece-index < length c.args.pieces.now = omega arith in
+    let so_far = c.loop-piece.invariant in
     record {
-      standing = standing_more g.E.Engine.meaning _ _ _ _ _ _ _ _ _ _ _ _ _ _ _ _ _ _ _ _ _ c.loop-piece.invariant.standing c.in_ok-ending.ensures.step c.piece_text-one.ensures (drop_more _ _ _ at) c.split_at.ensures.front c.split_at.ensures.back
+      standing = standing_more g.E.Engine.meaning _ _ _ _ _ _ _ _ _ _ _ _ _ _ _ _ _ _ _ _ _ _ so_far.standing c.in_ok-ending.ensures.step c.piece_text-one.ensures (drop_more _ _ _ at) c.split_at.ensures.front c.split_at.ensures.back
           c.step.ensures.kind c.split_at.ensures.back_len c.in-None.is;
       counted = let more = c.step.ensures.openings in omega arith;
+      listed = touches_step g.E.Engine.meaning _ _ (g.E.Engine.kind c.step.new.engine) _ _ _ _ _ _ _ _ _ _ _ _ _ _ _ _ _ _ _ so_far.standing c.in_ok-ending.ensures.step c.piece_text-one.ensures (drop_more _ _ _ at) c.split_at.ensures.front c.split_at.ensures.back
+          _ _ c.in-None.is c.in_ok-ending.ensures.touched so_far.listed;
+      kept = c.step.ensures.kept ∙ so_far.kept;
     }
 
 pub returns-in-Some-clause-ran : goal.returns-in-Some-clause-ran
 returns-in-Some-clause-ran g c =
     let at : c.loop-piece.piece-index < length c.args.pieces.now = omega arith in
-    standing_stops g.E.Engine.meaning _ _ (g.E.Engine.kind c.step.new.engine) _ _ _ _ _ _ _ _ _ _ _ _ _ _ c.step.new.progress _ _ _ c.loop-piece.invariant.standing c.in_ok-ending.ensures.step c.piece_text-one.ensures (drop_more _ _ _ at) c.split_at.ensures.front c.split_at.ensures.back
+    standing_stops g.E.Engine.meaning _ _ (g.E.Engine.kind c.step.new.engine) _ _ _ _ _ _ _ _ _ _ _ _ _ _ _ c.step.new.progress.answer _ _ _ c.loop-piece.invariant.standing c.in_ok-ending.ensures.step c.piece_text-one.ensures (drop_more _ _ _ at) c.split_at.ensures.front c.split_at.ensures.back
     _ c.in-Some.is
 
 pub returns-clause-ran : goal.returns-clause-ran

@@ -1,0 +1,72 @@
+-- What is wanted of the session at a place.
+use Rattle.std.proofs.Common.{◌≡◌, ℕ, ◌+◌, ◌<◌, Bool, true, false, List, ◌++◌, length, get_or, take, drop, Option, Some, None, IsSome, IfOk, refl, sym, ap, subst, ◌∙◌, append-nil, arith}
+use Rattle.std.specs.Prelude.{Result, is_none, not}
+use Rattle.std.specs.Option.{option_map}
+use Rattle.std.proofs.lemmas.Bool.{false≢true}
+use Rattle.std.proofs.lemmas.List.{drop_all, take_all}
+use Rattle.wire_words.specs.declared.value.Value.{Value}
+use Rattle.page_apply.specs.declared.database.Database.{Database}
+use Rattle.sql_engine.specs.declared.kind.EngineKind.{EngineKind}
+use Rattle.sql_engine.specs.Meanings.{Meaning, Told}
+use Rattle.session_rules.specs.Machine.{machine_of}
+use Rattle.session_rules.specs.Sessions.{View, in_tx}
+use Rattle.session_rules.specs.Touched.{IsListed}
+use Rattle.session_table.specs.declared.session.Session.{Session}
+use Rattle.session_table.specs.declared.session.Transaction.{Transaction}
+use Rattle.session_table.specs.Table.{session_of, transaction_of, table_of}
+use Rattle.session_asking.specs.declared.wanted.Wanted.{Wanted}
+use Rattle.session_asking.specs.Meant.{meant, CanBeDone, IsAllowed, FitsStatements}
+use Rattle.session_turns.specs.declared.turn.Turn.{Turn}
+use Rattle.session_turns.specs.Turning.{TurnsTo}
+use Rattle.session_turns.proofs.Placed.{found_at}
+
+module _ (sessions : List Session) (place : ℕ) (found : Session) (within : place < length sessions) (is : found ≡ get_or sessions place found) where
+  at_place : (own : Session) → get_or sessions place own ≡ found
+  at_place own = found_at sessions sessions place found refl within is own
+
+  module _ (v : View) (databases : List Database) (params : List Value) (wanted known : Wanted) (same : wanted ≡ known) (can : (own : Session) → CanBeDone v (session_of databases (get_or sessions place own)) params wanted) where
+    can_there : CanBeDone v (session_of databases found) params wanted
+    can_there = subst (λ (s : Session). CanBeDone v (session_of databases s) params wanted) (at_place found) (can found)
+
+    pub allowed_there : IsAllowed v (session_of databases found) (meant params known)
+    allowed_there = subst (λ (w : Wanted). IsAllowed v (session_of databases found) (meant params w)) same can_there.allowed
+
+    pub fits_there : FitsStatements (session_of databases found).statements params known
+    fits_there = subst (λ (w : Wanted). FitsStatements (session_of databases found).statements params w) same can_there.fits
+
+    pub allowed_at : (own : Session) → IsAllowed v (session_of databases (get_or sessions place own)) (meant params known)
+    allowed_at own = subst (λ (w : Wanted). IsAllowed v (session_of databases (get_or sessions place own)) (meant params w)) same (can own).allowed
+
+  pub listed_there : (databases : List Database) → ((own : Session) → IsListed (session_of databases (get_or sessions place own)).tx) → IsListed (session_of databases found).tx
+  listed_there databases listed = subst (λ (s : Session). IsListed (session_of databases s).tx) (at_place found) (listed found)
+
+  -- what is known of the session holds of the one at the place
+  pub can_at : (v : View) (databases : List Database) (params known : List Value) (wanted : Wanted) (own : Session) → params ≡ known → CanBeDone v (session_of databases found) known wanted → CanBeDone v (session_of databases (get_or sessions place own)) params wanted
+  can_at v databases params known wanted own same can =
+      subst (λ (s : Session). CanBeDone v (session_of databases s) params wanted) (sym (at_place own)) (subst (λ (ps : List Value). CanBeDone v (session_of databases found) ps wanted) (sym same) can)
+
+  module _ (m : Meaning) (kind : EngineKind) (v : View) (databases : List Database) (params : List Value) (wanted : Wanted) (before now : Option Told) (own : Session) (weight : ℕ) where
+    pub turned_there : (turn : Turn) → TurnsTo m kind v (machine_of databases) (table_of databases sessions weight) found.conn (session_of databases found) (meant params wanted) before now turn
+        → TurnsTo m kind v (machine_of databases) (table_of databases sessions weight) (get_or sessions place own).conn (session_of databases (get_or sessions place own)) (meant params wanted) before now turn
+    turned_there turn turns =
+        subst (λ (s : Session). TurnsTo m kind v (machine_of databases) (table_of databases sessions weight) s.conn (session_of databases s) (meant params wanted) before now turn) (sym (at_place own)) turns
+
+    pub came_there : {E : Type 0} (result : Result Turn E) → IfOk result (TurnsTo m kind v (machine_of databases) (table_of databases sessions weight) found.conn (session_of databases found) (meant params wanted) before now)
+        → IfOk result (TurnsTo m kind v (machine_of databases) (table_of databases sessions weight) (get_or sessions place own).conn (session_of databases (get_or sessions place own)) (meant params wanted) before now)
+    came_there result turns =
+        subst (λ (s : Session). IfOk result (TurnsTo m kind v (machine_of databases) (table_of databases sessions weight) s.conn (session_of databases s) (meant params wanted) before now)) (sym (at_place own)) turns
+
+-- a transaction is open or not, whatever the machine has
+pub outside_too : (m databases : List Database) (o : Option Transaction) → not (is_none (option_map (transaction_of m) o)) ≡ false → not (is_none (option_map (transaction_of databases) o)) ≡ false
+outside_too m databases None e = refl
+outside_too m databases (Some x) e = e
+
+pub some_inside : (m : List Database) (o : Option Transaction) → not (is_none (option_map (transaction_of m) o)) ≡ true → IsSome o
+some_inside m None e = absurd (false≢true e)
+some_inside m (Some x) e = refl
+
+-- sessions that were lent come back as they were
+pub lent_back : (len : ℕ) (new old : List Session) → new ≡ old → len ≡ length old → take len (new ++ drop (length new) old) ≡ old
+lent_back len new old same is =
+    let long : length new ≡ length old = ap length same in
+    ap (take len) (ap (λ (rest : List Session). new ++ rest) (drop_all (length new) old (omega arith)) ∙ append-nil new) ∙ take_all len new (omega arith) ∙ same
