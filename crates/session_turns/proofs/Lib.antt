@@ -11,7 +11,6 @@ pub mod Ground
 pub mod NeverUnopened
 pub mod Committing
 pub mod Leading
-pub mod SamePages
 pub mod Placed
 pub mod SameLengths
 pub mod ListedPages

@@ -1,6 +1,5 @@
 -- An earlier image of a database, lent by a machine.
 use Rattle.dq_base.specs.declared.images.Image.{Image}
-use Rattle.checkpoint_core.specs.Store.{newest_image}
 use Rattle.page_apply.specs.Files.{empty_image}
 use Rattle.page_apply.specs.Pins.{IsPinned, pinned_image}
 use Rattle.session_turns.specs.declared.earlier.Earlier.{Earlier}
@@ -8,11 +7,9 @@ use Rattle.session_turns.specs.declared.earlier.Earlier.TheVariants as earliers
 
 abbrev pub image_of : Earlier → Image
 image_of (earliers.Pinned machine pin) = pinned_image machine.now pin.now
-image_of (earliers.Newest database) = newest_image database.now.store
 image_of earliers.Nothing = empty_image
 
 -- its read mark, where it has one, is live
 abbrev pub IsShown : Earlier → Type 0
 IsShown (earliers.Pinned machine pin) = IsPinned machine.now pin.now
-IsShown (earliers.Newest database) = Unit {0}
 IsShown earliers.Nothing = Unit {0}

@@ -1,10 +1,9 @@
--- Two images that are compared page by page.
+-- The lengths of two images, compared by pages of the one.
 use Rattle.std.specs.Prelude.{ℕ, ◌+◌, ◌*◌, Bool, false, ◌&&◌, is_none, List, length, Option, Some, None}
 use Rattle.std.specs.Str.{bytes_eq}
 use Rattle.dq_base.specs.declared.images.Image.{Image}
-use Rattle.dq_base.specs.Changes.{changed_from, numbers_above_one, sizes_of}
+use Rattle.dq_base.specs.Changes.{sizes_of}
 use Rattle.dq_base.specs.Images.{page_at, pages_of}
-use Rattle.session_rules.specs.Engines.{no_pages}
 
 -- whether there is a page, with these bytes
 abbrev pub shows : Option (List ℕ) → List ℕ → Bool
@@ -22,7 +21,3 @@ number_behind first bytes = first + 2 * pages_of bytes
 -- whether an image has no page behind a main file of so many bytes, and none behind a side file of so many
 abbrev pub ends_within : Image → ℕ → ℕ → Bool
 ends_within image main side = is_none (page_at image (number_behind 2 main)) && is_none (page_at image (number_behind 3 side))
-
--- whether an image is a later one by its pages: none above 1 differs, the sizes are the same, and it has none beside
-abbrev pub same_pages : Image → Image → Bool
-same_pages a b = no_pages (changed_from 2 (numbers_above_one b) a b) && (has_sizes a b && ends_within a (length b.main) (length b.side))

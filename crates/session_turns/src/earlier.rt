@@ -2,20 +2,18 @@
 
 ghost use Rattle.std.specs.Prelude.{◌≡◌, ◌≤◌, ◌<◌, ◌^◌, ◌&&◌, length, is_none, IfOk};
 ghost use Rattle.std.specs.List.{AllByRecursion};
-ghost use Rattle.dq_base.specs.Changes.{changed, changed_from, numbers_above_one, same_image};
+ghost use Rattle.dq_base.specs.Changes.{changed};
 ghost use Rattle.dq_base.specs.Images.{page_at};
 ghost use Rattle.page_apply.specs.Pins.{IsPinned};
 ghost use Rattle.session_turns.specs.Earlier.{image_of, IsShown};
 ghost use Rattle.session_turns.specs.Pages as pages_of_images;
 ghost use Rattle.session_rules.specs.Engines.{no_pages};
 ghost use Rattle.session_rules.specs.Touched.{ListsAll, changed_at, same_lengths};
-ghost use Rattle.session_rules.specs.Machine.{machine_of};
 ghost use Rattle.session_table.specs.Table.{image_pinned, mark_of};
 
 use dq_base::{Image, Lengths, NumberedPage, PAGE_SIZE, Page, page_at};
-use page_apply::{Database, Machine, Pin};
-use session_asking::database_named;
-use statement_runs::{add_changed, in_order, numbers_above_one, sizes_of};
+use page_apply::{Machine, Pin};
+use statement_runs::{add_changed, in_order, sizes_of};
 use std::alloc::{AllocError, Global};
 
 /// An earlier image of a database, lent by the machine.
@@ -23,8 +21,6 @@ use std::alloc::{AllocError, Global};
 pub(crate) enum Earlier<'a> {
     /// The one that a read mark shows.
     Pinned(&'a Machine, &'a Pin),
-    /// The newest one of a database.
-    Newest(&'a Database),
     /// The empty one.
     Nothing,
 }
@@ -41,17 +37,6 @@ pub(crate) fn pinned<'a>(machine: &'a Machine, pin: &'a Option<Pin>) -> Earlier<
     }
 }
 
-/// The newest image of the database of a name; the empty one where the machine has none.
-pub(crate) fn newest<'a>(machine: &'a Machine, name: &str) -> Earlier<'a>
-    ensures image { image_of result ≡ ((machine_of machine.now).base name.now).image }
-    ensures shown { IsShown result }
-{
-    match database_named(machine.databases(), name) {
-        Some(database) => Earlier::Newest(database),
-        None => Earlier::Nothing,
-    }
-}
-
 /// The page of a number in an earlier image, copied; `None` exactly where that image has no such page.
 fn earlier_page(alloc: Global, earlier: &Earlier, number: u64) -> Option<Page>
     requires { IsShown earlier.now }
@@ -59,27 +44,8 @@ fn earlier_page(alloc: Global, earlier: &Earlier, number: u64) -> Option<Page>
 {
     match *earlier {
         Earlier::Pinned(machine, pin) => machine.page(pin, number),
-        Earlier::Newest(database) => database.newest_page(number),
         Earlier::Nothing => page_at(&Image::new(alloc), number),
     }
-}
-
-/// The pages above 1 of a later image that the earlier has not or has otherwise, in order. `Err` is want of memory.
-fn changed_pages(
-    alloc: Global,
-    earlier: &Earlier,
-    after: &Image,
-) -> Result<Vec<NumberedPage>, AllocError>
-    requires { IsShown earlier.now }
-    ensures { IfOk result (λ pages. pages.items ≡ changed_from 2 (numbers_above_one after.now) (image_of earlier.now) after.now) }
-{
-    let mut pages = Vec::new(alloc);
-    let count = numbers_above_one(after);
-    for number in 2..2 + count {
-        let before = earlier_page(alloc, earlier, number);
-        add_changed(&mut pages, number, before, page_at(after, number))?;
-    }
-    Ok(pages)
 }
 
 /// Whether there are none.
@@ -149,41 +115,6 @@ fn ends_within(alloc: Global, earlier: &Earlier, lengths: Lengths) -> bool
         return false;
     }
     lacks(alloc, earlier, number_behind(3, lengths.side))
-}
-
-/// Whether the earlier image is a later one, of which these pages above 1 differ. Looks at three pages beside.
-fn is_same(alloc: Global, earlier: &Earlier, after: &Image, pages: &Vec<NumberedPage>) -> bool
-    requires live { IsShown earlier.now }
-    requires differ { pages.now.items ≡ changed_from 2 (numbers_above_one after.now) (image_of earlier.now) after.now }
-    ensures { result ≡ same_image (image_of earlier.now) after.now }
-{
-    let lengths = lengths_of(after);
-    if !are_none(pages) {
-        return false;
-    }
-    if !has_sizes(alloc, earlier, after) {
-        return false;
-    }
-    ends_within(alloc, earlier, lengths)
-}
-
-/// The pages that lead from an earlier image to a later one: none where they are the same; else the pages above 1 that the later
-/// has and the earlier has not or has otherwise, in order, and its sizes page. Copies each page of both, one at a time, and keeps
-/// those that it lists. `Err` is want of memory.
-pub(crate) fn changed_since(
-    alloc: Global,
-    earlier: &Earlier,
-    after: &Image,
-) -> Result<Vec<NumberedPage>, AllocError>
-    requires { IsShown earlier.now }
-    ensures { IfOk result (λ pages. pages.items ≡ changed (image_of earlier.now) after.now) }
-{
-    let mut pages = changed_pages(alloc, earlier, after)?;
-    if is_same(alloc, earlier, after, &pages) {
-        return Ok(pages);
-    }
-    pages.push(sizes_of(after))?;
-    Ok(pages)
 }
 
 /// The pages at these numbers that a later image has and the earlier has not or has otherwise, in their order. `Err` is want of
