@@ -19,6 +19,7 @@ use Rattle.gateway.specs.Calls.{Is, TurnedBy, HasNoNul, act_for}
 use Rattle.client_sessions.specs.Sending.{ActCanSend, HasPlainAddresses, FlightCanSend}
 use Rattle.client_sessions.specs.Clients.{Clients, with_sessions, Fits, Sound, Offer, IsOffered}
 use Rattle.client_sessions.proofs.Requests.{Follows, Keeps, refusal_sent, request_kept}
+use Rattle.client_sessions.proofs.Listing.{StaysListed, request_listed}
 use Rattle.client_sessions.proofs.Soundness.{session_sound}
 
 -- a request that is read holds no NUL in its texts
@@ -79,20 +80,20 @@ asks_open None s ask fits = absurd (none s.there s.hung (is_none s.flight) ask (
   none false hung idle e h = cc
 
 affected_sound : (k : Clients) (effect : Effect) → Sound k → Sound (with_sessions k (affected_by k.sessions effect))
-affected_sound k (HandsOver id) sound = record { fits = sound.fits; sends = sound.sends }
-affected_sound k (JoinsPeer id) sound = record { fits = sound.fits; sends = sound.sends }
-affected_sound k (Weighs weight) sound = record { fits = sound.fits; sends = sound.sends }
+affected_sound k (HandsOver id) sound = record { fits = sound.fits; sends = sound.sends; listed = sound.listed }
+affected_sound k (JoinsPeer id) sound = record { fits = sound.fits; sends = sound.sends; listed = sound.listed }
+affected_sound k (Weighs weight) sound = record { fits = sound.fits; sends = sound.sends; listed = sound.listed }
 
 same_sound : (k : Clients) (now then : Gateway) → now ≡ then → Sound (with_sessions k then) → Sound (with_sessions k now)
 same_sound k now then e sound = subst (λ (g : Gateway). Sound (with_sessions k g)) (sym e) sound
 
 is_sound : (v : View) (k : Clients) (conn : ℕ) (stream : Conn) (turned : Turned) (now : Gateway) (act : Act) → k.streams conn ≡ Some stream → Is v k.sessions conn turned now act
-    → Keeps (k.sessions.session conn) turned → Sound k → Sound (with_sessions k now)
-is_sound v k conn stream (Refused cause) now act opens is keeps sound = same_sound k now k.sessions is.0 (record { fits = sound.fits; sends = sound.sends })
-is_sound v k conn stream Lacks now act opens is keeps sound = absurd is
-is_sound v k conn stream (Answers session reply note) now act opens is keeps sound = same_sound k now _ is.0 (session_sound k conn stream session opens keeps.0 sound)
-is_sound v k conn stream (Proposes session contents note) now act opens is keeps sound = same_sound k now _ is.0 (session_sound k conn stream session opens keeps sound)
-is_sound v k conn stream (Affects effect) now act opens is keeps sound = same_sound k now _ is.0 (affected_sound k effect sound)
+    → Keeps (k.sessions.session conn) turned → StaysListed turned → Sound k → Sound (with_sessions k now)
+is_sound v k conn stream (Refused cause) now act opens is keeps listed sound = same_sound k now k.sessions is.0 (record { fits = sound.fits; sends = sound.sends; listed = sound.listed })
+is_sound v k conn stream Lacks now act opens is keeps listed sound = absurd is
+is_sound v k conn stream (Answers session reply note) now act opens is keeps listed sound = same_sound k now _ is.0 (session_sound k conn stream session opens keeps.0 listed sound)
+is_sound v k conn stream (Proposes session contents note) now act opens is keeps listed sound = same_sound k now _ is.0 (session_sound k conn stream session opens keeps listed sound)
+is_sound v k conn stream (Affects effect) now act opens is keeps listed sound = same_sound k now _ is.0 (affected_sound k effect sound)
 
 -- after a request all is as it has to be
 pub turned_sound : (m : Meaning) (kind : EngineKind) (v : View) (machine : Machine) (k : Clients) (conn : ℕ) (request : Request) (before now : Option Told) (after : Gateway) (act : Act)
@@ -100,7 +101,7 @@ pub turned_sound : (m : Meaning) (kind : EngineKind) (v : View) (machine : Machi
 turned_sound m kind v machine k conn request before now after act plain text ask sound t =
     let opens = asks_open (k.streams conn) (k.sessions.session conn) ask (sound.fits conn) in
     is_sound v k conn opens.0 (on_request v machine k.sessions conn request t.answers) after act opens.1 t.is
-    (request_kept v machine k.sessions conn request t.answers plain text (sound.sends conn)) sound
+    (request_kept v machine k.sessions conn request t.answers plain text (sound.sends conn)) (request_listed v machine k.sessions conn request t.answers (sound.listed conn)) sound
 
 -- the same of a call that may want memory, and then has changed nothing
 pub answered_sound : (m : Meaning) (kind : EngineKind) (v : View) (machine : Machine) (g : Gateway) (conn : ℕ) (request : Request) (before now : Option Told) (after : Gateway) (r : Result Act AllocError)
@@ -111,7 +112,7 @@ answered_sound m kind v machine g conn request before now after (Ok act) plain t
     (subst (λ (h : Gateway). may_ask (h.session conn) ≡ true) (sym same) ask) sound
     (subst (λ (h : Gateway). TurnedBy m kind v machine h conn request before now after act) (sym same) t)
 answered_sound m kind v machine g conn request before now after (Err e) plain text ask t failed k same sound =
-    same_sound k after k.sessions (failed ∙ sym same) (record { fits = sound.fits; sends = sound.sends })
+    same_sound k after k.sessions (failed ∙ sym same) (record { fits = sound.fits; sends = sound.sends; listed = sound.listed })
 
 -- the session whose message's turn it is may be handed a request
 pub offered_asks : (k : Clients) (o : Offer) → IsOffered k o → Sound k → may_ask (k.sessions.session o.conn) ≡ true

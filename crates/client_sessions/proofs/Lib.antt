@@ -2,6 +2,7 @@ pub mod Asking
 pub mod Connecting
 pub mod Hearing
 pub mod Landing
+pub mod Listing
 pub mod Offers
 pub mod Requests
 pub mod Serving

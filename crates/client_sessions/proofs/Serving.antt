@@ -9,6 +9,7 @@ use Rattle.sql_engine.specs.Meanings.{Meaning, Told}
 use Rattle.page_apply.specs.declared.database.Database.{Database}
 use Rattle.session_rules.specs.Machine.{Machine}
 use Rattle.session_rules.specs.Sessions.{Gateway, View, may_ask}
+use Rattle.session_rules.specs.Touched.{IsListed}
 use Rattle.gateway.specs.Seen.{seen, PinsOf}
 use Rattle.client_sessions.specs.declared.act.Act.{Act}
 use Rattle.client_sessions.specs.declared.clients.Clients.{Clients as Held}
@@ -57,6 +58,11 @@ pub sends_held : (old mid : Held) (databases : List Database) (conn : ℕ) (mess
     → FlightCanSend ((seen mid.gateway databases).session conn).flight
 unfolding clients_of
 sends_held old mid databases conn message took stand = (next_sound (clients_of old databases) (clients_of mid databases) (Some (conn, message)) took stand.sound).sends conn
+
+pub listed_held : (old mid : Held) (databases : List Database) (conn : ℕ) (message : Message) → TookNext (clients_of old databases) (clients_of mid databases) (Some (conn, message)) → StandOver old databases
+    → IsListed ((seen mid.gateway databases).session conn).tx
+unfolding clients_of
+listed_held old mid databases conn message took stand = (next_sound (clients_of old databases) (clients_of mid databases) (Some (conn, message)) took stand.sound).listed conn
 
 pub came_stand : (old mid new : Held) (before after : List Database) (took : Option (ℕ × Message)) → TookNext (clients_of old before) (clients_of mid before) took → StandOver old before
     → ((k : Clients) → k.sessions ≡ seen mid.gateway before → Sound k → Sound (with_sessions k (seen new.gateway after))) → ((q : ℕ) → get nat_cmp new.connections q ≡ get nat_cmp mid.connections q)

@@ -5,6 +5,7 @@ ghost use Rattle.wire_msgs.specs.Reading.{request_of};
 ghost use Rattle.session_rules.specs.Causes.{NotADatabase, failure};
 ghost use Rattle.session_rules.specs.Sessions.{may_ask};
 ghost use Rattle.session_rules.specs.Machine.{machine_of};
+ghost use Rattle.session_rules.specs.Touched.{IsListed};
 ghost use Rattle.gateway.specs.Calls.{TurnedBy, HasNoNul, HasShortTerm};
 ghost use Rattle.gateway.specs.Seen.{seen, PinsOf};
 ghost use Rattle.client_sessions.specs.Sending.{ActCanSend, FlightCanSend, HasPlainAddresses};
@@ -65,6 +66,7 @@ fn ask<E: Engine>(
 ) -> Result<GatewayAct, AllocError>
     requires ready { may_ask ((seen gateway.old machine.old).session conn) ≡ true }
     requires sends { FlightCanSend ((seen gateway.old machine.old).session conn).flight }
+    requires listed { IsListed ((seen gateway.old machine.old).session conn).tx }
     requires pins { PinsOf gateway.old machine.old }
     requires text { HasNoNul request.now }
     requires term { HasShortTerm view.now }
@@ -93,6 +95,7 @@ fn answer<E: Engine>(
 ) -> Result<Act, AllocError>
     requires ready { may_ask ((seen gateway.old machine.old).session conn) ≡ true }
     requires sends { FlightCanSend ((seen gateway.old machine.old).session conn).flight }
+    requires listed { IsListed ((seen gateway.old machine.old).session conn).tx }
     requires pins { PinsOf gateway.old machine.old }
     requires text { HasNoNul request.now }
     requires term { HasShortTerm view.now }
@@ -121,6 +124,7 @@ pub(crate) fn come<E: Engine>(
 ) -> Result<Act, AllocError>
     requires ready { may_ask ((seen gateway.old machine.old).session conn) ≡ true }
     requires sends { FlightCanSend ((seen gateway.old machine.old).session conn).flight }
+    requires listed { IsListed ((seen gateway.old machine.old).session conn).tx }
     requires pins { PinsOf gateway.old machine.old }
     requires term { HasShortTerm view.now }
     requires plain { HasPlainAddresses view.now }

@@ -1,5 +1,5 @@
 use Rattle.std.proofs.Common.{Some, refl}
-use Rattle.client_sessions.proofs.Serving.{ready_held, sends_held, came_stand, turn_held}
+use Rattle.client_sessions.proofs.Serving.{ready_held, sends_held, listed_held, came_stand, turn_held}
 use Rattle.client_sessions.proofs.clients.Clients.next.Goals as goal
 
 pub come-requires-clause-ready : goal.come-requires-clause-ready
@@ -11,6 +11,11 @@ pub come-requires-clause-sends : goal.come-requires-clause-sends
 come-requires-clause-sends g c =
     let machine = c.args.machine.now in
     sends_held c.args.self.now c.take_next.new.self machine c.in-Some.conn c.in-Some.message (c.in-Some.ensures.took machine) c.requires.stand
+
+pub come-requires-clause-listed : goal.come-requires-clause-listed
+come-requires-clause-listed g c =
+    let machine = c.args.machine.now in
+    listed_held c.args.self.now c.take_next.new.self machine c.in-Some.conn c.in-Some.message (c.in-Some.ensures.took machine) c.requires.stand
 
 pub returns-in_err-act-clause-stands : goal.returns-in_err-act-clause-stands
 returns-in_err-act-clause-stands g c =
