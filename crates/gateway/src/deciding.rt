@@ -93,6 +93,7 @@ pub(crate) fn decide<E: Engine>(
     requires apart { AreApart sessions.old }
     requires place { StandsAt conn sessions.old place }
     requires marks { AllByRecursion (IsPinned machine.now) (pins_of sessions.old) }
+    requires listed { IsListed ((table_of machine.now sessions.old weight).session conn).tx }
     requires name { NameHasNoNul request.now }
     requires term { HasShortTerm view.now }
     ensures kept { sessions.new ≡ sessions.old }

@@ -1,4 +1,4 @@
-use Rattle.std.proofs.Common.{◌≡◌, List, sym, subst, ◌∙◌}
+use Rattle.std.proofs.Common.{◌≡◌, List, length, get_or, IfOk, sym, ap, subst, ◌∙◌}
 use Rattle.std.proofs.lemmas.Option.{MatchOption-at_some}
 use Rattle.std.proofs.lemmas.Result.{IfOk-weaker}
 use Rattle.session_rules.specs.Machine.{machine_of}
@@ -7,6 +7,10 @@ use Rattle.session_table.specs.Table.{table_of}
 use Rattle.session_table.specs.declared.session.Session.{Session}
 use Rattle.session_table.specs.Changing.{IsAbsent, StandsAt}
 use Rattle.gateway.proofs.Decided.{is_found, stands_somewhere, moved, carry_at}
+use Rattle.session_rules.specs.Requests.{on_request}
+use Rattle.gateway.specs.Carrying.{CanCarry, Carries}
+use Rattle.gateway.proofs.Carried.{carried}
+use Rattle.gateway.proofs.Placed.{lent_back}
 use Rattle.gateway.proofs.Unopened.{unopened_turn}
 use Rattle.gateway.proofs.handling.handle.Goals as goal
 
@@ -20,12 +24,28 @@ decide-requires-clause-listed g c =
 
 pub carry_out-requires-clause-can : goal.carry_out-requires-clause-can
 carry_out-requires-clause-can g c = λ session.
+    let back = lent_back _ _ _ (c.decide.ensures.kept ∙ c.as_mut_slice-known.ensures.value) (sym c.as_mut_slice-known.ensures.len ∙ ap length c.as_mut_slice-known.ensures.value) in
     let at : StandsAt c.args.conn c.args.sessions.now.items c.unwrap-place.result = subst (λ (ss : List Session). StandsAt c.args.conn ss c.unwrap-place.result) c.as_slice.ensures.value (MatchOption-at_some _ _ c.unwrap-place.result c.unwrap-place.ensures c.find.ensures) in
-    carry_at _ _ c.args.view.now c.args.machine.now c.args.sessions.now.items c.as_mut_slice-known.result.now c.args.weight.now c.args.conn c.unwrap-place.result session c.args.request.now _ _ c.in_ok-turn.turn c.as_mut_slice-known.ensures.value c.requires.table.apart at c.in_ok-turn.ensures.ran
+    subst (λ (ss : List Session). CanCarry (get_or ss c.unwrap-place.result session) c.in_ok-turn.turn) (sym back)
+    (carry_at _ _ c.args.view.now c.args.machine.now c.args.sessions.now.items c.as_mut_slice-known.result.now c.args.weight.now c.args.conn c.unwrap-place.result session c.args.request.now _ _ c.in_ok-turn.turn c.as_mut_slice-known.ensures.value c.requires.table.apart at c.in_ok-turn.ensures.ran)
+
+pub returns-clause-turned : goal.returns-clause-turned
+returns-clause-turned g c =
+    let back = lent_back _ _ _ (c.decide.ensures.kept ∙ c.as_mut_slice-known.ensures.value) (sym c.as_mut_slice-known.ensures.len ∙ ap length c.as_mut_slice-known.ensures.value) in
+    let ran = moved _ _ c.args.view.now c.args.machine.now c.args.sessions.now.items c.as_mut_slice-known.result.now c.args.weight.now c.args.conn c.args.request.now _ _ c.in_ok-turn.turn c.as_mut_slice-known.ensures.value c.in_ok-turn.ensures.ran in
+    IfOk-weaker c.carry_out.result _ _ (λ act carries. record {
+      answers = ran.answers;
+      allowed = ran.allowed;
+      told = ran.told;
+      exact = ran.exact;
+      is = carried c.args.view.now (machine_of c.args.machine.now) (table_of c.args.machine.now c.args.sessions.now.items c.args.weight.now) c.args.conn _ act (on_request c.args.view.now (machine_of c.args.machine.now) (table_of c.args.machine.now c.args.sessions.now.items c.args.weight.now) c.args.conn c.args.request.now ran.answers) c.in_ok-turn.turn ran.is carries;
+    })
+    (subst (λ (ss : List Session). IfOk c.carry_out.result (Carries (machine_of c.args.machine.now) (table_of c.args.machine.now ss c.args.weight.now) c.args.conn c.in_ok-turn.turn (table_of c.carry_out.new.machine c.carry_out.new.sessions.items c.carry_out.new.weight))) back c.carry_out.ensures.done)
 
 pub returns-clause-unopened : goal.returns-clause-unopened
 returns-clause-unopened g c =
+    let back = lent_back _ _ _ (c.decide.ensures.kept ∙ c.as_mut_slice-known.ensures.value) (sym c.as_mut_slice-known.ensures.len ∙ ap length c.as_mut_slice-known.ensures.value) in
     let ran = moved _ _ c.args.view.now c.args.machine.now c.args.sessions.now.items c.as_mut_slice-known.result.now c.args.weight.now c.args.conn c.args.request.now _ _ c.in_ok-turn.turn c.as_mut_slice-known.ensures.value c.in_ok-turn.ensures.ran in
     IfOk-weaker c.carry_out.result _ _
     (λ act h is. c.in_ok-turn.ensures.unopened (unopened_turn c.args.view.now (machine_of c.args.machine.now) (table_of c.args.machine.now c.args.sessions.now.items c.args.weight.now) c.args.conn c.args.request.now ran.answers _ act is c.in_ok-turn.turn ran.is h))
-    c.carry_out.ensures.done
+    (subst (λ (ss : List Session). IfOk c.carry_out.result (Carries (machine_of c.args.machine.now) (table_of c.args.machine.now ss c.args.weight.now) c.args.conn c.in_ok-turn.turn (table_of c.carry_out.new.machine c.carry_out.new.sessions.items c.carry_out.new.weight))) back c.carry_out.ensures.done)
