@@ -187,41 +187,43 @@ fn messages(rt: HostRuntime) -> Result<(), Fail> {
     Ok(())
 }
 
+const WORD_FAULTS: &[(WordFault, &str)] = &[
+    (
+        WordFault::Short(8),
+        "the body ends within the item at byte 8",
+    ),
+    (WordFault::NoNul(8), "no NUL ends the text at byte 8"),
+    (WordFault::NotUtf8(8), "the text at byte 8 isn't UTF-8"),
+    (
+        WordFault::Pad(8),
+        "the item at byte 8 isn't filled up with zeros",
+    ),
+    (
+        WordFault::BadCode(8, 6),
+        "the item at byte 8 has the value code 6",
+    ),
+    (
+        WordFault::Float(8),
+        "the item at byte 8 has a floating-point number",
+    ),
+    (WordFault::NoMemory, "out of memory"),
+];
+
+const SPLIT_FAULTS: &[(SplitFault, &str)] = &[
+    (SplitFault::Version(2), "the stream begins with version 2"),
+    (
+        SplitFault::TooLong(2_097_153),
+        "a header claims 2097153 words",
+    ),
+    (SplitFault::NoMemory, "out of memory"),
+];
+
 #[test]
 fn texts_of_faults(rt: HostRuntime) -> Result<(), Fail> {
-    let rows = [
-        (
-            WordFault::Short(8),
-            "the body ends within the item at byte 8",
-        ),
-        (WordFault::NoNul(8), "no NUL ends the text at byte 8"),
-        (WordFault::NotUtf8(8), "the text at byte 8 isn't UTF-8"),
-        (
-            WordFault::Pad(8),
-            "the item at byte 8 isn't filled up with zeros",
-        ),
-        (
-            WordFault::BadCode(8, 6),
-            "the item at byte 8 has the value code 6",
-        ),
-        (
-            WordFault::Float(8),
-            "the item at byte 8 has a floating-point number",
-        ),
-        (WordFault::NoMemory, "out of memory"),
-    ];
-    for (fault, wanted) in rows {
+    for &(fault, wanted) in WORD_FAULTS {
         assert_eq!(rt; format!(in rt.alloc(); "{fault}")?.as_str(), wanted);
     }
-    let rows = [
-        (SplitFault::Version(2), "the stream begins with version 2"),
-        (
-            SplitFault::TooLong(2_097_153),
-            "a header claims 2097153 words",
-        ),
-        (SplitFault::NoMemory, "out of memory"),
-    ];
-    for (fault, wanted) in rows {
+    for &(fault, wanted) in SPLIT_FAULTS {
         assert_eq!(rt; format!(in rt.alloc(); "{fault}")?.as_str(), wanted);
     }
     Ok(())
