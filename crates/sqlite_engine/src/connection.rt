@@ -69,6 +69,9 @@ pub(crate) fn close(conn: Conn) -> Option<PairDisk>
     }
 }
 
+/// Lets go of a connection, in a function of its own, so that how one is dropped is proved once.
+pub(crate) fn let_go(_conn: Conn) {}
+
 /// What the statement of a text shows, before it is run.
 pub(crate) fn outline(conn: &mut Conn, text: &str) -> Result<Statement, Error>
     ensures ok { IfOk result (λ statement. HasColumns (file_state conn.old) text.now statement.columns) }

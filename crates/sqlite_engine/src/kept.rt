@@ -6,7 +6,7 @@ ghost use Rattle.sqlite.specs.Values.{bound};
 ghost use Rattle.sqlite_engine.specs.Sql.{Finds, HasColumns, ShowsOnly, Gives, RanOn, FailsOn, is_of_store, refusal_of};
 ghost use Rattle.sqlite_engine.specs.Shows.{showing, FailsSomehow};
 
-use crate::connection::{Conn, OpenFault, close, execute, open, outline, query};
+use crate::connection::{Conn, OpenFault, close, execute, let_go, open, outline, query};
 use crate::errors::is_of_store;
 use crate::plan::shows_only;
 use crate::shows::Shows;
@@ -17,11 +17,18 @@ use sqlite::{Error, ErrorCode, Row, Statement};
 use std::alloc::Global;
 
 /// A connection that is kept open over an image. It finds that image.
-#[derive(Drop)]
 pub(crate) struct Kept {
     pub(crate) base: Image,
     pub(crate) conn: Conn,
     ghost stands: { ∥ Finds base (file_state conn) ∥₁ },
+}
+
+// It is written out, so that a caller does not prove again how a connection is dropped.
+impl Drop for Kept {
+    fn drop(self) {
+        let Kept { base: _, conn } = self;
+        let_go(conn);
+    }
 }
 
 /// A statement that was not run, with the connection where nothing has changed on it.
@@ -67,6 +74,82 @@ impl Kept {
         self.base.side.as_slice() == image.side.as_slice()
             && self.base.main.as_slice() == image.main.as_slice()
     }
+
+    /// What the statement of a text shows, before it is run.
+    pub(crate) fn prepared(self, text: &str) -> Result<(Kept, Statement), Failure>
+        ensures base { IfOk result (λ r. r.0.base ≡ self.base) }
+        ensures columns { IfOk result (λ r. HasColumns (file_state r.0.conn) text.now r.1.columns) }
+        ensures left { IfErr result (λ failure. IfSome failure.left (λ left. left.base ≡ self.base)) }
+        ensures fails { IfErr result (λ failure. (params : _) → ∥ FailsOn self.base text.now params failure.error ∥₁) }
+    {
+        let Kept { base, mut conn } = self;
+        match outline(&mut conn, text) {
+            Ok(statement) => Ok((kept_over(base, conn), statement)),
+            Err(error) => Err(Failure {
+                left: left_after(base, conn, error),
+                error,
+            }),
+        }
+    }
+
+    /// Shows the rows of a statement that changes nothing. The connection stays.
+    pub(crate) fn look(
+        self,
+        statement: &Statement,
+        text: &str,
+        params: &[ValueRef<'_>],
+    ) -> Result<(Kept, Shows), Failure>
+        requires columns { HasColumns (file_state self.conn) text.now statement.now.columns }
+        requires only { ShowsOnly (understood (file_state self.conn).now.schema text.now) }
+        ensures base { IfOk result (λ r. r.0.base ≡ self.base) }
+        ensures ran { IfOk result (λ r. ∥ RanOn self.base text.now (bound params.now) self.base (showing statement.now.columns r.1) ∥₁) }
+        ensures left { IfErr result (λ failure. IfSome failure.left (λ left. left.base ≡ self.base)) }
+        ensures fails { IfErr result (λ failure. ∥ FailsOn self.base text.now (bound params.now) failure.error ∥₁) }
+    {
+        let Kept { base, mut conn } = self;
+        match query(&mut conn, text, params) {
+            Ok(rows) => {
+                let shows = shows_of(&conn, rows);
+                Ok((kept_over(base, conn), shows))
+            }
+            Err(error) => Err(Failure {
+                left: left_after(base, conn, error),
+                error,
+            }),
+        }
+    }
+
+    /// Runs a statement that may change something, and closes the files. They come back with the image that was kept; the
+    /// connection is used up.
+    pub(crate) fn change(
+        self,
+        alloc: Global,
+        statement: &Statement,
+        text: &str,
+        params: &[ValueRef<'_>],
+    ) -> Result<(Image, PairDisk, Shows), Failure>
+        requires columns { HasColumns (file_state self.conn) text.now statement.now.columns }
+        ensures base { IfOk result (λ r. r.0 ≡ self.base) }
+        ensures ran { IfOk result (λ r. ∥ RanOn self.base text.now (bound params.now) r.1.after (showing statement.now.columns r.2) ∥₁) }
+        ensures bare { IfOk result (λ r. statement.now.columns ≡ [] → r.2.rows.items ≡ []) }
+        ensures left { IfErr result (λ failure. IfSome failure.left (λ left. left.base ≡ self.base)) }
+        ensures fails { IfErr result (λ failure. (refusal : _) → refusal_of failure.error ≡ Some refusal → ∥ FailsOn self.base text.now (bound params.now) failure.error ∥₁) }
+    {
+        let Kept { base, mut conn } = self;
+        match ask(alloc, &mut conn, statement, text, params) {
+            Ok(shows) => match close(conn) {
+                Some(pair) => Ok((base, pair, shows)),
+                None => Err(Failure {
+                    left: None,
+                    error: Error::SqliteFailure(ErrorCode::OutOfMemory),
+                }),
+            },
+            Err(error) => Err(Failure {
+                left: left_after(base, conn, error),
+                error,
+            }),
+        }
+    }
 }
 
 /// What is left of a connection after an error.
@@ -75,53 +158,10 @@ fn left_after(base: Image, conn: Conn, error: Error) -> Option<Kept>
     ensures { IfSome result (λ left. left.base ≡ base) }
 {
     if is_of_store(error) {
+        let_go(conn);
         None
     } else {
         Some(kept_over(base, conn))
-    }
-}
-
-/// What the statement of a text shows, before it is run.
-pub(crate) fn prepared(kept: Kept, text: &str) -> Result<(Kept, Statement), Failure>
-    ensures base { IfOk result (λ r. r.0.base ≡ kept.base) }
-    ensures columns { IfOk result (λ r. HasColumns (file_state r.0.conn) text.now r.1.columns) }
-    ensures left { IfErr result (λ failure. IfSome failure.left (λ left. left.base ≡ kept.base)) }
-    ensures fails { IfErr result (λ failure. (params : _) → ∥ FailsOn kept.base text.now params failure.error ∥₁) }
-{
-    let Kept { base, mut conn } = kept;
-    match outline(&mut conn, text) {
-        Ok(statement) => Ok((kept_over(base, conn), statement)),
-        Err(error) => Err(Failure {
-            left: left_after(base, conn, error),
-            error,
-        }),
-    }
-}
-
-/// Shows the rows of a statement that changes nothing. The connection stays.
-pub(crate) fn look(
-    kept: Kept,
-    statement: &Statement,
-    text: &str,
-    params: &[ValueRef<'_>],
-) -> Result<(Kept, Shows), Failure>
-    requires columns { HasColumns (file_state kept.conn) text.now statement.now.columns }
-    requires only { ShowsOnly (understood (file_state kept.conn).now.schema text.now) }
-    ensures base { IfOk result (λ r. r.0.base ≡ kept.base) }
-    ensures ran { IfOk result (λ r. ∥ RanOn kept.base text.now (bound params.now) kept.base (showing statement.now.columns r.1) ∥₁) }
-    ensures left { IfErr result (λ failure. IfSome failure.left (λ left. left.base ≡ kept.base)) }
-    ensures fails { IfErr result (λ failure. ∥ FailsOn kept.base text.now (bound params.now) failure.error ∥₁) }
-{
-    let Kept { base, mut conn } = kept;
-    match query(&mut conn, text, params) {
-        Ok(rows) => {
-            let shows = shows_of(&conn, rows);
-            Ok((kept_over(base, conn), shows))
-        }
-        Err(error) => Err(Failure {
-            left: left_after(base, conn, error),
-            error,
-        }),
     }
 }
 
@@ -164,38 +204,6 @@ fn run_plain(
             rows: Vec::new(alloc),
         }),
         Err(error) => Err(error),
-    }
-}
-
-/// Runs a statement that may change something, and closes the files. They come back with the image that was kept; the
-/// connection is used up.
-pub(crate) fn change(
-    alloc: Global,
-    kept: Kept,
-    statement: &Statement,
-    text: &str,
-    params: &[ValueRef<'_>],
-) -> Result<(Image, PairDisk, Shows), Failure>
-    requires columns { HasColumns (file_state kept.conn) text.now statement.now.columns }
-    ensures base { IfOk result (λ r. r.0 ≡ kept.base) }
-    ensures ran { IfOk result (λ r. ∥ RanOn kept.base text.now (bound params.now) r.1.after (showing statement.now.columns r.2) ∥₁) }
-    ensures bare { IfOk result (λ r. statement.now.columns ≡ [] → r.2.rows.items ≡ []) }
-    ensures left { IfErr result (λ failure. IfSome failure.left (λ left. left.base ≡ kept.base)) }
-    ensures fails { IfErr result (λ failure. (refusal : _) → refusal_of failure.error ≡ Some refusal → ∥ FailsOn kept.base text.now (bound params.now) failure.error ∥₁) }
-{
-    let Kept { base, mut conn } = kept;
-    match ask(alloc, &mut conn, statement, text, params) {
-        Ok(shows) => match close(conn) {
-            Some(pair) => Ok((base, pair, shows)),
-            None => Err(Failure {
-                left: None,
-                error: Error::SqliteFailure(ErrorCode::OutOfMemory),
-            }),
-        },
-        Err(error) => Err(Failure {
-            left: left_after(base, conn, error),
-            error,
-        }),
     }
 }
 

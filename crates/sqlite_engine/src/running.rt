@@ -11,7 +11,7 @@ ghost use Rattle.sqlite_engine.specs.Led.{Led, IsRefused, IsTold, IsUntold, Answ
 ghost use Rattle.sqlite_engine.specs.Meant.{sql_meaning};
 
 use crate::errors::fault_of;
-use crate::kept::{Failure, Kept, change, look, prepared};
+use crate::kept::{Failure, Kept};
 use crate::names::names_of;
 use crate::places::fault_in;
 use crate::shows::Shows;
@@ -39,7 +39,7 @@ pub(crate) fn run_on(
     let Ok(values) = bind(alloc, params) else {
         return (Some(kept), Err(EngineFault::NoMemory));
     };
-    match prepared(kept, text) {
+    match kept.prepared(text) {
         Ok((kept, statement)) => run_prepared(alloc, kept, &statement, text, &values, tx),
         Err(failure) => (failure.left, Err(fault_of(failure.error))),
     }
@@ -104,7 +104,7 @@ fn looked(
     ensures led { IfOk result (λ r. Led kept.base text.now (bound params.now) tx (showing statement.now.columns r.1) r.2) }
     ensures fails { IfErr result (λ failure. IsRefused kept.base text.now (bound params.now) failure.error) }
 {
-    match look(kept, statement, text, params) {
+    match kept.look(statement, text, params) {
         Ok((kept, shows)) => {
             is_short(&kept.base);
             Ok((Some(kept), shows, no_pages(alloc, tx)))
@@ -136,7 +136,7 @@ fn changed(
     ensures bare { IfOk result (λ r. statement.now.columns ≡ [] → r.1.rows.items ≡ []) }
     ensures fails { IfErr result (λ failure. IsRefused kept.base text.now (bound params.now) failure.error) }
 {
-    match change(alloc, kept, statement, text, params) {
+    match kept.change(alloc, statement, text, params) {
         Ok((base, pair, shows)) => match taken(alloc, &base, pair, tx) {
             Some(set) => Ok((None, shows, set)),
             None => Err(Failure {
