@@ -146,6 +146,7 @@ impl Cluster {
     fn timeout(&mut self, node: u32, told: &mut Vec<lone_node::Say>) -> Result<(), EventFault>
         ensures happened { OnOk result ((kind : EngineKind) (world : World) → HoldsWorld kind self.old world → Happened kind self.old self.new world (Event.Timeout node) told.old.items told.new.items) }
         ensures fault { IsErrOf result EventFault.NotThere → (world : World) → happens world (Event.Timeout node) ≡ None }
+        ensures stays { IsErrOf result EventFault.NotThere → self.new ≡ self.old }
         ensures journal { self.new.journal ≡ self.old.journal }
     {
         if node != 1 {
@@ -164,6 +165,7 @@ impl Cluster {
     ) -> Result<(), EventFault>
         ensures happened { OnOk result ((kind : EngineKind) (world : World) → HoldsWorld kind self.old world → Happened kind self.old self.new world (Event.Connect node connection) told.old.items told.new.items) }
         ensures fault { IsErrOf result EventFault.NotThere → (kind : EngineKind) (world : World) → HoldsWorld kind self.old world → happens world (Event.Connect node connection) ≡ None }
+        ensures stays { IsErrOf result EventFault.NotThere → self.new ≡ self.old }
         ensures journal { self.new.journal ≡ self.old.journal }
     {
         if node != 1 || self.known.contains(&connection) {
@@ -183,6 +185,7 @@ impl Cluster {
     ) -> Result<(), EventFault>
         ensures happened { OnOk result ((kind : EngineKind) (world : World) → HoldsWorld kind self.old world → Happened kind self.old self.new world (Event.Bytes connection bytes.now) told.old.items told.new.items) }
         ensures fault { IsErrOf result EventFault.NotThere → (kind : EngineKind) (world : World) → HoldsWorld kind self.old world → (happens world (Event.Bytes connection bytes.now) ≡ None) × (is_unanswered world (Event.Bytes connection bytes.now) ≡ false) }
+        ensures stays { IsErrOf result EventFault.NotThere → self.new ≡ self.old }
         ensures journal { self.new.journal ≡ self.old.journal }
     {
         if !self.known.contains(&connection) {
@@ -197,6 +200,7 @@ impl Cluster {
     fn hang_up(&mut self, connection: u32) -> Result<(), EventFault>
         ensures happened { OnOk result ((kind : EngineKind) (world : World) (said : List Told) → HoldsWorld kind self.old world → Happened kind self.old self.new world (Event.Hangup connection) said said) }
         ensures fault { IsErrOf result EventFault.NotThere → (kind : EngineKind) (world : World) → HoldsWorld kind self.old world → happens world (Event.Hangup connection) ≡ None }
+        ensures stays { IsErrOf result EventFault.NotThere → self.new ≡ self.old }
         ensures journal { self.new.journal ≡ self.old.journal }
     {
         if !self.known.contains(&connection) {
@@ -211,6 +215,7 @@ impl Cluster {
     fn happen(&mut self, event: Event, told: &mut Vec<lone_node::Say>) -> Result<(), EventFault>
         ensures happened { OnOk result ((kind : EngineKind) (world : World) → HoldsWorld kind self.old world → Happened kind self.old self.new world event told.old.items told.new.items) }
         ensures fault { IsErrOf result EventFault.NotThere → (kind : EngineKind) (world : World) → HoldsWorld kind self.old world → (happens world event ≡ None) × (is_unanswered world event ≡ false) }
+        ensures stays { IsErrOf result EventFault.NotThere → self.new ≡ self.old }
         ensures journal { self.new.journal ≡ self.old.journal }
     {
         match event {
@@ -241,6 +246,7 @@ impl Cluster {
     pub fn take(&mut self, alloc: Global, event: Event) -> Result<Vec<Say>, EventFault>
         ensures ok { IfOk result (λ said. (all : List Answer) (kind : EngineKind) (world : World) → Grows (answers_kept self.new) all → ShowsWorld all kind self.old world → Leads all kind self.new world event said.items) }
         ensures fault { IsErrOf result EventFault.NotThere → (kind : EngineKind) (world : World) → HoldsWorld kind self.old world → (happens world event ≡ None) × (is_unanswered world event ≡ false) }
+        ensures stays { IsErrOf result EventFault.NotThere → self.new ≡ self.old }
         ensures grows { Grows (answers_kept self.old) (answers_kept self.new) }
         ensures kept { OnErr result (answers_kept self.new ≡ answers_kept self.old) }
     {

@@ -30,6 +30,7 @@ impl Scene {
     pub fn take(&mut self, alloc: Global, event: Event) -> Result<Vec<Say>, EventFault>
         ensures ok { IfOk result (λ said. (all : List Answer) (kind : EngineKind) (scene : Shown) → Grows (answers_of self.new) all → ShowsScene all kind self.old scene → LeadsScene all kind self.new scene event said.items) }
         ensures fault { IsErrOf result EventFault.NotThere → (all : List Answer) (kind : EngineKind) (scene : Shown) → ShowsScene all kind self.old scene → (plays scene event ≡ None) × (lacks_answer scene event ≡ false) }
+        ensures stays { IsErrOf result EventFault.NotThere → (all : List Answer) (kind : EngineKind) (scene : Shown) → ShowsScene all kind self.old scene → ShowsScene all kind self.new scene }
         ensures grows { Grows (answers_of self.old) (answers_of self.new) }
         ensures kept { OnErr result (answers_of self.new ≡ answers_of self.old) }
     {
