@@ -1,4 +1,4 @@
-use Rattle.std.proofs.Common.{◌≡◌, List, length, get_or, IfOk, sym, ap, subst, ◌∙◌}
+use Rattle.std.proofs.Common.{List, length, get_or, IfOk, sym, ap, subst, ◌∙◌}
 use Rattle.std.proofs.lemmas.Option.{MatchOption-at_some}
 use Rattle.std.proofs.lemmas.Result.{IfOk-weaker}
 use Rattle.session_rules.specs.Machine.{machine_of}
