@@ -1,11 +1,10 @@
 -- An outcome that is carried out is the rules' one.
 use Rattle.std.proofs.Common.{◌≡◌, ℕ, List, [], ◌∷◌, map, refl, sym, ap, ◌∙◌}
 use Rattle.wire_msgs.specs.declared.response.Response.{Response}
-use Rattle.session_rules.specs.Entries.{written}
 use Rattle.session_rules.specs.Machine.{Machine}
 use Rattle.session_rules.specs.Causes.{Cause, failure}
 use Rattle.session_rules.specs.Requests.{with_session, affected_by}
-use Rattle.session_rules.specs.Sessions.{Session, Gateway, View, Reply, responses_of, Effect, Turned, Refused, Lacks, Answers, Proposes, Affects}
+use Rattle.session_rules.specs.Sessions.{Gateway, View, Reply, responses_of, Turned, Refused, Lacks, Answers, Proposes, Affects}
 use Rattle.session_turns.specs.declared.turn.Turn.{Turn}
 use Rattle.session_turns.specs.declared.turn.Turn.TheVariants as turns
 use Rattle.session_turns.specs.Turning.{ComesTo}

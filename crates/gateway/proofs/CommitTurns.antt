@@ -1,5 +1,5 @@
 -- COMMIT needs no engine, so it is never refused since files were not opened.
-use Rattle.std.proofs.Common.{◌≡◌, ℕ, Bool, true, false, cond, List, [], Option, Some, None, subst}
+use Rattle.std.proofs.Common.{◌≡◌, ℕ, List, Option, Some, None, subst}
 use Rattle.dq_base.specs.declared.pages.NumberedPage.{NumberedPage}
 use Rattle.dq_base.specs.Changes.{changed}
 use Rattle.session_rules.specs.Asking.{Commits}

@@ -1,5 +1,5 @@
 -- What comes of a request, with what it hands to an engine or nothing.
-use Rattle.std.proofs.Common.{◌≡◌, ℕ, zero, suc, ◌<◌, ◌++◌, length, get_or, ap, ◌∙◌, arith, Bool, true, false, cond, ◌&&◌, List, [], ◌∷◌, Option, Some, None, Result, Ok, Err, refl, sym, subst, rules}
+use Rattle.std.proofs.Common.{◌≡◌, ℕ, zero, suc, ◌<◌, ◌++◌, length, get_or, ap, ◌∙◌, arith, Bool, true, false, cond, ◌&&◌, List, [], ◌∷◌, Option, Some, None, refl, sym, subst, rules}
 use Rattle.std.proofs.lemmas.Bool.{false≢true, and_parts}
 use Rattle.std.specs.Prelude.{is_none, not, nat_lt, IsSome, MatchOption}
 use Rattle.std.specs.Option.{option_map}
@@ -23,9 +23,9 @@ use Rattle.session_rules.specs.Causes as causes
 use Rattle.session_rules.specs.Causes.{Cause}
 use Rattle.session_rules.specs.Engines.{Answer, Handed}
 use Rattle.session_rules.specs.Entries.{Does}
-use Rattle.session_rules.specs.Limits.{pages_full, other_holds, log_full, first_cause, hindrance, too_full}
+use Rattle.session_rules.specs.Limits.{pages_full, other_holds, log_full, first_cause, hindrance}
 use Rattle.session_rules.specs.Machine.{Machine, machine_of}
-use Rattle.session_rules.specs.Requests.{does, handed_for, handed, on_request, creates, begins, begun, flying, commit_in, has_nothing, committed, unless, change_of, with_tx}
+use Rattle.session_rules.specs.Requests.{does, handed_for, handed, on_request, begun, flying, commit_in, has_nothing, committed, unless, change_of, with_tx}
 use Rattle.session_rules.specs.Sessions.{may_ask, Session, Gateway, View, Transaction, Turned, Refused, Lacks, Answers, Proposes, Affects, Opening, Committing, Nothing, Began, result}
 use Rattle.statement_runs.specs.Running.{TellsAll}
 use Rattle.session_table.specs.declared.cause.Cause.TheVariants as told

@@ -1,11 +1,9 @@
 -- The sessions that code holds.
-use Rattle.std.proofs.Common.{◌≡◌, ℕ, Bool, true, false, cond, not, List, [], ◌∷◌, get_or, length, Option, Some, None, is_none, is_some, Result, Ok, Err, IfOk, OnOk, OnErr, refl, sym, ap, subst, ◌∙◌}
+use Rattle.std.proofs.Common.{◌≡◌, ℕ, Bool, false, cond, not, List, [], get_or, Option, Some, None, is_none, is_some, Result, Ok, Err, IfOk, OnOk, refl, sym, ap, subst, ◌∙◌}
 use Rattle.std.specs.declared.alloc.AllocError.{AllocError}
-use Rattle.wire_msgs.specs.declared.response.Response.{Response}
 use Rattle.page_apply.specs.declared.database.Database.{Database}
-use Rattle.page_apply.specs.Pins.{Pinning}
-use Rattle.session_rules.specs.Sessions.{Flight, Session as RuleSession, Gateway, no_sessions, is_busy}
-use Rattle.session_rules.specs.Events.{connects, connected, on_applied, on_lost, on_hangup, told_applied, told_lost}
+use Rattle.session_rules.specs.Sessions.{Flight, Gateway, no_sessions, is_busy}
+use Rattle.session_rules.specs.Events.{connects, connected}
 use Rattle.session_table.specs.declared.session.Session.{Session}
 use Rattle.session_table.specs.Table as tables
 use Rattle.session_table.specs.Table.{session_at, session_of, table_of, AreApart, IsTable}

@@ -1,15 +1,17 @@
 -- What is wanted of the session at a place.
-use Rattle.std.proofs.Common.{◌≡◌, ℕ, ◌+◌, ◌<◌, Bool, true, false, List, ◌++◌, length, get_or, take, drop, Option, Some, None, IsSome, IfOk, refl, sym, ap, subst, ◌∙◌, append-nil, arith}
+use Rattle.std.proofs.Common.{◌≡◌, ℕ, ◌<◌, true, false, List, ◌++◌, length, get_or, take, drop, Option, Some, None, IsSome, IfOk, refl, sym, ap, subst, ◌∙◌, append-nil, arith}
 use Rattle.std.specs.Prelude.{Result, is_none, not}
 use Rattle.std.specs.Option.{option_map}
 use Rattle.std.proofs.lemmas.Bool.{false≢true}
 use Rattle.std.proofs.lemmas.List.{drop_all, take_all}
 use Rattle.wire_words.specs.declared.value.Value.{Value}
+use Rattle.wire_msgs.specs.declared.request.Request.{Request}
+use Rattle.session_rules.specs.Asking.{asked_by}
 use Rattle.page_apply.specs.declared.database.Database.{Database}
 use Rattle.sql_engine.specs.declared.kind.EngineKind.{EngineKind}
 use Rattle.sql_engine.specs.Meanings.{Meaning, Told}
 use Rattle.session_rules.specs.Machine.{machine_of}
-use Rattle.session_rules.specs.Sessions.{View, in_tx}
+use Rattle.session_rules.specs.Sessions.{View}
 use Rattle.session_rules.specs.Touched.{IsListed}
 use Rattle.session_table.specs.declared.session.Session.{Session}
 use Rattle.session_table.specs.declared.session.Transaction.{Transaction}
@@ -55,6 +57,13 @@ module _ (sessions : List Session) (place : ℕ) (found : Session) (within : pla
         → IfOk result (TurnsTo m kind v (machine_of databases) (table_of databases sessions weight) (get_or sessions place own).conn (session_of databases (get_or sessions place own)) (meant params wanted) before now)
     came_there result turns =
         subst (λ (s : Session). IfOk result (TurnsTo m kind v (machine_of databases) (table_of databases sessions weight) s.conn (session_of databases s) (meant params wanted) before now)) (sym (at_place own)) turns
+
+-- what is wanted of a session is wanted of it by another name
+pub wants_at : (v : View) (databases : List Database) (sessions : List Session) (weight : ℕ) (found there : Session) (params known : List Value) (wanted : Wanted) (request : Request) → params ≡ known → found ≡ there
+    → meant known wanted ≡ asked_by v (machine_of databases) (table_of databases sessions weight) (session_of databases found) request
+    → meant params wanted ≡ asked_by v (machine_of databases) (table_of databases sessions weight) (session_of databases there) request
+wants_at v databases sessions weight found there params known wanted request same is wants =
+    ap (λ (ps : List Value). meant ps wanted) same ∙ wants ∙ ap (λ (s : Session). asked_by v (machine_of databases) (table_of databases sessions weight) (session_of databases s) request) is
 
 -- a transaction is open or not, whatever the machine has
 pub outside_too : (m databases : List Database) (o : Option Transaction) → not (is_none (option_map (transaction_of m) o)) ≡ false → not (is_none (option_map (transaction_of databases) o)) ≡ false

@@ -1,10 +1,10 @@
 -- What statements come to is what the rules make of what is asked.
-use Rattle.std.proofs.Common.{◌≡◌, ℕ, Bool, true, false, cond, List, [], ◌∷◌, Option, Some, None, refl}
+use Rattle.std.proofs.Common.{ℕ, Bool, true, false, cond, List, [], ◌∷◌, Option}
 use Rattle.wire_words.specs.declared.value.Value.{Value}
 use Rattle.sql_engine.specs.declared.kind.EngineKind.{EngineKind}
 use Rattle.sql_engine.specs.Meanings.{Meaning, Told}
 use Rattle.sql_engine.specs.Replies.{Statement}
-use Rattle.session_rules.specs.Asking.{Asked, Runs, Reads}
+use Rattle.session_rules.specs.Asking.{Runs, Reads}
 use Rattle.session_rules.specs.Machine.{Machine}
 use Rattle.session_rules.specs.Requests.{does}
 use Rattle.session_rules.specs.Sessions.{Session, Gateway, View, Prepared}

@@ -8,7 +8,7 @@ use Rattle.session_rules.specs.Engines.{Answer}
 use Rattle.session_rules.specs.Laws.{IsFailure, IsRefusal}
 use Rattle.session_rules.specs.Machine.{Machine}
 use Rattle.session_rules.specs.Requests.{on_request}
-use Rattle.session_rules.specs.Sessions.{Gateway, View, Session, Reply, Refusal, Single, Rows, responses_of, Turned, Refused, Lacks, Answers, Proposes, Affects}
+use Rattle.session_rules.specs.Sessions.{Gateway, View, Reply, Refusal, Single, Rows, responses_of, Turned, Refused, Lacks, Answers, Proposes, Affects}
 use Rattle.session_rules.proofs.Keeping.{answers_plain}
 use Rattle.session_table.specs.declared.cause.Cause.{Cause}
 use Rattle.session_table.specs.declared.cause.Cause.TheVariants as told

@@ -1,10 +1,9 @@
 -- What a call of the gateway did: the definitions' outcome, as code tells it.
-use Rattle.std.specs.Prelude.{◌≡◌, ℕ, ◌≤◌, ◌<◌, Bool, true, false, List, [], ◌∷◌, length, map, flat_map, Option, Some, None}
+use Rattle.std.specs.Prelude.{◌≡◌, ℕ, ◌≤◌, true, false, List, [], ◌∷◌, length, Option}
 use Rattle.std.specs.List.{AllByRecursion}
 use Rattle.dq_base.specs.Names.{has_nul}
 use Rattle.wire_msgs.specs.declared.request.Request.{Request}
 use Rattle.wire_msgs.specs.declared.request.Request.TheVariants as requests
-use Rattle.wire_msgs.specs.declared.response.Response.{Response}
 use Rattle.wire_msgs.specs.declared.response.Response.TheVariants as responses
 use Rattle.sql_engine.specs.declared.kind.EngineKind.{EngineKind}
 use Rattle.sql_engine.specs.Meanings.{Meaning, Told}
@@ -13,7 +12,7 @@ use Rattle.session_rules.specs.Entries.{written}
 use Rattle.session_rules.specs.Machine.{Machine}
 use Rattle.session_rules.specs.Seen.{HasSpelling}
 use Rattle.session_rules.specs.Engines.{Answer, AllowsFor, used_for}
-use Rattle.session_rules.specs.Sessions.{Reply, responses_of, Gateway, View, Flight, Session, Effect, HandsOver, JoinsPeer, Weighs, Turned, Refused, Lacks, Answers, Proposes, Affects}
+use Rattle.session_rules.specs.Sessions.{responses_of, Gateway, View, Effect, HandsOver, JoinsPeer, Weighs, Turned, Refused, Lacks, Answers, Proposes, Affects}
 use Rattle.session_rules.specs.Requests.{on_request, handed, with_session, affected_by}
 use Rattle.statement_runs.specs.Running.{TellsAll}
 use Rattle.gateway.specs.declared.act.Act.{Act}

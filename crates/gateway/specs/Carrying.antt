@@ -1,5 +1,5 @@
 -- What carrying out an outcome is: the sessions after it, and the act.
-use Rattle.std.specs.Prelude.{◌≡◌, ℕ, List, [], ◌∷◌, Option, Some, None, IsSome}
+use Rattle.std.specs.Prelude.{◌≡◌, ℕ, [], ◌∷◌, Some, None, IsSome}
 use Rattle.session_rules.specs.Causes.{failure}
 use Rattle.session_rules.specs.Machine.{Machine}
 use Rattle.session_rules.specs.Requests.{with_session, with_tx, with_flight, begun, affected_by}

@@ -76,12 +76,10 @@ impl Gateway {
     /// A refused request has changed nothing. `Err` is want of memory; then nothing has changed either but what the engine
     /// told.
     ///
-    /// Costs, besides the engine's, in the order of the request's bytes and of the pages that it changes, but for what is in
-    /// the order of an image. Outside a transaction statements have the newest image copied once, and where there are several,
-    /// the copy that they worked on is compared with it at the end. BEGIN copies the newest image. In a transaction one
-    /// statement copies its own changes alone; of several, the first that changes pages has the transaction's image copied, and
-    /// the two are compared at the end. COMMIT compares the pages of the two images of a transaction that took the turn to
-    /// write, and looks at no page of another.
+    /// Costs, besides the engine's, in the order of the request's bytes and of the pages that it changes, but for one copy of an
+    /// image: outside a transaction statements have the newest image copied once, and BEGIN copies it. In a transaction
+    /// statements work on its image in place: each copies the pages that it changes and no others, and of several these are
+    /// compared at the end. COMMIT compares the pages that the statements of its transaction changed, and no others.
     pub fn on_request<E: Engine>(
         &mut self,
         conn: u64,

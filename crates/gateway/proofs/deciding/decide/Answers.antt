@@ -1,17 +1,11 @@
-use Rattle.std.proofs.Common.{◌≡◌, ℕ, List, get_or, sym, ap, subst, ◌∙◌}
-use Rattle.std.specs.List.{AllByRecursion}
+use Rattle.std.proofs.Common.{get_or, sym, subst}
 use Rattle.std.proofs.lemmas.Result.{IfOk-weaker}
-use Rattle.wire_words.specs.declared.value.Value.{Value}
-use Rattle.page_apply.specs.Pins.{IsPinned}
 use Rattle.session_rules.specs.Machine.{machine_of}
 use Rattle.session_rules.specs.Sessions.{Session as RuleSession}
 use Rattle.session_rules.specs.Touched.{IsListed}
-use Rattle.session_table.specs.declared.session.Session.{Session}
-use Rattle.session_table.specs.Table.{pin_of, session_of, table_of}
-use Rattle.session_asking.specs.Meant.{meant}
+use Rattle.session_table.specs.Table.{session_of, table_of}
 use Rattle.gateway.proofs.Decided.{decided, here_at, pins_part}
-use Rattle.gateway.proofs.Placed.{can_at}
-use Rattle.session_rules.specs.Asking.{asked_by}
+use Rattle.gateway.proofs.Placed.{can_at, wants_at}
 use Rattle.gateway.proofs.deciding.decide.Goals as goal
 
 pub turn_of-requires-clause-live : goal.turn_of-requires-clause-live
@@ -32,6 +26,5 @@ returns-clause-ran g c =
     (λ turn h. decided _ _ c.args.view.now (machine_of c.args.machine.now) (table_of c.args.machine.now c.args.sessions.now c.args.weight) c.args.conn (get_or c.args.sessions.now c.args.place found).conn (session_of c.args.machine.now (get_or c.args.sessions.now c.args.place found)) c.params_of-params.result.now c.in_ok-wanted.wanted c.args.request.now _ _ turn
     (here_at c.args.machine.now c.args.sessions.now c.args.weight c.args.conn c.args.place found c.requires.apart c.requires.place)
     (c.requires.place.own found)
-    (ap (λ (ps : List Value). meant ps c.in_ok-wanted.wanted) c.params_of-params.ensures ∙ c.in_ok-wanted.ensures.wants
-    ∙ ap (λ (s : Session). asked_by c.args.view.now (machine_of c.args.machine.now) (table_of c.args.machine.now c.args.sessions.now c.args.weight) (session_of c.args.machine.now s) c.args.request.now) c.index-known-place.is) h)
+    (wants_at c.args.view.now c.args.machine.now c.args.sessions.now c.args.weight found (get_or c.args.sessions.now c.args.place found) c.params_of-params.result.now _ c.in_ok-wanted.wanted c.args.request.now c.params_of-params.ensures c.index-known-place.is c.in_ok-wanted.ensures.wants) h)
     (c.turn_of.ensures.ran found c.args.weight)

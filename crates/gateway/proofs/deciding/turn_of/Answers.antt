@@ -1,16 +1,14 @@
-use Rattle.std.proofs.Common.{◌≡◌, ℕ, [], refl, sym, subst}
+use Rattle.std.proofs.Common.{[], refl}
 use Rattle.std.proofs.lemmas.Result.{IfOk-weaker}
 use Rattle.session_rules.specs.Asking as asking
 use Rattle.session_rules.specs.Sessions.{Refused}
 use Rattle.session_rules.specs.Machine.{machine_of}
 use Rattle.session_rules.specs.Requests.{does}
-use Rattle.session_table.specs.declared.cause.Cause.{Cause}
 use Rattle.session_table.specs.Named.{cause_named}
 use Rattle.session_table.specs.Table.{session_of, table_of}
-use Rattle.session_asking.specs.declared.wanted.Wanted.{Wanted}
-use Rattle.session_asking.specs.Meant.{meant, IsPlainCause, IsAllowed}
+use Rattle.session_asking.specs.Meant.{IsPlainCause}
 use Rattle.session_turns.specs.declared.turn.Turn.TheVariants as turns
-use Rattle.gateway.proofs.Decided.{nothing_handed, never_unopened, creates_plain, begins_plain, commits_plain}
+use Rattle.gateway.proofs.Decided.{nothing_handed, never_unopened, creates_plain, begins_plain}
 use Rattle.gateway.proofs.Placed.{allowed_there, allowed_at, fits_there, listed_there, outside_too, some_inside, turned_there, came_there}
 use Rattle.gateway.proofs.deciding.turn_of.Goals as goal
 

@@ -1,4 +1,4 @@
-use Rattle.std.proofs.Common.{◌≡◌, List, length, get_or, IfOk, sym, ap, subst, ◌∙◌}
+use Rattle.std.proofs.Common.{List, length, get_or, IfOk, sym, ap, subst, ◌∙◌}
 use Rattle.std.proofs.lemmas.Option.{MatchOption-at_some}
 use Rattle.std.proofs.lemmas.Result.{IfOk-weaker}
 use Rattle.session_rules.specs.Machine.{machine_of}
@@ -38,7 +38,7 @@ returns-clause-turned g c =
       allowed = ran.allowed;
       told = ran.told;
       exact = ran.exact;
-      is = carried c.args.view.now (machine_of c.args.machine.now) (table_of c.args.machine.now c.args.sessions.now.items c.args.weight.now) c.args.conn _ act (on_request c.args.view.now (machine_of c.args.machine.now) (table_of c.args.machine.now c.args.sessions.now.items c.args.weight.now) c.args.conn c.args.request.now ran.answers) c.in_ok-turn.turn ran.is carries;
+      is = carried c.args.view.now (machine_of c.args.machine.now) (table_of c.args.machine.now c.args.sessions.now.items c.args.weight.now) c.args.conn (table_of c.carry_out.new.machine c.carry_out.new.sessions.items c.carry_out.new.weight) act (on_request c.args.view.now (machine_of c.args.machine.now) (table_of c.args.machine.now c.args.sessions.now.items c.args.weight.now) c.args.conn c.args.request.now ran.answers) c.in_ok-turn.turn ran.is carries;
     })
     (subst (λ (ss : List Session). IfOk c.carry_out.result (Carries (machine_of c.args.machine.now) (table_of c.args.machine.now ss c.args.weight.now) c.args.conn c.in_ok-turn.turn (table_of c.carry_out.new.machine c.carry_out.new.sessions.items c.carry_out.new.weight))) back c.carry_out.ensures.done)
 
@@ -47,5 +47,5 @@ returns-clause-unopened g c =
     let back = lent_back _ _ _ (c.decide.ensures.kept ∙ c.as_mut_slice-known.ensures.value) (sym c.as_mut_slice-known.ensures.len ∙ ap length c.as_mut_slice-known.ensures.value) in
     let ran = moved _ _ c.args.view.now c.args.machine.now c.args.sessions.now.items c.as_mut_slice-known.result.now c.args.weight.now c.args.conn c.args.request.now _ _ c.in_ok-turn.turn c.as_mut_slice-known.ensures.value c.in_ok-turn.ensures.ran in
     IfOk-weaker c.carry_out.result _ _
-    (λ act h is. c.in_ok-turn.ensures.unopened (unopened_turn c.args.view.now (machine_of c.args.machine.now) (table_of c.args.machine.now c.args.sessions.now.items c.args.weight.now) c.args.conn c.args.request.now ran.answers _ act is c.in_ok-turn.turn ran.is h))
+    (λ act h is. c.in_ok-turn.ensures.unopened (unopened_turn c.args.view.now (machine_of c.args.machine.now) (table_of c.args.machine.now c.args.sessions.now.items c.args.weight.now) c.args.conn c.args.request.now ran.answers (table_of c.carry_out.new.machine c.carry_out.new.sessions.items c.carry_out.new.weight) act is c.in_ok-turn.turn ran.is h))
     (subst (λ (ss : List Session). IfOk c.carry_out.result (Carries (machine_of c.args.machine.now) (table_of c.args.machine.now ss c.args.weight.now) c.args.conn c.in_ok-turn.turn (table_of c.carry_out.new.machine c.carry_out.new.sessions.items c.carry_out.new.weight))) back c.carry_out.ensures.done)

@@ -1,4 +1,4 @@
-use Rattle.std.proofs.Common.{◌≡◌, ℕ, List, ◌++◌, map, ap, ◌∙◌}
+use Rattle.std.proofs.Common.{ℕ, List, ◌++◌, map, ap, ◌∙◌}
 use Rattle.wire_msgs.specs.declared.response.Response.{Response}
 use Rattle.session_rules.specs.Sessions.{responses_of}
 use Rattle.session_table.specs.Named.{reply_named}

@@ -1,4 +1,4 @@
-use Rattle.std.proofs.Common.{List, ℕ, subst, sym, ◌∙◌}
+use Rattle.std.proofs.Common.{List, subst}
 use Rattle.session_table.specs.declared.session.Session.{Session}
 use Rattle.session_table.specs.Changing.{StandsAt, IsAbsent}
 use Rattle.gateway.proofs.Holding.{busy_at, busy_nowhere, busy_now, held}

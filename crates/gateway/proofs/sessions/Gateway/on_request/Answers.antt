@@ -6,7 +6,7 @@ use Rattle.session_rules.specs.Touched.{IsListed}
 use Rattle.session_table.specs.Table.{table_of}
 use Rattle.gateway.specs.Seen.{seen}
 use Rattle.gateway.proofs.Decided.{its_name, there_if, turned_so}
-use Rattle.gateway.proofs.Holding.{held, marks_of, marks_held, seen_now}
+use Rattle.gateway.proofs.Holding.{marks_of, marks_held, seen_now}
 use Rattle.gateway.proofs.sessions.Gateway.on_request.Goals as goal
 
 pub handle-requires-clause-marks : goal.handle-requires-clause-marks
