@@ -9,13 +9,12 @@ use Rattle.sql_scan.specs.declared.fault.ScanFault.{ScanFault}
 use Rattle.sql_scan.specs.declared.heading.WordKind.{WordKind}
 use Rattle.sql_scan.specs.declared.heading.WordKind.TheVariants as words
 use Rattle.sql_scan.specs.Statements.{scan_of}
-use Rattle.raft_rules.specs.Node.{among, voters}
 use Rattle.sql_scan.specs.declared.fault.ScanFault.TheVariants as scan_faults
-use Rattle.session_rules.specs.Causes.{scan_cause, NotLeader, NoDatabase, LogFull, TooManyDatabases, DatabaseOpen, BadName, BadNode, BadFormat, ChangeInFlight, TargetBehind, AnswerTooBig, NotAllowed, WrongParameters, OneStatementWanted, TooManyStatements, InTransaction, NoTransaction}
-use Rattle.session_rules.specs.Limits.{log_full, one_too_many, change_in_flight}
-use Rattle.session_rules.specs.Machine.{Machine, is_named}
+use Rattle.session_rules.specs.Causes.{scan_cause, NotLeader, NoDatabase, LogFull, NotAllowed, WrongParameters, OneStatementWanted}
+use Rattle.session_rules.specs.Limits.{log_full}
+use Rattle.session_rules.specs.Machine.{Machine}
 use Rattle.session_rules.specs.Sessions.{Prepared, Session, Gateway, View, in_tx}
-use Rattle.session_rules.specs.Statements.{prepared_from, prepared_at, prepared_count, is_left_out, any_barred, wrong_params, with_params, with_all}
+use Rattle.session_rules.specs.Statements.{prepared_from, prepared_at, is_left_out, any_barred, wrong_params, with_params, with_all}
 use Rattle.session_rules.specs.Asking as asking
 use Rattle.session_rules.specs.Asking.{Asked, Never, asked_by}
 use Rattle.session_asking.specs.Meant.{IsServed, IsPlainCause, IsAllowed}

@@ -1,12 +1,11 @@
 -- The database of a name.
 use Rattle.std.proofs.Common.{◌≡◌, ℕ, ◌+◌, ◌<◌, ◌≤◌, Bool, true, false, cond, ◌||◌, List, [], ◌∷◌, length, get_or, drop, find, Option, Some, None, refl, sym, ap, ◌∙◌}
 use Rattle.std.specs.Option.{is_some, option_map}
-use Rattle.std.specs.List.{list_any}
 use Rattle.std.specs.Prelude.{bytes_eq}
 use Rattle.std.proofs.lemmas.List.{at_drop_more, at_drop_all}
 use Rattle.std.proofs.lemmas.Bool.{cond-true, cond-false}
 use Rattle.page_apply.specs.declared.database.Database.{Database}
-use Rattle.page_apply.specs.Databases.{named, has_name}
+use Rattle.page_apply.specs.Databases.{named}
 use Rattle.page_apply.specs.Machines.{names_of}
 use Rattle.session_rules.specs.Machine.{is_named}
 

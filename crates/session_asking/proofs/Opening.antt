@@ -1,6 +1,6 @@
 -- What OPEN and DUMP want, case by case.
-use Rattle.std.proofs.Common.{◌≡◌, ℕ, Bool, true, false, cond, not, ◌&&◌, List, length, Option, Some, None, refl, sym, ap, ◌∙◌}
-use Rattle.std.specs.Prelude.{nat_lt, nat_le}
+use Rattle.std.proofs.Common.{◌≡◌, ℕ, Bool, true, false, cond, not, List, length, Option, Some, None, sym, ap, ◌∙◌}
+use Rattle.std.specs.Prelude.{nat_lt}
 use Rattle.std.specs.Option.{is_some}
 use Rattle.std.proofs.lemmas.Bool.{cond-true, cond-false}
 use Rattle.dq_base.specs.declared.images.Image.{Image}
@@ -9,7 +9,7 @@ use Rattle.page_apply.specs.declared.database.Database.{Database}
 use Rattle.page_apply.specs.Databases.{named}
 use Rattle.page_apply.specs.Machines.{names_of}
 use Rattle.session_rules.specs.Causes.{DatabaseOpen, BadName, NoDatabase, AnswerTooBig}
-use Rattle.session_rules.specs.Machine.{Machine, machine_of, is_named, Base, base_of}
+use Rattle.session_rules.specs.Machine.{Machine, machine_of, is_named, base_of}
 use Rattle.session_rules.specs.Sessions.{Session, Gateway, View}
 use Rattle.session_rules.specs.Asking.{Asked, Never, Tells, Opens, asks_open, asks_new, asks_dump, has_database, is_name, files_of, within_size, body_size}
 use Rattle.session_asking.specs.Looking.{files_size}

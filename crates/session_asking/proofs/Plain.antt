@@ -2,7 +2,7 @@
 use Rattle.std.proofs.Common.{◌≡◌, Bool, true, false, cond, ℕ, List, Option, subst, sym, rules}
 use Rattle.wire_words.specs.declared.value.Value.{Value}
 use Rattle.wire_msgs.specs.declared.response.Response.TheVariants as responses
-use Rattle.session_rules.specs.Asking.{Asked, Never, Tells, Sets, Opens, Creates, Prepares, Drops, Begins, Commits, RollsBack, Changes, Runs, Reads, at_leader, in_database, asks_open, asks_new, asks_change}
+use Rattle.session_rules.specs.Asking.{Asked, Never, Tells, Sets, Opens, Creates, Prepares, Drops, Begins, Commits, RollsBack, Changes, Runs, Reads, at_leader, in_database, asks_open, asks_change}
 use Rattle.session_rules.specs.Machine.{Machine}
 use Rattle.session_rules.specs.Sessions.{Prepared, Session, Gateway, View}
 use Rattle.session_asking.specs.declared.wanted.Wanted.{Wanted}

@@ -9,7 +9,7 @@ use Rattle.std.specs.Prelude.{nat_le}
 use Rattle.session_rules.specs.Machine.{machine_of, with_name, is_named}
 use Rattle.page_apply.specs.Machines.{names_of}
 use Rattle.session_table.specs.declared.session.Session.{Session}
-use Rattle.session_table.specs.Table.{session_of, session_at, table_of, AreApart}
+use Rattle.session_table.specs.Table.{session_at, table_of, AreApart}
 use Rattle.session_table.proofs.Found.{IsFound, all_found}
 use Rattle.session_asking.specs.Looking.{proposed_by}
 

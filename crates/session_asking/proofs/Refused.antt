@@ -1,5 +1,5 @@
 -- What is refused at once, and what isn't.
-use Rattle.std.proofs.Common.{◌≡◌, Bool, true, false, ◌&&◌, not, Option, Some, None, refl, sym, ap, ◌∙◌}
+use Rattle.std.proofs.Common.{◌≡◌, Bool, true, false, ◌&&◌, not, Option, Some, None, sym, ap, ◌∙◌}
 use Rattle.session_rules.specs.Asking.{Asked, Never}
 use Rattle.session_table.specs.Named.{cause_named}
 use Rattle.session_table.specs.declared.cause.Cause.{Cause}

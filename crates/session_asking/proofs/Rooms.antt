@@ -1,12 +1,11 @@
 -- Where a statement that is prepared has room, and which of a text it is.
-use Rattle.std.proofs.Common.{◌≡◌, ℕ, ◌+◌, ◌<◌, ◌≤◌, Bool, true, false, List, [], ◌∷◌, length, get_or, Option, Some, None, Ok, refl, sym, ap, ◌∙◌, arith}
-use Rattle.std.specs.Prelude.{is_none, not}
+use Rattle.std.proofs.Common.{◌≡◌, ℕ, ◌+◌, ◌<◌, ◌≤◌, Bool, true, false, List, [], ◌∷◌, length, get_or, Option, Some, None, refl, arith}
 use Rattle.std.proofs.lemmas.Bool.{cond-true, cond-false}
 use Rattle.std.proofs.lemmas.List.Sums.{sum_by-cons}
 use Rattle.sql_scan.specs.declared.pieces.Piece.{Piece}
 use Rattle.session_rules.specs.Sessions.{Prepared, Session}
 use Rattle.session_rules.specs.Statements.{prepared_from, prepared_count, free_id, any_barred}
-use Rattle.session_rules.specs.Asking.{Asked, Never, asks_prepare_pieces, with_room, tail_of}
+use Rattle.session_rules.specs.Asking.{Never, asks_prepare_pieces, with_room, tail_of}
 use Rattle.session_rules.specs.Causes.{NotAllowed, OneStatementWanted}
 use Rattle.statement_runs.specs.Texts.{cut_at}
 

@@ -1,5 +1,5 @@
 -- Servers that vote, and changes of the cluster in flight.
-use Rattle.std.proofs.Common.{◌≡◌, ℕ, Bool, true, false, cond, ◌&&◌, ◌||◌, List, [], ◌∷◌, map, Option, Some, None, refl, sym, ap, ◌∙◌}
+use Rattle.std.proofs.Common.{◌≡◌, ℕ, Bool, true, false, cond, ◌&&◌, ◌||◌, List, [], ◌∷◌, map, refl, ap, ◌∙◌}
 use Rattle.std.specs.Prelude.{◌==◌}
 use Rattle.std.specs.List.{list_any, filter}
 use Rattle.raft_rules.specs.Node.{Server, among, voters}
@@ -7,7 +7,7 @@ use Rattle.page_apply.specs.declared.database.Database.{Database}
 use Rattle.session_rules.specs.Limits.{change_in_flight, is_configuring}
 use Rattle.session_rules.specs.Sessions.{Session as RuleSession}
 use Rattle.session_table.specs.declared.session.Session.{Session}
-use Rattle.session_table.specs.Table.{session_of, table_of, AreApart}
+use Rattle.session_table.specs.Table.{table_of, AreApart}
 use Rattle.session_table.proofs.Found.{any_found, all_found}
 use Rattle.session_asking.specs.Looking.{is_changing, votes_as}
 

@@ -1,5 +1,5 @@
 -- What code looks for in sessions and databases.
-use Rattle.std.specs.Prelude.{◌==◌, ◌&&◌, ◌≡◌, ◌≤◌, ◌+◌, ◌*◌, ◌/◌, ℕ, Bool, List, [], ◌∷◌, length, insert, bytes_eq, Option, if◌then◌else◌}
+use Rattle.std.specs.Prelude.{◌==◌, ◌&&◌, ◌≡◌, ◌≤◌, ◌+◌, ◌*◌, ◌/◌, ℕ, Bool, List, length, insert, bytes_eq, if◌then◌else◌}
 use Rattle.raft_rules.specs.Node.{Server}
 use Rattle.session_rules.specs.Machine.{Machine, with_name}
 use Rattle.session_rules.specs.Sessions.{Gateway}

@@ -1,5 +1,5 @@
 -- What code asks for, as the rules have it, with the parameters of the request.
-use Rattle.std.specs.Prelude.{◌≡◌, ◌<◌, ℕ, Bool, true, false, List, [], ◌∷◌, length, All, Option, Some, None, IsSome, Result, Ok, Err, map}
+use Rattle.std.specs.Prelude.{◌≡◌, ◌<◌, ℕ, true, false, List, [], ◌∷◌, length, All, Option, Some, None, IsSome, Result, Ok, Err}
 use Rattle.dq_base.specs.Names.{has_nul}
 use Rattle.wire_words.specs.declared.value.Value.{Value}
 use Rattle.wire_msgs.specs.declared.request.Request.{Request}
@@ -15,13 +15,12 @@ use Rattle.session_rules.specs.Asking.{Asked, has_database}
 use Rattle.session_rules.specs.Sessions as sessions
 use Rattle.session_rules.specs.Sessions.{Prepared, Effect as RuleEffect, View, Session, in_tx}
 use Rattle.session_rules.specs.Limits.{log_full}
-use Rattle.session_rules.specs.Statements.{prepared_from, prepared_at, free_id, with_params, with_all}
-use Rattle.statement_runs.specs.Texts.{cut_at, wants, assigned}
+use Rattle.session_rules.specs.Statements.{prepared_at, free_id, with_all}
+use Rattle.statement_runs.specs.Texts.{wants, assigned}
 use Rattle.session_table.specs.Named.{cause_named}
 use Rattle.session_table.specs.declared.cause.Cause.{Cause}
 use Rattle.session_asking.specs.declared.wanted.Effect.{Effect}
 use Rattle.session_asking.specs.declared.wanted.Effect.TheVariants as effects
-use Rattle.session_asking.specs.declared.wanted.Script.{Script}
 use Rattle.session_asking.specs.declared.wanted.Wanted.{Wanted}
 use Rattle.session_asking.specs.declared.wanted.Wanted.TheVariants as wanted
 

@@ -1,7 +1,6 @@
 -- Entries that are written are seen again.
-use Rattle.std.proofs.Common.{◌≡◌, ℕ, List, [], ◌∷◌, ◌++◌, length, refl, sym, ap, ◌∙◌}
-use Rattle.std.specs.Prelude.{◌==◌, Some, None, Result, Ok}
-use Rattle.std.specs.List.{AllByRecursion}
+use Rattle.std.proofs.Common.{◌≡◌, ℕ, List, [], ◌∷◌, length, refl, sym, ap, ◌∙◌}
+use Rattle.std.specs.Prelude.{◌==◌, Some, None, Ok}
 use Rattle.std.proofs.lemmas.Bool.{cond-true, eq-eqb}
 use Rattle.std.proofs.lemmas.List.{append-nil}
 use Rattle.raft_rules.specs.Node.{Server}
@@ -9,7 +8,7 @@ use Rattle.raft_vote.specs.Servers.{servers_bytes, whole_servers, WritesServers}
 use Rattle.raft_vote.proofs.ServerLaws.{servers_read}
 use Rattle.frame_commands.specs.Spelling.{command_bytes}
 use Rattle.frame_commands.proofs.CommandLaws.{command_read}
-use Rattle.session_rules.specs.Entries.{Content, Does, Configures, Other, Entry, entries_of, written_in, written}
+use Rattle.session_rules.specs.Entries.{Content, Does, Configures, Other, Entry, written_in, written}
 use Rattle.session_rules.specs.Seen.{command_seen, servers_seen, entry_seen, log_seen, HasSpelling, WrittenIsSeen}
 
 servers_are_seen : (servers : List Server) → WritesServers servers (servers_bytes servers) → whole_servers (servers_bytes servers) (Ok (servers, length (servers_bytes servers))) ≡ Some servers

@@ -1,23 +1,23 @@
 -- The change from one image to another by the numbers at which they may differ.
-use Rattle.std.proofs.Common.{Ordering, Less, Equal, Greater, ◌≡◌, ◌≢◌, ℕ, zero, suc, ◌+◌, ◌*◌, ◌/◌, ◌%◌, ◌^◌, ◌<◌, ◌≤◌, max, Bool, true, false, true≢false, cond, eqb, ltb, List, [], ◌∷◌, ◌++◌, length, Option, Some, None, inl, inr, refl, sym, ap, subst, ◌∙◌, arith}
-use Rattle.std.specs.Prelude.{◌&&◌, ◌==◌, nat_lt}
+use Rattle.std.proofs.Common.{Ordering, Less, Equal, Greater, ◌≡◌, ◌≢◌, ℕ, zero, suc, ◌+◌, ◌%◌, ◌^◌, ◌<◌, ◌≤◌, Bool, true, false, cond, eqb, List, [], ◌∷◌, ◌++◌, length, Option, Some, None, inl, inr, refl, sym, ap, subst, ◌∙◌, arith}
+use Rattle.std.specs.Prelude.{◌&&◌, ◌==◌}
 use Rattle.std.specs.List.{AllByRecursion}
 use Rattle.std.specs.Str.{bytes_eq}
 use Rattle.std.specs.Ordering.{MatchOrdering, match_ordering, nat_cmp}
 use Rattle.std.specs.Cmp.{ranked}
 use Rattle.std.specs.BTreeSet.{insert_key}
-use Rattle.std.proofs.lemmas.Bool.{cases_Bool, cases_lt, both_ways, and_parts, and_from, cond-true, cond-false, eq-eqb, ne_eqb, eqb-true, lt-ltb, le-ltb, false_from_ne_true}
+use Rattle.std.proofs.lemmas.Bool.{cases_Bool, cases_lt, both_ways, and_parts, and_from, cond-true, cond-false, eq-eqb, eqb-true, lt-ltb, le-ltb, false_from_ne_true}
 use Rattle.std.proofs.lemmas.List.{ext_get_or}
 use Rattle.std.proofs.lemmas.Slice.Eq.{bytes_eq-Decides}
 use Rattle.dq_base.specs.declared.images.Image.{Image}
 use Rattle.dq_base.specs.declared.pages.NumberedPage.{NumberedPage}
-use Rattle.dq_base.specs.Images.{resized, page_at, page_start, file_of, pages_in}
+use Rattle.dq_base.specs.Images.{resized, page_at, page_start}
 use Rattle.dq_base.specs.Changes.{same_image, changed_page, changed_from, numbers_above_one, sizes_of, changed}
 use Rattle.dq_base.specs.Applying.{stated_main, stated_side, put_pages, applied}
-use Rattle.dq_base.proofs.PutPages.{SomeOf, SomeOf-append_left}
+use Rattle.dq_base.proofs.PutPages.{SomeOf}
 use Rattle.dq_base.proofs.FileBytes.{length-resized, get_or-resized}
 use Rattle.dq_base.proofs.ChangeLaw.{same_images, changed_is, applied_change, stated_main-sizes_page, stated_side-sizes_page}
-use Rattle.dq_base.proofs.ChangedPages.{numbered, page_at_past, page_at_is, changed_from_some}
+use Rattle.dq_base.proofs.ChangedPages.{numbered, page_at_past, changed_from_some}
 use Rattle.session_rules.specs.Engines.{no_pages}
 use Rattle.session_rules.specs.Machine.{Machine}
 use Rattle.session_rules.specs.Sessions.{Session, Transaction}

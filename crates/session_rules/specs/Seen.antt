@@ -8,7 +8,7 @@ use Rattle.frame_commands.specs.declared.command.Command.{Command}
 use Rattle.frame_commands.specs.declared.fault.CommandFault.{CommandFault}
 use Rattle.frame_commands.specs.Reading.{command_of}
 use Rattle.frame_commands.specs.Spelling.{Writes, command_bytes}
-use Rattle.session_rules.specs.Entries.{Content, Does, Configures, Other, Entry, entries_of, written_in, written}
+use Rattle.session_rules.specs.Entries.{Content, Does, Configures, Other, Entry, entries_of, written}
 
 -- bytes that don't read as a command are nothing that sessions see
 abbrev pub command_seen : Result Command CommandFault → Content

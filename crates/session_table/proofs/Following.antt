@@ -1,11 +1,10 @@
 -- What is left of the sessions is what the rules leave of the table.
-use Rattle.std.proofs.Common.{◌≡◌, ◌≢◌, ℕ, Bool, true, false, cond, List, [], ◌∷◌, ◌++◌, map, Option, Some, None, option_map, ◌⊎◌, inl, inr, refl, sym, ap, subst, ◌∙◌}
+use Rattle.std.proofs.Common.{◌≡◌, ℕ, Bool, true, false, cond, List, [], ◌∷◌, map, Option, Some, None, option_map, inl, inr, refl, sym, ap, subst, ◌∙◌}
 use Rattle.std.specs.Prelude.{◌==◌}
-use Rattle.std.specs.List.{AllByRecursion, flat_map, filter}
+use Rattle.std.specs.List.{AllByRecursion, filter}
 use Rattle.std.proofs.lemmas.Bool.{cases_Bool, eqb-true}
-use Rattle.wire_msgs.specs.declared.response.Response.{Response}
 use Rattle.page_apply.specs.declared.database.Database.{Database}
-use Rattle.page_apply.specs.Pins.{Pinning, IsPinned, pinned_image}
+use Rattle.page_apply.specs.Pins.{Pinning, IsPinned}
 use Rattle.session_rules.specs.Sessions.{Kind, Opening, Configuring, Writing, Committing, Flight, Transaction as RuleTransaction, Session as RuleSession, Gateway, absent}
 use Rattle.session_rules.specs.Requests.{with_tx, with_session}
 use Rattle.session_rules.specs.Events as events
@@ -16,9 +15,9 @@ use Rattle.session_table.specs.declared.sweep.Event.{Event}
 use Rattle.session_table.specs.declared.sweep.Event.TheVariants.{Applied, Lost, Left, Ended}
 use Rattle.session_table.specs.Table.{database_of, image_pinned, transaction_of, session_of, session_at, table_of, AreApart, mark_of, pin_of, pins_of}
 use Rattle.session_table.specs.Marks.{IsNoneOf, AreMarks, Released}
-use Rattle.session_table.specs.Sweeping.{hung_up, landed, ended, stopped, opened_at, done, kept_applied, kept_left, kept, all_kept, freed, all_freed, after}
-use Rattle.session_table.proofs.Releasing.{all_front, all_back, all_both, AreBeside}
-use Rattle.session_table.proofs.Parting.{pins_append, of_kept, kept_beside}
+use Rattle.session_table.specs.Sweeping.{ended, stopped, done, kept_applied, kept_left, kept, all_kept, all_freed, after}
+use Rattle.session_table.proofs.Releasing.{all_front, all_back, AreBeside}
+use Rattle.session_table.proofs.Parting.{of_kept, kept_beside}
 use Rattle.session_table.proofs.Found.{IsFound, all_found}
 use Rattle.session_table.proofs.Swept.{Fits, Sweeps, swept_table}
 

@@ -1,12 +1,12 @@
 -- Looking at each session of a table is looking at the session of each connection.
-use Rattle.std.proofs.Common.{◌≡◌, ◌≢◌, ℕ, Bool, true, false, cond, not, ◌&&◌, ◌||◌, max, ◌<◌, ◌≤◌, ◌+◌, List, [], ◌∷◌, ◌++◌, length, drop, get_or, map, find, Option, Some, None, refl, sym, ap, subst, ◌∙◌, arith}
+use Rattle.std.proofs.Common.{◌≡◌, ◌≢◌, ℕ, Bool, true, false, not, ◌&&◌, ◌||◌, max, ◌<◌, ◌≤◌, ◌+◌, List, [], ◌∷◌, length, drop, get_or, map, find, Some, refl, sym, ap, ◌∙◌, arith}
 use Rattle.std.specs.Prelude.{◌==◌}
 use Rattle.std.specs.List.{AllByRecursion, list_any}
 use Rattle.std.proofs.lemmas.List.{at_drop_more, at_drop_all}
 use Rattle.std.proofs.Math.Nat.{le-max_left, le-max_right, max-le, max-zero}
 use Rattle.std.proofs.lemmas.Bool.{cond-true, cond-false, eq-eqb, ne_eqb}
 use Rattle.page_apply.specs.declared.database.Database.{Database}
-use Rattle.session_rules.specs.Sessions.{Session as RuleSession, absent}
+use Rattle.session_rules.specs.Sessions.{Session as RuleSession}
 use Rattle.session_rules.specs.Limits.{holds, other_holds, flown_by, flown, most}
 use Rattle.session_table.specs.declared.session.Session.{Session}
 use Rattle.session_table.specs.Table.{session_of, has_conn, session_found, session_at, table_of, AreApart, holds_beside, flown_in}

@@ -1,25 +1,24 @@
 -- A mark that is pinned, and what it leaves of the others.
-use Rattle.std.proofs.Common.{◌≡◌, ◌≢◌, ℕ, zero, suc, ◌<◌, ◌≤◌, Bool, true, false, cond, List, [], ◌∷◌, ◌++◌, length, set, get_or, remove, find, Option, Some, None, Result, Ok, Err, IfOk, OnErr, ◌⊎◌, inl, inr, refl, sym, ap, subst, ◌∙◌, arith}
-use Rattle.std.specs.Prelude.{◌==◌, is_some, IsSome, slice_set, slice_index_or}
+use Rattle.std.proofs.Common.{◌≡◌, ◌≢◌, ℕ, zero, suc, ◌<◌, Bool, true, false, cond, List, [], ◌∷◌, ◌++◌, length, set, get_or, remove, find, Option, Some, None, ◌⊎◌, inl, inr, refl, sym, ap, subst, ◌∙◌, arith}
+use Rattle.std.specs.Prelude.{◌==◌, IsSome}
 use Rattle.std.specs.List.{AllByRecursion, Contains}
-use Rattle.std.specs.Option.{option_map}
-use Rattle.std.proofs.lemmas.Bool.{cases_Bool, cond-true, cond-false, eqb-true, eqb-false, eq-eqb, ne_eqb}
+use Rattle.std.proofs.lemmas.Bool.{cases_Bool, cond-true, cond-false, eqb-true, eq-eqb, ne_eqb}
 use Rattle.std.proofs.lemmas.List.{append_assoc}
 use Rattle.std.proofs.lemmas.List.Elements.{Contains-append_cases, Contains-append_left, Contains-append_right}
 use Rattle.dq_base.specs.declared.images.Image.{Image}
 use Rattle.read_marks.specs.Marks.{mark_at, with_mark}
-use Rattle.checkpoint_core.specs.Store.{Store, IsLive, pinned, newest, newest_image}
+use Rattle.checkpoint_core.specs.Store.{IsLive, pinned}
 use Rattle.page_apply.specs.declared.database.Database.{Database}
 use Rattle.page_apply.specs.ByName.{change_first}
-use Rattle.page_apply.specs.Databases.{named, has_name, with_store}
+use Rattle.page_apply.specs.Databases.{has_name, with_store}
 use Rattle.page_apply.specs.Machines as machines
 use Rattle.page_apply.specs.Machines.{IsMachine}
-use Rattle.page_apply.specs.Pins.{Pinning, has_place, at_place, is_live_in, IsPinned, IsPin, ShowsNewest, StillPinned, pinned_image, with_pin}
-use Rattle.session_rules.specs.Machine.{Base, base_of, machine_of}
+use Rattle.page_apply.specs.Pins.{Pinning, has_place, at_place, is_live_in, IsPinned, IsPin, ShowsNewest, StillPinned}
+use Rattle.session_rules.specs.Machine.{machine_of}
 use Rattle.session_table.specs.declared.session.Session.{Session}
 use Rattle.session_table.specs.declared.session.Transaction.{Transaction}
-use Rattle.session_table.specs.Table.{image_pinned, transaction_of, mark_of, pin_of, pins_of}
-use Rattle.session_table.specs.Marks.{IsNoneOf, AreDifferent, AreMarks, Gained}
+use Rattle.session_table.specs.Table.{image_pinned, mark_of, pin_of, pins_of}
+use Rattle.session_table.specs.Marks.{IsNoneOf, AreMarks, Gained}
 use Rattle.session_table.proofs.Following.{IsSame}
 use Rattle.session_table.proofs.Marked.{pinned_stays}
 use Rattle.session_table.proofs.Releasing.{all_front, all_back, all_both, AreBeside, beside_turned, beside_more, different_front, different_back, different_beside, different_both}

@@ -8,9 +8,9 @@ use Rattle.session_rules.specs.Sessions.{Kind, Opening, Configuring, Writing, Co
 use Rattle.session_table.specs.declared.session.Session.{Session}
 use Rattle.session_table.specs.declared.sweep.Event.{Event}
 use Rattle.session_table.specs.declared.sweep.Event.TheVariants.{Applied, Lost, Left, Ended}
-use Rattle.session_table.specs.Table.{AreApart, IsTable, pin_of, pins_of}
+use Rattle.session_table.specs.Table.{AreApart, IsTable, pins_of}
 use Rattle.session_table.specs.Sweeping.{stopped, ended, done, kept_applied, kept_left, kept, all_kept, all_said}
-use Rattle.session_table.proofs.Releasing.{all_both, all_also}
+use Rattle.session_table.proofs.Releasing.{all_both}
 use Rattle.session_table.proofs.Parting.{pins_append}
 
 -- nothing, or one of the connection

@@ -1,20 +1,19 @@
 -- The marks of what is left of sessions, and those that are let go.
 use Rattle.std.proofs.Common.{◌≡◌, ◌≢◌, ℕ, zero, suc, ◌<◌, Bool, true, false, cond, List, [], ◌∷◌, ◌++◌, length, get_or, Option, Some, None, ◌⊎◌, inl, inr, refl, sym, ap, subst, ◌∙◌, arith}
 use Rattle.std.specs.Prelude.{◌==◌}
-use Rattle.std.specs.List.{AllByRecursion, Contains, flat_map}
+use Rattle.std.specs.List.{AllByRecursion, Contains}
 use Rattle.std.proofs.lemmas.List.{append_assoc, append-nil}
 use Rattle.std.proofs.lemmas.List.Elements.{Contains-append_cases, Contains-append_left, Contains-append_right}
 use Rattle.page_apply.specs.declared.database.Database.{Database}
 use Rattle.page_apply.specs.Pins.{Pinning, IsPinned}
 use Rattle.session_rules.specs.Sessions.{Kind, Opening, Configuring, Writing, Committing, Flight}
 use Rattle.session_table.specs.declared.session.Session.{Session}
-use Rattle.session_table.specs.declared.session.Transaction.{Transaction}
 use Rattle.session_table.specs.declared.sweep.Event.{Event}
 use Rattle.session_table.specs.declared.sweep.Event.TheVariants.{Applied, Lost, Left, Ended}
-use Rattle.session_table.specs.Table.{mark_of, pin_of, pins_of}
+use Rattle.session_table.specs.Table.{pin_of, pins_of}
 use Rattle.session_table.specs.Marks.{IsNoneOf, AreDifferent, AreMarks, Released}
 use Rattle.session_table.specs.Sweeping.{stopped, done, kept_applied, kept_left, kept, all_kept, freed_done, freed_applied, freed_left, freed, all_freed}
-use Rattle.session_table.proofs.Releasing.{all_front, all_back, all_both, all_also, any_of, AreBeside, beside_nothing, beside_turned, beside_more, different_front, different_back, different_beside, different_both, stay_live}
+use Rattle.session_table.proofs.Releasing.{all_front, all_back, all_both, all_also, AreBeside, beside_nothing, beside_turned, beside_more, different_front, different_back, different_beside, different_both, stay_live}
 
 -- the marks of a session are kept, or let go
 abbrev pub Parts : List Pinning → List Pinning → List Pinning → Type 0

@@ -1,8 +1,8 @@
 -- Marks that are released one after another, and lists of marks.
-use Rattle.std.proofs.Common.{◌≡◌, ◌≢◌, ℕ, List, [], ◌∷◌, ◌++◌, ◌⊎◌, inl, inr, refl, sym, ap, subst, ◌∙◌}
-use Rattle.std.specs.List.{AllByRecursion, Contains}
+use Rattle.std.proofs.Common.{◌≡◌, ◌≢◌, List, [], ◌∷◌, ◌++◌, refl, sym, ap, subst, ◌∙◌}
+use Rattle.std.specs.List.{AllByRecursion}
 use Rattle.page_apply.specs.declared.database.Database.{Database}
-use Rattle.page_apply.specs.Pins.{Pinning, IsPinned, StillPinned, pinned_image, without_pin}
+use Rattle.page_apply.specs.Pins.{Pinning, IsPinned, StillPinned, without_pin}
 use Rattle.session_rules.specs.Machine.{machine_of}
 use Rattle.session_table.specs.Marks.{IsNoneOf, AreDifferent, Released}
 use Rattle.session_table.proofs.Marked.{released_stays, spent_marks}

@@ -1,12 +1,10 @@
 -- A database has room for one more mark where some session has none.
-use Rattle.std.proofs.Common.{◌≡◌, ◌≢◌, ℕ, zero, suc, ◌+◌, ◌<◌, ◌≤◌, Bool, true, false, cond, List, [], ◌∷◌, ◌++◌, length, get_or, Option, Some, None, ◌⊎◌, inl, inr, refl, sym, ap, subst, ◌∙◌, arith, length-append}
-use Rattle.std.specs.Prelude.{is_some, IsSome, slice_index_or}
-use Rattle.std.specs.List.{Contains, count_by}
+use Rattle.std.proofs.Common.{◌≡◌, ◌≢◌, ℕ, zero, suc, ◌+◌, ◌<◌, ◌≤◌, List, [], ◌∷◌, ◌++◌, length, get_or, Option, Some, None, ◌⊎◌, inl, inr, refl, sym, ap, subst, ◌∙◌, arith, length-append}
+use Rattle.std.specs.Prelude.{IsSome, slice_index_or}
 use Rattle.std.proofs.lemmas.List.Sums.{sum_by-cons}
 use Rattle.read_marks.specs.Marks.{mark_at, live_count}
 use Rattle.page_apply.specs.declared.database.Database.{Database}
 use Rattle.page_apply.specs.declared.pin.PinFault.{PinFault}
-use Rattle.page_apply.specs.declared.pin.PinFault.TheVariants.{Unknown, Full}
 use Rattle.page_apply.specs.Databases.{named, has_name}
 use Rattle.page_apply.specs.Files.{empty_image}
 use Rattle.page_apply.specs.Machines.{IsMachine}

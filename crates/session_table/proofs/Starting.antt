@@ -1,9 +1,7 @@
 -- A session that begins a transaction, in its table.
-use Rattle.std.proofs.Common.{◌≡◌, ℕ, ◌<◌, Bool, true, List, [], length, set, get_or, Option, Some, None, refl, sym, ap, subst, ◌∙◌}
+use Rattle.std.proofs.Common.{◌≡◌, ℕ, Bool, List, set, get_or, Option, Some, None, refl, sym, ap, subst, ◌∙◌}
 use Rattle.std.specs.Prelude.{IsSome}
-use Rattle.std.specs.List.{AllByRecursion}
 use Rattle.page_apply.specs.declared.database.Database.{Database}
-use Rattle.page_apply.specs.Pins.{Pinning, IsPinned}
 use Rattle.session_rules.specs.Machine.{Machine, machine_of}
 use Rattle.session_rules.specs.Sessions.{Transaction as RuleTransaction, Session as RuleSession}
 use Rattle.session_rules.specs.Requests.{with_session, with_tx, begun_over, begun}

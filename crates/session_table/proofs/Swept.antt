@@ -1,13 +1,13 @@
 -- What is left of each session is what is left of the table.
-use Rattle.std.proofs.Common.{◌≡◌, ◌≢◌, ℕ, Bool, true, false, cond, List, [], ◌∷◌, ◌++◌, map, find, Option, Some, None, ◌⊎◌, inl, inr, refl, sym, ap, subst, ◌∙◌}
+use Rattle.std.proofs.Common.{◌≡◌, ◌≢◌, ℕ, cond, List, [], ◌∷◌, ◌++◌, map, inl, inr, refl, sym, ap, subst, ◌∙◌}
 use Rattle.std.specs.Prelude.{◌==◌}
 use Rattle.std.specs.List.{AllByRecursion, flat_map, filter}
 use Rattle.std.proofs.lemmas.Bool.{cases_Bool, eqb-true, eqb-false}
 use Rattle.page_apply.specs.declared.database.Database.{Database}
-use Rattle.session_rules.specs.Sessions.{Session as RuleSession, Gateway, absent}
+use Rattle.session_rules.specs.Sessions.{Session as RuleSession, absent}
 use Rattle.session_rules.specs.Events.{tidy}
 use Rattle.session_table.specs.declared.session.Session.{Session}
-use Rattle.session_table.specs.Table.{session_of, session_found, session_at, table_of, AreApart}
+use Rattle.session_table.specs.Table.{session_of, session_at, table_of, AreApart}
 use Rattle.session_table.proofs.Found.{here, elsewhere, IsFound, all_found}
 
 pub none_there : (databases : List Database) (ss : List Session) (conn : ℕ) → AllByRecursion (λ (t : Session). conn ≢ t.conn) ss → session_at databases ss conn ≡ absent

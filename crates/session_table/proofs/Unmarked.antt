@@ -1,5 +1,5 @@
 -- Commands make no read mark.
-use Rattle.std.proofs.Common.{◌≡◌, ◌≢◌, ℕ, zero, suc, ◌-◌, Bool, true, false, cond, true≢false, List, [], ◌∷◌, ◌++◌, length, map, replicate, find, is_none, Option, Some, None, refl, sym, ap, subst, ◌∙◌}
+use Rattle.std.proofs.Common.{◌≡◌, ℕ, zero, suc, Bool, true, false, cond, true≢false, List, [], ◌∷◌, ◌++◌, length, map, replicate, find, is_none, Option, Some, None, refl, sym, ap, subst, ◌∙◌}
 use Rattle.std.specs.Prelude.{◌==◌, is_some, IsSome}
 use Rattle.std.specs.Ordering.{nat_cmp, match_ordering}
 use Rattle.std.specs.Cmp.Lexicographic.{slice_cmp}
@@ -10,12 +10,12 @@ use Rattle.dq_base.specs.Applying.{page_fault}
 use Rattle.frame_commands.specs.declared.command.Command.{Command}
 use Rattle.frame_commands.specs.declared.command.Command.TheVariants.{OpenDb, Frames, Undo, Checkpoint}
 use Rattle.read_marks.specs.Marks.{mark_at, no_marks, lowered, lowered_mark}
-use Rattle.checkpoint_core.specs.Store.{Store, IsLive, fresh_store}
+use Rattle.checkpoint_core.specs.Store.{IsLive, fresh_store}
 use Rattle.page_apply.specs.declared.database.Database.{Database}
 use Rattle.page_apply.specs.ByName.{at_name, change_first}
 use Rattle.page_apply.specs.Files.{empty_image, pending_of}
-use Rattle.page_apply.specs.Databases.{has_name, opened, grown, with_commit, with_pending, frames, undone, moved, changed, act}
-use Rattle.page_apply.specs.Pins.{Pinning, has_place, at_place, is_live_in, IsPinned}
+use Rattle.page_apply.specs.Databases.{has_name, opened, grown, with_commit, frames, undone, moved, changed, act}
+use Rattle.page_apply.specs.Pins.{Pinning, has_place, is_live_in, IsPinned}
 
 -- what is done to a database moves it to no other place, and makes no mark of it live
 pub record MakesNone (f : Database → Database) : Type 0 where

@@ -1,5 +1,5 @@
 -- Clients that wait, in the order in which they are told that leadership is lost.
-use Rattle.std.proofs.Common.{◌≡◌, ◌≢◌, ℕ, zero, suc, ◌+◌, ◌<◌, ◌≤◌, Bool, true, false, cond, not, ◌&&◌, List, [], ◌∷◌, ◌++◌, length, map, insert, is_none, Option, Some, None, refl, sym, ap, subst, ◌∙◌, arith}
+use Rattle.std.proofs.Common.{◌≡◌, ℕ, suc, ◌≤◌, Bool, true, false, cond, List, [], ◌∷◌, ◌++◌, length, map, insert, Option, Some, None, refl, sym, ap, ◌∙◌, arith}
 use Rattle.std.specs.Prelude.{nat_le, ◌==◌}
 use Rattle.std.specs.List.{AllByRecursion, filter, flat_map}
 use Rattle.std.proofs.lemmas.List.{append-nil, append_assoc}
@@ -13,7 +13,7 @@ use Rattle.session_table.specs.declared.session.Session.{Session}
 use Rattle.session_table.specs.declared.sweep.Event.TheVariants.{Applied}
 use Rattle.session_table.specs.Table.{session_of, session_at, table_of, AreApart}
 use Rattle.session_table.specs.Sweeping.{told_in, all_told, said_applied, all_said}
-use Rattle.session_table.specs.Waiting.{waits, place_for, placed_in, with_waiting, waiting_in, told_lost_to}
+use Rattle.session_table.specs.Waiting.{waits, place_for, placed_in, waiting_in, told_lost_to}
 use Rattle.session_table.proofs.Found.{IsFound, all_found}
 
 pub place_within : (last : ℕ) (ws : List (ℕ × ℕ)) → place_for last ws ≤ length ws

@@ -1,7 +1,7 @@
 -- A walk over all sessions, of which some go.
 use Rattle.std.proofs.Common.{◌≡◌, ◌≢◌, ℕ, ◌+◌, ◌<◌, ◌≤◌, Bool, true, false, List, [], ◌∷◌, ◌++◌, length, get_or, take, drop, set, refl, sym, ap, subst, ◌∙◌, arith}
 use Rattle.std.specs.List.{AllByRecursion}
-use Rattle.std.proofs.lemmas.List.{append_assoc, append-nil, drop_more, take_more_set, take-set, take_at, drop_at, drop-set-lt, drop_all, take_all, length-take-le, length-set, length-append, at_drop_more}
+use Rattle.std.proofs.lemmas.List.{append_assoc, append-nil, drop_more, take_more_set, take-set, take_at, drop_at, drop-set-lt, drop_all, take_all, length-take-le, length-append}
 use Rattle.wire_msgs.specs.declared.response.Response.{Response}
 use Rattle.page_apply.specs.declared.database.Database.{Database}
 use Rattle.page_apply.specs.Pins.{Pinning, IsPinned}

@@ -1,5 +1,5 @@
 -- The causes, replies and kinds of the rules, by those of code.
-use Rattle.std.specs.Prelude.{◌≡◌, Option, Some, None, Result, Ok, Err}
+use Rattle.std.specs.Prelude.{◌≡◌, Some, None, Result, Ok, Err}
 use Rattle.wire_rows.specs.Answering.{parts_of}
 use Rattle.sql_engine.specs.declared.answer.Ran.{Ran}
 use Rattle.session_rules.specs.Causes as rules

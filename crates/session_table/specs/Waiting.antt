@@ -1,8 +1,7 @@
 -- Who waits for proposals that are lost, in the order in which they are told.
-use Rattle.std.specs.Prelude.{ℕ, suc, Bool, not, ◌&&◌, nat_le, List, [], ◌∷◌, map, is_none, Option, Some, None, if◌then◌else◌}
+use Rattle.std.specs.Prelude.{ℕ, suc, Bool, not, ◌&&◌, nat_le, List, [], ◌∷◌, map, is_none, if◌then◌else◌}
 use Rattle.wire_msgs.specs.declared.response.Response.{Response}
 use Rattle.session_rules.specs.Causes.{LeadershipLost, failure}
-use Rattle.session_rules.specs.Sessions.{Flight}
 use Rattle.session_rules.specs.Events.{last_of}
 use Rattle.session_table.specs.declared.session.Session.{Session}
 

@@ -1,5 +1,5 @@
 -- The lengths of two images, compared by pages of the one.
-use Rattle.std.specs.Prelude.{ℕ, ◌+◌, ◌*◌, Bool, false, ◌&&◌, is_none, List, length, Option, Some, None}
+use Rattle.std.specs.Prelude.{ℕ, ◌+◌, ◌*◌, Bool, false, ◌&&◌, is_none, List, Option, Some, None}
 use Rattle.std.specs.Str.{bytes_eq}
 use Rattle.dq_base.specs.declared.images.Image.{Image}
 use Rattle.dq_base.specs.Changes.{sizes_of}

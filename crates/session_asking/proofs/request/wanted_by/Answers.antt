@@ -1,10 +1,7 @@
 use Rattle.std.proofs.Common.{subst, sym}
-use Rattle.std.proofs.lemmas.Result.{IfOk-weaker}
-use Rattle.session_rules.specs.Asking.{Asked, asked_by}
 use Rattle.session_rules.specs.Machine.{machine_of}
 use Rattle.session_table.specs.Table.{session_of, table_of}
-use Rattle.session_asking.specs.declared.wanted.Wanted.{Wanted}
-use Rattle.session_asking.specs.Meant.{meant, params_of, FitsStatements, IsAllowed, CanBeDone}
+use Rattle.session_asking.specs.Meant.{IsAllowed}
 use Rattle.session_asking.proofs.Allowed.{all_allowed, both_ok}
 use Rattle.session_asking.proofs.request.wanted_by.Goals as goal
 

@@ -1,6 +1,4 @@
-use Rattle.std.proofs.Common.{◌≡◌, Bool, Option, sym, ap, ◌∙◌}
-use Rattle.std.proofs.lemmas.Result.{IfOk-weaker}
-use Rattle.sql_scan.specs.Statements.{scan_of}
+use Rattle.std.proofs.Common.{Bool, Option, ap, ◌∙◌}
 use Rattle.session_rules.specs.Asking as asking
 use Rattle.session_rules.specs.Sessions.{Prepared, in_tx}
 use Rattle.session_rules.specs.Statements.{prepared_at}

@@ -1,4 +1,4 @@
-use Rattle.std.proofs.Common.{ap, subst, sym}
+use Rattle.std.proofs.Common.{subst, sym}
 use Rattle.std.specs.Prelude.{IsSome}
 use Rattle.session_table.specs.declared.session.Session.{Session}
 use Rattle.session_table.proofs.Roomy.{has_room}

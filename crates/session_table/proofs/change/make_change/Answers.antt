@@ -1,4 +1,4 @@
-use Rattle.std.proofs.Common.{◌≡◌, ℕ, List, get_or, sym, ap, subst, ◌∙◌}
+use Rattle.std.proofs.Common.{sym, subst}
 use Rattle.session_table.specs.declared.session.Session.{Session}
 use Rattle.session_table.specs.Changing.{CanChange}
 use Rattle.session_table.proofs.Placing.{change_table, keep_table, keep_pins, was_own, set_is_table, ok_also, err_also}

@@ -1,5 +1,4 @@
-use Rattle.std.proofs.Common.{◌≡◌, ◌++◌, ℕ, List, true, Option, Some, None, option_map, refl, sym, ap, subst, ◌∙◌}
-use Rattle.dq_base.specs.declared.images.Image.{Image}
+use Rattle.std.proofs.Common.{◌≡◌, ◌++◌, ℕ, List, true, Option, Some, option_map, refl, sym, ap, subst, ◌∙◌}
 use Rattle.session_rules.specs.Touched.{numbers_of}
 use Rattle.session_table.specs.declared.session.Transaction.{Transaction}
 use Rattle.session_table.specs.Table.{image_pinned, transaction_of}

@@ -1,5 +1,4 @@
-use Rattle.std.proofs.Common.{◌≡◌, ◌<◌, ◌≤◌, length, max, refl, sym, ap, ◌∙◌, arith}
-use Rattle.session_rules.specs.Limits.{most}
+use Rattle.std.proofs.Common.{◌<◌, ◌≤◌, length, sym, ◌∙◌, arith}
 use Rattle.session_table.specs.Table.{flown_in}
 use Rattle.session_table.proofs.Found.{all_flown, most_next, most_end}
 use Rattle.session_table.proofs.limits.flown.Goals as goal

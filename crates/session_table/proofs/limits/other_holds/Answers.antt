@@ -1,4 +1,4 @@
-use Rattle.std.proofs.Common.{◌≡◌, ◌<◌, ◌≤◌, length, refl, sym, ◌∙◌, arith}
+use Rattle.std.proofs.Common.{◌<◌, ◌≤◌, length, refl, sym, ◌∙◌, arith}
 use Rattle.session_table.specs.Table.{holds_beside}
 use Rattle.session_table.proofs.Found.{others_hold, any_skip, any_hit, any_end}
 use Rattle.session_table.proofs.limits.other_holds.Goals as goal

@@ -1,4 +1,4 @@
-use Rattle.std.proofs.Common.{◌≡◌, ◌≤◌, List, ℕ, length, insert, ap, ◌∙◌, arith}
+use Rattle.std.proofs.Common.{◌≡◌, ◌≤◌, ℕ, length, insert, ap, ◌∙◌, arith}
 use Rattle.session_table.specs.Waiting.{place_for}
 use Rattle.session_table.proofs.Waits.{place_within, put_in_place}
 use Rattle.session_table.proofs.told.add_waiting.Goals as goal
