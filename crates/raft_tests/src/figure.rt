@@ -149,55 +149,56 @@ fn after(
     Ok((cluster.stands(it.node()), cluster.holders()))
 }
 
+const MOVES: &[(Move, (u8, u64, u64, u64), usize)] = &[
+    // Node 1 leads term 1, and its barrier is stored at all.
+    (Move::Timeout(1), (1, 1, 0, 0), 0),
+    (Move::Comes(1, 2), (0, 1, 0, 0), 0),
+    (Move::Comes(2, 1), (1, 1, 0, 0), 0),
+    (Move::Comes(1, 3), (0, 1, 0, 0), 0),
+    (Move::Comes(3, 1), (2, 1, 1, 0), 0),
+    (Move::Comes(1, 2), (0, 1, 1, 0), 0),
+    (Move::Comes(1, 3), (0, 1, 1, 0), 0),
+    (Move::Comes(1, 4), (0, 1, 1, 0), 0),
+    (Move::Comes(1, 5), (0, 1, 1, 0), 0),
+    (Move::Comes(2, 1), (2, 1, 1, 0), 0),
+    (Move::Comes(3, 1), (2, 1, 1, 1), 0),
+    (Move::Lost, (2, 1, 1, 1), 0),
+    // Entries 2 to 17 are stored at nodes 1 and 2 alone.
+    (Move::Propose(1, &[0; 16]), (2, 1, 17, 1), 1),
+    (Move::Comes(1, 2), (0, 1, 17, 1), 2),
+    (Move::Lost, (2, 1, 17, 1), 2),
+    // Node 5 leads term 2 by the votes of 3 and 4, and stores another entry 2 at itself alone.
+    (Move::Timeout(5), (1, 2, 1, 0), 2),
+    (Move::Comes(5, 1), (0, 2, 17, 1), 2),
+    (Move::Comes(5, 3), (0, 2, 1, 0), 2),
+    (Move::Comes(5, 4), (0, 2, 1, 0), 2),
+    (Move::Comes(3, 5), (1, 2, 1, 0), 2),
+    (Move::Comes(4, 5), (2, 2, 2, 0), 2),
+    (Move::Lost, (0, 2, 17, 1), 2),
+    // Node 1 leads term 3 by the votes of 2 and 3, and node 2 stores its barrier.
+    (Move::Timeout(1), (1, 3, 17, 1), 2),
+    (Move::Comes(1, 2), (0, 3, 17, 1), 2),
+    (Move::Comes(2, 1), (1, 3, 17, 1), 2),
+    (Move::Comes(1, 3), (0, 3, 1, 0), 2),
+    (Move::Comes(3, 1), (2, 3, 18, 1), 2),
+    (Move::Comes(1, 2), (0, 3, 18, 1), 2),
+    (Move::Comes(2, 1), (2, 3, 18, 1), 2),
+    // Node 3 stores the entries of term 1 too, before the barrier: three of five have them, and none is committed.
+    (Move::Comes(1, 3), (0, 3, 1, 0), 2),
+    (Move::Comes(3, 1), (2, 3, 18, 1), 2),
+    (Move::Comes(1, 3), (0, 3, 17, 1), 3),
+    (Move::Comes(3, 1), (2, 3, 18, 1), 3),
+    // With the barrier on a majority all are.
+    (Move::Comes(1, 3), (0, 3, 18, 1), 3),
+    (Move::Comes(3, 1), (2, 3, 18, 18), 3),
+];
+
 // Why an entry of an older term isn't committed by counting. An Append has at most 16 entries, so a node can have all of
 // term 1 and not yet the barrier of term 3.
 #[test]
 fn an_older_term_is_not_counted(rt: HostRuntime) -> Result<(), Fail> {
-    let rows: [(Move, (u8, u64, u64, u64), usize); 35] = [
-        // Node 1 leads term 1, and its barrier is stored at all.
-        (Move::Timeout(1), (1, 1, 0, 0), 0),
-        (Move::Comes(1, 2), (0, 1, 0, 0), 0),
-        (Move::Comes(2, 1), (1, 1, 0, 0), 0),
-        (Move::Comes(1, 3), (0, 1, 0, 0), 0),
-        (Move::Comes(3, 1), (2, 1, 1, 0), 0),
-        (Move::Comes(1, 2), (0, 1, 1, 0), 0),
-        (Move::Comes(1, 3), (0, 1, 1, 0), 0),
-        (Move::Comes(1, 4), (0, 1, 1, 0), 0),
-        (Move::Comes(1, 5), (0, 1, 1, 0), 0),
-        (Move::Comes(2, 1), (2, 1, 1, 0), 0),
-        (Move::Comes(3, 1), (2, 1, 1, 1), 0),
-        (Move::Lost, (2, 1, 1, 1), 0),
-        // Entries 2 to 17 are stored at nodes 1 and 2 alone.
-        (Move::Propose(1, &[0; 16]), (2, 1, 17, 1), 1),
-        (Move::Comes(1, 2), (0, 1, 17, 1), 2),
-        (Move::Lost, (2, 1, 17, 1), 2),
-        // Node 5 leads term 2 by the votes of 3 and 4, and stores another entry 2 at itself alone.
-        (Move::Timeout(5), (1, 2, 1, 0), 2),
-        (Move::Comes(5, 1), (0, 2, 17, 1), 2),
-        (Move::Comes(5, 3), (0, 2, 1, 0), 2),
-        (Move::Comes(5, 4), (0, 2, 1, 0), 2),
-        (Move::Comes(3, 5), (1, 2, 1, 0), 2),
-        (Move::Comes(4, 5), (2, 2, 2, 0), 2),
-        (Move::Lost, (0, 2, 17, 1), 2),
-        // Node 1 leads term 3 by the votes of 2 and 3, and node 2 stores its barrier.
-        (Move::Timeout(1), (1, 3, 17, 1), 2),
-        (Move::Comes(1, 2), (0, 3, 17, 1), 2),
-        (Move::Comes(2, 1), (1, 3, 17, 1), 2),
-        (Move::Comes(1, 3), (0, 3, 1, 0), 2),
-        (Move::Comes(3, 1), (2, 3, 18, 1), 2),
-        (Move::Comes(1, 2), (0, 3, 18, 1), 2),
-        (Move::Comes(2, 1), (2, 3, 18, 1), 2),
-        // Node 3 stores the entries of term 1 too, before the barrier: three of five have them, and none is committed.
-        (Move::Comes(1, 3), (0, 3, 1, 0), 2),
-        (Move::Comes(3, 1), (2, 3, 18, 1), 2),
-        (Move::Comes(1, 3), (0, 3, 17, 1), 3),
-        (Move::Comes(3, 1), (2, 3, 18, 1), 3),
-        // With the barrier on a majority all are.
-        (Move::Comes(1, 3), (0, 3, 18, 1), 3),
-        (Move::Comes(3, 1), (2, 3, 18, 18), 3),
-    ];
     let mut cluster = five(rt.alloc())?;
-    for (it, stands, holders) in rows {
+    for &(it, stands, holders) in MOVES {
         assert_eq!(rt; after(rt.alloc(), &mut cluster, it)?, (stands, holders));
     }
     Ok(())

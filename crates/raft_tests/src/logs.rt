@@ -40,25 +40,56 @@ fn taken(
     Ok((answer, log.last_index()))
 }
 
+const NONE: Accepted = Accepted::Match {
+    index: 2,
+    from: None,
+};
+
+const SOME: Accepted = Accepted::Match {
+    index: 4,
+    from: Some(3),
+};
+
+// The terms of a log, how much of it is cut, the place before what comes, its terms, the answer, and the last index then.
+const TAKEN: &[(&[u64], u64, LogEnd, &[u64], Accepted, u64)] = &[
+    (
+        &[1, 1, 1, 1],
+        0,
+        LogEnd { index: 0, term: 0 },
+        &[1, 1],
+        NONE,
+        4,
+    ),
+    (&[1, 1, 1, 1], 2, LogEnd { index: 2, term: 1 }, &[], NONE, 4),
+    (
+        &[1, 1, 1, 1, 1],
+        1,
+        LogEnd { index: 2, term: 1 },
+        &[2, 2],
+        SOME,
+        4,
+    ),
+    (
+        &[1, 1],
+        0,
+        LogEnd { index: 1, term: 1 },
+        &[1, 2, 2],
+        SOME,
+        4,
+    ),
+    (
+        &[1, 1],
+        0,
+        LogEnd { index: 2, term: 2 },
+        &[2],
+        Accepted::Differs(2),
+        2,
+    ),
+];
+
 #[test]
 fn entries_are_taken(rt: HostRuntime) -> Result<(), Fail> {
-    let none = Accepted::Match {
-        index: 2,
-        from: None,
-    };
-    let some = Accepted::Match {
-        index: 4,
-        from: Some(3),
-    };
-    let rows: [(&[u64], u64, u64, u64, &[u64], Accepted, u64); 5] = [
-        (&[1, 1, 1, 1], 0, 0, 0, &[1, 1], none, 4),
-        (&[1, 1, 1, 1], 2, 2, 1, &[], none, 4),
-        (&[1, 1, 1, 1, 1], 1, 2, 1, &[2, 2], some, 4),
-        (&[1, 1], 0, 1, 1, &[1, 2, 2], some, 4),
-        (&[1, 1], 0, 2, 2, &[2], Accepted::Differs(2), 2),
-    ];
-    for (terms, cut, index, term, coming, answer, last) in rows {
-        let prev = LogEnd { index, term };
+    for &(terms, cut, prev, coming, answer, last) in TAKEN {
         assert_eq!(rt;
             taken(rt.alloc(), terms, cut, prev, coming)?,
             (answer, last)
@@ -78,14 +109,15 @@ fn committed(alloc: Global, acks: &[(u64, u32)]) -> Result<u64, AllocError> {
     Ok(progress.commit_index(&log, 3, 1))
 }
 
+const ACKS: &[(&[(u64, u32)], u64)] = &[
+    (&[(2, 2), (3, 2)], 1),
+    (&[(2, 2), (3, 2), (2, 3)], 1),
+    (&[(2, 2), (3, 2), (2, 3), (3, 3)], 3),
+];
+
 #[test]
 fn only_the_own_term_is_counted(rt: HostRuntime) -> Result<(), Fail> {
-    let rows: [(&[(u64, u32)], u64); 3] = [
-        (&[(2, 2), (3, 2)], 1),
-        (&[(2, 2), (3, 2), (2, 3)], 1),
-        (&[(2, 2), (3, 2), (2, 3), (3, 3)], 3),
-    ];
-    for (acks, commit) in rows {
+    for &(acks, commit) in ACKS {
         assert_eq!(rt; committed(rt.alloc(), acks)?, commit);
     }
     Ok(())

@@ -118,77 +118,78 @@ fn taken(alloc: Global, node: &mut RaftNode, row: Row) -> Result<Seen, Fail> {
 
 const NONE: (u64, u8, bool, u64) = (0, 0, false, 0);
 
+const STEPS: &[(Row, Seen)] = &[
+    // Two candidates of one term ask node 3: the first gets its vote.
+    (Row::Fresh(3, THREE), (0, 0, 0, 0, 0, NONE)),
+    (Row::AskVote(1, 1, 0, 0), (0, 1, 0, 0, 1, (1, 2, true, 0))),
+    (Row::AskVote(2, 1, 0, 0), (0, 1, 0, 0, 1, (2, 2, false, 0))),
+    // A short Append that comes late leaves the four entries of the longer one.
+    (
+        Row::Append(1, 1, 0, 0, 0, &[1, 1, 1, 1]),
+        (0, 1, 4, 0, 1, (1, 4, true, 4)),
+    ),
+    (
+        Row::Append(1, 1, 0, 0, 2, &[1, 1]),
+        (0, 1, 4, 2, 1, (1, 4, true, 2)),
+    ),
+    // One whose place isn't there is refused; one that would replace a committed entry changes nothing.
+    (
+        Row::Append(1, 1, 6, 1, 2, &[1]),
+        (0, 1, 4, 2, 1, (1, 4, false, 4)),
+    ),
+    (Row::Append(2, 2, 1, 1, 4, &[2]), (0, 2, 4, 2, 0, NONE)),
+    // TimeoutNow makes a voter a candidate of the next term.
+    (Row::TimeoutNow(2, 2), (1, 3, 4, 2, 2, (1, 1, false, 4))),
+    (Row::Vote(2, 3, false), (1, 3, 4, 2, 0, NONE)),
+    (Row::Vote(1, 3, true), (2, 3, 5, 2, 2, (1, 3, false, 4))),
+    // A leader of one of five nodes: an entry of an older term isn't committed by counting.
+    (Row::Fresh(1, FIVE), (0, 0, 0, 0, 0, NONE)),
+    (Row::Timeout, (1, 1, 0, 0, 4, (2, 1, false, 0))),
+    (Row::Vote(2, 1, true), (1, 1, 0, 0, 0, NONE)),
+    (Row::Vote(2, 1, true), (1, 1, 0, 0, 0, NONE)),
+    (Row::Vote(3, 1, true), (2, 1, 1, 0, 4, (2, 3, false, 0))),
+    (Row::Ack(2, 1, true, 1), (2, 1, 1, 0, 0, NONE)),
+    (Row::Ack(3, 1, true, 1), (2, 1, 1, 1, 4, (2, 3, false, 1))),
+    (Row::Propose(&[1]), (2, 1, 2, 1, 4, (2, 3, false, 1))),
+    (Row::Ack(2, 1, true, 2), (2, 1, 2, 1, 0, NONE)),
+    (Row::AskVote(5, 2, 1, 1), (0, 2, 2, 1, 1, (5, 2, false, 0))),
+    (Row::Timeout, (1, 3, 2, 1, 4, (2, 1, false, 2))),
+    (Row::Vote(2, 3, true), (1, 3, 2, 1, 0, NONE)),
+    (Row::Vote(3, 3, true), (2, 3, 3, 1, 4, (2, 3, false, 2))),
+    (Row::Ack(2, 3, true, 2), (2, 3, 3, 1, 1, (2, 3, false, 2))),
+    (Row::Ack(3, 3, true, 2), (2, 3, 3, 1, 1, (3, 3, false, 2))),
+    (Row::Ack(2, 3, true, 3), (2, 3, 3, 1, 0, NONE)),
+    (Row::Ack(3, 3, true, 3), (2, 3, 3, 3, 4, (2, 3, false, 3))),
+    (Row::Transfer(2), (2, 3, 3, 3, 1, (2, 6, false, 0))),
+    // A standby's Ack isn't counted; an only voter commits at once, and its snapshot goes to a peer that is behind.
+    (Row::Fresh(1, &[0, 1]), (0, 0, 0, 0, 0, NONE)),
+    (Row::Timeout, (2, 1, 1, 1, 1, (2, 3, false, 0))),
+    (Row::Propose(&[1; 20]), (2, 1, 21, 21, 1, (2, 3, false, 0))),
+    (Row::Snapped(21), (2, 1, 21, 21, 0, NONE)),
+    (
+        Row::Ack(2, 1, false, 0),
+        (2, 1, 21, 21, 1, (2, 5, false, 21)),
+    ),
+    // An Install replaces the log, keeps its rest, and tells nothing new.
+    (Row::Fresh(2, THREE), (0, 0, 0, 0, 0, NONE)),
+    (Row::Install(1, 1, 3, 1), (0, 1, 3, 3, 1, (1, 4, true, 3))),
+    (
+        Row::Append(1, 1, 3, 1, 3, &[1, 1, 1]),
+        (0, 1, 6, 3, 1, (1, 4, true, 6)),
+    ),
+    (Row::Install(1, 1, 5, 1), (0, 1, 6, 5, 1, (1, 4, true, 5))),
+    (Row::Install(1, 1, 4, 1), (0, 1, 6, 5, 1, (1, 4, true, 4))),
+    (Row::Install(1, 1, 7, 1), (0, 1, 7, 7, 1, (1, 4, true, 7))),
+    (
+        Row::Append(1, 1, 2, 1, 7, &[1, 1, 1, 1, 1, 1]),
+        (0, 1, 8, 7, 1, (1, 4, true, 8)),
+    ),
+];
+
 #[test]
 fn rows_of_steps(rt: HostRuntime) -> Result<(), Fail> {
-    let rows: [(Row, Seen); 40] = [
-        // Two candidates of one term ask node 3: the first gets its vote.
-        (Row::Fresh(3, THREE), (0, 0, 0, 0, 0, NONE)),
-        (Row::AskVote(1, 1, 0, 0), (0, 1, 0, 0, 1, (1, 2, true, 0))),
-        (Row::AskVote(2, 1, 0, 0), (0, 1, 0, 0, 1, (2, 2, false, 0))),
-        // A short Append that comes late leaves the four entries of the longer one.
-        (
-            Row::Append(1, 1, 0, 0, 0, &[1, 1, 1, 1]),
-            (0, 1, 4, 0, 1, (1, 4, true, 4)),
-        ),
-        (
-            Row::Append(1, 1, 0, 0, 2, &[1, 1]),
-            (0, 1, 4, 2, 1, (1, 4, true, 2)),
-        ),
-        // One whose place isn't there is refused; one that would replace a committed entry changes nothing.
-        (
-            Row::Append(1, 1, 6, 1, 2, &[1]),
-            (0, 1, 4, 2, 1, (1, 4, false, 4)),
-        ),
-        (Row::Append(2, 2, 1, 1, 4, &[2]), (0, 2, 4, 2, 0, NONE)),
-        // TimeoutNow makes a voter a candidate of the next term.
-        (Row::TimeoutNow(2, 2), (1, 3, 4, 2, 2, (1, 1, false, 4))),
-        (Row::Vote(2, 3, false), (1, 3, 4, 2, 0, NONE)),
-        (Row::Vote(1, 3, true), (2, 3, 5, 2, 2, (1, 3, false, 4))),
-        // A leader of one of five nodes: an entry of an older term isn't committed by counting.
-        (Row::Fresh(1, FIVE), (0, 0, 0, 0, 0, NONE)),
-        (Row::Timeout, (1, 1, 0, 0, 4, (2, 1, false, 0))),
-        (Row::Vote(2, 1, true), (1, 1, 0, 0, 0, NONE)),
-        (Row::Vote(2, 1, true), (1, 1, 0, 0, 0, NONE)),
-        (Row::Vote(3, 1, true), (2, 1, 1, 0, 4, (2, 3, false, 0))),
-        (Row::Ack(2, 1, true, 1), (2, 1, 1, 0, 0, NONE)),
-        (Row::Ack(3, 1, true, 1), (2, 1, 1, 1, 4, (2, 3, false, 1))),
-        (Row::Propose(&[1]), (2, 1, 2, 1, 4, (2, 3, false, 1))),
-        (Row::Ack(2, 1, true, 2), (2, 1, 2, 1, 0, NONE)),
-        (Row::AskVote(5, 2, 1, 1), (0, 2, 2, 1, 1, (5, 2, false, 0))),
-        (Row::Timeout, (1, 3, 2, 1, 4, (2, 1, false, 2))),
-        (Row::Vote(2, 3, true), (1, 3, 2, 1, 0, NONE)),
-        (Row::Vote(3, 3, true), (2, 3, 3, 1, 4, (2, 3, false, 2))),
-        (Row::Ack(2, 3, true, 2), (2, 3, 3, 1, 1, (2, 3, false, 2))),
-        (Row::Ack(3, 3, true, 2), (2, 3, 3, 1, 1, (3, 3, false, 2))),
-        (Row::Ack(2, 3, true, 3), (2, 3, 3, 1, 0, NONE)),
-        (Row::Ack(3, 3, true, 3), (2, 3, 3, 3, 4, (2, 3, false, 3))),
-        (Row::Transfer(2), (2, 3, 3, 3, 1, (2, 6, false, 0))),
-        // A standby's Ack isn't counted; an only voter commits at once, and its snapshot goes to a peer that is behind.
-        (Row::Fresh(1, &[0, 1]), (0, 0, 0, 0, 0, NONE)),
-        (Row::Timeout, (2, 1, 1, 1, 1, (2, 3, false, 0))),
-        (Row::Propose(&[1; 20]), (2, 1, 21, 21, 1, (2, 3, false, 0))),
-        (Row::Snapped(21), (2, 1, 21, 21, 0, NONE)),
-        (
-            Row::Ack(2, 1, false, 0),
-            (2, 1, 21, 21, 1, (2, 5, false, 21)),
-        ),
-        // An Install replaces the log, keeps its rest, and tells nothing new.
-        (Row::Fresh(2, THREE), (0, 0, 0, 0, 0, NONE)),
-        (Row::Install(1, 1, 3, 1), (0, 1, 3, 3, 1, (1, 4, true, 3))),
-        (
-            Row::Append(1, 1, 3, 1, 3, &[1, 1, 1]),
-            (0, 1, 6, 3, 1, (1, 4, true, 6)),
-        ),
-        (Row::Install(1, 1, 5, 1), (0, 1, 6, 5, 1, (1, 4, true, 5))),
-        (Row::Install(1, 1, 4, 1), (0, 1, 6, 5, 1, (1, 4, true, 4))),
-        (Row::Install(1, 1, 7, 1), (0, 1, 7, 7, 1, (1, 4, true, 7))),
-        (
-            Row::Append(1, 1, 2, 1, 7, &[1, 1, 1, 1, 1, 1]),
-            (0, 1, 8, 7, 1, (1, 4, true, 8)),
-        ),
-    ];
     let mut node = fresh(rt.alloc(), 1, THREE)?;
-    for (row, wanted) in rows {
+    for &(row, wanted) in STEPS {
         assert_eq!(rt; taken(rt.alloc(), &mut node, row)?, wanted);
     }
     Ok(())

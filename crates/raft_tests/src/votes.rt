@@ -34,21 +34,22 @@ fn reads_back(alloc: Global, kind: u8, header: u64, words: &[u64]) -> Result<boo
     Ok(written.as_slice() == wanted.as_slice())
 }
 
+const MESSAGES: &[(u8, u64, &[u64])] = &[
+    (1, 0x1_0000_0004, &[1, 4, 3, 2]),
+    (2, 0x2_0000_0003, &[1, 4, 1]),
+    (
+        3,
+        0x3_0000_0009,
+        &[1, 4, 3, 2, 1, 1, 4, 0x3_0000_0001, 0x63_6261],
+    ),
+    (4, 0x4_0000_0004, &[1, 4, 0, 7]),
+    (5, 0x5_0000_0006, &[1, 4, 5, 2, 2, 0x6968]),
+    (6, 0x6_0000_0002, &[1, 4]),
+];
+
 #[test]
 fn messages_both_ways(rt: HostRuntime) -> Result<(), Fail> {
-    let rows = [
-        (1, 0x1_0000_0004, [1, 4, 3, 2].as_slice()),
-        (2, 0x2_0000_0003, &[1, 4, 1]),
-        (
-            3,
-            0x3_0000_0009,
-            &[1, 4, 3, 2, 1, 1, 4, 0x3_0000_0001, 0x63_6261],
-        ),
-        (4, 0x4_0000_0004, &[1, 4, 0, 7]),
-        (5, 0x5_0000_0006, &[1, 4, 5, 2, 2, 0x6968]),
-        (6, 0x6_0000_0002, &[1, 4]),
-    ];
-    for (kind, header, body) in rows {
+    for &(kind, header, body) in MESSAGES {
         assert!(rt; reads_back(rt.alloc(), kind, header, body)?);
     }
     Ok(())
@@ -64,29 +65,30 @@ fn fault(
     Ok(read_message(alloc, &message, 2).err())
 }
 
+const MESSAGE_FAULTS: &[(u8, u8, &[u64], PeerFault)] = &[
+    (7, 0, &[], PeerFault::Kind),
+    (2, 1, &[1, 4, 1], PeerFault::Kind),
+    (2, 0, &[1, 4], PeerFault::Word(WordFault::Short(16))),
+    (2, 0, &[1, 4, 2, 0], PeerFault::Range),
+    (6, 0, &[1, 0x1_0000_0000], PeerFault::Range),
+    (6, 0, &[1, 4, 0], PeerFault::Tail),
+    (
+        3,
+        0,
+        &[1, 4, 0, 0, 0, 1, 1, 0x104],
+        PeerFault::Word(WordFault::BadCode(56, 4)),
+    ),
+    (
+        3,
+        0,
+        &[1, 4, 0, 0, 0, 1, 1, 0x101],
+        PeerFault::Word(WordFault::Pad(56)),
+    ),
+];
+
 #[test]
 fn faults_of_messages(rt: HostRuntime) -> Result<(), Fail> {
-    let rows = [
-        (7, 0, [].as_slice(), PeerFault::Kind),
-        (2, 1, &[1, 4, 1], PeerFault::Kind),
-        (2, 0, &[1, 4], PeerFault::Word(WordFault::Short(16))),
-        (2, 0, &[1, 4, 2, 0], PeerFault::Range),
-        (6, 0, &[1, 0x1_0000_0000], PeerFault::Range),
-        (6, 0, &[1, 4, 0], PeerFault::Tail),
-        (
-            3,
-            0,
-            &[1, 4, 0, 0, 0, 1, 1, 0x104],
-            PeerFault::Word(WordFault::BadCode(56, 4)),
-        ),
-        (
-            3,
-            0,
-            &[1, 4, 0, 0, 0, 1, 1, 0x101],
-            PeerFault::Word(WordFault::Pad(56)),
-        ),
-    ];
-    for (kind, schema, body, wanted) in rows {
+    for &(kind, schema, body, wanted) in MESSAGE_FAULTS {
         assert_eq!(rt; fault(rt.alloc(), kind, schema, body)?, Some(wanted));
     }
     Ok(())
@@ -105,10 +107,11 @@ fn place_after(alloc: Global, spelled: &[u64], behind: u64) -> Result<Option<u64
     Ok(if same { Some(place) } else { None })
 }
 
+const CONFIGURATIONS: &[(&[u64], u64)] = &[(&[0], 8), (&[2, 1, N1, 0, 3, N1, 1], 56)];
+
 #[test]
 fn configurations_both_ways(rt: HostRuntime) -> Result<(), Fail> {
-    let rows = [([0].as_slice(), 8), (&[2, 1, N1, 0, 3, N1, 1], 56)];
-    for (spelled, place) in rows {
+    for &(spelled, place) in CONFIGURATIONS {
         assert_eq!(rt; place_after(rt.alloc(), spelled, 9)?, Some(place));
     }
     Ok(())
@@ -128,17 +131,20 @@ fn fault_of_many(alloc: Global, count: u64, role: u64) -> Result<Option<ServersF
     servers_fault(alloc, &words)
 }
 
+const CONFIGURATION_FAULTS: &[(&[u64], ServersFault)] = &[
+    (&[], ServersFault::Word(WordFault::Short(0))),
+    (&[1, 0, N1, 3], ServersFault::Order(8)),
+    (&[1, 1, N1, 3], ServersFault::Role(24)),
+];
+
+const LIMITS: &[(u64, u64, u64)] = &[(10, 1, 224), (8, 0, 176)];
+
 #[test]
 fn faults_of_configurations(rt: HostRuntime) -> Result<(), Fail> {
-    let rows = [
-        ([].as_slice(), ServersFault::Word(WordFault::Short(0))),
-        (&[1, 0, N1, 3], ServersFault::Order(8)),
-        (&[1, 1, N1, 3], ServersFault::Role(24)),
-    ];
-    for (words, wanted) in rows {
+    for &(words, wanted) in CONFIGURATION_FAULTS {
         assert_eq!(rt; servers_fault(rt.alloc(), words)?, Some(wanted));
     }
-    for (count, role, place) in [(10, 1, 224), (8, 0, 176)] {
+    for &(count, role, place) in LIMITS {
         let wanted = Some(ServersFault::Limit(place));
         assert_eq!(rt; fault_of_many(rt.alloc(), count, role)?, wanted);
     }
@@ -170,42 +176,43 @@ fn one_vote_a_term(rt: HostRuntime) -> Result<(), Fail> {
     Ok(())
 }
 
+const PEER_FAULTS: &[(PeerFault, &str)] = &[
+    (PeerFault::Kind, "no message of a peer has this type"),
+    (
+        PeerFault::Word(WordFault::Short(8)),
+        "the message is malformed: the body ends within the item at byte 8",
+    ),
+    (
+        PeerFault::Range,
+        "a number of the message is out of its range",
+    ),
+    (PeerFault::Tail, "bytes follow the message"),
+    (PeerFault::NoMemory, "out of memory"),
+];
+
+const SERVERS_FAULTS: &[(ServersFault, &str)] = &[
+    (
+        ServersFault::Word(WordFault::Short(8)),
+        "the configuration is malformed: the body ends within the item at byte 8",
+    ),
+    (
+        ServersFault::Order(8),
+        "the server at byte 8 is out of order",
+    ),
+    (ServersFault::Role(24), "no role has the number at byte 24"),
+    (
+        ServersFault::Limit(8),
+        "the server at byte 8 is past a limit",
+    ),
+    (ServersFault::NoMemory, "out of memory"),
+];
+
 #[test]
 fn texts_of_faults(rt: HostRuntime) -> Result<(), Fail> {
-    let word = WordFault::Short(8);
-    let rows = [
-        (PeerFault::Kind, "no message of a peer has this type"),
-        (
-            PeerFault::Word(word),
-            "the message is malformed: the body ends within the item at byte 8",
-        ),
-        (
-            PeerFault::Range,
-            "a number of the message is out of its range",
-        ),
-        (PeerFault::Tail, "bytes follow the message"),
-        (PeerFault::NoMemory, "out of memory"),
-    ];
-    for (fault, wanted) in rows {
+    for &(fault, wanted) in PEER_FAULTS {
         assert_eq!(rt; format!(in rt.alloc(); "{fault}")?.as_str(), wanted);
     }
-    let rows = [
-        (
-            ServersFault::Word(word),
-            "the configuration is malformed: the body ends within the item at byte 8",
-        ),
-        (
-            ServersFault::Order(8),
-            "the server at byte 8 is out of order",
-        ),
-        (ServersFault::Role(24), "no role has the number at byte 24"),
-        (
-            ServersFault::Limit(8),
-            "the server at byte 8 is past a limit",
-        ),
-        (ServersFault::NoMemory, "out of memory"),
-    ];
-    for (fault, wanted) in rows {
+    for &(fault, wanted) in SERVERS_FAULTS {
         assert_eq!(rt; format!(in rt.alloc(); "{fault}")?.as_str(), wanted);
     }
     Ok(())

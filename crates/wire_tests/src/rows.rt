@@ -102,12 +102,18 @@ fn size_end_rows(alloc: Global, bodies: &[WireBytes], place: usize) -> Option<(u
     Some((body.len(), end[0], rows))
 }
 
+const CUTS: &[(
+    usize,
+    Option<(usize, u8, usize)>,
+    Option<(usize, u8, usize)>,
+)] = &[
+    (4_094, Some((65_536, 0xff, 4_094)), None),
+    (4_095, Some((65_536, 0xee, 4_094)), Some((48, 0xff, 1))),
+];
+
 #[test]
 fn cut_at_the_limit(rt: HostRuntime) -> Result<(), Fail> {
-    for (count, first, second) in [
-        (4_094, Some((65_536, 0xff, 4_094)), None),
-        (4_095, Some((65_536, 0xee, 4_094)), Some((48, 0xff, 1))),
-    ] {
+    for &(count, first, second) in CUTS {
         let bodies = parts_of_integers(rt.alloc(), count)?;
         assert_eq!(rt; size_end_rows(rt.alloc(), &bodies, 0), first);
         assert_eq!(rt; size_end_rows(rt.alloc(), &bodies, 1), second);
@@ -157,63 +163,65 @@ fn no_rows(rt: HostRuntime) {
     }
 }
 
+const PART_FAULTS: &[(&[u8], RowReadFault)] = &[
+    (b"\0\0\0\0", RowReadFault::Word(WordFault::Short(0))),
+    (b"\0\0\0\0\0\0\0\0", RowReadFault::NoEnd),
+    (b"\0\0\0\0\0\0\0\0\x01\0\0\0\0\0\0\0", RowReadFault::NoEnd),
+    (
+        b"\0\0\0\0\0\0\0\0\xff\xff\xff\xff\xff\xff\xff",
+        RowReadFault::NoEnd,
+    ),
+    (
+        b"\x01\0\0\0\0\0\0\0",
+        RowReadFault::Word(WordFault::NoNul(8)),
+    ),
+    (b"\x01\0\0\0\0\0\0\0a\0\0\0\0\0\0\0", RowReadFault::NoEnd),
+    (
+        b"\x01\0\0\0\0\0\0\0a\0\0\0\0\0\0\0\xff",
+        RowReadFault::Word(WordFault::Short(16)),
+    ),
+    (
+        b"\x01\0\0\0\0\0\0\0a\0\0\0\0\0\0\0\xff\xff\xff\xff\xff\xff\xff\0",
+        RowReadFault::Word(WordFault::BadCode(16, 15)),
+    ),
+    (
+        b"\x01\0\0\0\0\0\0\0a\0\0\0\0\0\0\0\xff\xff\xff\xff\xff\xff\xff\xff\0",
+        RowReadFault::Tail(1),
+    ),
+];
+
 #[test]
 fn faults_of_parts(rt: HostRuntime) {
-    let rows = [
-        (
-            b"\0\0\0\0".as_slice(),
-            RowReadFault::Word(WordFault::Short(0)),
-        ),
-        (b"\0\0\0\0\0\0\0\0", RowReadFault::NoEnd),
-        (b"\0\0\0\0\0\0\0\0\x01\0\0\0\0\0\0\0", RowReadFault::NoEnd),
-        (
-            b"\0\0\0\0\0\0\0\0\xff\xff\xff\xff\xff\xff\xff",
-            RowReadFault::NoEnd,
-        ),
-        (
-            b"\x01\0\0\0\0\0\0\0",
-            RowReadFault::Word(WordFault::NoNul(8)),
-        ),
-        (b"\x01\0\0\0\0\0\0\0a\0\0\0\0\0\0\0", RowReadFault::NoEnd),
-        (
-            b"\x01\0\0\0\0\0\0\0a\0\0\0\0\0\0\0\xff",
-            RowReadFault::Word(WordFault::Short(16)),
-        ),
-        (
-            b"\x01\0\0\0\0\0\0\0a\0\0\0\0\0\0\0\xff\xff\xff\xff\xff\xff\xff\0",
-            RowReadFault::Word(WordFault::BadCode(16, 15)),
-        ),
-        (
-            b"\x01\0\0\0\0\0\0\0a\0\0\0\0\0\0\0\xff\xff\xff\xff\xff\xff\xff\xff\0",
-            RowReadFault::Tail(1),
-        ),
-    ];
-    for (body, wanted) in rows {
+    for &(body, wanted) in PART_FAULTS {
         assert_eq!(rt; read_part(rt.alloc(), body).err(), Some(wanted));
     }
 }
 
+const ROW_FAULTS: &[(RowFault, &str)] = &[
+    (
+        RowFault::Nul(1, 2),
+        "the text in row 1, column 2 holds a NUL",
+    ),
+    (RowFault::TooBig(9), "the answer has 9 bytes"),
+    (RowFault::NoMemory, "out of memory"),
+];
+
+const READ_FAULTS: &[(RowReadFault, &str)] = &[
+    (
+        RowReadFault::Word(WordFault::Short(3)),
+        "the part is malformed: the body ends within the item at byte 3",
+    ),
+    (RowReadFault::NoEnd, "the part has no end word"),
+    (RowReadFault::Tail(2), "2 words follow the end word"),
+    (RowReadFault::NoMemory, "out of memory"),
+];
+
 #[test]
 fn texts_of_faults(rt: HostRuntime) -> Result<(), Fail> {
-    for (fault, wanted) in [
-        (
-            RowFault::Nul(1, 2),
-            "the text in row 1, column 2 holds a NUL",
-        ),
-        (RowFault::TooBig(9), "the answer has 9 bytes"),
-        (RowFault::NoMemory, "out of memory"),
-    ] {
+    for &(fault, wanted) in ROW_FAULTS {
         assert_eq!(rt; fault.to_string(rt.alloc())?.as_str(), wanted);
     }
-    for (fault, wanted) in [
-        (
-            RowReadFault::Word(WordFault::Short(3)),
-            "the part is malformed: the body ends within the item at byte 3",
-        ),
-        (RowReadFault::NoEnd, "the part has no end word"),
-        (RowReadFault::Tail(2), "2 words follow the end word"),
-        (RowReadFault::NoMemory, "out of memory"),
-    ] {
+    for &(fault, wanted) in READ_FAULTS {
         assert_eq!(rt; fault.to_string(rt.alloc())?.as_str(), wanted);
     }
     Ok(())

@@ -11,22 +11,31 @@ fn fed(mut splitter: Splitter, stream: &[u8], size: usize) -> Result<(usize, u64
     Ok((count, splitter.held()))
 }
 
+const TWO_MESSAGES: &[u8] =
+    b"\x01\0\0\0\0\0\0\0\0\0\0\0\x05\x01\xff\xff\x01\0\0\0\x07\0\0\0bodybody";
+
+const STREAMS: &[(&[u8], usize, Result<(usize, u64), SplitFault>)] = &[
+    (TWO_MESSAGES, 32, Ok((2, 0))),
+    (TWO_MESSAGES, 1, Ok((2, 0))),
+    (b"\x01\0\0\0\0\0\0\0\0\0\x20\0\0\0\0\0", 16, Ok((0, 8))),
+    (b"\x02\0\0\0\0\0\0\0", 8, Err(SplitFault::Version(2))),
+];
+
+const BROKEN: &[u8] = b"\0\0\0\0\0\0\0\0\x01\0\x20\0\0\0\0\0";
+
+const CUTS_OF_BROKEN: &[(usize, Result<(usize, u64), SplitFault>)] = &[
+    (16, Ok((1, 0))),
+    (8, Err(SplitFault::TooLong(2_097_153))),
+];
+
 #[test]
 fn streams_are_cut(rt: HostRuntime) {
-    let stream = b"\x01\0\0\0\0\0\0\0\0\0\0\0\x05\x01\xff\xff\x01\0\0\0\x07\0\0\0bodybody";
-    let rows = [
-        (stream.as_slice(), 32, Ok((2, 0))),
-        (stream, 1, Ok((2, 0))),
-        (b"\x01\0\0\0\0\0\0\0\0\0\x20\0\0\0\0\0", 16, Ok((0, 8))),
-        (b"\x02\0\0\0\0\0\0\0", 8, Err(SplitFault::Version(2))),
-    ];
-    for (bytes, size, wanted) in rows {
+    for &(bytes, size, wanted) in STREAMS {
         assert_eq!(rt; fed(Splitter::new(rt.alloc()), bytes, size), wanted);
     }
-    let broken = b"\0\0\0\0\0\0\0\0\x01\0\x20\0\0\0\0\0";
-    for (size, wanted) in [(16, Ok((1, 0))), (8, Err(SplitFault::TooLong(2_097_153)))] {
+    for &(size, wanted) in CUTS_OF_BROKEN {
         assert_eq!(rt;
-            fed(Splitter::after_version(rt.alloc()), broken, size),
+            fed(Splitter::after_version(rt.alloc()), BROKEN, size),
             wanted
         );
     }

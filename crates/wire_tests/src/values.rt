@@ -107,73 +107,69 @@ const FIVE_VALUES: &[Wanted] = &[
     Wanted::Text("abcdefgh"),
 ];
 
+const TUPLES_AND_ROWS: &[(Form, &[u8], &[Wanted], bool)] = &[
+    (Form::Tuple, b"\0\0\0\0\0\0\0\0", &[], true),
+    (
+        Form::Tuple,
+        b"\x01\x03SERT Ix\0\0\0\0\0\0\0",
+        &[Wanted::Text("x")],
+        false,
+    ),
+    (
+        Form::Tuple,
+        b"\x02\x01\x03\xff\xff\xff\xff\xff\x05\0\0\0\0\0\0\0x\0\0\0\0\0\0\0",
+        &[Wanted::Integer(5), Wanted::Text("x")],
+        false,
+    ),
+    (
+        Form::Tuple,
+        b"\x05\x09\x0a\x0b\x04\x05\0\0\xff\xff\xff\xff\xff\xff\xff\xff2026\0\0\0\0\x01\0\0\0\0\0\0\0\x01\0\0\0\0\0\0\0b1234567\0\0\0\0\0\0\0\0",
+        &[
+            Wanted::Integer(-1),
+            Wanted::Text("2026"),
+            Wanted::Integer(1),
+            Wanted::Blob(b"b"),
+            Wanted::Null,
+        ],
+        false,
+    ),
+    (
+        Form::Wide,
+        b"\x02\0\0\0\x01\x03\0\0\x05\0\0\0\0\0\0\0x\0\0\0\0\0\0\0",
+        &[Wanted::Integer(5), Wanted::Text("x")],
+        true,
+    ),
+    (
+        Form::Tuple,
+        b"\x05\x01\x04\x05\x03\x03\0\0\0\0\0\0\0\0\0\x80\0\0\0\0\0\0\0\0\0\0\0\0\0\0\0\0abcdefg\0abcdefgh\0\0\0\0\0\0\0\0",
+        FIVE_VALUES,
+        true,
+    ),
+    (
+        Form::Wide,
+        b"\x05\0\0\0\x01\x04\x05\x03\x03\0\0\0\0\0\0\0\0\0\0\0\0\0\0\x80\0\0\0\0\0\0\0\0\0\0\0\0\0\0\0\0abcdefg\0abcdefgh\0\0\0\0\0\0\0\0",
+        FIVE_VALUES,
+        true,
+    ),
+    (
+        Form::Row(5),
+        b"\x41\x35\x03\0\0\0\0\0\0\0\0\0\0\0\0\x80\0\0\0\0\0\0\0\0\0\0\0\0\0\0\0\0abcdefg\0abcdefgh\0\0\0\0\0\0\0\0",
+        FIVE_VALUES,
+        true,
+    ),
+    (
+        Form::Alone(&[ValueType::Null, ValueType::Blob]),
+        b"\0\0\0\0\0\0\0\0\x01\0\0\0\0\0\0\0b\0\0\0\0\0\0\0",
+        &[Wanted::Null, Wanted::Blob(b"b")],
+        true,
+    ),
+];
+
 // The head of the second tuple is one that a real client sent, with bytes of an earlier request behind its code. The
 // first wide tuple is that of a real EXEC.
 #[test]
 fn values_are_read_and_written_back(rt: HostRuntime) {
-    let rows = [
-        (
-            Form::Tuple,
-            b"\0\0\0\0\0\0\0\0".as_slice(),
-            [].as_slice(),
-            true,
-        ),
-        (
-            Form::Tuple,
-            b"\x01\x03SERT Ix\0\0\0\0\0\0\0",
-            &[Wanted::Text("x")],
-            false,
-        ),
-        (
-            Form::Tuple,
-            b"\x02\x01\x03\xff\xff\xff\xff\xff\x05\0\0\0\0\0\0\0x\0\0\0\0\0\0\0",
-            &[Wanted::Integer(5), Wanted::Text("x")],
-            false,
-        ),
-        (
-            Form::Tuple,
-            b"\x05\x09\x0a\x0b\x04\x05\0\0\xff\xff\xff\xff\xff\xff\xff\xff2026\0\0\0\0\x01\0\0\0\0\0\0\0\x01\0\0\0\0\0\0\0b1234567\0\0\0\0\0\0\0\0",
-            &[
-                Wanted::Integer(-1),
-                Wanted::Text("2026"),
-                Wanted::Integer(1),
-                Wanted::Blob(b"b"),
-                Wanted::Null,
-            ],
-            false,
-        ),
-        (
-            Form::Wide,
-            b"\x02\0\0\0\x01\x03\0\0\x05\0\0\0\0\0\0\0x\0\0\0\0\0\0\0",
-            &[Wanted::Integer(5), Wanted::Text("x")],
-            true,
-        ),
-        (
-            Form::Tuple,
-            b"\x05\x01\x04\x05\x03\x03\0\0\0\0\0\0\0\0\0\x80\0\0\0\0\0\0\0\0\0\0\0\0\0\0\0\0abcdefg\0abcdefgh\0\0\0\0\0\0\0\0",
-            FIVE_VALUES,
-            true,
-        ),
-        (
-            Form::Wide,
-            b"\x05\0\0\0\x01\x04\x05\x03\x03\0\0\0\0\0\0\0\0\0\0\0\0\0\0\x80\0\0\0\0\0\0\0\0\0\0\0\0\0\0\0\0abcdefg\0abcdefgh\0\0\0\0\0\0\0\0",
-            FIVE_VALUES,
-            true,
-        ),
-        (
-            Form::Row(5),
-            b"\x41\x35\x03\0\0\0\0\0\0\0\0\0\0\0\0\x80\0\0\0\0\0\0\0\0\0\0\0\0\0\0\0\0abcdefg\0abcdefgh\0\0\0\0\0\0\0\0",
-            FIVE_VALUES,
-            true,
-        ),
-        (
-            Form::Alone(&[ValueType::Null, ValueType::Blob]),
-            b"\0\0\0\0\0\0\0\0\x01\0\0\0\0\0\0\0b\0\0\0\0\0\0\0",
-            &[Wanted::Null, Wanted::Blob(b"b")],
-            true,
-        ),
-    ];
-    for (form, bytes, wanted, exact) in rows {
+    for &(form, bytes, wanted, exact) in TUPLES_AND_ROWS {
         assert_eq!(rt;
             values_pass(rt.alloc(), form, bytes, wanted, exact),
             Ok(true)
@@ -188,45 +184,46 @@ fn fault_of_values(alloc: Global, form: Form, bytes: &[u8]) -> Option<(WordFault
     Some((fault, words.place()))
 }
 
+const FAULTY_VALUES: &[(Form, &[u8], WordFault)] = &[
+    (Form::Tuple, b"", WordFault::Short(0)),
+    (Form::Tuple, b"\x08\x02\x06\0\0\0\0\0", WordFault::Short(0)),
+    (
+        Form::Tuple,
+        b"\x02\x02\x06\0\0\0\0\0",
+        WordFault::BadCode(0, 6),
+    ),
+    (Form::Tuple, b"\x01\x02\0\0\0\0\0\0", WordFault::Float(0)),
+    (
+        Form::Tuple,
+        b"\x01\x05\0\0\0\0\0\0\x01\0\0\0\0\0\0\0",
+        WordFault::Pad(8),
+    ),
+    (
+        Form::Tuple,
+        b"\x01\x03\0\0\0\0\0\0a\0\0\0\0\0\0\x01",
+        WordFault::Pad(8),
+    ),
+    (
+        Form::Tuple,
+        b"\x01\x04\0\0\0\0\0\0\x01\0\0\0\0\0\0\0",
+        WordFault::Short(8),
+    ),
+    (Form::Wide, b"\x01\0\0", WordFault::Short(0)),
+    (
+        Form::Row(1),
+        b"\x09\0\0\0\0\0\0\0\0\0\0\0\0\0\0\0",
+        WordFault::BadCode(0, 9),
+    ),
+    (
+        Form::Row(1),
+        b"\x15\0\0\0\0\0\0\0\0\0\0\0\0\0\0\0",
+        WordFault::Pad(0),
+    ),
+];
+
 #[test]
 fn faulty_values(rt: HostRuntime) {
-    let rows = [
-        (Form::Tuple, b"".as_slice(), WordFault::Short(0)),
-        (Form::Tuple, b"\x08\x02\x06\0\0\0\0\0", WordFault::Short(0)),
-        (
-            Form::Tuple,
-            b"\x02\x02\x06\0\0\0\0\0",
-            WordFault::BadCode(0, 6),
-        ),
-        (Form::Tuple, b"\x01\x02\0\0\0\0\0\0", WordFault::Float(0)),
-        (
-            Form::Tuple,
-            b"\x01\x05\0\0\0\0\0\0\x01\0\0\0\0\0\0\0",
-            WordFault::Pad(8),
-        ),
-        (
-            Form::Tuple,
-            b"\x01\x03\0\0\0\0\0\0a\0\0\0\0\0\0\x01",
-            WordFault::Pad(8),
-        ),
-        (
-            Form::Tuple,
-            b"\x01\x04\0\0\0\0\0\0\x01\0\0\0\0\0\0\0",
-            WordFault::Short(8),
-        ),
-        (Form::Wide, b"\x01\0\0", WordFault::Short(0)),
-        (
-            Form::Row(1),
-            b"\x09\0\0\0\0\0\0\0\0\0\0\0\0\0\0\0",
-            WordFault::BadCode(0, 9),
-        ),
-        (
-            Form::Row(1),
-            b"\x15\0\0\0\0\0\0\0\0\0\0\0\0\0\0\0",
-            WordFault::Pad(0),
-        ),
-    ];
-    for (form, bytes, fault) in rows {
+    for &(form, bytes, fault) in FAULTY_VALUES {
         assert_eq!(rt; fault_of_values(rt.alloc(), form, bytes), Some((fault, 0)));
     }
 }
@@ -247,18 +244,19 @@ fn value_passes(
     Ok(writer.finish().as_slice() == body)
 }
 
+const SINGLE_VALUES: &[(ValueType, &[u8], Wanted)] = &[
+    (
+        ValueType::Integer,
+        b"\xfe\xff\xff\xff\xff\xff\xff\xff",
+        Wanted::Integer(-2),
+    ),
+    (ValueType::Text, b"t\0\0\0\0\0\0\0", Wanted::Text("t")),
+    (ValueType::Null, b"\0\0\0\0\0\0\0\0", Wanted::Null),
+];
+
 #[test]
 fn single_values(rt: HostRuntime) {
-    let rows = [
-        (
-            ValueType::Integer,
-            b"\xfe\xff\xff\xff\xff\xff\xff\xff".as_slice(),
-            Wanted::Integer(-2),
-        ),
-        (ValueType::Text, b"t\0\0\0\0\0\0\0", Wanted::Text("t")),
-        (ValueType::Null, b"\0\0\0\0\0\0\0\0", Wanted::Null),
-    ];
-    for (value_type, body, wanted) in rows {
+    for &(value_type, body, wanted) in SINGLE_VALUES {
         assert_eq!(rt;
             value_passes(rt.alloc(), value_type, body, &wanted),
             Ok(true)

@@ -51,16 +51,17 @@ fn text_passes(alloc: Global, body: &[u8], wanted: &str) -> Result<bool, WordFau
     Ok(writer.finish().as_slice() == body)
 }
 
+const TEXTS: &[(&[u8], &str)] = &[
+    (b"\0\0\0\0\0\0\0\0", ""),
+    (b"n1\0\0\0\0\0\0", "n1"),
+    (b"1234567\0", "1234567"),
+    (b"12345678\0\0\0\0\0\0\0\0", "12345678"),
+    (b"\xc3\xa9\0\0\0\0\0\0", "\u{e9}"),
+];
+
 #[test]
 fn texts(rt: HostRuntime) {
-    let rows = [
-        (b"\0\0\0\0\0\0\0\0".as_slice(), ""),
-        (b"n1\0\0\0\0\0\0".as_slice(), "n1"),
-        (b"1234567\0".as_slice(), "1234567"),
-        (b"12345678\0\0\0\0\0\0\0\0".as_slice(), "12345678"),
-        (b"\xc3\xa9\0\0\0\0\0\0".as_slice(), "\u{e9}"),
-    ];
-    for (body, wanted) in rows {
+    for &(body, wanted) in TEXTS {
         assert_eq!(rt; text_passes(rt.alloc(), body, wanted), Ok(true));
         assert_eq!(rt; Words::new(body).text_str(), Ok(wanted));
     }
@@ -83,9 +84,11 @@ fn text_has_nul(alloc: Global, text: &str) -> Result<bool, AllocError> {
     Ok(WireText::new(String::from_str(alloc, text)?).has_nul())
 }
 
+const NULS: &[(&str, bool)] = &[("a\0b", true), ("ab", false)];
+
 #[test]
 fn nuls_in_texts(rt: HostRuntime) -> Result<(), Fail> {
-    for (text, wanted) in [("a\0b", true), ("ab", false)] {
+    for &(text, wanted) in NULS {
         let found = text_has_nul(rt.alloc(), text)?;
         assert_eq!(rt; found, wanted);
     }
@@ -99,17 +102,18 @@ fn text_fault(alloc: Global, body: &[u8]) -> Option<(WordFault, bool)> {
     Some((fault, words.left() == body.len() as u64))
 }
 
+const FAULTY_TEXTS: &[(&[u8], WordFault)] = &[
+    (b"aaaaaaaa", WordFault::NoNul(0)),
+    (b"", WordFault::NoNul(0)),
+    (b"a\0\0\0\0\0\0\x01", WordFault::Pad(0)),
+    (b"\xff\0\0\0\0\0\0\0", WordFault::NotUtf8(0)),
+    (b"\xff\0\0\0\0\0\0\x01", WordFault::NotUtf8(0)),
+    (b"\xff\0\0\0\0\0\0", WordFault::Short(0)),
+];
+
 #[test]
 fn faulty_texts(rt: HostRuntime) {
-    let rows = [
-        (b"aaaaaaaa".as_slice(), WordFault::NoNul(0)),
-        (b"".as_slice(), WordFault::NoNul(0)),
-        (b"a\0\0\0\0\0\0\x01".as_slice(), WordFault::Pad(0)),
-        (b"\xff\0\0\0\0\0\0\0".as_slice(), WordFault::NotUtf8(0)),
-        (b"\xff\0\0\0\0\0\0\x01".as_slice(), WordFault::NotUtf8(0)),
-        (b"\xff\0\0\0\0\0\0".as_slice(), WordFault::Short(0)),
-    ];
-    for (body, fault) in rows {
+    for &(body, fault) in FAULTY_TEXTS {
         assert_eq!(rt; text_fault(rt.alloc(), body), Some((fault, true)));
     }
 }
@@ -129,38 +133,37 @@ fn behind_word(body: &[u8]) -> Words<'_> {
     words
 }
 
+const RAW_BYTES: &[(u64, Result<&[u8], WordFault>)] = &[
+    (3, Ok(b"\x01\x02\x03")),
+    (0, Ok(b"")),
+    (8, Ok(b"\x01\x02\x03\0\0\0\0\0")),
+    (2, Err(WordFault::Pad(8))),
+    (9, Err(WordFault::Short(8))),
+    (u64::MAX, Err(WordFault::Short(8))),
+];
+
 #[test]
 fn raw_bytes(rt: HostRuntime) {
     let body = b"wordword\x01\x02\x03\0\0\0\0\0\x09";
-    let rows = [
-        (3, Ok(b"\x01\x02\x03".as_slice())),
-        (0, Ok(b"".as_slice())),
-        (8, Ok(b"\x01\x02\x03\0\0\0\0\0".as_slice())),
-        (2, Err(WordFault::Pad(8))),
-        (9, Err(WordFault::Short(8))),
-        (u64::MAX, Err(WordFault::Short(8))),
-    ];
-    for (size, wanted) in rows {
+    for &(size, wanted) in RAW_BYTES {
         assert_eq!(rt; behind_word(body).raw_slice(size), wanted);
         assert!(rt; is_copy(behind_word(body).raw(rt.alloc(), size), wanted));
     }
 }
 
+const BLOBS: &[(&[u8], Result<&[u8], WordFault>)] = &[
+    (b"\x01\0\0\0\0\0\0\0b\0\0\0\0\0\0\0", Ok(b"b")),
+    (b"\0\0\0\0\0\0\0\0", Ok(b"")),
+    (
+        b"\x01\0\0\0\0\0\0\0b\0\0\0\0\0\0\x01",
+        Err(WordFault::Pad(0)),
+    ),
+    (b"\x01\0\0\0\0\0\0\0b\0\0\0\0\0\0", Err(WordFault::Short(0))),
+];
+
 #[test]
 fn blobs(rt: HostRuntime) {
-    let rows = [
-        (
-            b"\x01\0\0\0\0\0\0\0b\0\0\0\0\0\0\0".as_slice(),
-            Ok(b"b".as_slice()),
-        ),
-        (b"\0\0\0\0\0\0\0\0", Ok(b"")),
-        (
-            b"\x01\0\0\0\0\0\0\0b\0\0\0\0\0\0\x01",
-            Err(WordFault::Pad(0)),
-        ),
-        (b"\x01\0\0\0\0\0\0\0b\0\0\0\0\0\0", Err(WordFault::Short(0))),
-    ];
-    for (body, wanted) in rows {
+    for &(body, wanted) in BLOBS {
         assert_eq!(rt; Words::new(body).blob_slice(), wanted);
         assert!(rt; is_copy(Words::new(body).blob(rt.alloc()), wanted));
     }
@@ -187,41 +190,43 @@ fn messages(rt: HostRuntime) -> Result<(), Fail> {
     Ok(())
 }
 
+const WORD_FAULTS: &[(WordFault, &str)] = &[
+    (
+        WordFault::Short(8),
+        "the body ends within the item at byte 8",
+    ),
+    (WordFault::NoNul(8), "no NUL ends the text at byte 8"),
+    (WordFault::NotUtf8(8), "the text at byte 8 isn't UTF-8"),
+    (
+        WordFault::Pad(8),
+        "the item at byte 8 isn't filled up with zeros",
+    ),
+    (
+        WordFault::BadCode(8, 6),
+        "the item at byte 8 has the value code 6",
+    ),
+    (
+        WordFault::Float(8),
+        "the item at byte 8 has a floating-point number",
+    ),
+    (WordFault::NoMemory, "out of memory"),
+];
+
+const SPLIT_FAULTS: &[(SplitFault, &str)] = &[
+    (SplitFault::Version(2), "the stream begins with version 2"),
+    (
+        SplitFault::TooLong(2_097_153),
+        "a header claims 2097153 words",
+    ),
+    (SplitFault::NoMemory, "out of memory"),
+];
+
 #[test]
 fn texts_of_faults(rt: HostRuntime) -> Result<(), Fail> {
-    let rows = [
-        (
-            WordFault::Short(8),
-            "the body ends within the item at byte 8",
-        ),
-        (WordFault::NoNul(8), "no NUL ends the text at byte 8"),
-        (WordFault::NotUtf8(8), "the text at byte 8 isn't UTF-8"),
-        (
-            WordFault::Pad(8),
-            "the item at byte 8 isn't filled up with zeros",
-        ),
-        (
-            WordFault::BadCode(8, 6),
-            "the item at byte 8 has the value code 6",
-        ),
-        (
-            WordFault::Float(8),
-            "the item at byte 8 has a floating-point number",
-        ),
-        (WordFault::NoMemory, "out of memory"),
-    ];
-    for (fault, wanted) in rows {
+    for &(fault, wanted) in WORD_FAULTS {
         assert_eq!(rt; format!(in rt.alloc(); "{fault}")?.as_str(), wanted);
     }
-    let rows = [
-        (SplitFault::Version(2), "the stream begins with version 2"),
-        (
-            SplitFault::TooLong(2_097_153),
-            "a header claims 2097153 words",
-        ),
-        (SplitFault::NoMemory, "out of memory"),
-    ];
-    for (fault, wanted) in rows {
+    for &(fault, wanted) in SPLIT_FAULTS {
         assert_eq!(rt; format!(in rt.alloc(); "{fault}")?.as_str(), wanted);
     }
     Ok(())
