@@ -37,24 +37,26 @@ fn fault_with(alloc: Global, bytes: &mut [u8], place: usize, other: u8) -> Optio
     found
 }
 
+// The format, more and fewer databases, no name, a name that isn't filled up, the log's magic number and sequence
+// number, its frame's page, and the flag.
+const OTHER_BYTES: &[(usize, u8, SnapFault)] = &[
+    (0, 2, SnapFault::Format),
+    (8, 2, SnapFault::Word(WordFault::NoNul(4192))),
+    (8, 0, SnapFault::Tail),
+    (16, 0, SnapFault::Order(16)),
+    (18, 1, SnapFault::Word(WordFault::Pad(16))),
+    (32, 0, SnapFault::Wal(WalFault::Magic)),
+    (47, 1, SnapFault::Wal(WalFault::HeaderSum)),
+    (100, 1, SnapFault::Order(24)),
+    (4184, 2, SnapFault::Order(4184)),
+];
+
 #[test]
 fn a_snapshot_with_another_byte_is_refused(rt: HostRuntime) -> Result<(), Fail> {
     let mut bytes = one_database(rt.alloc())?;
     assert_eq!(rt; bytes.len(), 4192);
     assert_eq!(rt; fault(rt.alloc(), &bytes), None);
-    // The format, more and fewer databases, no name, a name that isn't filled up, the log's magic number and sequence
-    // number, its frame's page, and the flag.
-    for (place, other, wanted) in [
-        (0, 2, SnapFault::Format),
-        (8, 2, SnapFault::Word(WordFault::NoNul(4192))),
-        (8, 0, SnapFault::Tail),
-        (16, 0, SnapFault::Order(16)),
-        (18, 1, SnapFault::Word(WordFault::Pad(16))),
-        (32, 0, SnapFault::Wal(WalFault::Magic)),
-        (47, 1, SnapFault::Wal(WalFault::HeaderSum)),
-        (100, 1, SnapFault::Order(24)),
-        (4184, 2, SnapFault::Order(4184)),
-    ] {
+    for &(place, other, wanted) in OTHER_BYTES {
         let found = fault_with(rt.alloc(), &mut bytes, place, other);
         assert_eq!(rt; found, Some(wanted), "byte {place}");
     }
@@ -107,23 +109,25 @@ fn frame(number: u32, commit: u32) -> Frame {
     }
 }
 
+// The names, the number and commit size of the frame of each image and of the one of the pending pages: as they are
+// to be; names out of order and twice; a sizes page without its commit; no sizes page; a pending page with a commit.
+const DATABASES: &[(&[&str], (u32, u32), (u32, u32), Option<SnapFault>)] = &[
+    (ASCENDING, (1, 1), (7, 0), None),
+    (DESCENDING, (1, 1), (7, 0), Some(SnapFault::Order(8360))),
+    (TWICE, (1, 1), (7, 0), Some(SnapFault::Order(8360))),
+    (ASCENDING, (1, 0), (7, 0), Some(SnapFault::Order(24))),
+    (
+        ASCENDING,
+        (2, 1),
+        (7, 0),
+        Some(SnapFault::Pages(PageFault::NoSizes)),
+    ),
+    (ASCENDING, (1, 1), (7, 1), Some(SnapFault::Order(4200))),
+];
+
 #[test]
 fn logs_and_names_have_to_be_those_of_a_machine(rt: HostRuntime) -> Result<(), Fail> {
-    // The names, the number and commit size of the frame of each image and of the one of the pending pages: as they are
-    // to be; names out of order and twice; a sizes page without its commit; no sizes page; a pending page with a commit.
-    for (names, image, pending, wanted) in [
-        (ASCENDING, (1, 1), (7, 0), None),
-        (DESCENDING, (1, 1), (7, 0), Some(SnapFault::Order(8360))),
-        (TWICE, (1, 1), (7, 0), Some(SnapFault::Order(8360))),
-        (ASCENDING, (1, 0), (7, 0), Some(SnapFault::Order(24))),
-        (
-            ASCENDING,
-            (2, 1),
-            (7, 0),
-            Some(SnapFault::Pages(PageFault::NoSizes)),
-        ),
-        (ASCENDING, (1, 1), (7, 1), Some(SnapFault::Order(4200))),
-    ] {
+    for &(names, image, pending, wanted) in DATABASES {
         let found = fault_of(
             rt.alloc(),
             names,
@@ -135,44 +139,48 @@ fn logs_and_names_have_to_be_those_of_a_machine(rt: HostRuntime) -> Result<(), F
     Ok(())
 }
 
+const SNAP_FAULTS: &[(SnapFault, &str)] = &[
+    (SnapFault::Format, "the snapshot has another format"),
+    (
+        SnapFault::Word(WordFault::NoNul(16)),
+        "the snapshot is malformed: no NUL ends the text at byte 16",
+    ),
+    (
+        SnapFault::Order(16),
+        "the item at byte 16 is out of its order",
+    ),
+    (
+        SnapFault::Wal(WalFault::Magic),
+        "a log of the snapshot is malformed: the log has another magic number",
+    ),
+    (
+        SnapFault::Pages(PageFault::NoSizes),
+        "the pages of an image are malformed: the last page is no sizes page",
+    ),
+    (SnapFault::Tail, "bytes follow the snapshot"),
+    (SnapFault::NoMemory, "out of memory"),
+];
+
 #[test]
 fn faults_say_what_is_wrong(rt: HostRuntime) -> Result<(), Fail> {
-    for (fault, text) in [
-        (SnapFault::Format, "the snapshot has another format"),
-        (
-            SnapFault::Word(WordFault::NoNul(16)),
-            "the snapshot is malformed: no NUL ends the text at byte 16",
-        ),
-        (
-            SnapFault::Order(16),
-            "the item at byte 16 is out of its order",
-        ),
-        (
-            SnapFault::Wal(WalFault::Magic),
-            "a log of the snapshot is malformed: the log has another magic number",
-        ),
-        (
-            SnapFault::Pages(PageFault::NoSizes),
-            "the pages of an image are malformed: the last page is no sizes page",
-        ),
-        (SnapFault::Tail, "bytes follow the snapshot"),
-        (SnapFault::NoMemory, "out of memory"),
-    ] {
+    for &(fault, text) in SNAP_FAULTS {
         let said = format!(in rt.alloc(); "{fault}")?;
         assert_eq!(rt; said.as_str(), text);
     }
     Ok(())
 }
 
+const PIN_FAULTS: &[(PinFault, &str)] = &[
+    (PinFault::Unknown, "there is no such database"),
+    (
+        PinFault::Full(64),
+        "all 64 read marks of the database are live",
+    ),
+];
+
 #[test]
 fn each_fault_of_a_pin_says_what_is_wrong(rt: HostRuntime) -> Result<(), Fail> {
-    for (fault, text) in [
-        (PinFault::Unknown, "there is no such database"),
-        (
-            PinFault::Full(64),
-            "all 64 read marks of the database are live",
-        ),
-    ] {
+    for &(fault, text) in PIN_FAULTS {
         let said = format!(in rt.alloc(); "{fault}")?;
         assert_eq!(rt; said.as_str(), text);
     }

@@ -80,32 +80,36 @@ fn headers_are_read(rt: HostRuntime) {
     assert_eq!(rt; WalHeader::read(&of_sqlite()), Ok(read));
 }
 
+const OTHER_BYTES: &[(usize, WalFault)] = &[
+    (3, WalFault::Magic),
+    (7, WalFault::Version),
+    (10, WalFault::PageSize),
+    (15, WalFault::HeaderSum),
+    (31, WalFault::HeaderSum),
+];
+
 #[test]
 fn headers_name_their_first_fault(rt: HostRuntime) {
-    for (place, fault) in [
-        (3, WalFault::Magic),
-        (7, WalFault::Version),
-        (10, WalFault::PageSize),
-        (15, WalFault::HeaderSum),
-        (31, WalFault::HeaderSum),
-    ] {
+    for &(place, fault) in OTHER_BYTES {
         assert_eq!(rt; header_with(place), Err(fault), "byte {place}");
     }
 }
 
+const FAULTS: &[(WalFault, &str)] = &[
+    (WalFault::Short, "the log ends within its header"),
+    (WalFault::Magic, "the log has another magic number"),
+    (WalFault::Version, "the log has another version"),
+    (WalFault::PageSize, "the pages of the log have another size"),
+    (
+        WalFault::HeaderSum,
+        "the header of the log has a wrong checksum",
+    ),
+    (WalFault::NoMemory, "out of memory"),
+];
+
 #[test]
 fn faults_say_why(rt: HostRuntime) -> Result<(), Fail> {
-    for (fault, text) in [
-        (WalFault::Short, "the log ends within its header"),
-        (WalFault::Magic, "the log has another magic number"),
-        (WalFault::Version, "the log has another version"),
-        (WalFault::PageSize, "the pages of the log have another size"),
-        (
-            WalFault::HeaderSum,
-            "the header of the log has a wrong checksum",
-        ),
-        (WalFault::NoMemory, "out of memory"),
-    ] {
+    for &(fault, text) in FAULTS {
         assert_eq!(rt; fault.to_string(rt.alloc())?.as_str(), text);
     }
     Ok(())
@@ -184,21 +188,23 @@ fn is_read_back(alloc: Global, log: &[u8]) -> Result<bool, WalFault> {
     )
 }
 
+// How many bytes there are, and what is read of them.
+const CUTS: &[(usize, Result<(usize, u64), WalFault>)] = &[
+    (8272, Ok((2, 8272))),
+    (8271, Ok((1, 4152))),
+    (4152, Ok((1, 4152))),
+    (4151, Ok((0, 32))),
+    (32, Ok((0, 32))),
+    (31, Err(WalFault::Short)),
+];
+
 #[test]
 fn logs_are_read_up_to_where_they_are_cut(rt: HostRuntime) -> Result<(), Fail> {
     let alloc = rt.alloc();
     assert_eq!(rt; read(alloc, &empty_log()), Ok((0, 32)));
     let log = two_frames(alloc)?;
     assert_eq!(rt; is_read_back(alloc, log.as_slice()), Ok(true));
-    // How many bytes there are, and what is read of them.
-    for (len, wanted) in [
-        (8272, Ok((2, 8272))),
-        (8271, Ok((1, 4152))),
-        (4152, Ok((1, 4152))),
-        (4151, Ok((0, 32))),
-        (32, Ok((0, 32))),
-        (31, Err(WalFault::Short)),
-    ] {
+    for &(len, wanted) in CUTS {
         assert_eq!(rt;
             read_front(alloc, log.as_slice(), len),
             wanted,
