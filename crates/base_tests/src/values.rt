@@ -71,22 +71,24 @@ fn copied_name(alloc: Global, text: String) -> Result<Option<Name>, AllocError> 
     Ok(Some(name.try_clone(alloc)?))
 }
 
+const PAGES: &[(u64, Option<[u8; 3]>)] = &[
+    (0, None),
+    // The length of the main file, whose lowest byte comes first.
+    (1, Some([0x01, 0x10, 0])),
+    (2, Some([7, 7, 7])),
+    (3, Some([9, 9, 0])),
+    (4, Some([7, 0, 0])),
+    (5, None),
+    (6, None),
+    (u64::MAX, None),
+];
+
 #[test]
 fn images_have_pages(rt: HostRuntime) -> Result<(), Fail> {
     // The main file fills a page and has a byte more; the side file has two bytes.
     let image = image_of(rt.alloc(), 4097, 2)?;
     assert_eq!(rt; page_count(&image), 4);
-    for (number, front) in [
-        (0, None),
-        // The length of the main file, whose lowest byte comes first.
-        (1, Some([0x01, 0x10, 0])),
-        (2, Some([7, 7, 7])),
-        (3, Some([9, 9, 0])),
-        (4, Some([7, 0, 0])),
-        (5, None),
-        (6, None),
-        (u64::MAX, None),
-    ] {
+    for &(number, front) in PAGES {
         assert_eq!(rt; front_of(&image, number), front, "page {number}");
     }
     Ok(())
@@ -146,35 +148,39 @@ fn sizes_pages_state_lengths(rt: HostRuntime) {
     }
 }
 
+const NAMES: &[(&str, usize, bool)] = &[
+    ("", 1, false),
+    ("x", 1, true),
+    ("x", 255, true),
+    ("x", 256, false),
+    ("\0", 1, false),
+    ("a\0b", 1, false),
+    ("é", 1, true),
+];
+
 #[test]
 fn names_are_short_texts(rt: HostRuntime) -> Result<(), Fail> {
     let alloc = rt.alloc();
-    for (text, times, is_name) in [
-        ("", 1, false),
-        ("x", 1, true),
-        ("x", 255, true),
-        ("x", 256, false),
-        ("\0", 1, false),
-        ("a\0b", 1, false),
-        ("é", 1, true),
-    ] {
+    for &(text, times, is_name) in NAMES {
         let name = copied_name(alloc, text.repeat(alloc, times)?)?;
         assert_eq!(rt; name.is_some(), is_name, "{times} times {text:?}");
     }
     Ok(())
 }
 
+const FAULTS: &[(PageFault, &str)] = &[
+    (PageFault::NoSizes, "the last page is no sizes page"),
+    (PageFault::Order(7), "page 7 is out of order"),
+    (
+        PageFault::NotInLength(8),
+        "page 8 lies past the stated end of its file",
+    ),
+    (PageFault::NoMemory, "out of memory"),
+];
+
 #[test]
 fn faults_say_why(rt: HostRuntime) -> Result<(), Fail> {
-    for (fault, text) in [
-        (PageFault::NoSizes, "the last page is no sizes page"),
-        (PageFault::Order(7), "page 7 is out of order"),
-        (
-            PageFault::NotInLength(8),
-            "page 8 lies past the stated end of its file",
-        ),
-        (PageFault::NoMemory, "out of memory"),
-    ] {
+    for &(fault, text) in FAULTS {
         assert_eq!(rt; fault.to_string(rt.alloc())?.as_str(), text);
     }
     Ok(())

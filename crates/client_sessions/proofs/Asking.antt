@@ -1,24 +1,21 @@
 -- A request at the session of an open connection: what comes of it can be sent, and what holds of clients holds after it.
-use Rattle.std.proofs.Common.{◌≡◌, ℕ, Bool, true, false, not, ◌&&◌, List, [], ◌∷◌, Option, Some, None, is_none, Result, Ok, Err, IfOk, OnErr, refl, sym, ap, subst, ◌∙◌}
-use Rattle.std.specs.List.{AllByRecursion}
+use Rattle.std.proofs.Common.{◌≡◌, ℕ, Bool, true, false, not, ◌&&◌, Option, Some, None, is_none, Result, Ok, Err, IfOk, OnErr, refl, sym, subst, ◌∙◌}
 use Rattle.std.specs.declared.alloc.AllocError.{AllocError}
 use Rattle.wire_msgs.specs.declared.request.Request.{Request}
 use Rattle.wire_msgs.specs.declared.request.Request.TheVariants as requests
 use Rattle.wire_words.specs.declared.message.Message.{Message}
 use Rattle.wire_msgs.specs.Requests.{Reads}
-use Rattle.wire_msgs.specs.Responses.{IsWritable}
 use Rattle.client_connection.specs.Connection.{Conn}
 use Rattle.sql_engine.specs.declared.kind.EngineKind.{EngineKind}
 use Rattle.sql_engine.specs.Meanings.{Meaning, Told}
 use Rattle.session_rules.specs.Machine.{Machine}
-use Rattle.session_rules.specs.Sessions.{Session, Gateway, View, Effect, HandsOver, JoinsPeer, Weighs, Turned, Refused, Lacks, Answers, Proposes, Affects, responses_of, may_ask, is_busy}
-use Rattle.session_rules.specs.Requests.{on_request, with_session, affected_by}
+use Rattle.session_rules.specs.Sessions.{Session, Gateway, View, Effect, HandsOver, JoinsPeer, Weighs, Turned, Refused, Lacks, Answers, Proposes, Affects, may_ask}
+use Rattle.session_rules.specs.Requests.{on_request, affected_by}
 use Rattle.gateway.specs.declared.act.Act.{Act}
-use Rattle.gateway.specs.declared.act.Act.TheVariants as acts
 use Rattle.gateway.specs.Calls.{Is, TurnedBy, HasNoNul, act_for}
 use Rattle.client_sessions.specs.Sending.{ActCanSend, HasPlainAddresses, FlightCanSend}
 use Rattle.client_sessions.specs.Clients.{Clients, with_sessions, Fits, Sound, Offer, IsOffered}
-use Rattle.client_sessions.proofs.Requests.{Follows, Keeps, refusal_sent, request_kept}
+use Rattle.client_sessions.proofs.Requests.{Keeps, refusal_sent, request_kept}
 use Rattle.client_sessions.proofs.Listing.{StaysListed, request_listed}
 use Rattle.client_sessions.proofs.Soundness.{session_sound}
 

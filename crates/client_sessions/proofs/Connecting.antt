@@ -1,5 +1,5 @@
 -- A client that connects.
-use Rattle.std.proofs.Common.{◌≡◌, ◌≢◌, ℕ, Bool, true, false, cond, not, ◌&&◌, ◌||◌, ◌==◌, List, Option, Some, None, is_none, is_some, Result, Ok, Err, refl, sym, ap, subst, ◌∙◌}
+use Rattle.std.proofs.Common.{◌≡◌, ℕ, Bool, true, false, cond, ◌||◌, List, Option, Some, None, is_some, refl, sym, ap, subst, ◌∙◌}
 use Rattle.std.specs.Ordering.{nat_cmp}
 use Rattle.std.specs.BTreeMap.{BTreeMap, get, is_at}
 use Rattle.client_connection.specs.Connection.{Conn, opened}
@@ -8,9 +8,8 @@ use Rattle.page_apply.specs.Pins.{Pinning}
 use Rattle.session_rules.specs.Sessions.{Session, Gateway, is_busy}
 use Rattle.session_rules.specs.Events.{connects, connected}
 use Rattle.session_table.specs.Marks.{AreMarks}
-use Rattle.gateway.specs.Seen.{seen, pins_of, PinsOf}
+use Rattle.gateway.specs.Seen.{seen, pins_of}
 use Rattle.client_sessions.specs.declared.clients.Clients.{Clients as Held}
-use Rattle.client_sessions.specs.declared.joining.Joining.{Joining}
 use Rattle.client_sessions.specs.declared.joining.Joining.TheVariants.{Joined, Full, Taken}
 use Rattle.client_sessions.specs.Clients.{Clients, with_stream, joining, joined_as, joined, Fits, Sound}
 use Rattle.client_sessions.specs.Seen.{clients_of, StandOver}

@@ -1,11 +1,11 @@
 -- Bytes that come on a connection, and why one is to be closed.
-use Rattle.std.proofs.Common.{◌≡◌, ℕ, Bool, true, false, cond, List, [], ◌∷◌, ◌++◌, Option, Some, None, is_none, refl, sym, ap, subst, ◌∙◌}
+use Rattle.std.proofs.Common.{◌≡◌, ℕ, cond, List, [], ◌∷◌, ◌++◌, Option, Some, None, is_none, refl, sym, ap, subst, ◌∙◌}
 use Rattle.std.specs.Ordering.{nat_cmp}
 use Rattle.std.specs.BTreeMap.{get, is_at}
 use Rattle.client_connection.specs.declared.connection.CloseReason.{CloseReason}
-use Rattle.client_connection.specs.Connection.{Conn, received, reason_of}
+use Rattle.client_connection.specs.Connection.{Conn, received}
 use Rattle.page_apply.specs.declared.database.Database.{Database}
-use Rattle.gateway.specs.Seen.{seen, pins_of, PinsOf}
+use Rattle.gateway.specs.Seen.{seen, PinsOf}
 use Rattle.client_sessions.specs.declared.clients.Clients.{Clients as Held}
 use Rattle.client_sessions.specs.Clients.{Clients, with_stream, heard, heard_on, without, hung_up, closing, closed, Sound}
 use Rattle.client_sessions.specs.Seen.{clients_of, StandOver}

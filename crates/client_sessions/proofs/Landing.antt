@@ -1,19 +1,18 @@
 -- Entries that are applied and leadership that is lost, over what code holds.
-use Rattle.std.proofs.Common.{◌≡◌, ℕ, ◌<◌, arith, List, [], ◌∷◌, ◌++◌, Result, Ok, Err, OnOk, refl, sym, ap, subst, ◌∙◌}
+use Rattle.std.proofs.Common.{◌≡◌, ℕ, ◌<◌, arith, List, [], ◌++◌, Result, Ok, Err, OnOk, sym, ap, subst, ◌∙◌}
 use Rattle.std.specs.List.{AllByRecursion}
 use Rattle.std.specs.Ordering.{nat_cmp}
 use Rattle.std.specs.BTreeMap.{get}
 use Rattle.wire_msgs.specs.declared.response.Response.{Response}
 use Rattle.wire_msgs.specs.Responses.{IsWritable}
 use Rattle.page_apply.specs.declared.database.Database.{Database}
-use Rattle.page_apply.specs.Pins.{Pinning, IsPinned}
-use Rattle.session_rules.specs.Sessions.{Gateway}
+use Rattle.page_apply.specs.Pins.{Pinning}
 use Rattle.session_rules.specs.Events.{on_applied, on_lost, told_applied, told_lost}
 use Rattle.session_table.specs.Sweeping.{all_told}
 use Rattle.session_table.specs.Marks.{AreMarks}
-use Rattle.gateway.specs.Seen.{seen, pins_of, PinsOf}
+use Rattle.gateway.specs.Seen.{seen, PinsOf}
 use Rattle.client_sessions.specs.declared.clients.Clients.{Clients as Held}
-use Rattle.client_sessions.specs.Clients.{Clients, freed, Sound}
+use Rattle.client_sessions.specs.Clients.{freed}
 use Rattle.client_sessions.specs.Calls.{told_conns}
 use Rattle.client_sessions.specs.Seen.{clients_of, StandOver, HasNoMarks}
 use Rattle.client_sessions.proofs.Soundness.{applied_sound, lost_sound}

@@ -1,17 +1,17 @@
 -- After each request an open transaction has the numbers of all pages that it changed.
-use Rattle.std.proofs.Common.{◌≡◌, ℕ, Bool, true, false, cond, List, [], ◌∷◌, Option, Some, None, refl, sym, subst}
+use Rattle.std.proofs.Common.{◌≡◌, ℕ, Bool, true, false, List, [], ◌∷◌, Option, Some, None, refl, sym, subst}
 use Rattle.std.proofs.lemmas.Bool.{cond_both}
 use Rattle.std.specs.Prelude.{◌&&◌}
 use Rattle.wire_msgs.specs.declared.request.Request.{Request}
 use Rattle.sql_engine.specs.Replies.{Statement}
 use Rattle.page_apply.specs.Files.{empty_image}
 use Rattle.dq_base.specs.Changes.{changed}
-use Rattle.session_rules.specs.Causes.{Cause, Locked, LogFull, DatabaseFull}
+use Rattle.session_rules.specs.Causes.{Cause, DatabaseFull}
 use Rattle.session_rules.specs.Machine.{Machine}
 use Rattle.session_rules.specs.Engines.{Answer, no_pages, Ending, Lacking, TooLarge, Stopped, Ended, runs, no_answer}
 use Rattle.session_rules.specs.Sessions.{Transaction, Session, Gateway, View, Turned, Refused, Lacks, Answers, Proposes, Affects}
 use Rattle.session_rules.specs.Limits.{other_holds, pages_full, log_full}
-use Rattle.session_rules.specs.Requests.{unless, outside, outside_write, inside, run_in, has_nothing, committed, commit_in, creates, begins, does, on_request}
+use Rattle.session_rules.specs.Requests.{unless, outside, outside_write, inside, run_in, has_nothing, committed, commit_in, does, on_request}
 use Rattle.session_rules.specs.Asking.{Asked, Never, Tells, Sets, Opens, Creates, Prepares, Drops, Begins, Commits, RollsBack, Changes, Runs, Reads, asked}
 use Rattle.session_rules.specs.Touched.{IsListed}
 use Rattle.session_rules.proofs.Touched.{begun_listed, worked_listed}

@@ -1,17 +1,15 @@
 -- What a request makes of its session, and that its replies can be sent.
-use Rattle.std.proofs.Common.{rules, ◌≡◌, ℕ, suc, ◌+◌, Bool, true, false, cond, not, ◌&&◌, ◌||◌, ◌==◌, List, [], ◌∷◌, ◌++◌, length, map, codes, Option, Some, None, Result, Ok, Err, refl, sym, ap, ◌∙◌}
+use Rattle.std.proofs.Common.{rules, ◌≡◌, ℕ, Bool, true, false, cond, ◌||◌, ◌==◌, List, [], ◌∷◌, ◌++◌, map, codes, Option, Some, None, Result, Ok, Err, refl}
 use Rattle.std.specs.List.{AllByRecursion, flat_map}
 use Rattle.dq_base.specs.declared.images.Image.{Image}
-use Rattle.dq_base.specs.declared.pages.NumberedPage.{NumberedPage}
 use Rattle.dq_base.specs.Names.{has_nul}
 use Rattle.wire_words.specs.declared.value.Value.{Value}
 use Rattle.wire_rows.specs.Cut.{cut}
 use Rattle.wire_msgs.specs.declared.request.Request.{Request}
 use Rattle.wire_msgs.specs.declared.request.Request.TheVariants as requests
-use Rattle.wire_msgs.specs.declared.response.Response.{Response}
 use Rattle.wire_msgs.specs.declared.response.Response.TheVariants as responses
 use Rattle.wire_msgs.specs.declared.fault.MsgFault.{MsgFault}
-use Rattle.wire_msgs.specs.Fields.{Field, Word, HaveSpellings}
+use Rattle.wire_msgs.specs.Fields.{Field, HaveSpellings}
 use Rattle.wire_msgs.specs.Responses.{IsWritable, optional, server_fields}
 use Rattle.sql_scan.specs.declared.pieces.Piece.{Piece}
 use Rattle.sql_scan.specs.declared.fault.ScanFault.{ScanFault}
@@ -23,10 +21,10 @@ use Rattle.raft_rules.specs.Node.{Server}
 use Rattle.session_rules.specs.Causes as causes
 use Rattle.session_rules.specs.Causes.{Cause, failure, message, unread_cause}
 use Rattle.session_rules.specs.Machine.{Machine}
-use Rattle.session_rules.specs.Engines.{Answer, no_pages, Ending, Lacking, TooLarge, Stopped, Ended, runs, no_answer}
-use Rattle.session_rules.specs.Sessions.{Reply, Refusal, Single, Rows, Note, Prepared, Kind, Flight, Transaction, Session, Gateway, View, Turned, Refused, Lacks, Answers, Proposes, Affects}
+use Rattle.session_rules.specs.Engines.{Answer, Ending, Lacking, TooLarge, Stopped, Ended, runs, no_answer}
+use Rattle.session_rules.specs.Sessions.{Reply, Refusal, Single, Rows, Note, Prepared, Transaction, Session, Gateway, View, Turned, Refused, Lacks, Answers, Proposes, Affects}
 use Rattle.session_rules.specs.Statements.{prepared_from}
-use Rattle.session_rules.specs.Requests.{unless, reply_of, outside, inside, outside_write, run_in, committed, commit_in, creates, begins, does, on_request}
+use Rattle.session_rules.specs.Requests.{unless, reply_of, outside, inside, outside_write, run_in, committed, commit_in, does, on_request}
 use Rattle.session_rules.specs.Asking.{Asked, Never, Tells, Sets, Opens, Creates, Prepares, Drops, Begins, Commits, RollsBack, Changes, Runs, Reads, asked_by, leader_known, info_of, asks_cluster, files_of, asks_dump, asks_open, asks_kind, asks_one, asks_several, asks_statements, asks_text, asks_query, not_one, asks_sole, asks_rows, asks_exec, asks_prepared_query, asks_finalize, with_room, asks_prepare_pieces, asks_prepare, at_leader, in_database, asks_change, asks_transfer}
 use Rattle.gateway.specs.Calls.{HasNoNul}
 use Rattle.client_sessions.specs.Sending.{CanSend, FlightCanSend, IsPlain, HasPlainAddresses}

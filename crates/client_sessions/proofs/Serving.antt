@@ -1,5 +1,5 @@
 -- The message whose turn it is, and what comes of it, as code handles them one after the other.
-use Rattle.std.proofs.Common.{◌≡◌, ℕ, true, List, Option, Some, None, Result, Ok, Err, refl, sym, ap, subst, ◌∙◌}
+use Rattle.std.proofs.Common.{◌≡◌, ℕ, true, List, Option, Some, None, refl, sym, ap, subst, ◌∙◌}
 use Rattle.std.specs.Ordering.{nat_cmp}
 use Rattle.std.specs.BTreeMap.{get}
 use Rattle.wire_words.specs.declared.message.Message.{Message}
@@ -14,8 +14,8 @@ use Rattle.gateway.specs.Seen.{seen, PinsOf}
 use Rattle.client_sessions.specs.declared.act.Act.{Act}
 use Rattle.client_sessions.specs.declared.clients.Clients.{Clients as Held}
 use Rattle.client_sessions.specs.Sending.{FlightCanSend}
-use Rattle.client_sessions.specs.Clients.{Clients, Offer, with_sessions, taken, next_offer, Sound}
-use Rattle.client_sessions.specs.Calls.{TookNext, Comes, TookOffer, WasIdle}
+use Rattle.client_sessions.specs.Clients.{Clients, with_sessions, Sound}
+use Rattle.client_sessions.specs.Calls.{TookNext, Comes, TookOffer}
 use Rattle.client_sessions.specs.Seen.{clients_of, StandOver}
 use Rattle.client_sessions.proofs.Asking.{offered_asks}
 use Rattle.client_sessions.proofs.Offers.{next_is_first}

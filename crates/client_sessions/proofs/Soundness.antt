@@ -1,12 +1,11 @@
 -- What holds of clients at all times, over each thing that happens to them.
-use Rattle.std.proofs.Common.{◌≡◌, ℕ, Bool, true, false, cond, not, ◌&&◌, ◌==◌, List, [], ◌∷◌, ◌++◌, Option, Some, None, is_none, refl, sym, ap, subst, ◌∙◌, eqb-true}
-use Rattle.wire_words.specs.declared.message.Message.{Message}
-use Rattle.client_connection.specs.Connection.{Conn, opened, received}
-use Rattle.session_rules.specs.Sessions.{Kind, Opening, Configuring, Writing, Committing, Flight, Session, Gateway, absent, fresh, is_busy, may_ask}
+use Rattle.std.proofs.Common.{◌≡◌, ℕ, Bool, true, false, cond, not, ◌==◌, List, Option, Some, None, is_none, refl, sym, ap, subst, ◌∙◌, eqb-true}
+use Rattle.client_connection.specs.Connection.{Conn, opened}
+use Rattle.session_rules.specs.Sessions.{Kind, Opening, Configuring, Writing, Committing, Flight, Session, absent, fresh, is_busy}
 use Rattle.session_rules.specs.Requests.{with_session}
-use Rattle.session_rules.specs.Events.{tidy, landed, settled_by, on_applied, lost, on_lost, left, on_hangup, connects, connected}
+use Rattle.session_rules.specs.Events.{tidy, landed, settled_by, on_applied, on_lost, left, on_hangup, connected}
 use Rattle.client_sessions.specs.Sending.{FlightCanSend}
-use Rattle.client_sessions.specs.Clients.{Clients, no_clients, with_stream, joining, joined, joined_as, without, heard, heard_on, Offer, first_of, offered_on, offered, offer_of, next_offer, taken, with_sessions, freed, Fits, Sound}
+use Rattle.client_sessions.specs.Clients.{Clients, no_clients, with_stream, joining, joined, joined_as, without, with_sessions, freed, Fits, Sound}
 use Rattle.client_sessions.specs.declared.joining.Joining.{Joining}
 use Rattle.client_sessions.specs.declared.joining.Joining.TheVariants.{Joined, Full, Taken}
 use Rattle.session_rules.specs.Touched.{IsListed}

@@ -1,5 +1,5 @@
 -- The clients that code holds, as the rules see them, and that they stand over a machine.
-use Rattle.std.proofs.Common.{◌≡◌, ℕ, ◌<◌, Bool, true, false, cond, eqb, ltb, ◌==◌, List, [], ◌∷◌, ◌++◌, Option, Some, None, is_none, is_some, not, Result, Ok, Err, OnErr, refl, sym, ap, subst, ◌∙◌, arith}
+use Rattle.std.proofs.Common.{◌≡◌, ℕ, ◌<◌, Bool, true, false, cond, eqb, ltb, ◌==◌, List, [], Option, Some, None, is_none, is_some, not, Result, Ok, Err, OnErr, refl, sym, ap, subst, ◌∙◌, arith}
 use Rattle.std.specs.Ordering.{nat_cmp, is_eq}
 use Rattle.std.specs.BTreeMap.{BTreeMap, get, is_at}
 use Rattle.std.specs.Map.{lookup, set_value}
@@ -10,7 +10,7 @@ use Rattle.frame_commands.specs.declared.command.Command.{Command}
 use Rattle.page_apply.specs.declared.database.Database.{Database}
 use Rattle.page_apply.specs.Databases.{act}
 use Rattle.page_apply.specs.Pins.{Pinning, StillPinned}
-use Rattle.session_rules.specs.Sessions.{Gateway, no_sessions}
+use Rattle.session_rules.specs.Sessions.{no_sessions}
 use Rattle.session_rules.specs.Events.{on_hangup}
 use Rattle.session_table.specs.Marks.{AreMarks}
 use Rattle.gateway.specs.Seen.{seen, pins_of, PinsOf}

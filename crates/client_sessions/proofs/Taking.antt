@@ -1,18 +1,18 @@
 -- Taking the message whose turn it is, as code does it.
-use Rattle.std.proofs.Common.{◌≡◌, ℕ, zero, suc, ◌<◌, Bool, true, false, cond, List, [], ◌∷◌, ◌++◌, length, drop, Option, Some, None, refl, sym, ap, subst, ◌∙◌, arith}
+use Rattle.std.proofs.Common.{◌≡◌, ℕ, ◌<◌, true, false, cond, List, [], ◌∷◌, length, drop, Option, Some, None, refl, sym, ap, subst, ◌∙◌, arith}
 use Rattle.std.specs.Prelude.{slice_index_or}
 use Rattle.std.specs.Ordering.{nat_cmp}
-use Rattle.std.specs.BTreeMap.{BTreeMap, get, is_at}
+use Rattle.std.specs.BTreeMap.{get, is_at}
 use Rattle.std.specs.Map.{set_value}
 use Rattle.wire_words.specs.declared.message.Message.{Message}
 use Rattle.client_connection.specs.Connection.{Conn, TakesFirst}
 use Rattle.page_apply.specs.declared.database.Database.{Database}
 use Rattle.session_rules.specs.Sessions.{is_busy}
-use Rattle.gateway.specs.Seen.{seen, PinsOf}
+use Rattle.gateway.specs.Seen.{seen}
 use Rattle.client_sessions.specs.declared.clients.Clients.{Clients as Held}
-use Rattle.client_sessions.specs.Clients.{Clients, with_stream, Offer, IsOffered, next_offer, taken, Sound}
+use Rattle.client_sessions.specs.Clients.{Clients, Offer, next_offer, taken, Sound}
 use Rattle.client_sessions.specs.Calls.{TookFrom, TookNext}
-use Rattle.client_sessions.specs.Seen.{clients_of, StandOver}
+use Rattle.client_sessions.specs.Seen.{clients_of}
 use Rattle.client_sessions.proofs.Offers.{next_is_first}
 use Rattle.client_sessions.proofs.Soundness.{stream_sound, turns_sound}
 use Rattle.client_sessions.proofs.Standing.{alike, updated, entries_alike, put_back}

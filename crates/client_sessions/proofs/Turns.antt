@@ -1,10 +1,10 @@
 -- Whose turn it is, as code goes over those in turn.
-use Rattle.std.proofs.Common.{◌≡◌, ℕ, Bool, true, false, List, [], ◌∷◌, ◌++◌, Option, Some, None, refl, sym, ap, ◌∙◌}
+use Rattle.std.proofs.Common.{◌≡◌, ℕ, Bool, true, false, List, [], ◌∷◌, Option, Some, None, refl, sym, ap, ◌∙◌}
 use Rattle.std.specs.Option.{option_or}
 use Rattle.wire_words.specs.declared.message.Message.{Message}
 use Rattle.client_connection.specs.Connection.{Conn}
 use Rattle.session_rules.specs.Sessions.{Gateway, is_busy}
-use Rattle.client_sessions.specs.Clients.{Clients, with_stream, Offer, first_of, offered_on, offered, offer_of, next_offer, taken}
+use Rattle.client_sessions.specs.Clients.{Clients, with_stream, Offer, first_of, offered_on, offered, offer_of, next_offer}
 use Rattle.client_sessions.specs.Calls.{TookFrom, TookNext}
 
 -- ---- what is offered on one connection

@@ -1,12 +1,12 @@
 -- What can be sent: texts without a NUL, and rows of whole words.
-use Rattle.std.specs.Prelude.{◌≡◌, ℕ, false, List, Option, Some, None}
+use Rattle.std.specs.Prelude.{◌≡◌, false, Option, Some, None}
 use Rattle.std.specs.List.{AllByRecursion}
 use Rattle.dq_base.specs.Names.{has_nul}
 use Rattle.wire_msgs.specs.Responses.{IsWritable}
 use Rattle.raft_rules.specs.Node.{Server}
 use Rattle.gateway.specs.declared.act.Act.{Act}
 use Rattle.gateway.specs.declared.act.Act.TheVariants as acts
-use Rattle.session_rules.specs.Sessions.{Reply, responses_of, Kind, Opening, Configuring, Writing, Committing, Flight, Gateway, View}
+use Rattle.session_rules.specs.Sessions.{Reply, responses_of, Kind, Opening, Configuring, Writing, Committing, Flight, View}
 
 -- each response of a reply can be written
 abbrev pub CanSend : Reply → Type 0

@@ -98,59 +98,65 @@ fn a_change_is_written_as_a_command(rt: HostRuntime) -> Result<(), Fail> {
     Ok(())
 }
 
+/// The numbers of no pages.
+const NO_PAGES: [u64; 6] = [0; 6];
+
+const STATEMENTS: &[(&str, Wanted)] = &[
+    ("GET 3", Ok((0, None, NO_PAGES))),
+    ("SET 3 9", Ok((1, None, [2, 3, 4, 6, 1, 0]))),
+    ("GET 3", Ok((0, Some(9), NO_PAGES))),
+    ("GET 2", Ok((0, Some(0), NO_PAGES))),
+    ("GET 4", Ok((0, None, NO_PAGES))),
+    // The same again: only the count of changes differs.
+    ("SET 3 9", Ok((1, None, [3, 1, 0, 0, 0, 0]))),
+    (
+        "SET 1 9223372036854775807",
+        Ok((1, None, [2, 3, 1, 0, 0, 0])),
+    ),
+    ("GET 1", Ok((0, Some(i64::MAX), NO_PAGES))),
+    ("SET 1 9223372036854775808", Err(EngineFault::Constraint)),
+    ("SET 1 9999999999999999999", Err(EngineFault::Constraint)),
+    ("SET 1 10000000000000000000", Err(EngineFault::Sql)),
+    ("SET 01 1", Err(EngineFault::Sql)),
+    ("SET 0 1", Err(EngineFault::Sql)),
+    ("SET 8193 1", Err(EngineFault::Sql)),
+    ("SET 1  1", Err(EngineFault::Sql)),
+    ("SET 1 1 ", Err(EngineFault::Sql)),
+    ("set 1 1", Err(EngineFault::Sql)),
+    ("GET +1", Err(EngineFault::Sql)),
+    ("", Err(EngineFault::Sql)),
+    ("WIPE 8193", Err(EngineFault::Sql)),
+    ("WIPE 8192", Ok((0, None, NO_PAGES))),
+    ("WIPE 0", Ok((3, None, [3, 1, 0, 0, 0, 0]))),
+    ("WIPE 0", Ok((0, None, NO_PAGES))),
+];
+
 #[test]
 fn statements_of_cells_run_in_turn(rt: HostRuntime) -> Result<(), Fail> {
     let mut engine = CellEngine::new(rt.alloc()).fork()?;
     let mut image = Image::new(rt.alloc());
     engine.ready(&image);
-    let none = [0; 6];
-    for (text, wanted) in [
-        ("GET 3", Ok((0, None, none))),
-        ("SET 3 9", Ok((1, None, [2, 3, 4, 6, 1, 0]))),
-        ("GET 3", Ok((0, Some(9), none))),
-        ("GET 2", Ok((0, Some(0), none))),
-        ("GET 4", Ok((0, None, none))),
-        // The same again: only the count of changes differs.
-        ("SET 3 9", Ok((1, None, [3, 1, 0, 0, 0, 0]))),
-        (
-            "SET 1 9223372036854775807",
-            Ok((1, None, [2, 3, 1, 0, 0, 0])),
-        ),
-        ("GET 1", Ok((0, Some(i64::MAX), none))),
-        ("SET 1 9223372036854775808", Err(EngineFault::Constraint)),
-        ("SET 1 9999999999999999999", Err(EngineFault::Constraint)),
-        ("SET 1 10000000000000000000", Err(EngineFault::Sql)),
-        ("SET 01 1", Err(EngineFault::Sql)),
-        ("SET 0 1", Err(EngineFault::Sql)),
-        ("SET 8193 1", Err(EngineFault::Sql)),
-        ("SET 1  1", Err(EngineFault::Sql)),
-        ("SET 1 1 ", Err(EngineFault::Sql)),
-        ("set 1 1", Err(EngineFault::Sql)),
-        ("GET +1", Err(EngineFault::Sql)),
-        ("", Err(EngineFault::Sql)),
-        ("WIPE 8193", Err(EngineFault::Sql)),
-        ("WIPE 8192", Ok((0, None, none))),
-        ("WIPE 0", Ok((3, None, [3, 1, 0, 0, 0, 0]))),
-        ("WIPE 0", Ok((0, None, none))),
-    ] {
+    for &(text, wanted) in STATEMENTS {
         assert_eq!(rt; answered(&mut engine, &mut image, text), wanted, "{text}");
     }
     Ok(())
 }
 
+const FAULTS: &[(EngineFault, &str)] = &[
+    (EngineFault::Constraint, "a constraint is broken"),
+    (EngineFault::Sql, "the statement is refused"),
+    (EngineFault::Float(2, 1), "row 2, column 1 is a real value"),
+    (
+        EngineFault::NotText(0, 3),
+        "row 0, column 3 is a text that isn't UTF-8",
+    ),
+    (EngineFault::Unopened, "the files are not opened"),
+    (EngineFault::NoMemory, "out of memory"),
+];
+
 #[test]
 fn each_fault_of_an_engine_says_what_is_wrong(rt: HostRuntime) -> Result<(), Fail> {
-    for (fault, text) in [
-        (EngineFault::Constraint, "a constraint is broken"),
-        (EngineFault::Sql, "the statement is refused"),
-        (EngineFault::Float(2, 1), "row 2, column 1 is a real value"),
-        (
-            EngineFault::NotText(0, 3),
-            "row 0, column 3 is a text that isn't UTF-8",
-        ),
-        (EngineFault::Unopened, "the files are not opened"),
-        (EngineFault::NoMemory, "out of memory"),
-    ] {
+    for &(fault, text) in FAULTS {
         let said = format!(in rt.alloc(); "{fault}")?;
         assert_eq!(rt; said.as_str(), text);
     }

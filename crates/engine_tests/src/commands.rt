@@ -126,64 +126,62 @@ fn sixty_five_pages_make_two_commands(rt: HostRuntime) -> Result<(), Fail> {
     Ok(())
 }
 
+const HEADS: &[(&[u8], CommandFault)] = &[
+    (b"", CommandFault::Word(WordFault::Short(0))),
+    (
+        b"\x01\x01\0\0\0\0\0",
+        CommandFault::Word(WordFault::Short(0)),
+    ),
+    // What isn't there is looked for after what is.
+    (b"\x01", CommandFault::Word(WordFault::Short(0))),
+    (b"\x02", CommandFault::Format),
+    (b"\x01\x09", CommandFault::Kind),
+    (b"\x02\x09\0\0\0\0\0\x01", CommandFault::Format),
+    (b"\x01\0\0\0\0\0\0\x01", CommandFault::Kind),
+    (
+        b"\x01\x03\0\0\0\0\0\0",
+        CommandFault::Word(WordFault::Short(8)),
+    ),
+    (
+        b"\x01\x04\0\0\0\0\0\0",
+        CommandFault::Word(WordFault::NoNul(8)),
+    ),
+    (b"\x01\x05\0\0\0\0\0\0", CommandFault::Kind),
+    (
+        b"\x01\x01\x01\0\0\0\0\0",
+        CommandFault::Word(WordFault::Pad(0)),
+    ),
+    (
+        b"\x01\x02\0\0\0\0\0\x01",
+        CommandFault::Word(WordFault::Pad(0)),
+    ),
+    (
+        b"\x01\x01\0\0\0\0\0\0",
+        CommandFault::Word(WordFault::NoNul(8)),
+    ),
+    (
+        b"\x01\x01\0\0\0\0\0\0\0\0\0\0\0\0\0\0",
+        CommandFault::Word(WordFault::Short(8)),
+    ),
+    (
+        b"\x01\x01\0\0\0\0\0\0d\0\0\0\0\0\0\x01",
+        CommandFault::Word(WordFault::Pad(8)),
+    ),
+    (
+        b"\x01\x01\0\0\0\0\0\0\xff\0\0\0\0\0\0\0",
+        CommandFault::Word(WordFault::NotUtf8(8)),
+    ),
+    // A name's length comes before its bytes.
+    (
+        b"\x01\x01\0\0\0\0\0\0\0\0\0\0\0\0\0\x01",
+        CommandFault::Word(WordFault::Short(8)),
+    ),
+    (b"\x01\x01\0\0\0\0\0\0d\0\0\0\0\0\0\0\0", CommandFault::Tail),
+];
+
 #[test]
 fn faults_of_heads_and_names(rt: HostRuntime) -> Result<(), Fail> {
-    let rows = [
-        (b"".as_slice(), CommandFault::Word(WordFault::Short(0))),
-        (
-            b"\x01\x01\0\0\0\0\0".as_slice(),
-            CommandFault::Word(WordFault::Short(0)),
-        ),
-        // What isn't there is looked for after what is.
-        (b"\x01".as_slice(), CommandFault::Word(WordFault::Short(0))),
-        (b"\x02".as_slice(), CommandFault::Format),
-        (b"\x01\x09".as_slice(), CommandFault::Kind),
-        (b"\x02\x09\0\0\0\0\0\x01".as_slice(), CommandFault::Format),
-        (b"\x01\0\0\0\0\0\0\x01".as_slice(), CommandFault::Kind),
-        (
-            b"\x01\x03\0\0\0\0\0\0".as_slice(),
-            CommandFault::Word(WordFault::Short(8)),
-        ),
-        (
-            b"\x01\x04\0\0\0\0\0\0".as_slice(),
-            CommandFault::Word(WordFault::NoNul(8)),
-        ),
-        (b"\x01\x05\0\0\0\0\0\0".as_slice(), CommandFault::Kind),
-        (
-            b"\x01\x01\x01\0\0\0\0\0".as_slice(),
-            CommandFault::Word(WordFault::Pad(0)),
-        ),
-        (
-            b"\x01\x02\0\0\0\0\0\x01".as_slice(),
-            CommandFault::Word(WordFault::Pad(0)),
-        ),
-        (
-            b"\x01\x01\0\0\0\0\0\0".as_slice(),
-            CommandFault::Word(WordFault::NoNul(8)),
-        ),
-        (
-            b"\x01\x01\0\0\0\0\0\0\0\0\0\0\0\0\0\0".as_slice(),
-            CommandFault::Word(WordFault::Short(8)),
-        ),
-        (
-            b"\x01\x01\0\0\0\0\0\0d\0\0\0\0\0\0\x01".as_slice(),
-            CommandFault::Word(WordFault::Pad(8)),
-        ),
-        (
-            b"\x01\x01\0\0\0\0\0\0\xff\0\0\0\0\0\0\0".as_slice(),
-            CommandFault::Word(WordFault::NotUtf8(8)),
-        ),
-        // A name's length comes before its bytes.
-        (
-            b"\x01\x01\0\0\0\0\0\0\0\0\0\0\0\0\0\x01".as_slice(),
-            CommandFault::Word(WordFault::Short(8)),
-        ),
-        (
-            b"\x01\x01\0\0\0\0\0\0d\0\0\0\0\0\0\0\0".as_slice(),
-            CommandFault::Tail,
-        ),
-    ];
-    for (bytes, fault) in rows {
+    for &(bytes, fault) in HEADS {
         assert_eq!(rt; read_command(rt.alloc(), bytes).err(), Some(fault));
     }
     Ok(())
@@ -198,18 +196,20 @@ fn named(alloc: Global, len: u16, byte: u8) -> Result<Vec<u8>, AllocError> {
     Ok(bytes)
 }
 
+const NAMES: &[(u16, u8, Option<CommandFault>)] = &[
+    (255, b'n', None),
+    (
+        255,
+        b'\xff',
+        Some(CommandFault::Word(WordFault::NotUtf8(8))),
+    ),
+    (256, b'n', Some(CommandFault::Word(WordFault::Short(8)))),
+    (256, b'\xff', Some(CommandFault::Word(WordFault::Short(8)))),
+];
+
 #[test]
 fn names_have_lengths(rt: HostRuntime) -> Result<(), Fail> {
-    for (len, byte, fault) in [
-        (255, b'n', None),
-        (
-            255,
-            b'\xff',
-            Some(CommandFault::Word(WordFault::NotUtf8(8))),
-        ),
-        (256, b'n', Some(CommandFault::Word(WordFault::Short(8)))),
-        (256, b'\xff', Some(CommandFault::Word(WordFault::Short(8)))),
-    ] {
+    for &(len, byte, fault) in NAMES {
         let bytes = named(rt.alloc(), len, byte)?;
         let answer = read_command(rt.alloc(), &bytes).err();
         assert_eq!(rt; answer, fault);
@@ -217,30 +217,33 @@ fn names_have_lengths(rt: HostRuntime) -> Result<(), Fail> {
     Ok(())
 }
 
+const CUTS: &[(usize, u64)] = &[(4143, 48), (47, 40), (39, 32), (31, 24), (23, 16)];
+
+// Bytes put one after the other at their places, and the fault that then comes first.
+const CHANGES: &[(usize, u8, CommandFault)] = &[
+    (24, 1, CommandFault::Tail),
+    (28, 2, CommandFault::Number),
+    (37, 4, CommandFault::PageSize),
+    // A count is only a claim: with two numbers the first page begins at byte 56, and is cut.
+    (32, 2, CommandFault::Word(WordFault::Short(56))),
+    (39, 1, CommandFault::Word(WordFault::Pad(32))),
+    (31, 1, CommandFault::Word(WordFault::Pad(24))),
+    (15, 1, CommandFault::Word(WordFault::Pad(8))),
+    (7, 1, CommandFault::Word(WordFault::Pad(0))),
+    (1, 9, CommandFault::Kind),
+    (0, 9, CommandFault::Format),
+];
+
 #[test]
 fn faults_in_their_order(rt: HostRuntime) -> Result<(), Fail> {
     let mut bytes = empty_commit(rt.alloc())?;
-    for (len, at) in [(4143, 48), (47, 40), (39, 32), (31, 24), (23, 16)] {
+    for &(len, at) in CUTS {
         let answer = read_command(rt.alloc(), bytes.get(..len).unwrap_or(&[])).err();
         assert_eq!(rt; answer, Some(CommandFault::Word(WordFault::Short(at))));
     }
     assert_eq!(rt; read_command(rt.alloc(), &bytes).err(), None);
     bytes.push(0)?;
-    // Bytes put one after the other at their places, and the fault that then comes first.
-    let rows = [
-        (24, 1, CommandFault::Tail),
-        (28, 2, CommandFault::Number),
-        (37, 4, CommandFault::PageSize),
-        // A count is only a claim: with two numbers the first page begins at byte 56, and is cut.
-        (32, 2, CommandFault::Word(WordFault::Short(56))),
-        (39, 1, CommandFault::Word(WordFault::Pad(32))),
-        (31, 1, CommandFault::Word(WordFault::Pad(24))),
-        (15, 1, CommandFault::Word(WordFault::Pad(8))),
-        (7, 1, CommandFault::Word(WordFault::Pad(0))),
-        (1, 9, CommandFault::Kind),
-        (0, 9, CommandFault::Format),
-    ];
-    for (place, byte, fault) in rows {
+    for &(place, byte, fault) in CHANGES {
         if let Some(slot) = bytes.get_mut(place) {
             *slot = byte;
         }
@@ -249,23 +252,25 @@ fn faults_in_their_order(rt: HostRuntime) -> Result<(), Fail> {
     Ok(())
 }
 
+const FAULTS: &[(CommandFault, &str)] = &[
+    (CommandFault::Format, "the command has another format"),
+    (CommandFault::Kind, "no command has this type"),
+    (
+        CommandFault::Word(WordFault::NoMemory),
+        "the command is malformed: out of memory",
+    ),
+    (CommandFault::PageSize, "the pages have another size"),
+    (
+        CommandFault::Number,
+        "a number of the command is out of its range",
+    ),
+    (CommandFault::Tail, "bytes follow the command"),
+    (CommandFault::NoMemory, "out of memory"),
+];
+
 #[test]
 fn faults_say_why(rt: HostRuntime) -> Result<(), Fail> {
-    for (fault, text) in [
-        (CommandFault::Format, "the command has another format"),
-        (CommandFault::Kind, "no command has this type"),
-        (
-            CommandFault::Word(WordFault::NoMemory),
-            "the command is malformed: out of memory",
-        ),
-        (CommandFault::PageSize, "the pages have another size"),
-        (
-            CommandFault::Number,
-            "a number of the command is out of its range",
-        ),
-        (CommandFault::Tail, "bytes follow the command"),
-        (CommandFault::NoMemory, "out of memory"),
-    ] {
+    for &(fault, text) in FAULTS {
         assert_eq!(rt; fault.to_string(rt.alloc())?.as_str(), text);
     }
     Ok(())

@@ -50,46 +50,20 @@ const SOME: Accepted = Accepted::Match {
     from: Some(3),
 };
 
-// The terms of a log, how much of it is cut, the place before what comes, its terms, the answer, and the last index then.
-const TAKEN: &[(&[u64], u64, LogEnd, &[u64], Accepted, u64)] = &[
-    (
-        &[1, 1, 1, 1],
-        0,
-        LogEnd { index: 0, term: 0 },
-        &[1, 1],
-        NONE,
-        4,
-    ),
-    (&[1, 1, 1, 1], 2, LogEnd { index: 2, term: 1 }, &[], NONE, 4),
-    (
-        &[1, 1, 1, 1, 1],
-        1,
-        LogEnd { index: 2, term: 1 },
-        &[2, 2],
-        SOME,
-        4,
-    ),
-    (
-        &[1, 1],
-        0,
-        LogEnd { index: 1, term: 1 },
-        &[1, 2, 2],
-        SOME,
-        4,
-    ),
-    (
-        &[1, 1],
-        0,
-        LogEnd { index: 2, term: 2 },
-        &[2],
-        Accepted::Differs(2),
-        2,
-    ),
+// The terms of a log, how much of it is cut, the index and term before what comes, its terms, the answer, and the last
+// index then.
+const TAKEN: &[(&[u64], u64, u64, u64, &[u64], Accepted, u64)] = &[
+    (&[1, 1, 1, 1], 0, 0, 0, &[1, 1], NONE, 4),
+    (&[1, 1, 1, 1], 2, 2, 1, &[], NONE, 4),
+    (&[1, 1, 1, 1, 1], 1, 2, 1, &[2, 2], SOME, 4),
+    (&[1, 1], 0, 1, 1, &[1, 2, 2], SOME, 4),
+    (&[1, 1], 0, 2, 2, &[2], Accepted::Differs(2), 2),
 ];
 
 #[test]
 fn entries_are_taken(rt: HostRuntime) -> Result<(), Fail> {
-    for &(terms, cut, prev, coming, answer, last) in TAKEN {
+    for &(terms, cut, index, term, coming, answer, last) in TAKEN {
+        let prev = LogEnd { index, term };
         assert_eq!(rt;
             taken(rt.alloc(), terms, cut, prev, coming)?,
             (answer, last)

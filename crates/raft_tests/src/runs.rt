@@ -193,6 +193,25 @@ fn has_leader(members: &[Member]) -> bool {
         .any(|member| member.node.view().role == RaftRole::Leader)
 }
 
+// A timeout or a beat at a member.
+fn at_member(
+    alloc: Global,
+    members: &mut Vec<Member>,
+    mail: &mut Vec<RaftMessage>,
+    at: usize,
+    timeout: bool,
+) -> Result<(), Fail> {
+    let event = if timeout {
+        RaftEvent::Timeout
+    } else {
+        RaftEvent::Beat
+    };
+    match members.get_mut(at) {
+        Some(member) => happens(alloc, member, &event, mail),
+        None => Ok(()),
+    }
+}
+
 // The same event at each member, one after another, and what follows from it.
 fn everywhere(
     alloc: Global,
@@ -204,14 +223,7 @@ fn everywhere(
         if timeout && has_leader(members.as_slice()) {
             return Ok(());
         }
-        let event = if timeout {
-            RaftEvent::Timeout
-        } else {
-            RaftEvent::Beat
-        };
-        if let Some(member) = members.get_mut(at) {
-            happens(alloc, member, &event, mail)?;
-        }
+        at_member(alloc, members, mail, at, timeout)?;
         settles(alloc, members, mail)?;
     }
     Ok(())

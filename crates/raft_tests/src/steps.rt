@@ -106,14 +106,19 @@ fn seen(node: &RaftNode, todo: &Todo) -> Seen {
     )
 }
 
+// A step of the node.
+fn after(alloc: Global, node: &mut RaftNode, event: &RaftEvent) -> Result<Seen, Fail> {
+    let todo = step(alloc, node, event)?;
+    Ok(seen(node, &todo))
+}
+
 // A step of the node, or another node in its place.
 fn taken(alloc: Global, node: &mut RaftNode, row: Row) -> Result<Seen, Fail> {
     if let Row::Fresh(id, roles) = row {
         *node = fresh(alloc, id, roles)?;
     }
     let event = event_of(alloc, row)?;
-    let todo = step(alloc, node, &event)?;
-    Ok(seen(node, &todo))
+    after(alloc, node, &event)
 }
 
 const NONE: (u64, u8, bool, u64) = (0, 0, false, 0);
@@ -195,18 +200,29 @@ fn rows_of_steps(rt: HostRuntime) -> Result<(), Fail> {
     Ok(())
 }
 
-// How a leader of three stands that is told of a fourth server, a standby.
-fn told(alloc: Global) -> Result<Seen, Fail> {
-    let mut node = fresh(alloc, 1, THREE)?;
-    taken(alloc, &mut node, Row::Timeout)?;
-    taken(alloc, &mut node, Row::Vote(2, 1, true))?;
+// The node leads by its own vote and another.
+fn lead(alloc: Global, node: &mut RaftNode) -> Result<(), Fail> {
+    taken(alloc, node, Row::Timeout)?;
+    taken(alloc, node, Row::Vote(2, 1, true))?;
+    Ok(())
+}
+
+// A step of a node that is told of a fourth server, a standby.
+fn tell_of_fourth(alloc: Global, node: &mut RaftNode) -> Result<Seen, Fail> {
     let bytes = configuration(alloc, &[0, 0, 0, 1])?;
     let (servers, _) = read_servers(alloc, bytes.as_slice())?;
     if node.view().role == RaftRole::Candidate {
         return Err(Fail::from("a candidate"));
     }
     let todo = node.step(alloc, &RaftEvent::Servers(servers))?;
-    Ok(seen(&node, &todo))
+    Ok(seen(node, &todo))
+}
+
+// How a leader of three stands that is told of a fourth server.
+fn told(alloc: Global) -> Result<Seen, Fail> {
+    let mut node = fresh(alloc, 1, THREE)?;
+    lead(alloc, &mut node)?;
+    tell_of_fourth(alloc, &mut node)
 }
 
 #[test]

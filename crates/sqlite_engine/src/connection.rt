@@ -15,7 +15,7 @@ use std::alloc::Global;
 pub(crate) type Conn = Connection<FileStore<PageFile>>;
 
 /// Why files were not opened.
-#[derive(Clone, Copy, Debug, PartialEq, Eq)]
+#[derive(Clone, Copy)]
 pub(crate) enum OpenFault {
     Refused,
     NoMemory,

@@ -246,13 +246,20 @@ fn message_in(alloc: Global, bytes: &[u8]) -> Option<Message> {
     message(alloc, bytes[4], bytes[5], &bytes[8..]).ok()
 }
 
-/// What is written of the request that is read in a message.
-fn request_again(alloc: Global, message: &Message) -> Option<WireBytes> {
-    let request = read_request(alloc, message).ok()?;
-    if request_fits(&request) {
-        write_request(alloc, &request).ok()
+/// What is written of a request, where it can be written.
+fn request_written(alloc: Global, request: &Request) -> Option<WireBytes> {
+    if request_fits(request) {
+        write_request(alloc, request).ok()
     } else {
         None
+    }
+}
+
+/// What is written of the request that is read in a message.
+fn request_again(alloc: Global, message: &Message) -> Option<WireBytes> {
+    match read_request(alloc, message) {
+        Ok(request) => request_written(alloc, &request),
+        Err(_) => None,
     }
 }
 
@@ -294,13 +301,20 @@ fn response_fits(response: &Response) -> bool
     }
 }
 
-/// What is written of the response that is read in a message.
-fn response_again(alloc: Global, message: &Message) -> Option<WireBytes> {
-    let response = read_response(alloc, message, 1).ok()?;
-    if response_fits(&response) {
-        write_response(alloc, &response).ok()
+/// What is written of a response, where it can be written.
+fn response_written(alloc: Global, response: &Response) -> Option<WireBytes> {
+    if response_fits(response) {
+        write_response(alloc, response).ok()
     } else {
         None
+    }
+}
+
+/// What is written of the response that is read in a message.
+fn response_again(alloc: Global, message: &Message) -> Option<WireBytes> {
+    match read_response(alloc, message, 1) {
+        Ok(response) => response_written(alloc, &response),
+        Err(_) => None,
     }
 }
 

@@ -228,6 +228,16 @@ fn faulty_values(rt: HostRuntime) {
     }
 }
 
+/// What is written of a value, where it can be written.
+fn value_again(alloc: Global, value: &Value) -> Result<Option<WireBytes>, AllocError> {
+    if !value.is_writable() {
+        return Ok(None);
+    }
+    let mut writer = Writer::new(alloc);
+    writer.value(value)?;
+    Ok(Some(writer.finish()))
+}
+
 /// Whether a body is read as this value, of a type that is its own, and the value is written back so.
 fn value_passes(
     alloc: Global,
@@ -236,12 +246,11 @@ fn value_passes(
     wanted: &Wanted,
 ) -> Result<bool, WordFault> {
     let value = Words::new(body).value(alloc, Dialect::Exact, value_type)?;
-    if !value.is_writable() || value.value_type() != value_type || !is_as(&value, wanted) {
-        return Ok(false);
+    let is_wanted = value.value_type() == value_type && is_as(&value, wanted);
+    match value_again(alloc, &value)? {
+        Some(written) => Ok(is_wanted && written.as_slice() == body),
+        None => Ok(false),
     }
-    let mut writer = Writer::new(alloc);
-    writer.value(&value)?;
-    Ok(writer.finish().as_slice() == body)
 }
 
 const SINGLE_VALUES: &[(ValueType, &[u8], Wanted)] = &[

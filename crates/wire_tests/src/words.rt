@@ -39,16 +39,25 @@ fn numbers(rt: HostRuntime) {
     );
 }
 
-/// Whether a body is read as this text alone, lent and copied, and the text is written back so.
-fn text_passes(alloc: Global, body: &[u8], wanted: &str) -> Result<bool, WordFault> {
-    let mut words = Words::new(body);
-    let text = words.text(alloc)?;
-    if text.has_nul() || words.left() != 0 || text.as_str() != wanted {
-        return Ok(false);
+/// What is written of a text, where it can be written.
+fn text_again(alloc: Global, text: &WireText) -> Result<Option<WireBytes>, AllocError> {
+    if text.has_nul() {
+        return Ok(None);
     }
     let mut writer = Writer::new(alloc);
     writer.text(text.as_str())?;
-    Ok(writer.finish().as_slice() == body)
+    Ok(Some(writer.finish()))
+}
+
+/// Whether a body is read as this text alone, and the text is written back so.
+fn text_passes(alloc: Global, body: &[u8], wanted: &str) -> Result<bool, WordFault> {
+    let mut words = Words::new(body);
+    let text = words.text(alloc)?;
+    let is_wanted = words.left() == 0 && text.as_str() == wanted;
+    match text_again(alloc, &text)? {
+        Some(written) => Ok(is_wanted && written.as_slice() == body),
+        None => Ok(false),
+    }
 }
 
 const TEXTS: &[(&[u8], &str)] = &[

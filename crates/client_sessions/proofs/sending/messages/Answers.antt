@@ -1,4 +1,4 @@
-use Rattle.std.proofs.Common.{◌≡◌, ℕ, List, [], ◌∷◌, ◌++◌, take, ap, ◌∙◌}
+use Rattle.std.proofs.Common.{ℕ, List, [], ◌∷◌, ◌++◌, take, ap, ◌∙◌}
 use Rattle.wire_msgs.specs.Responses.{IsWritable, response_bytes}
 use Rattle.client_sessions.specs.Calls.{bytes_of}
 use Rattle.client_sessions.proofs.Telling.{item_of_all, mapped_more}

@@ -1,6 +1,6 @@
-use Rattle.std.proofs.Common.{◌≡◌, ℕ, List, [], ◌∷◌, ◌++◌, take, ap, ◌∙◌}
+use Rattle.std.proofs.Common.{ℕ, List, [], ◌∷◌, ◌++◌, take, ap, ◌∙◌}
 use Rattle.wire_msgs.specs.declared.response.Response.{Response}
-use Rattle.wire_msgs.specs.Responses.{IsWritable, response_bytes}
+use Rattle.wire_msgs.specs.Responses.{IsWritable}
 use Rattle.client_sessions.specs.Calls.{sent, sent_to}
 use Rattle.client_sessions.proofs.Telling.{item_of_all, mapped_more}
 use Rattle.client_sessions.proofs.sending.messages_to.Goals as goal

@@ -1,4 +1,4 @@
-use Rattle.std.proofs.Common.{rules, ◌≡◌, true, false, cond, None, Some, refl, sym, ◌∙◌}
+use Rattle.std.proofs.Common.{rules, ◌≡◌, true, false, refl}
 use Rattle.session_rules.specs.Events.{connects}
 use Rattle.gateway.specs.Seen.{seen}
 use Rattle.client_sessions.specs.declared.clients.Clients.{Clients as Held}

@@ -1,4 +1,4 @@
-use Rattle.std.proofs.Common.{List, ℕ, refl, ap, ◌∙◌}
+use Rattle.std.proofs.Common.{refl, ap, ◌∙◌}
 use Rattle.std.proofs.lemmas.Result.{IfOk-weaker}
 use Rattle.client_sessions.specs.Calls.{sent}
 use Rattle.client_sessions.proofs.Landing.{applied_can, applied_held, applied_told, applied_stand, failed_stand, on_ok}

@@ -1,4 +1,4 @@
-use Rattle.std.proofs.Common.{List, ℕ, refl, ap, ◌∙◌}
+use Rattle.std.proofs.Common.{refl, ap, ◌∙◌}
 use Rattle.std.proofs.lemmas.Result.{IfOk-weaker}
 use Rattle.client_sessions.specs.Calls.{sent}
 use Rattle.client_sessions.proofs.Landing.{lost_can, lost_held, lost_told, lost_stand, failed_stand, unmarked, on_ok}

@@ -1,4 +1,4 @@
-use Rattle.std.proofs.Common.{refl, sym, ap, ◌∙◌}
+use Rattle.std.proofs.Common.{refl, ◌∙◌}
 use Rattle.std.proofs.lemmas.Result.{IfOk-weaker}
 use Rattle.client_sessions.proofs.Hearing.{closing_held}
 use Rattle.client_sessions.proofs.Standing.{entries_alike, put_back}

@@ -1,4 +1,4 @@
-use Rattle.std.proofs.Common.{rules, ◌≡◌, ◌<◌, ◌+◌, Bool, true, false, length, deque_len, refl, sym, ap, ◌∙◌, arith}
+use Rattle.std.proofs.Common.{rules, ◌≡◌, ◌<◌, true, false, length, deque_len, refl}
 use Rattle.client_sessions.proofs.Taking.{searched_start, searched_more, searched_end, searched_found, fewer}
 use Rattle.client_sessions.proofs.clients.Clients.take_next.Goals as goal
 
