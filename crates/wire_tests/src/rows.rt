@@ -102,15 +102,6 @@ fn size_end_rows(alloc: Global, bodies: &[WireBytes], place: usize) -> Option<(u
     Some((body.len(), end[0], rows))
 }
 
-<<<<<<< HEAD
-const CUTS: &[(
-    usize,
-    Option<(usize, u8, usize)>,
-    Option<(usize, u8, usize)>,
-)] = &[
-    (4_094, Some((65_536, 0xff, 4_094)), None),
-    (4_095, Some((65_536, 0xee, 4_094)), Some((48, 0xff, 1))),
-=======
 /// How long the body of a part is and how it ends, and how many rows are read in it, where it is there.
 type SizeEndRows = Option<(usize, u8, usize)>;
 
@@ -126,20 +117,12 @@ fn first_two(alloc: Global, count: usize) -> Result<(SizeEndRows, SizeEndRows), 
 const CUTS: &[(usize, (SizeEndRows, SizeEndRows))] = &[
     (4_094, (Some((65_536, 0xff, 4_094)), None)),
     (4_095, (Some((65_536, 0xee, 4_094)), Some((48, 0xff, 1)))),
->>>>>>> 5de1181ef0e3f4623a0d991c97560ea2b4ab3d0e
 ];
 
 #[test]
 fn cut_at_the_limit(rt: HostRuntime) -> Result<(), Fail> {
-<<<<<<< HEAD
-    for &(count, first, second) in CUTS {
-        let bodies = parts_of_integers(rt.alloc(), count)?;
-        assert_eq!(rt; size_end_rows(rt.alloc(), &bodies, 0), first);
-        assert_eq!(rt; size_end_rows(rt.alloc(), &bodies, 1), second);
-=======
     for &(count, wanted) in CUTS {
         assert_eq!(rt; first_two(rt.alloc(), count)?, wanted);
->>>>>>> 5de1181ef0e3f4623a0d991c97560ea2b4ab3d0e
     }
     Ok(())
 }
