@@ -7,12 +7,11 @@ use Rattle.dq_base.specs.Changes.{changed}
 use Rattle.wire_words.specs.declared.value.Value.{Value}
 use Rattle.wire_words.specs.declared.value.Value.TheVariants.{Null}
 use Rattle.sql_engine.specs.declared.answer.Ran.{Ran}
-use Rattle.sql_engine.specs.declared.kind.EngineKind.{EngineKind}
 use Rattle.sql_engine.specs.declared.kind.EngineKind.TheVariants.{Cells, Sqlite}
 use Rattle.sql_engine.specs.declared.fault.EngineFault.{EngineFault}
 use Rattle.sql_engine.specs.declared.fault.EngineFault.TheVariants as faults
-use Rattle.sql_engine.specs.Replies.{Statement, Reply, Shown, plain, real, plain_rows, fault_in}
-use Rattle.sql_engine.specs.Meanings.{Answers, CantBeTold, Faults, Refusal, constraint, sql, reply_of}
+use Rattle.sql_engine.specs.Replies.{Statement, Shown, plain, real, plain_rows, fault_in}
+use Rattle.sql_engine.specs.Meanings.{Answers, Faults, Refusal, constraint, sql, reply_of}
 use Rattle.sql_engine.specs.Cells.{Outcome, outcome_of, cells}
 use Rattle.page_apply.specs.Files.{image_after}
 use Rattle.session_rules.specs.Engines.{Answer, Ending, Lacking, TooLarge, Stopped, Ended, takes, runs, Allows, AllowsRest, AllowsAll}

@@ -1,5 +1,5 @@
 -- At two nodes that stand alike the same leads to the same, by any answers of cells.
-use Rattle.std.proofs.Common.{◌≡◌, ℕ, Bool, true, false, cond, List, [], ◌∷◌, ◌++◌, map, take, drop, length, Option, Some, None, Result, Ok, Err, refl, sym, ap, ◌∙◌, subst, append_assoc}
+use Rattle.std.proofs.Common.{◌≡◌, ℕ, Bool, true, false, cond, List, [], ◌∷◌, ◌++◌, map, take, Option, Some, None, Result, Ok, Err, refl, sym, ap, ◌∙◌, subst, append_assoc}
 use Rattle.std.specs.Prelude.{is_none}
 use Rattle.std.specs.List.{AllByRecursion}
 use Rattle.std.specs.Option.{option_map}
@@ -18,21 +18,20 @@ use Rattle.session_rules.specs.Engines.{Answer, AllowsFor}
 use Rattle.session_rules.specs.Sessions.{Reply, Refusal, Single, Rows, responses_of, may_ask}
 use Rattle.session_rules.specs.Requests.{on_request, handed}
 use Rattle.session_rules.specs.Events.{connects}
-use Rattle.session_world.specs.Nodes.{Said, Node, databases, view_of, started}
+use Rattle.session_world.specs.Nodes.{Said, Node, databases, started}
 use Rattle.session_world.specs.Alone.{Turn, Timeout, Join, Leave, Ask, takes_turn, alone_from, alone, lacks, AllowsTurn, AllowsTurns}
 use Rattle.session_world.proofs.Alones.{alone_is_safe_holds}
-use Rattle.session_table.specs.Sweeping.{told_in, all_told}
+use Rattle.session_table.specs.Sweeping.{all_told}
 use Rattle.client_sessions.specs.Calls.{sent}
 use Rattle.client_sessions.specs.Clients.{with_stream}
 use Rattle.lone_node.specs.declared.say.Say.{Say}
 use Rattle.lone_node.specs.declared.say.Say.TheVariants as says
-use Rattle.lone_node.specs.Safe.{Allowed}
-use Rattle.lone_node.specs.Lone.{Lone, node_of, given, with_streams, standing, view, turned, said_to, replies, messages_of, said_in, outcome, uses, ask, left_by, asks, replies_to, comes, behind, onward, comes_all, times_out, joins, leaves, hangs_up, answered, closes, served, hears_on, hears}
+use Rattle.lone_node.specs.Lone.{Lone, node_of, given, with_streams, standing, view, turned, said_to, replies, messages_of, said_in, outcome, uses, ask, left_by, asks, comes, behind, onward, comes_all, times_out, joins, leaves, hangs_up, answered, closes, served, hears_on, hears}
 use Rattle.lone_node.proofs.Turning.{turn_more, new_said}
 use Rattle.cell_runs.specs.Ample.{IsAmple, IsAmpleTurn, unsaid}
 use Rattle.cell_runs.specs.Repeats.{AreOfCells, AreAlike, GoAlike, BytesRepeat, EventsRepeat}
-use Rattle.cell_runs.proofs.Unnumbered.{plain_reply, plain_said, plain_node, plain_turned}
-use Rattle.cell_runs.proofs.Turning.{onto, turn_apart, ask_same, idle_same}
+use Rattle.cell_runs.proofs.Unnumbered.{plain_reply, plain_said, plain_node}
+use Rattle.cell_runs.proofs.Turning.{turn_apart, ask_same, idle_same}
 use Rattle.cell_runs.proofs.Asking.{taken_request, request_same}
 
 -- ---- what is said doesn't show the numbers of transactions

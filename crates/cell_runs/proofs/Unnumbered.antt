@@ -1,5 +1,5 @@
 -- A node whose replies name no transaction: what comes of requests and entries is the same.
-use Rattle.std.proofs.Common.{◌≡◌, ℕ, zero, suc, ◌+◌, Bool, true, false, cond, List, [], ◌∷◌, ◌++◌, map, Option, Some, None, refl, sym, ap, ◌∙◌, subst}
+use Rattle.std.proofs.Common.{◌≡◌, ℕ, zero, suc, ◌+◌, Bool, true, false, cond, List, [], ◌∷◌, ◌++◌, map, Option, Some, None, refl, sym, ap, ◌∙◌}
 use Rattle.std.specs.Prelude.{◌==◌, ◌-◌, length}
 use Rattle.std.specs.List.{filter}
 use Rattle.std.proofs.lemmas.List.{map-append}
@@ -9,17 +9,17 @@ use Rattle.dq_base.specs.Images.{page_count}
 use Rattle.dq_base.specs.Changes.{changed}
 use Rattle.sql_engine.specs.declared.answer.Ran.{Ran}
 use Rattle.sql_engine.specs.Replies.{Statement}
-use Rattle.session_rules.specs.Causes.{Cause, LogFull, DatabaseFull}
+use Rattle.session_rules.specs.Causes.{Cause, LogFull}
 use Rattle.session_rules.specs.Entries.{Content}
 use Rattle.session_rules.specs.Machine.{Machine}
-use Rattle.session_rules.specs.Engines.{Answer, no_pages, Ending, Lacking, TooLarge, Stopped, Ended, no_answer, runs}
-use Rattle.session_rules.specs.Sessions.{Reply, Refusal, Single, Rows, responses_of, Kind, Opening, Configuring, Writing, Committing, Flight, Transaction, Session, Gateway, View, absent, Note, Nothing, Began, Inside, Outside, Turned, Refused, Lacks, Answers, Proposes, Affects}
+use Rattle.session_rules.specs.Engines.{no_pages, Ending, Lacking, TooLarge, Stopped, Ended}
+use Rattle.session_rules.specs.Sessions.{Reply, Refusal, Single, Rows, Kind, Opening, Configuring, Writing, Committing, Flight, Transaction, Session, Gateway, View, absent, Note, Nothing, Began, Inside, Outside, Turned, Refused, Lacks, Answers, Proposes, Affects}
 use Rattle.session_rules.specs.Limits.{first_cause, hindrance, log_full}
-use Rattle.session_rules.specs.Requests.{with_flight, worked, flying, unless, row_cause, reply_of, change_of, outside_write, outside, inside, run_in, with_session}
+use Rattle.session_rules.specs.Requests.{with_flight, worked, flying, unless, row_cause, reply_of, change_of, outside_write, outside, inside, with_session}
 use Rattle.session_rules.specs.Events.{tidy, landed, settled_by, on_applied}
-use Rattle.session_world.specs.Nodes.{Query, Commit, Said, Trail, Node, databases}
-use Rattle.session_world.specs.Life.{Event, Apply, Append, query_for, query_by, tells, called, said_landed, said_by, said_applied, landed_trail, trail_by, happens, run_from}
-use Rattle.session_world.specs.Alone.{applies, settling, due, settled, checkpointed}
+use Rattle.session_world.specs.Nodes.{Query, Said, Trail, Node, databases}
+use Rattle.session_world.specs.Life.{Apply, Append, query_for, query_by, called, said_landed, said_by, said_applied, landed_trail, trail_by, happens, run_from}
+use Rattle.session_world.specs.Alone.{applies, due, settled, checkpointed}
 use Rattle.cell_runs.proofs.CellAnswers.{unnumbered, unnumbered_end}
 
 abbrev pub plain_reply : Reply → Reply

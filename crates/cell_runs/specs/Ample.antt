@@ -1,7 +1,6 @@
 -- Turns in which the engine wanted no memory; and a node without what it has said.
-use Rattle.std.specs.Prelude.{◌≢◌, ℕ, List, [], Result, Err}
+use Rattle.std.specs.Prelude.{◌≢◌, [], Err}
 use Rattle.std.specs.List.{AllByRecursion}
-use Rattle.wire_msgs.specs.declared.request.Request.{Request}
 use Rattle.sql_engine.specs.declared.fault.EngineFault.TheVariants.{NoMemory}
 use Rattle.session_rules.specs.Engines.{Answer}
 use Rattle.session_world.specs.Nodes.{Node}

@@ -1,5 +1,5 @@
 -- With the engine of cells a node's run is decided by what happens at it.
-use Rattle.std.specs.Prelude.{◌≡◌, ℕ, List, Option, Some}
+use Rattle.std.specs.Prelude.{◌≡◌, ℕ, List, Some}
 use Rattle.std.specs.List.{AllByRecursion}
 use Rattle.sql_engine.specs.declared.kind.EngineKind.TheVariants.{Cells}
 use Rattle.sql_engine.specs.Cells.{cells}
