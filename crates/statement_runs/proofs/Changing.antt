@@ -1,42 +1,20 @@
 -- The change between two images, page by page.
-use Rattle.std.proofs.Common.{◌≡◌, ℕ, suc, ◌+◌, ◌-◌, ◌<◌, ◌≤◌, true, false, List, [], ◌∷◌, ◌++◌, length, inl, inr, refl, sym, ap, ◌∙◌, append_assoc, append-nil, arith}
+use Rattle.std.proofs.Common.{◌≡◌, true, List, [], ◌∷◌, ◌++◌, length, inl, inr, refl, sym, ap, ◌∙◌, arith}
 use Rattle.std.specs.Str.{bytes_eq}
-use Rattle.std.proofs.lemmas.Bool.{cases_Bool, both_ways, and_from, cond-true, cond-false}
+use Rattle.std.proofs.lemmas.Bool.{cases_Bool, both_ways, and_from, cond-true}
 use Rattle.std.proofs.lemmas.Slice.Eq.{bytes_eq-Decides}
 use Rattle.dq_base.specs.declared.images.Image.{Image}
 use Rattle.dq_base.specs.declared.pages.NumberedPage.{NumberedPage}
-use Rattle.dq_base.specs.Images.{page_at}
 use Rattle.dq_base.specs.Applying.{applied}
-use Rattle.dq_base.specs.Changes.{same_image, changed_page, changed_from, numbers_above_one, sizes_of, changed}
+use Rattle.dq_base.specs.Changes.{same_image, changed_from, numbers_above_one, sizes_of, changed}
 use Rattle.dq_base.proofs.ChangeLaw.{applied_change}
 use Rattle.sql_engine.specs.Meanings.{IsShort}
 use Rattle.session_rules.specs.Engines.{no_pages}
 use Rattle.session_rules.proofs.Images.{unchanged}
 
-pub changed_next : (a b : Image) (pages grown whole : List NumberedPage) (n e : ℕ) → n < e → grown ≡ pages ++ changed_page n (page_at a n) (page_at b n) → pages ++ changed_from n (e - n) a b ≡ whole → grown ++ changed_from (n + 1) (e - (n + 1)) a b ≡ whole
-unfolding changed_from
-changed_next a b pages grown whole n e below is so_far =
-    let count : suc (e - (n + 1)) ≡ e - n = omega arith in
-    let place : n + 1 ≡ suc n = omega arith in
-    ap (λ (ps : List NumberedPage). ps ++ changed_from (n + 1) (e - (n + 1)) a b) is
-    ∙ append_assoc pages (changed_page n (page_at a n) (page_at b n)) (changed_from (n + 1) (e - (n + 1)) a b)
-    ∙ ap (λ (m : ℕ). pages ++ (changed_page n (page_at a n) (page_at b n) ++ changed_from m (e - (n + 1)) a b)) place
-    ∙ ap (λ (k : ℕ). pages ++ changed_from n k a b) count
-    ∙ so_far
-
-pub changed_done : (a b : Image) (pages whole : List NumberedPage) (n e : ℕ) → e ≤ n → pages ++ changed_from n (e - n) a b ≡ whole → pages ≡ whole
-unfolding changed_from
-changed_done a b pages whole n e past so_far =
-    let none : 0 ≡ e - n = omega arith in
-    sym (append-nil pages) ∙ ap (λ (k : ℕ). pages ++ changed_from n k a b) none ∙ so_far
-
 pub change_none : (a b : Image) → same_image a b ≡ true → changed a b ≡ []
 unfolding changed
 change_none a b same = cond-true (same_image a b) [] (changed_from 2 (numbers_above_one b) a b ++ sizes_of b ∷ []) same
-
-pub change_some : (a b : Image) → same_image a b ≡ false → changed a b ≡ changed_from 2 (numbers_above_one b) a b ++ sizes_of b ∷ []
-unfolding changed
-change_some a b other = cond-false (same_image a b) [] (changed_from 2 (numbers_above_one b) a b ++ sizes_of b ∷ []) other
 
 pub applied_empty : (image : Image) (pages : List NumberedPage) → length pages ≡ 0 → image ≡ applied image pages
 unfolding applied

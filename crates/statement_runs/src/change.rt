@@ -1,21 +1,11 @@
 //! The pages that lead from one image to another.
 
-ghost use Rattle.std.specs.Prelude.{◌≡◌, ◌≤◌, ◌^◌, ◌++◌, None, OnOk};
+ghost use Rattle.std.specs.Prelude.{◌≡◌, ◌++◌, None, OnOk};
 ghost use Rattle.dq_base.specs.Images.{page_at};
-ghost use Rattle.dq_base.specs.Changes.{changed_page, numbers_above_one, sizes_of};
+ghost use Rattle.dq_base.specs.Changes.{changed_page, sizes_of};
 
-use dq_base::{Image, NumberedPage, PAGE_SIZE, Page, page_at};
+use dq_base::{Image, NumberedPage, Page, page_at};
 use std::alloc::AllocError;
-
-/// How many numbers there are from 2 up to the highest that an image has. Takes no memory.
-pub fn numbers_above_one(image: &Image) -> u64
-    ensures count { result ≡ numbers_above_one image.now }
-    ensures small { result ≤ 2 ^ 53 }
-{
-    let main = image.main.len().div_ceil(PAGE_SIZE) as u64;
-    let side = image.side.len().div_ceil(PAGE_SIZE) as u64;
-    2 * main.max(side)
-}
 
 /// The sizes page of an image, with its number. Takes no memory.
 pub fn sizes_of(image: &Image) -> NumberedPage

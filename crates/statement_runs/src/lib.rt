@@ -9,7 +9,7 @@ mod text;
 mod touched;
 mod undoing;
 
-pub use change::{add_changed, numbers_above_one, sizes_of};
+pub use change::{add_changed, sizes_of};
 pub use ending::{AllRan, Ending};
 pub use running::{run_all, run_one, takes};
 pub use text::{any_barred, is_control, is_left_out, params_fit};
