@@ -16,7 +16,7 @@ use std::marker::Model;
 /// stretches are those of a skew-binary list: a frame looks back over the two stretches before it where these are
 /// equally long, and else over itself alone. So the least lengths of any stretch come together from a number of frames
 /// in the order of the logarithm of its length.
-#[derive(Clone, Copy, Debug)]
+#[derive(Clone, Copy)]
 pub(crate) struct Frame {
     pub page: NumberedPage,
     pub lengths: Lengths,
@@ -28,7 +28,7 @@ pub(crate) struct Frame {
 
 /// The frames over a base, in order, with an index from page number to frame. Contracts see it as the list of pages and
 /// the list of their sets' lengths.
-#[derive(Debug, Drop)]
+#[derive(Drop)]
 pub(crate) struct FrameLog {
     frames: VecDeque<Frame>,
     index: FrameIndex,

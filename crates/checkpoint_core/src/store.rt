@@ -21,7 +21,7 @@ use std::marker::Model;
 ///
 /// Contracts see it as the base, the list of page sets over it, the number of commits that are in the base, and a table
 /// of live marks, each with the number of sets that it sees.
-#[derive(Debug, Drop)]
+#[derive(Drop)]
 pub struct PageStore {
     main: Vec<u8>,
     side: Vec<u8>,

@@ -43,7 +43,7 @@ pub const HELD_LIMIT: u64 = 33_554_432;
 /// It holds the messages that were not taken and the part of a message that is unread, each byte once. The messages of
 /// the last piece stand in a list of their own until the next piece comes: so a piece that finds no memory changes
 /// nothing.
-#[derive(Debug, Drop)]
+#[derive(Drop)]
 pub struct Connection {
     alloc: Global,
     splitter: Splitter,

@@ -32,7 +32,7 @@ use wire_words::{Message, WireBytes};
 /// Clauses see them by `clients_of`, over the machine in which open transactions have pinned images. The calls that take the
 /// machine want the clients to stand over it, and leave it so: its live marks are those of their transactions, and a
 /// connection is open exactly where its session is there and hasn't hung up.
-#[derive(Debug, Drop)]
+#[derive(Drop)]
 pub struct Clients {
     alloc: Global,
     gateway: Gateway,

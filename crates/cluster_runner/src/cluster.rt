@@ -50,7 +50,7 @@ pub enum Say {
 }
 
 /// Why an event could not happen.
-#[derive(Clone, Copy, Debug, PartialEq, Eq)]
+#[derive(Clone, Copy)]
 pub(crate) enum EventFault {
     /// It names what isn't there.
     NotThere,
@@ -81,12 +81,23 @@ impl<T: Drop> From<AllocFailed<T>> for EventFault {
 
 /// Node 1, the only voter, and its clients; the engine that runs their statements, and the journal of its answers; and the
 /// numbers of all connections that were ever made.
-#[derive(Drop)]
 pub(crate) struct Cluster {
     node: LoneNode,
     engine: NotedEngine<AnyEngine>,
     journal: Journal,
     known: BTreeSet<u32>,
+}
+
+// It is written out, so that a caller does not prove again how each part is dropped.
+impl Drop for Cluster {
+    fn drop(self) {
+        let Cluster {
+            node: _,
+            engine: _,
+            journal: _,
+            known: _,
+        } = self;
+    }
 }
 
 /// An engine of a kind.
@@ -274,6 +285,12 @@ impl Cluster {
     pub fn into_journal(self) -> Journal
         ensures { result ≡ self.journal }
     {
-        self.journal
+        let Cluster {
+            node: _,
+            engine: _,
+            journal,
+            known: _,
+        } = self;
+        journal
     }
 }

@@ -20,7 +20,7 @@ pub const LINE_COUNT_LIMIT: u64 = 1_000_000;
 const PIECE_SIZE: usize = 65_536;
 
 /// How a line ended.
-#[derive(Clone, Copy, Debug, PartialEq, Eq)]
+#[derive(Clone, Copy)]
 pub(crate) enum LineEnd {
     /// An LF stood behind it.
     Feed,
@@ -31,7 +31,7 @@ pub(crate) enum LineEnd {
 }
 
 /// Why a line could not be read.
-#[derive(Clone, Copy, Debug, PartialEq, Eq)]
+#[derive(Clone, Copy)]
 pub(crate) enum LineFault {
     /// The source failed.
     Source,

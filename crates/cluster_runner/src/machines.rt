@@ -15,7 +15,7 @@ use std::alloc::{AllocError, Global};
 use std::marker::Model;
 
 /// One machine, and how many commands of the list it has applied.
-#[derive(Debug, Drop)]
+#[derive(Drop)]
 pub(crate) struct Replica {
     machine: Machine,
     applied: usize,
@@ -69,10 +69,19 @@ impl Replica {
 }
 
 /// The list of commands, and the machines by their numbers from 1.
-#[derive(Debug, Drop)]
 pub(crate) struct Machines {
     commands: CommandList,
     machines: Vec<Replica>,
+}
+
+// It is written out, so that a caller does not prove again how each part is dropped.
+impl Drop for Machines {
+    fn drop(self) {
+        let Machines {
+            commands: _,
+            machines: _,
+        } = self;
+    }
 }
 
 /// The place of a machine's number among so many.

@@ -12,7 +12,7 @@ use dq_base::{Failed, Sink};
 use std::alloc::{AllocError, Global};
 
 /// Why something could not be printed.
-#[derive(Clone, Copy, Debug, PartialEq, Eq)]
+#[derive(Clone, Copy)]
 pub(crate) enum PrintFault {
     /// The sink failed.
     Sink,

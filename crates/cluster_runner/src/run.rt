@@ -40,7 +40,7 @@ pub enum Outcome {
 }
 
 /// Why a script stopped before its end.
-#[derive(Clone, Copy, Debug, PartialEq, Eq)]
+#[derive(Clone, Copy)]
 enum Stop {
     Script(u64),
     Large,

@@ -28,7 +28,7 @@ pub(crate) enum Stage {
 }
 
 /// Why a line could not be done.
-#[derive(Clone, Copy, Debug, PartialEq, Eq)]
+#[derive(Clone, Copy)]
 pub(crate) enum StepFault {
     /// It isn't in the grammar, or it names what isn't there.
     NotThere,

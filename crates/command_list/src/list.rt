@@ -135,7 +135,7 @@ fn try_note_command(
 
 /// A list of commands within its limits: at most 16 names, and in all at most 67,108,864 bytes of files that it states.
 /// Contracts see it as its commands.
-#[derive(Debug, Drop)]
+#[derive(Drop)]
 pub struct CommandList {
     commands: Vec<Command>,
     table: Vec<Stated>,

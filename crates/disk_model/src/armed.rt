@@ -15,7 +15,7 @@ pub struct Stop {
 
 /// Calls that are counted, of which one may be told to fail and one to stop the disk; faults and wants of memory are
 /// counted too. All counts stay at 18,446,744,073,709,551,615.
-#[derive(Clone, Copy, Debug)]
+#[derive(Clone, Copy)]
 pub struct Armed {
     pub(crate) made: u64,
     pub(crate) faults: u64,
@@ -26,7 +26,7 @@ pub struct Armed {
 }
 
 /// How a call goes on that doesn't fail at once.
-#[derive(Clone, Copy, Debug)]
+#[derive(Clone, Copy)]
 pub enum Turn {
     Goes,
     /// The disk stops in this call.

@@ -13,7 +13,7 @@ use std::alloc::{AllocError, Global};
 use std::marker::Model;
 
 /// One file over memory: as it is read, and as it surely stands.
-#[derive(Debug, Drop)]
+#[derive(Drop)]
 pub struct MemFile {
     pub(crate) name: Name,
     pub(crate) read: Stored,
@@ -21,7 +21,7 @@ pub struct MemFile {
 }
 
 /// Files over memory, each by its name: as they are read, and as they surely stand.
-#[derive(Debug, Drop)]
+#[derive(Drop)]
 pub struct Folder {
     alloc: Global,
     files: Vec<MemFile>,

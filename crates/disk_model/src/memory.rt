@@ -25,7 +25,7 @@ use std::marker::Model;
 /// first write of a name is dropped and no half of it is kept, nothing that was written to the file stands and the name
 /// isn't there; but where a sync of the names after that write found the name there, the file is there and empty, unless
 /// a removal that isn't dropped came later. After a crash what is left lasts: no call is uncovered any more.
-#[derive(Debug, Drop)]
+#[derive(Drop)]
 pub struct MemDisk {
     storage: Storage,
     calls: Armed,

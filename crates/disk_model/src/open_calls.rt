@@ -1,7 +1,7 @@
 use dq_base::{Bytes, Name};
 
 /// What a call that no sync covers yet did to its file, as far as a crash may still drop it.
-#[derive(Debug, Drop)]
+#[derive(Drop)]
 pub enum Effect {
     /// The first write of a name, from the file's start on: a crash may drop the bytes and the name.
     Creation { bytes: Bytes },
@@ -18,7 +18,7 @@ pub enum Effect {
 }
 
 /// A call that no sync covers yet: its file, and what it did.
-#[derive(Debug, Drop)]
+#[derive(Drop)]
 pub struct Uncovered {
     pub(crate) name: Name,
     pub(crate) effect: Effect,

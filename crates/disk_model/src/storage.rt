@@ -15,7 +15,7 @@ use std::marker::Model;
 use std::mem;
 
 /// Files over memory with the calls that no sync covers yet.
-#[derive(Debug, Drop)]
+#[derive(Drop)]
 pub struct Storage {
     alloc: Global,
     folder: Folder,

@@ -8,7 +8,7 @@ use std::alloc::{AllocError, Global};
 use std::marker::Model;
 
 /// A file over memory: whether it is there, and its bytes.
-#[derive(Debug, Drop)]
+#[derive(Drop)]
 pub struct Stored {
     there: bool,
     bytes: Vec<u8>,

@@ -9,7 +9,7 @@ use std::marker::Model;
 ///
 /// This is what the objects over memory that stand for the outside have in common. Both of its counts stay at
 /// 18,446,744,073,709,551,615. No method takes memory.
-#[derive(Debug, Drop)]
+#[derive(Drop)]
 pub struct Calls {
     made: u64,
     faults: u64,

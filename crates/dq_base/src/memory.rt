@@ -13,7 +13,7 @@ use std::alloc::Global;
 use std::marker::Model;
 
 /// A source of bytes that lie in memory. Some of its reads may be told to fail. No method takes memory.
-#[derive(Debug, Drop)]
+#[derive(Drop)]
 pub struct MemSource {
     bytes: Vec<u8>,
     at: usize,
@@ -87,7 +87,7 @@ impl Source for MemSource {
 
 /// A sink that keeps what is written in memory. Some of its writes may be told to fail, and a write for which memory
 /// runs out fails too.
-#[derive(Debug, Drop)]
+#[derive(Drop)]
 pub struct MemSink {
     bytes: Vec<u8>,
     writes: Calls,

@@ -15,7 +15,7 @@ use std::marker::Model;
 /// is tried again, up to 1,000 times in a row; at any other error, or one interruption more, the read has failed. Its
 /// count rises at each error of the reader, so also at an interruption that did no harm, and stays at
 /// 18,446,744,073,709,551,615. No method takes memory.
-#[derive(Debug, Drop)]
+#[derive(Drop)]
 pub struct ReadSource<R: Read> {
     reader: R,
     faults: u64,

@@ -15,7 +15,7 @@ use std::marker::Model;
 /// write has failed, and so it has where the writer takes nothing of a piece that is not empty. Its count rises at each
 /// of these, so also at an interruption that did no harm, and stays at 18,446,744,073,709,551,615. No method takes
 /// memory.
-#[derive(Debug, Drop)]
+#[derive(Drop)]
 pub struct WriteSink<W: Write> {
     writer: W,
     faults: u64,

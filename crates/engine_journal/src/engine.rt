@@ -18,7 +18,7 @@ use wire_words::Value;
 ///
 /// Where there is no room for a copy the run answers want of memory, and from then on the list is cut: each later run answers
 /// want of memory too, and the engine in it isn't asked again.
-#[derive(Debug, Drop)]
+#[derive(Drop)]
 pub struct NotedEngine<E> {
     alloc: Global,
     engine: E,

@@ -7,7 +7,7 @@ use std::marker::Model;
 
 /// The journal of a run: what came that the run's own input doesn't say, in the order in which it came. Clauses see the list
 /// of its items.
-#[derive(Debug, Drop)]
+#[derive(Drop)]
 pub struct Journal {
     items: Vec<Noted>,
 }

@@ -6,7 +6,7 @@ ghost use Rattle.file_digest.specs.Pages.{page_number, length_of};
 use dq_base::Lengths;
 
 /// One of the two files of an image.
-#[derive(Clone, Copy, Debug, PartialEq, Eq)]
+#[derive(Clone, Copy, PartialEq, Eq)]
 pub(crate) enum File {
     /// The one that SQLite calls the database.
     Main,

@@ -10,7 +10,7 @@ use std::alloc::Global;
 use wire_words::{WordFault, Words};
 
 /// What follows the name of a Frames command, before its numbers are looked at.
-#[derive(Debug, Drop)]
+#[derive(Drop)]
 pub(crate) struct FrameItems {
     pub(crate) tx: u64,
     pub(crate) truncate: u32,

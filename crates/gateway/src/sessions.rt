@@ -26,7 +26,7 @@ use wire_msgs::{Request, Response};
 ///
 /// Clauses see its sessions by `seen`, with the images that their open transactions have pinned in the machine, so the calls
 /// that take the machine want its live marks to be those of the sessions, and leave it so.
-#[derive(Debug, Drop)]
+#[derive(Drop)]
 pub struct Gateway {
     alloc: Global,
     sessions: Vec<Session>,

@@ -13,7 +13,7 @@ use std::alloc::{AllocError, Global};
 
 /// A database of a machine: its pages under readers, and the pages of a transaction that has not ended. `Machine::databases`
 /// lends all of them to be read.
-#[derive(Debug, Drop)]
+#[derive(Drop)]
 pub struct Database {
     pub(crate) name: Name,
     /// Its place in the machine's order of opening.

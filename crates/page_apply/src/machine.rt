@@ -21,7 +21,7 @@ use std::marker::Model;
 
 /// What replicated commands make of a node's databases. Each is under readers: a base image, the page sets committed over
 /// it, and live read marks. Contracts see a machine as the list of its databases, by the bytes of their names.
-#[derive(Debug, Drop)]
+#[derive(Drop)]
 pub struct Machine {
     pub(crate) databases: Vec<Database>,
     pub(crate) alloc: Global,

@@ -4,7 +4,7 @@ ghost use Rattle.std.specs.Prelude.{◌≡◌};
 use raft_vote::LogEnd;
 
 /// What a node says by itself, beside what a leader sends to its peers.
-#[derive(Clone, Copy, Debug)]
+#[derive(Clone, Copy)]
 pub enum Say {
     Nothing,
     /// It asks every other voter for its vote, with the end of its log.
@@ -15,7 +15,7 @@ pub enum Say {
 }
 
 /// To whom a leader sends its log at the end of a step.
-#[derive(Clone, Copy, Debug)]
+#[derive(Clone, Copy)]
 pub enum Recipients {
     Nobody,
     Everyone,
@@ -23,7 +23,7 @@ pub enum Recipients {
 }
 
 /// Where a step has changed the log.
-#[derive(Clone, Copy, Debug)]
+#[derive(Clone, Copy)]
 pub enum LogChange {
     Nothing,
     /// From this index on the entries are others.
@@ -33,7 +33,7 @@ pub enum LogChange {
 }
 
 /// What a rule has made: what is said, to whom the log is sent, where it has changed.
-#[derive(Clone, Copy, Debug)]
+#[derive(Clone, Copy)]
 pub struct Effects {
     pub say: Say,
     pub recipients: Recipients,

@@ -53,7 +53,7 @@ pub struct RaftView {
 
 /// What a step leaves to the node's owner. Metadata, then the batch or the snapshot, are to be kept before a message is
 /// sent and before an entry up to `commit` is applied.
-#[derive(Debug, Drop)]
+#[derive(Drop)]
 pub struct Todo {
     /// Term and vote, where one of them is new.
     pub meta: Option<(u64, u64)>,

@@ -16,7 +16,7 @@ use std::marker::Model;
 ///
 /// A step costs in the order of the entries that it takes or sends; a leader's also in that of the entries past its
 /// commit index, each with its voters.
-#[derive(Debug, Drop)]
+#[derive(Drop)]
 pub struct RaftNode {
     pub(crate) votes: VoteCore,
     pub(crate) log: Log,

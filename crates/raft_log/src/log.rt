@@ -30,7 +30,7 @@ pub enum Accepted {
 ///
 /// The entries stand in a ring. So cutting off its front gives each entry back once and moves none of the rest: the
 /// cost of an entry's whole stay is constant but for its bytes. Adding an entry is constant on average.
-#[derive(Debug, Drop)]
+#[derive(Drop)]
 pub struct Log {
     first: LogEnd,
     entries: VecDeque<Entry>,

@@ -15,7 +15,7 @@ pub const MOST_VOTERS: usize = 7;
 /// What a leader knows of all nodes: its own id, the voters, and of each peer the index of the next entry to send to it
 /// and up to where its log is known to agree (its match). Clauses see the rules' record of these. No call takes memory:
 /// 7 voters and 9 peers stand in tables. A node that is no peer has next 1 and match 0.
-#[derive(Debug, Drop)]
+#[derive(Drop)]
 pub struct Progress {
     own: u64,
     voters: [u64; MOST_VOTERS],

@@ -11,7 +11,7 @@ pub const MOST_PEERS: usize = 9;
 
 // One peer: the index of the next entry to send to it, and up to where its log is known to agree. The latter came in a
 // message, so it has 32 bits.
-#[derive(Clone, Copy, Debug, PartialEq, Eq)]
+#[derive(Clone, Copy, PartialEq, Eq)]
 pub struct PeerRow {
     pub id: u64,
     pub next: u64,
@@ -118,7 +118,7 @@ fn ack_among(rows: &mut [PeerRow], from: u64, good: bool, index: u64)
 }
 
 // The rows of all peers.
-#[derive(Debug, Drop)]
+#[derive(Drop)]
 pub struct PeerRows {
     rows: [PeerRow; MOST_PEERS],
     count: usize,

@@ -9,7 +9,7 @@ use std::alloc::Global;
 use wire_words::{WordFault, Words};
 
 /// What a message says, before its numbers are looked at.
-#[derive(Debug, Drop)]
+#[derive(Drop)]
 pub(crate) struct Said {
     pub(crate) what: What,
     /// Whether a number in place of a yes or a no is 0 or 1.

@@ -15,7 +15,7 @@ pub const MOST_VOTERS: usize = 7;
 /// The votes of one node: its term, to whom it gave its vote in that term, and whose votes it got. Ids are at least 1,
 /// and a vote of 0 is for nobody. Clauses see the rules' record of these. No call takes memory: the grants stand in a
 /// table of seven.
-#[derive(Debug, Drop)]
+#[derive(Drop)]
 pub struct VoteCore {
     id: u64,
     term: u64,

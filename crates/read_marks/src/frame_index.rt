@@ -12,7 +12,7 @@ use std::marker::Model;
 /// It holds the numbers in order, and an ordered set of pairs of a page number and a place, so that each number's places
 /// stand beside each other in ascending order. Places count all frames since `new`, dropped ones included, so that
 /// dropping the first frames moves no other.
-#[derive(Debug, Drop)]
+#[derive(Drop)]
 pub struct FrameIndex {
     numbers: VecDeque<u64>,
     places: BTreeSet<(u64, u64)>,

@@ -35,7 +35,7 @@ pub enum MarkFault {
 
 /// The live read marks of one database: a fixed table of 64 places, at each of them a mark or none. Two places may have
 /// the same mark. Contracts see it as the list of its places. No call takes memory.
-#[derive(Debug, Drop)]
+#[derive(Drop)]
 pub struct Marks {
     table: [Option<u64>; MOST_MARKS],
 }

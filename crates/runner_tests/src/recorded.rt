@@ -48,18 +48,20 @@ fn numbers(alloc: Global, call: Call) -> Result<(u64, u64, usize), Fail> {
     Ok((first, second, pages.len()))
 }
 
+/// Calls, and the numbers of the pages in the set after each.
+const CALLS: &[(Call, (u64, u64, usize))] = &[
+    (Call::Main(4096, 0), (0, 0, 0)),
+    (Call::Main(4100, 9), (4, 1, 2)),
+    (Call::Side(3, 9), (3, 1, 2)),
+    (Call::Main(8192, 9), (6, 1, 2)),
+    (Call::GrownAndCut(9000, 8192), (0, 0, 0)),
+    (Call::GrownAndCut(9000, 5000), (1, 0, 1)),
+    (Call::GrownAndCut(0, 4096), (1, 0, 1)),
+];
+
 #[test]
 fn a_set_has_the_pages_that_differ(rt: HostRuntime) -> Result<(), Fail> {
-    let rows = [
-        (Call::Main(4096, 0), (0, 0, 0)),
-        (Call::Main(4100, 9), (4, 1, 2)),
-        (Call::Side(3, 9), (3, 1, 2)),
-        (Call::Main(8192, 9), (6, 1, 2)),
-        (Call::GrownAndCut(9000, 8192), (0, 0, 0)),
-        (Call::GrownAndCut(9000, 5000), (1, 0, 1)),
-        (Call::GrownAndCut(0, 4096), (1, 0, 1)),
-    ];
-    for (call, wanted) in rows {
+    for &(call, wanted) in CALLS {
         assert_eq!(rt; numbers(rt.alloc(), call)?, wanted);
     }
     Ok(())

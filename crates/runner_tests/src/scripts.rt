@@ -47,40 +47,61 @@ fn long_script(alloc: Global) -> Result<String, AllocError> {
     format!(in alloc; "pages 2\n{comment}\nshow 11")
 }
 
+/// A script of a row.
+#[derive(Clone, Copy)]
+enum Script {
+    /// A client asks a node for the leader.
+    Asking,
+    /// Its last line is cut by the end of the first read.
+    Long,
+    Text(&'static str),
+}
+
+/// The bytes of a script.
+fn text_of(alloc: Global, script: Script) -> Result<String, AllocError> {
+    match script {
+        Script::Asking => format!(in alloc; "nodes 1\nconnect 1 1\n{GREETING}"),
+        Script::Long => long_script(alloc),
+        Script::Text(text) => String::from_str(alloc, text),
+    }
+}
+
+/// An engine, a script, the read and the write that fail, how the script ends, and what it prints.
+type Row = (EngineKind, Script, u64, u64, Outcome, &'static str);
+
+const SQLITE: EngineKind = EngineKind::Sqlite;
+
+const CELLS: EngineKind = EngineKind::Cells;
+
+const ROWS: &[Row] = &[
+    (SQLITE, Script::Asking, 0, 0, Outcome::Done, STANDS),
+    (CELLS, Script::Asking, 0, 0, Outcome::Done, STANDS),
+    (SQLITE, Script::Asking, 1, 0, Outcome::ReadFault, ""),
+    // The first read gives the whole script, and the second is to tell that it has ended.
+    (SQLITE, Script::Asking, 2, 0, Outcome::ReadFault, NO_LEADER),
+    (SQLITE, Script::Text(""), 1, 0, Outcome::ReadFault, ""),
+    // A line that is cut by a failed read is not run.
+    (SQLITE, Script::Long, 2, 0, Outcome::ReadFault, ""),
+    (SQLITE, Script::Long, 0, 0, Outcome::Script(3), ""),
+    (SQLITE, Script::Asking, 0, 1, Outcome::WriteFault, ""),
+    // The line at the end can't be written.
+    (SQLITE, Script::Asking, 0, 2, Outcome::WriteFault, NO_LEADER),
+    (SQLITE, Script::Text(""), 0, 1, Outcome::Done, ""),
+    (SQLITE, Script::Text("nodes"), 0, 1, Outcome::Script(1), ""),
+];
+
+/// Whether the script of a row ends and prints as the row says.
+fn ends_so(alloc: Global, row: &Row) -> Result<bool, AllocError> {
+    let &(engine, script, read, write, outcome, text) = row;
+    let bytes = text_of(alloc, script)?;
+    let ended = run(alloc, engine, bytes.as_bytes(), read, write)?;
+    Ok(ended.outcome == outcome && ended.text.as_slice() == text.as_bytes())
+}
+
 #[test]
 fn scripts_over_failing_streams(rt: HostRuntime) -> Result<(), Fail> {
-    let alloc = rt.alloc();
-    let known = format!(in alloc; "nodes 1\nconnect 1 1\n{GREETING}")?;
-    let long = long_script(alloc)?;
-    let (known, long) = (known.as_str(), long.as_str());
-    let (sqlite, cells) = (EngineKind::Sqlite, EngineKind::Cells);
-    let rows = [
-        (sqlite, known, 0, 0, Outcome::Done, STANDS),
-        (cells, known, 0, 0, Outcome::Done, STANDS),
-        (sqlite, known, 1, 0, Outcome::ReadFault, ""),
-        // The first read gives the whole script, and the second is to tell that it has ended.
-        (sqlite, known, 2, 0, Outcome::ReadFault, NO_LEADER),
-        (sqlite, "", 1, 0, Outcome::ReadFault, ""),
-        // A line that is cut by a failed read is not run.
-        (sqlite, long, 2, 0, Outcome::ReadFault, ""),
-        (sqlite, long, 0, 0, Outcome::Script(3), ""),
-        (sqlite, known, 0, 1, Outcome::WriteFault, ""),
-        // The line at the end can't be written.
-        (sqlite, known, 0, 2, Outcome::WriteFault, NO_LEADER),
-        (sqlite, "", 0, 1, Outcome::Done, ""),
-        (sqlite, "nodes", 0, 1, Outcome::Script(1), ""),
-    ];
-    for (engine, script, read, write, outcome, text) in rows {
-        let ended = run(alloc, engine, script.as_bytes(), read, write)?;
-        assert!(rt;
-            ended.outcome == outcome,
-            "read {read}, write {write} of {script}"
-        );
-        assert_eq!(rt;
-            ended.text.as_slice(),
-            text.as_bytes(),
-            "read {read}, write {write} of {script}"
-        );
+    for (place, row) in ROWS.iter().enumerate() {
+        assert!(rt; ends_so(rt.alloc(), row)?, "row {place}");
     }
     Ok(())
 }

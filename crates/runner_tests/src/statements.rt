@@ -132,23 +132,25 @@ fn fault_of(alloc: Global, text: &str) -> Result<Option<EngineFault>, Fail> {
     Ok(database.engine.run(&database.image, text, &[], 4).err())
 }
 
+/// Texts, and the fault of each.
+const REFUSED: &[(&str, Option<EngineFault>)] = &[
+    ("SELECT 0.5", Some(EngineFault::Float(0, 0))),
+    (
+        "SELECT CAST(x'ff41' AS TEXT)",
+        Some(EngineFault::NotText(0, 0)),
+    ),
+    (
+        "INSERT INTO t VALUES (5, 'y')",
+        Some(EngineFault::Constraint),
+    ),
+    ("SELEC 1", Some(EngineFault::Sql)),
+    ("SELECT datetime('now')", Some(EngineFault::Sql)),
+    ("SELECT 1", None),
+];
+
 #[test]
 fn statements_are_refused(rt: HostRuntime) -> Result<(), Fail> {
-    let rows = [
-        ("SELECT 0.5", Some(EngineFault::Float(0, 0))),
-        (
-            "SELECT CAST(x'ff41' AS TEXT)",
-            Some(EngineFault::NotText(0, 0)),
-        ),
-        (
-            "INSERT INTO t VALUES (5, 'y')",
-            Some(EngineFault::Constraint),
-        ),
-        ("SELEC 1", Some(EngineFault::Sql)),
-        ("SELECT datetime('now')", Some(EngineFault::Sql)),
-        ("SELECT 1", None),
-    ];
-    for (text, wanted) in rows {
+    for &(text, wanted) in REFUSED {
         assert_eq!(rt; fault_of(rt.alloc(), text)?, wanted);
     }
     Ok(())
@@ -204,15 +206,17 @@ fn fault_under(alloc: Global, cells: bool, text: &str) -> Result<Option<EngineFa
     Ok(engine.run(&image, text, &[], 6).err())
 }
 
+/// Whether cells are asked, a text, and its fault.
+const KINDS: &[(bool, &str, Option<EngineFault>)] = &[
+    (true, "SET 3 9", None),
+    (true, "SELECT 1", Some(EngineFault::Sql)),
+    (false, "SET 3 9", Some(EngineFault::Sql)),
+    (false, "SELECT 1", None),
+];
+
 #[test]
 fn each_kind_has_its_own_statements(rt: HostRuntime) -> Result<(), Fail> {
-    let rows = [
-        (true, "SET 3 9", None),
-        (true, "SELECT 1", Some(EngineFault::Sql)),
-        (false, "SET 3 9", Some(EngineFault::Sql)),
-        (false, "SELECT 1", None),
-    ];
-    for (cells, text, wanted) in rows {
+    for &(cells, text, wanted) in KINDS {
         assert_eq!(rt; fault_under(rt.alloc(), cells, text)?, wanted);
     }
     Ok(())

@@ -15,7 +15,7 @@ use store_batches::batch_bytes;
 use store_format::snapshot_bytes;
 
 /// The file of a snapshot.
-#[derive(Debug, Drop)]
+#[derive(Drop)]
 pub(crate) struct NewSnapshot {
     pub(crate) name: Name,
     // an old file of this name is there
@@ -24,14 +24,14 @@ pub(crate) struct NewSnapshot {
 }
 
 /// A segment with its first batch.
-#[derive(Debug, Drop)]
+#[derive(Drop)]
 pub(crate) struct NewSegment {
     pub(crate) name: Name,
     pub(crate) batch: Vec<u8>,
 }
 
 /// The names of the files that go.
-#[derive(Debug, Drop)]
+#[derive(Drop)]
 pub(crate) struct OldFiles {
     pub(crate) segments: Vec<Name>,
     pub(crate) snapshots: Vec<Name>,
@@ -39,7 +39,7 @@ pub(crate) struct OldFiles {
 
 /// What keeping a snapshot writes and removes. It is made whole before anything is written, so that want of memory for
 /// it leaves the disk as it is.
-#[derive(Debug, Drop)]
+#[derive(Drop)]
 pub(crate) struct KeepPlan {
     pub(crate) snapshot: NewSnapshot,
     pub(crate) segment: NewSegment,

@@ -16,7 +16,7 @@ use std::marker::Model;
 
 /// The files of a node that a folder lists: all of them, in turn; which files of metadata are there; and the numbers of
 /// its segments and snapshots, ascending.
-#[derive(Debug, Drop)]
+#[derive(Drop)]
 pub(crate) struct FolderList {
     files: Vec<File>,
     first: bool,

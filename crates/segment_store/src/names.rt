@@ -7,7 +7,7 @@ use dq_base::Name;
 use std::alloc::{AllocError, Global};
 
 /// A file of a node.
-#[derive(Clone, Copy, Debug, PartialEq, Eq)]
+#[derive(Clone, Copy, PartialEq, Eq)]
 pub enum File {
     /// The first file of metadata, for odd versions.
     First,

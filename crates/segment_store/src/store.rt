@@ -37,7 +37,7 @@ use store_format::{Metadata, metadata_bytes};
 /// After an `Err` of a call the store has to be loaded again. What was kept is then the state before the call or the one
 /// after it, also where a crash came inside the call. Where no call of the disk answered an `Err` the disk is as it was:
 /// all memory of the store's own is there before the first of them.
-#[derive(Debug, Drop)]
+#[derive(Drop)]
 pub struct Store {
     alloc: Global,
     // the newest version of the metadata; 0 for none

@@ -64,7 +64,7 @@ impl Model for Flight {
 }
 
 /// An open transaction of a session.
-#[derive(Debug, Drop)]
+#[derive(Drop)]
 pub struct Transaction {
     /// Its database.
     pub name: Name,
@@ -81,7 +81,7 @@ pub struct Transaction {
 }
 
 /// A session of a connection.
-#[derive(Debug, Drop)]
+#[derive(Drop)]
 pub struct Session {
     /// The connection's number.
     pub conn: u64,

@@ -20,7 +20,7 @@ use std::alloc::{AllocError, Global};
 use wire_msgs::Response;
 
 /// What happens to all sessions.
-#[derive(Clone, Copy, Debug, PartialEq, Eq)]
+#[derive(Clone, Copy, PartialEq, Eq)]
 pub enum Event {
     /// The entry of this index is applied.
     Applied(u64),

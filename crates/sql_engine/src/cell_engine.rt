@@ -22,7 +22,7 @@ use wire_words::Value;
 ///
 /// It keeps nothing between two runs, and opens no files. A run looks at the pages that it changes alone, and its cost is in
 /// their order, whatever the size of the image.
-#[derive(Debug, Drop)]
+#[derive(Drop)]
 pub struct CellEngine {
     alloc: Global,
 }

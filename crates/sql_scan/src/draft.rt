@@ -1,7 +1,7 @@
 use crate::heading::Heading;
 
 /// A statement as far as it was read.
-#[derive(Clone, Copy, Debug, PartialEq, Eq)]
+#[derive(Clone, Copy, PartialEq, Eq)]
 pub struct Draft {
     pub start: u64,
     pub end: u64,

@@ -20,7 +20,7 @@ pub enum WordKind {
 }
 
 /// The words that a kind of statement is known by.
-#[derive(Clone, Copy, Debug, PartialEq, Eq)]
+#[derive(Clone, Copy, PartialEq, Eq)]
 pub enum Keyword {
     Begin,
     Deferred,
@@ -37,7 +37,7 @@ pub enum Keyword {
 }
 
 /// How much of a statement's first words was read.
-#[derive(Clone, Copy, Debug, PartialEq, Eq)]
+#[derive(Clone, Copy, PartialEq, Eq)]
 pub enum Heading {
     /// Nothing but space and comments.
     Blank,

@@ -7,7 +7,7 @@ use crate::lengths::{
 };
 
 /// What a token of a text is.
-#[derive(Clone, Copy, Debug, PartialEq, Eq)]
+#[derive(Clone, Copy, PartialEq, Eq)]
 pub enum TokenKind {
     /// A byte of space.
     Space,

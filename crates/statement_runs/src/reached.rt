@@ -12,7 +12,7 @@ use dq_base::{Image, Items, Lengths, NumberedPage, page_at};
 use std::alloc::{AllocError, Global};
 
 /// An image, told by the pages that statements touched.
-#[derive(Debug, Drop)]
+#[derive(Drop)]
 pub(crate) struct Reached {
     /// Those of these pages that it has, in ascending order.
     pages: Items<NumberedPage>,

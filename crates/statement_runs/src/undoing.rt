@@ -12,7 +12,7 @@ use std::alloc::{AllocError, Global};
 use std::mem;
 
 /// What puts an image back over which pages were applied.
-#[derive(Debug, Drop)]
+#[derive(Drop)]
 pub(crate) enum Undo {
     /// The lengths of its files before, and the pages that lay where the applied ones do.
     Pages(Lengths, Items<NumberedPage>),

@@ -12,7 +12,7 @@ use store_format::{crc32, sum8};
 use wire_words::{WordFault, Words};
 
 /// What stands behind the sums of a batch.
-#[derive(Debug, Drop)]
+#[derive(Drop)]
 pub struct Body {
     /// The index of the first entry.
     pub first: u64,

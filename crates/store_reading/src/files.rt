@@ -18,7 +18,7 @@ use store_format::{Metadata, SnapshotFile, read_metadata, read_snapshot};
 use wire_words::WireBytes;
 
 /// What is read of the files of a node, one after another: the newest metadata, the newest snapshot, and the segments.
-#[derive(Debug, Drop)]
+#[derive(Drop)]
 pub struct FilesRead {
     alloc: Global,
     metadata: Option<Metadata>,

@@ -7,7 +7,7 @@ use std::alloc::{AllocError, Global};
 use std::marker::Model;
 
 /// The log that batches make, one after another.
-#[derive(Debug, Drop)]
+#[derive(Drop)]
 pub struct BatchLog {
     first: u64,
     entries: Vec<Entry>,

@@ -38,7 +38,7 @@ impl LastSegment {
 
 /// What is read of the segments, one after another: the log that their batches make, whether there was any batch, the
 /// first damage, and the last segment.
-#[derive(Debug, Drop)]
+#[derive(Drop)]
 pub struct SegmentLog {
     alloc: Global,
     log: BatchLog,

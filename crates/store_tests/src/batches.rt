@@ -38,19 +38,23 @@ fn batches_are_written_in_format_2(rt: HostRuntime) -> Result<(), Fail> {
     Ok(())
 }
 
+/// A format, bytes, and the batch that they begin with.
+type Row = (u64, &'static [u8], Option<(u64, usize, usize)>);
+
+const ROWS: &[Row] = &[
+    (1, OLD, Some((3, 1, 48))),
+    (2, NEW, Some((3, 1, 56))),
+    (1, NEW, None),
+    (2, OLD, None),
+    (2, &[], None),
+];
+
 #[test]
 fn batches_are_read_in_the_format_of_their_segment(rt: HostRuntime) -> Result<(), Fail> {
-    let last = NEW.len() - 1;
-    let rows: [(u64, &[u8], Option<(u64, usize, usize)>); 6] = [
-        (1, OLD, Some((3, 1, 48))),
-        (2, NEW, Some((3, 1, 56))),
-        (1, NEW, None),
-        (2, OLD, None),
-        (2, &NEW[..last], None),
-        (2, &[], None),
-    ];
-    for (format, bytes, wanted) in rows {
+    for &(format, bytes, wanted) in ROWS {
         assert_eq!(rt; found(rt.alloc(), format, bytes)?, wanted);
     }
+    let front = &NEW[..NEW.len() - 1];
+    assert_eq!(rt; found(rt.alloc(), 2, front)?, None);
     Ok(())
 }

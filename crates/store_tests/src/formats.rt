@@ -63,13 +63,40 @@ fn are_written(alloc: Global, block: &[u64], file: &[u64]) -> Result<bool, Alloc
     Ok(written.as_slice() == wanted.as_slice() && snapshot.as_slice() == wanted_snapshot.as_slice())
 }
 
-const OLD_BLOCK: [u64; 5] = [1, 5, 3, 2, 0x6b1e_18f0];
+const OLD_BLOCK: &[u64] = &[1, 5, 3, 2, 0x6b1e_18f0];
 
-const NEW_BLOCK: [u64; 5] = [2, 6, 4, 0, 0x6288_889d_b51e_9f74];
+const NEW_BLOCK: &[u64] = &[2, 6, 4, 0, 0x6288_889d_b51e_9f74];
 
-const OLD_SNAPSHOT: [u64; 6] = [1, 7, 2, 3, 0xef9c_ec15, 0x63_6261];
+const OLD_SNAPSHOT: &[u64] = &[1, 7, 2, 3, 0xef9c_ec15, 0x63_6261];
 
-const NEW_SNAPSHOT: [u64; 6] = [2, 7, 2, 3, 0x3ae4_e4b9_690a_1622, 0x63_6261];
+const NEW_SNAPSHOT: &[u64] = &[2, 7, 2, 3, 0x3ae4_e4b9_690a_1622, 0x63_6261];
+
+/// Words of metadata, whether they are those of the first file, and the version that they say.
+const BLOCKS: &[(&[u64], bool, Option<u64>)] = &[
+    (OLD_BLOCK, true, Some(5)),
+    (OLD_BLOCK, false, None),
+    (NEW_BLOCK, false, Some(6)),
+    (NEW_BLOCK, true, None),
+    // Another sum, and another format.
+    (&[2, 6, 4, 0, 0], false, None),
+    (&[3, 5, 3, 2, 0x6b1e_18f0], true, None),
+];
+
+/// Words of a snapshot, the number of its file, and the term and the first byte that they say.
+const SNAPSHOTS: &[(&[u64], u64, Option<(u64, usize)>)] = &[
+    (OLD_SNAPSHOT, 7, Some((2, 3))),
+    (NEW_SNAPSHOT, 7, Some((2, 3))),
+    (NEW_SNAPSHOT, 8, None),
+    // Padding that isn't zero, and another byte.
+    (
+        &[2, 7, 2, 3, 0x3ae4_e4b9_690a_1622, 0x100_0000_0063_6261],
+        7,
+        None,
+    ),
+    (&[1, 7, 2, 3, 0xef9c_ec15, 0x63_6262], 7, None),
+];
+
+const FILES: &[&[u64]] = &[OLD_BLOCK, OLD_SNAPSHOT, NEW_SNAPSHOT];
 
 #[test]
 fn sums_are_the_public_ones(rt: HostRuntime) {
@@ -83,19 +110,8 @@ fn sums_are_the_public_ones(rt: HostRuntime) {
 
 #[test]
 fn metadata_has_its_parity_and_sum(rt: HostRuntime) -> Result<(), Fail> {
-    let mut bad_sum = NEW_BLOCK;
-    bad_sum[4] = 0;
-    let mut bad_format = OLD_BLOCK;
-    bad_format[0] = 3;
-    for (words, first, version) in [
-        (OLD_BLOCK, true, Some(5)),
-        (OLD_BLOCK, false, None),
-        (NEW_BLOCK, false, Some(6)),
-        (NEW_BLOCK, true, None),
-        (bad_sum, false, None),
-        (bad_format, true, None),
-    ] {
-        let found = metadata_of(rt.alloc(), &words, first)?;
+    for &(words, first, version) in BLOCKS {
+        let found = metadata_of(rt.alloc(), words, first)?;
         assert_eq!(rt; found.map(|found| found.version), version);
     }
     Ok(())
@@ -103,27 +119,17 @@ fn metadata_has_its_parity_and_sum(rt: HostRuntime) -> Result<(), Fail> {
 
 #[test]
 fn snapshots_are_whole(rt: HostRuntime) -> Result<(), Fail> {
-    let mut bad_padding = NEW_SNAPSHOT;
-    bad_padding[5] = 0x100_0000_0063_6261;
-    let mut bad_bytes = OLD_SNAPSHOT;
-    bad_bytes[5] = 0x63_6262;
-    for (words, number, found) in [
-        (OLD_SNAPSHOT, 7, Some((2, 3))),
-        (NEW_SNAPSHOT, 7, Some((2, 3))),
-        (NEW_SNAPSHOT, 8, None),
-        (bad_padding, 7, None),
-        (bad_bytes, 7, None),
-    ] {
-        assert_eq!(rt; snapshot_of(rt.alloc(), &words, number)?, found);
+    for &(words, number, found) in SNAPSHOTS {
+        assert_eq!(rt; snapshot_of(rt.alloc(), words, number)?, found);
     }
     Ok(())
 }
 
 #[test]
 fn no_front_reads_and_format_2_is_written(rt: HostRuntime) -> Result<(), Fail> {
-    for words in [&OLD_BLOCK[..], &OLD_SNAPSHOT[..], &NEW_SNAPSHOT[..]] {
+    for &words in FILES {
         assert_eq!(rt; fronts_that_read(rt.alloc(), words)?, 0);
     }
-    assert!(rt; are_written(rt.alloc(), &NEW_BLOCK, &NEW_SNAPSHOT)?);
+    assert!(rt; are_written(rt.alloc(), NEW_BLOCK, NEW_SNAPSHOT)?);
     Ok(())
 }

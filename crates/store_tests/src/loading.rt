@@ -68,14 +68,17 @@ const NEW_BACK: &[u64] = &[2, 0x7ebf_61ac_5e11_4044, 0x141c_fc98_42c4_b0e3, 8, 1
 /// A segment without entries that begins at index 6, in format 2.
 const EMPTIED: &[u64] = &[2, 0x3c7c_9aa5_e45d_9a5e, 0x141c_fc98_42c4_b0e3, 6, 0];
 
+/// The words of the files of a folder.
+type Folder = [&'static [u64]; FILES];
+
 /// A folder without files.
-const EMPTY: [&[u64]; FILES] = [&[], &[], &[], &[], &[]];
+const EMPTY: Folder = [&[], &[], &[], &[], &[]];
 
 /// A folder of format 1 with a snapshot and two segments.
-const WHOLE: [&[u64]; FILES] = [METADATA, &[], SNAPSHOT, FRONT, BACK];
+const WHOLE: Folder = [METADATA, &[], SNAPSHOT, FRONT, BACK];
 
 /// The same in format 2.
-const NEW_WHOLE: [&[u64]; FILES] = [&[], NEW_METADATA, NEW_SNAPSHOT, NEW_FRONT, NEW_BACK];
+const NEW_WHOLE: Folder = [&[], NEW_METADATA, NEW_SNAPSHOT, NEW_FRONT, NEW_BACK];
 
 /// What a load answers.
 #[derive(Clone, Copy, Debug, PartialEq, Eq)]
@@ -130,7 +133,7 @@ fn put(
 fn fill(
     alloc: Global,
     disk: &mut MemDisk,
-    files: &[&[u64]; FILES],
+    files: &Folder,
     cut: usize,
     length: usize,
 ) -> Result<(), DiskFault> {
@@ -175,7 +178,7 @@ fn look(alloc: Global, disk: &mut MemDisk) -> Answer {
 /// What a look and two loads of a folder answer, where all three answer the same.
 fn loaded_alike(
     alloc: Global,
-    files: &[&[u64]; FILES],
+    files: &Folder,
     cut: usize,
     length: usize,
 ) -> Result<Option<Answer>, DiskFault> {
@@ -203,60 +206,65 @@ fn wanted(file: usize, length: usize) -> Answer {
     }
 }
 
+/// Folders, and what a load of each answers.
+const FOLDERS: &[(Folder, Answer)] = &[
+    (EMPTY, Answer::Kept(0, 0, 0, 1, 0)),
+    (WHOLE, Answer::Kept(3, 2, 7, 6, 3)),
+    (NEW_WHOLE, Answer::Kept(3, 2, 7, 6, 3)),
+    (
+        [METADATA, &[], SNAPSHOT, &[], &[]],
+        Answer::Kept(3, 2, 7, 8, 0),
+    ),
+    (
+        [METADATA, &[], OTHER, FRONT, BACK],
+        Answer::Kept(3, 2, 7, 8, 0),
+    ),
+    (
+        [METADATA, &[], &[], LATE, &[]],
+        Answer::Fault(LoadFault::Gap(3, 0)),
+    ),
+    (
+        [&[], &[], &[], FRONT, &[]],
+        Answer::Fault(LoadFault::NoMeta),
+    ),
+    (
+        [&[], &[], SNAPSHOT, &[], &[]],
+        Answer::Fault(LoadFault::NoMeta),
+    ),
+];
+
 #[test]
 fn folders_load_by_the_rules(rt: HostRuntime) {
-    let rows: [([&[u64]; FILES], Answer); 8] = [
-        (EMPTY, Answer::Kept(0, 0, 0, 1, 0)),
-        (WHOLE, Answer::Kept(3, 2, 7, 6, 3)),
-        (NEW_WHOLE, Answer::Kept(3, 2, 7, 6, 3)),
-        (
-            [METADATA, &[], SNAPSHOT, &[], &[]],
-            Answer::Kept(3, 2, 7, 8, 0),
-        ),
-        (
-            [METADATA, &[], OTHER, FRONT, BACK],
-            Answer::Kept(3, 2, 7, 8, 0),
-        ),
-        (
-            [METADATA, &[], &[], LATE, &[]],
-            Answer::Fault(LoadFault::Gap(3, 0)),
-        ),
-        (
-            [&[], &[], &[], FRONT, &[]],
-            Answer::Fault(LoadFault::NoMeta),
-        ),
-        (
-            [&[], &[], SNAPSHOT, &[], &[]],
-            Answer::Fault(LoadFault::NoMeta),
-        ),
-    ];
-    for (files, wanted) in &rows {
+    for (files, wanted) in FOLDERS {
         assert!(rt; loaded_alike(rt.alloc(), files, 0, usize::MAX) == Ok(Some(*wanted)));
     }
 }
 
+/// Folders, a file of each, and its size in bytes.
+const SIZES: &[(Folder, usize, usize)] = &[
+    (WHOLE, 0, 40),
+    (WHOLE, 2, 48),
+    (WHOLE, 3, 80),
+    (WHOLE, 4, 48),
+    (NEW_WHOLE, 1, 40),
+    (NEW_WHOLE, 2, 48),
+    (NEW_WHOLE, 3, 88),
+    (NEW_WHOLE, 4, 56),
+];
+
 #[test]
 fn files_cut_at_every_byte_load_by_the_rules(rt: HostRuntime) {
-    for (files, file, size) in [
-        (&WHOLE, 0, 40),
-        (&WHOLE, 2, 48),
-        (&WHOLE, 3, 80),
-        (&WHOLE, 4, 48),
-        (&NEW_WHOLE, 1, 40),
-        (&NEW_WHOLE, 2, 48),
-        (&NEW_WHOLE, 3, 88),
-        (&NEW_WHOLE, 4, 56),
-    ] {
-        for length in 0..size {
+    for (files, file, size) in SIZES {
+        for length in 0..*size {
             assert!(rt;
-                loaded_alike(rt.alloc(), files, file, length) == Ok(Some(wanted(file, length)))
+                loaded_alike(rt.alloc(), files, *file, length) == Ok(Some(wanted(*file, length)))
             );
         }
     }
 }
 
 /// A store over a folder with term 3 and vote 2, which it keeps where the folder has no metadata.
-fn voted(alloc: Global, disk: &mut MemDisk, files: &[&[u64]; FILES]) -> Option<Store> {
+fn voted(alloc: Global, disk: &mut MemDisk, files: &Folder) -> Option<Store> {
     fill(alloc, disk, files, 0, usize::MAX).ok()?;
     let (mut store, kept) = Store::load(alloc, disk).ok()?;
     if kept.term == 0 {
@@ -267,12 +275,7 @@ fn voted(alloc: Global, disk: &mut MemDisk, files: &[&[u64]; FILES]) -> Option<S
 
 /// Whether `set_meta` with term 4 and no vote, stopped at a call, answered `Ok`, and what is loaded after a crash with
 /// the pick.
-fn after_stop(
-    alloc: Global,
-    files: &[&[u64]; FILES],
-    call: u64,
-    pick: u64,
-) -> Option<(bool, Answer)> {
+fn after_stop(alloc: Global, files: &Folder, call: u64, pick: u64) -> Option<(bool, Answer)> {
     let mut disk = MemDisk::new(alloc);
     let mut store = voted(alloc, &mut disk, files)?;
     disk.arm(Some(Stop { call, pick }), None);
@@ -282,7 +285,7 @@ fn after_stop(
 }
 
 /// Whether each stop of the three calls leaves the old state or the new one, and one behind them the new one.
-fn are_old_or_new(alloc: Global, files: &[&[u64]; FILES], old: Answer, new: Answer) -> bool {
+fn are_old_or_new(alloc: Global, files: &Folder, old: Answer, new: Answer) -> bool {
     for call in 1..5 {
         for pick in 0..16 {
             let after = after_stop(alloc, files, call, pick);
@@ -294,28 +297,32 @@ fn are_old_or_new(alloc: Global, files: &[&[u64]; FILES], old: Answer, new: Answ
     true
 }
 
+/// Folders, and the old state and the new one of each.
+const STATES: &[(Folder, Answer, Answer)] = &[
+    (
+        EMPTY,
+        Answer::Kept(3, 2, 0, 1, 0),
+        Answer::Kept(4, 0, 0, 1, 0),
+    ),
+    (
+        WHOLE,
+        Answer::Kept(3, 2, 7, 6, 3),
+        Answer::Kept(4, 0, 7, 6, 3),
+    ),
+];
+
+/// Whether a stop of the first call leaves the old state, but for the pick that keeps it.
+fn the_pick_decides(alloc: Global, files: &Folder, old: Answer, new: Answer) -> bool {
+    after_stop(alloc, files, 1, 0) == Some((false, old))
+        && after_stop(alloc, files, 1, 2) == Some((false, old))
+        && after_stop(alloc, files, 1, 1) == Some((false, new))
+}
+
 #[test]
 fn a_stopped_set_meta_kept_the_old_state_or_the_new_one(rt: HostRuntime) {
-    let rows = [
-        (
-            &EMPTY,
-            Answer::Kept(3, 2, 0, 1, 0),
-            Answer::Kept(4, 0, 0, 1, 0),
-        ),
-        (
-            &WHOLE,
-            Answer::Kept(3, 2, 7, 6, 3),
-            Answer::Kept(4, 0, 7, 6, 3),
-        ),
-    ];
-    for (files, old, new) in rows {
-        for (call, pick, kept) in [(1, 0, old), (1, 2, old), (1, 1, new)] {
-            assert_eq!(rt;
-                after_stop(rt.alloc(), files, call, pick),
-                Some((false, kept))
-            );
-        }
-        assert!(rt; are_old_or_new(rt.alloc(), files, old, new));
+    for (files, old, new) in STATES {
+        assert!(rt; the_pick_decides(rt.alloc(), files, *old, *new));
+        assert!(rt; are_old_or_new(rt.alloc(), files, *old, *new));
     }
 }
 
@@ -333,7 +340,7 @@ fn has_words(
 }
 
 /// Whether the file has these words after a load of a folder and a call of `set_meta`.
-fn written(alloc: Global, files: &[&[u64]; FILES], file: usize, words: &[u64]) -> Option<bool> {
+fn written(alloc: Global, files: &Folder, file: usize, words: &[u64]) -> Option<bool> {
     let mut disk = MemDisk::new(alloc);
     fill(alloc, &mut disk, files, 0, usize::MAX).ok()?;
     let (mut store, _kept) = Store::load(alloc, &mut disk).ok()?;
@@ -341,20 +348,22 @@ fn written(alloc: Global, files: &[&[u64]; FILES], file: usize, words: &[u64]) -
     has_words(alloc, &mut disk, file, words).ok()
 }
 
+/// Folders, a file of each, and its words after a load and a call of `set_meta`.
+const WRITTEN: &[(Folder, usize, &[u64])] = &[
+    (WHOLE, 1, &[2, 6, 4, 0, 0x6288_889d_b51e_9f74]),
+    (WHOLE, 0, METADATA),
+    ([METADATA, &[], OTHER, FRONT, BACK], 5, EMPTIED),
+];
+
 #[test]
 fn files_after_a_load_are_written_in_format_2(rt: HostRuntime) {
-    let second = [2, 6, 4, 0, 0x6288_889d_b51e_9f74];
-    for (files, file, words) in [
-        (&WHOLE, 1, second.as_slice()),
-        (&WHOLE, 0, METADATA),
-        (&[METADATA, &[], OTHER, FRONT, BACK], 5, EMPTIED),
-    ] {
-        assert_eq!(rt; written(rt.alloc(), files, file, words), Some(true));
+    for (files, file, words) in WRITTEN {
+        assert_eq!(rt; written(rt.alloc(), files, *file, words), Some(true));
     }
 }
 
 /// What a load of a folder answers where a call of the disk fails.
-fn failing(alloc: Global, files: &[&[u64]; FILES], call: u64) -> Result<Answer, DiskFault> {
+fn failing(alloc: Global, files: &Folder, call: u64) -> Result<Answer, DiskFault> {
     let mut disk = MemDisk::new(alloc);
     fill(alloc, &mut disk, files, 0, usize::MAX)?;
     disk.arm(None, Some(call));
@@ -362,7 +371,7 @@ fn failing(alloc: Global, files: &[&[u64]; FILES], call: u64) -> Result<Answer, 
 }
 
 /// How many calls of the disk a load makes, where each that fails is answered and the others are not.
-fn calls_of_a_load(alloc: Global, files: &[&[u64]; FILES]) -> Option<u64> {
+fn calls_of_a_load(alloc: Global, files: &Folder) -> Option<u64> {
     for made in 0..20 {
         match failing(alloc, files, made + 1).ok()? {
             Answer::Fault(LoadFault::DiskFault) => {}
@@ -373,16 +382,18 @@ fn calls_of_a_load(alloc: Global, files: &[&[u64]; FILES]) -> Option<u64> {
     None
 }
 
-// The folder is listed; each file is read once, by one call for its bytes and one that finds no more; each is synced, and
-// the names are.
+/// Folders, and how many calls a load of each makes. The folder is listed; each file is read once, by one call for its bytes
+/// and one that finds no more; each is synced, and the names are.
+const CALLS: &[(Folder, u64)] = &[
+    (EMPTY, 2),
+    ([METADATA, &[], SNAPSHOT, &[], &[]], 8),
+    (WHOLE, 14),
+    (NEW_WHOLE, 14),
+];
+
 #[test]
 fn a_load_reads_each_file_once_and_answers_a_disk_that_fails(rt: HostRuntime) {
-    for (files, calls) in [
-        (&EMPTY, 2),
-        (&[METADATA, &[], SNAPSHOT, &[], &[]], 8),
-        (&WHOLE, 14),
-        (&NEW_WHOLE, 14),
-    ] {
-        assert_eq!(rt; calls_of_a_load(rt.alloc(), files), Some(calls));
+    for (files, calls) in CALLS {
+        assert_eq!(rt; calls_of_a_load(rt.alloc(), files), Some(*calls));
     }
 }

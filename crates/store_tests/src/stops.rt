@@ -12,7 +12,7 @@ type Outcomes = [bool; 3];
 /// The stopped call, and what was found over all picks. The calls are: a torn file of the snapshot is cut, written and
 /// synced, and the names; the new segment's word, its sync, that of the names, its batch, its sync; two segments are
 /// removed, with a sync of the names after each; a snapshot is removed. Call 0 is none, and so is 15.
-const STOPS: [(u64, Outcomes); 16] = [
+const STOPS: &[(u64, Outcomes)] = &[
     (0, [false, false, true]),
     (1, [true, false, false]),
     (2, [true, true, false]),
@@ -157,6 +157,6 @@ fn outcomes(alloc: Global, call: u64) -> Option<Outcomes> {
 #[test]
 fn each_stop_of_a_snapshot_leaves_what_was_or_what_is_kept(rt: HostRuntime) {
     for (call, wanted) in STOPS {
-        assert_eq!(rt; outcomes(rt.alloc(), call), Some(wanted));
+        assert_eq!(rt; outcomes(rt.alloc(), *call), Some(*wanted));
     }
 }

@@ -11,7 +11,7 @@ use std::marker::Model;
 
 /// Reads the valid frames of a log one after the other, and lends their pages. Contracts see the header, the checksum
 /// of the last frame that was read, and the bytes behind it.
-#[derive(Debug, Drop)]
+#[derive(Drop)]
 pub struct WalReader<'a> {
     header: WalHeader,
     sums: (u32, u32),

@@ -22,7 +22,7 @@ pub fn wal_length(frames: usize) -> usize
 
 /// Writes a log frame by frame behind the bytes of a vector. Contracts see its header and the checksum of the last
 /// frame that was written.
-#[derive(Debug, Drop)]
+#[derive(Drop)]
 pub struct WalWriter {
     header: WalHeader,
     sums: (u32, u32),

@@ -10,7 +10,7 @@ use std::alloc::Global;
 use wire_words::{WireText, WordFault, Words};
 
 /// What stands next in the body of a part.
-#[derive(Debug, Drop)]
+#[derive(Drop)]
 pub(crate) enum Next {
     Row(Row),
     End(More),

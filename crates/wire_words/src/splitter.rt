@@ -48,7 +48,7 @@ pub const CLIENT_LIMIT: u32 = 2_097_152;
 /// It holds what is unread and no more. A byte is copied once into the message that it is part of, which grows with its
 /// bytes and not with what its header claims; where a message comes in several pieces, growing copies each byte once
 /// more on average.
-#[derive(Debug, Drop)]
+#[derive(Drop)]
 pub struct Splitter {
     alloc: Global,
     limit: u32,

@@ -11,7 +11,7 @@ use std::alloc::{AllocError, Global};
 use std::mem;
 
 /// The unread bytes of a stream: a part of its version word, or of a message.
-#[derive(Debug, Drop)]
+#[derive(Drop)]
 pub(crate) struct Unfinished {
     /// Whether the version word was read.
     pub(crate) begun: bool,

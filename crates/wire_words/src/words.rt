@@ -16,7 +16,7 @@ use std::marker::Model;
 
 /// Reads the items of a body from left to right. Clauses see what it has left: its place in the body and the bytes from
 /// there on. After a fault it stands where the call began.
-#[derive(Debug, Drop)]
+#[derive(Drop)]
 pub struct Words<'a> {
     body: &'a [u8],
     place: usize,

@@ -13,7 +13,7 @@ use std::marker::Model;
 
 /// Writes the items of a body, or of a whole message, one after the other. Clauses see the bytes written so far, which
 /// are whole words. A call that finds no memory leaves them as they were.
-#[derive(Debug, Drop)]
+#[derive(Drop)]
 pub struct Writer {
     alloc: Global,
     out: Vec<u8>,
