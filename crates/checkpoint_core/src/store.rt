@@ -71,10 +71,13 @@ impl PageStore {
 
     /// Adds the pages of a set as frames, and answers the number of commits so far. A set is refused as `dq_base::apply`
     /// refuses it: by its first fault `NoSizes`, `Order` or `NotInLength`, and a set without a fault by `NoMemory` where
-    /// memory runs out or 2^64 commits would be passed. After every refusal the store is unchanged.
+    /// memory runs out or 2^64 commits would be passed. After every refusal the store is unchanged: a set that isn't
+    /// applied counts nowhere.
     ///
     /// It makes the room first that the base needs for the set's two lengths. It looks at the set's pages and costs a
-    /// look-up for each; now and then, as the frames or the base outgrow their room, they are moved.
+    /// look-up and a copy for each; now and then, as the frames or the base outgrow their room, they are moved. Where the
+    /// newest image is kept whole, each page is copied once more, into that image, and the image is copied first where
+    /// somebody else holds it.
     pub fn commit(&mut self, set: &PageSet) -> Result<u64, PageFault>
         ensures done { OnOk result (self.new ≡ committed self.old set.now.pages) }
         ensures newest { IfOk result (λ mark. mark ≡ newest self.new) }
@@ -110,7 +113,7 @@ impl PageStore {
         Ok(newest)
     }
 
-    /// How many commits there were. Constant cost; takes no memory.
+    /// How many commits there were; a refused set is none. Constant cost; takes no memory.
     pub fn newest(&self) -> u64
         ensures { result ≡ newest self.now }
     {
