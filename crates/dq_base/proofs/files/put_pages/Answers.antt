@@ -3,8 +3,8 @@ use Rattle.std.proofs.lemmas.Bool.{cond-true, cond-false}
 use Rattle.dq_base.specs.Images.{is_page_of, page_start}
 use Rattle.dq_base.specs.Applying.{replaced, put_pages}
 use Rattle.dq_base.proofs.Steps.{put_more, put_all}
-use Rattle.dq_base.proofs.applying.put_all.Goals as goal
-use Rattle.dq_base.proofs.applying.put_all.Goals.{then-is_page_of, else-is_page_of}
+use Rattle.dq_base.proofs.files.put_pages.Goals as goal
+use Rattle.dq_base.proofs.files.put_pages.Goals.{then-is_page_of, else-is_page_of}
 
 pub loop-page-preserved : goal.loop-page-preserved
 loop-page-preserved c =
