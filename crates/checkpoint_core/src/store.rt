@@ -41,8 +41,8 @@ pub struct PageStore {
 impl Model for PageStore {
     ghost use Rattle.std.specs.Prelude.{◌≡◌, vec_capacity, IfSome};
     ghost use Rattle.std.specs.Arc.{arc_value};
-    ghost use Rattle.checkpoint_core.specs.Store.{Store, newest_image};
-    ghost use Rattle.checkpoint_core.specs.Sets.{store_of};
+    ghost use Rattle.checkpoint_core.specs.Store.{Store, after_sets};
+    ghost use Rattle.checkpoint_core.specs.Sets.{sets_of, store_of};
     ghost use Rattle.checkpoint_core.specs.Holding.{Holds};
 
     ghost Value = { Store };
@@ -50,7 +50,7 @@ impl Model for PageStore {
     ghost view = { λ a. store_of (record { main = a.main.items; side = a.side.items }) a.log.pages a.newest a.marks };
 
     ghost invariant = { λ a. Holds (vec_capacity a.main) (vec_capacity a.side) a.log.pages a.log.lengths a.newest a.marks
-        × IfSome a.whole (λ shared. arc_value shared ≡ newest_image (store_of (record { main = a.main.items; side = a.side.items }) a.log.pages a.newest a.marks)) };
+        × IfSome a.whole (λ shared. arc_value shared ≡ after_sets (record { main = a.main.items; side = a.side.items }) (sets_of a.log.pages)) };
 }
 
 impl PageStore {
@@ -203,10 +203,14 @@ impl PageStore {
         image_under(self.alloc, main, side, &self.log, count)
     }
 
-    /// The image with all commits. Copies the base, and lays all frames into the copy. `Err` is want of memory.
+    /// The image with all commits. Copies the image that is kept whole, and where none is, copies the base and lays all
+    /// frames into the copy. `Err` is want of memory.
     pub fn newest_image(&self) -> Result<Image, AllocError>
         ensures { IfOk result (λ image. image ≡ newest_image self.now) }
     {
+        if let Some(whole) = &self.whole {
+            return whole.try_clone(self.alloc);
+        }
         let main = self.main.as_slice();
         let side = self.side.as_slice();
         let count = self.log.len();

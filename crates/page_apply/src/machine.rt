@@ -236,7 +236,8 @@ impl Machine {
     /// machine keeps it whole, and else the image. Whoever holds it keeps that image, whatever the machine does later.
     /// `Err` is want of memory.
     pub fn newest_shared(&self, name: &str) -> Result<Option<Arc<Image, Global>>, AllocError>
-        ensures { IfOk result (λ shared. option_map arc_value shared ≡ option_map (λ (database : Database). newest_image database.store) (named name.now self.now)) }
+        ensures { IfOk result (λ shared. option_map arc_value shared
+            ≡ option_map (λ (database : Database). newest_image database.store) (named name.now self.now)) }
     {
         match named(self.databases.as_slice(), name) {
             Some(database) => Ok(Some(database.store.newest_shared()?)),
