@@ -6,8 +6,8 @@ use Rattle.disk_model.specs.Writing.{replace_calls}
 
 -- calls behind calls
 pub after_more : (a b before : ℕ) → after_calls (a + b) before ≡ after_calls b (after_calls a before)
-after_more zero b before = refl
-after_more (suc a) b before = after_more a b (one_more before)
+after_more zero b before = let e : 0 + b ≡ b = omega arith in ap (λ (k : ℕ). after_calls k before) e
+after_more (suc a) b before = let e : suc a + b ≡ suc (a + b) = omega arith in ap (λ (k : ℕ). after_calls k before) e ∙ after_more a b (one_more before)
 
 -- below the last value the count is a plain sum
 pub after_is : (k before : ℕ) → before + k ≤ last_count → after_calls k before ≡ before + k

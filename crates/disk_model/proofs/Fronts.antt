@@ -23,9 +23,11 @@ front_none read base = (omega arith, refl)
 
 put_front : (s at : ℕ) (bytes old : List ℕ) → s ≤ at → s ≤ length old → (s ≤ length (put at bytes old)) × (take s (put at bytes old) ≡ take s old)
 put_front s at bytes old h k =
+    let rest = drop (at + length bytes) old in
     let e : length (take at old) ≡ min at (length old) = length-take at old in
-    let l : length (put at bytes old) ≡ length (take at old) + length (bytes ++ drop (at + length bytes) old) = length-append (take at old) (bytes ++ drop (at + length bytes) old) in
-    (omega (arith, e, l), take-append-le s (take at old) (bytes ++ drop (at + length bytes) old) (omega (arith, e)) ∙ take_less s at old h)
+    let l : length (put at bytes old) ≡ length (take at old ++ bytes) + length rest = length-append (take at old ++ bytes) rest in
+    let m : length (take at old ++ bytes) ≡ length (take at old) + length bytes = length-append (take at old) bytes in
+    (omega (arith, e, l, m), take-append-le s (take at old ++ bytes) rest (omega (arith, e, m)) ∙ take-append-le s (take at old) bytes (omega (arith, e)) ∙ take_less s at old h)
 
 -- what a call does to what is read leaves this front
 pub front_done : (c : Effect) (s : ℕ) (read : Found) (base : List ℕ) → SameFront s read.bytes base → SameFront (front_left c s) (done_to c read).bytes base
@@ -47,9 +49,5 @@ front_done Nothing s read base same = same
 pub followed : (s : ℕ) (new old : List ℕ) → SameFront s new old → take (length new) (put s (drop s new) old) ≡ new
 followed s new old same =
     let rest = drop (s + length (drop s new)) old in
-    let e : put s (drop s new) old ≡ new ++ rest = ap (λ (l : List ℕ). l ++ drop s new ++ rest) (sym same.1) ∙ assoc (take s new) (drop s new) rest ∙ ap (λ (l : List ℕ). l ++ rest) (take-append-drop s new) in
+    let e : put s (drop s new) old ≡ new ++ rest = ap (λ (l : List ℕ). l ++ drop s new ++ rest) (sym same.1) ∙ ap (λ (l : List ℕ). l ++ rest) (take-append-drop s new) in
     ap (take (length new)) e ∙ take_at new rest (length new) refl
-  where
-    assoc : (a b c : List ℕ) → a ++ b ++ c ≡ (a ++ b) ++ c
-    assoc [] b c = refl
-    assoc (x ∷ a) b c = ap (λ (l : List ℕ). x ∷ l) (assoc a b c)
