@@ -157,9 +157,11 @@ pub(crate) fn pending_in(alloc: Global, machine: &mut Machine, name: &str) -> Re
 
 /// How long the main file of the newest image is as a machine lends it.
 fn lent_length(machine: &Machine, name: &str) -> Result<Option<usize>, AllocError> {
-    Ok(machine
-        .newest_shared(name)?
-        .map(|image| image.main.as_slice().len()))
+    Ok(
+        machine
+            .newest_shared(name)?
+            .map(|image| image.main.as_slice().len()),
+    )
 }
 
 #[test]
@@ -170,7 +172,10 @@ fn newest_images_are_numbered_and_lent(rt: HostRuntime) -> Result<(), Fail> {
     let numbers = [("a", 0, 0, 0), ("d", 1, 1, 262_144)];
     for (name, place, commits, length) in numbers {
         machine.keep_newest(name);
-        assert_eq!(rt; machine.number(name), Some(ImageNumber::Newest { place, commits }));
+        assert_eq!(rt;
+            machine.number(name),
+            Some(ImageNumber::Newest { place, commits })
+        );
         assert_eq!(rt; lent_length(&machine, name)?, Some(length));
     }
     assert_eq!(rt; machine.number("b"), None);

@@ -33,10 +33,12 @@ fn again(alloc: Global, machine: &Machine) -> Result<Machine, SnapFault> {
 
 /// Whether a machine's snapshot behind two bytes is these and its snapshot.
 fn stands_behind(alloc: Global, machine: &Machine) -> Result<bool, AllocError> {
-    let mut out = Vec::from_slice(alloc, &[1, 2])?;
+    let bytes = [1, 2];
+    let mut out = Vec::from_slice(alloc, &bytes)?;
     machine.snapshot_into(&mut out)?;
-    let (front, back) = out.split_at(2);
-    Ok(front == [1, 2] && back == machine.snapshot()?.as_slice())
+    let snapshot = machine.snapshot()?;
+    let (front, back) = (out.get(..2), out.get(2..));
+    Ok(front == Some(bytes.as_slice()) && back == Some(snapshot.as_slice()))
 }
 
 /// Whether two machines have one snapshot.
