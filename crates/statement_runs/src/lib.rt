@@ -11,6 +11,6 @@ mod undoing;
 
 pub use change::{add_changed, sizes_of};
 pub use ending::{AllRan, Ending};
-pub use running::{run_all, run_one, takes};
+pub use running::{run_all, run_one, run_unnumbered, takes};
 pub use text::{any_barred, is_control, is_left_out, params_fit};
 pub use touched::in_order;
