@@ -3,3 +3,4 @@ pub mod Undoing
 pub mod Reached
 pub mod Running
 pub mod Learning
+pub mod Agreeing
