@@ -7,3 +7,5 @@ pub mod Opened
 pub mod ComingBack
 pub mod Touching
 pub mod InOrder
+pub mod Agreeing
+pub mod AgreeingOn

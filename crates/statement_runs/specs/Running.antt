@@ -68,6 +68,7 @@ is_unopened faults.Sql = false
 is_unopened (faults.Float row column) = false
 is_unopened (faults.NotText row column) = false
 is_unopened faults.Unopened = true
+is_unopened faults.Cut = false
 is_unopened faults.NoMemory = false
 
 -- running ended since the files of an image were not opened

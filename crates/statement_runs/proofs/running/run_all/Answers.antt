@@ -1,7 +1,7 @@
 use Rattle.std.proofs.lemmas.Result.{IfOk-weaker}
 use Rattle.statement_runs.proofs.ComingBack.{back}
 use Rattle.statement_runs.proofs.Reaching.{came_ran}
-use Rattle.statement_runs.proofs.running.run_several.Goals as goal
+use Rattle.statement_runs.proofs.running.run_all.Goals as goal
 
 pub returns-in_err-came-clause-kept : goal.returns-in_err-came-clause-kept
 returns-in_err-came-clause-kept g c = back _ _ _ _ _ c.put_back_all.ensures c.lead-came.ensures.kept c.new-progress.ensures.undoes
