@@ -1,4 +1,2 @@
 pub mod Texts
-pub mod Undoing
-pub mod Reached
 pub mod Running

@@ -3,7 +3,7 @@ use Rattle.std.proofs.lemmas.List.{drop_more}
 use Rattle.statement_runs.specs.Running.{stops_unopened}
 use Rattle.statement_runs.proofs.Reaching.{reached_start}
 use Rattle.statement_runs.proofs.Standing.{standing_more, standing_stops, standing_ends, touches_step}
-use Rattle.session_rules.proofs.Touched.{lists_nothing}
+use Rattle.page_changes.proofs.Touched.{lists_nothing}
 use Rattle.statement_runs.proofs.running.advance.Goals as goal
 
 pub loop-piece-init : goal.loop-piece-init
