@@ -16,7 +16,7 @@ use Rattle.statement_runs.specs.declared.ending.Ending.{Ending as CodeEnding}
 use Rattle.statement_runs.specs.declared.ending.Ending.TheVariants as codes
 use Rattle.statement_runs.specs.declared.running.Came.{Came}
 use Rattle.statement_runs.specs.declared.running.Came.TheVariants as came
-use Rattle.statement_runs.specs.Reached.{change_to}
+use Rattle.page_changes.specs.Reached.{change_to}
 
 -- the engine told these answers one after the other
 unfoldable pub TellsAll : List Answer → Option Told → Option Told → Type 0

@@ -13,12 +13,11 @@ ghost use Rattle.session_rules.specs.Touched.{ListsAll, numbers_of};
 ghost use Rattle.statement_runs.specs.Running as running;
 ghost use Rattle.statement_runs.specs.Running.{AdvancedTo, CameTo, RanTo, Stepped};
 ghost use Rattle.statement_runs.specs.Learning.{IsLearnt, left_by};
-ghost use Rattle.statement_runs.specs.Undoing.{IsChange, all_undone};
+ghost use Rattle.page_changes.specs.Undoing.{IsChange, all_undone};
 
 use crate::ending::{AllRan, Ending};
-use crate::reached::{Reached, add_numbers};
-use crate::undoing::{Undo, apply_noted, put_back_all};
 use dq_base::{Image, ImageNumber, Items, NumberedPage, PageSet, set_lengths};
+use page_changes::{Reached, Undo, add_numbers, apply_noted, put_back_all};
 use sql_engine::{Engine, EngineFault, ImageNumbers, Ran};
 use sql_scan::Piece;
 use std::alloc::{AllocError, Global};

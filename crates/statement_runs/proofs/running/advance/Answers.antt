@@ -4,7 +4,7 @@ use Rattle.statement_runs.specs.Running.{stops_unopened}
 use Rattle.statement_runs.proofs.Reaching.{reached_start}
 use Rattle.statement_runs.proofs.Standing.{standing_more, standing_stops, standing_ends, touches_step}
 use Rattle.sql_engine.proofs.Knowing.{all_contained}
-use Rattle.session_rules.proofs.Touched.{lists_nothing}
+use Rattle.page_changes.proofs.Touched.{lists_nothing}
 use Rattle.statement_runs.proofs.running.advance.Goals as goal
 
 pub loop-piece-init : goal.loop-piece-init

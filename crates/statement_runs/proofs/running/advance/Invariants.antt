@@ -1,6 +1,6 @@
 use Rattle.std.proofs.Common.{◌≡◌, ◌≤◌, All, Contains}
 use Rattle.session_rules.specs.Touched.{ListsAll}
-use Rattle.statement_runs.specs.Undoing.{all_undone}
+use Rattle.page_changes.specs.Undoing.{all_undone}
 use Rattle.statement_runs.proofs.Standing.{Standing}
 use Rattle.statement_runs.proofs.running.advance.Given as goal
 

@@ -1,5 +1,5 @@
 use Rattle.std.proofs.lemmas.Result.{IfOk-weaker}
-use Rattle.statement_runs.proofs.ComingBack.{back}
+use Rattle.page_changes.proofs.ComingBack.{back}
 use Rattle.statement_runs.proofs.Reaching.{came_ran}
 use Rattle.statement_runs.proofs.running.run_all.Goals as goal
 
