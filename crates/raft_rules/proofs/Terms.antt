@@ -3,7 +3,7 @@ use Rattle.std.proofs.Common.{◌≡◌, ◌≢◌, ℕ, suc, ◌<◌, ◌≤◌
 use Rattle.std.specs.Prelude.{◌&&◌, not, nat_lt, nat_le}
 use Rattle.std.proofs.lemmas.Bool.{cond_both, and_parts, ltb-true}
 use Rattle.raft_rules.specs.Log.{Entry, LogEnd, matches}
-use Rattle.raft_rules.specs.Node.{Role, Leader, Candidate, Follower, What, AskVote, Vote, Append, Ack, Install, TimeoutNow, Message, Node, Server, Outcome, among, is_leader, is_candidate, Timeout, Beat, Propose, Transfer, Snapped, UseServers, Input, Local, Receive}
+use Rattle.raft_rules.specs.Node.{Role, Leader, Candidate, Follower, What, AskVote, Vote, Append, Ack, Install, TimeoutNow, Message, Node, Server, Outcome, voters, among, is_leader, is_candidate, Timeout, Beat, Propose, Transfer, Snapped, UseServers, Input, Local, Receive}
 use Rattle.raft_rules.specs.Outcomes.{in_newer_term, with_grants}
 use Rattle.raft_rules.specs.Elections.{as_candidate, on_grants, may_start_election, start_election, on_ask_vote, grants_with, on_vote}
 use Rattle.raft_rules.specs.Replication.{agrees, replaces_committed, take_entries, on_append, on_ack, on_propose, on_beat, on_transfer}
@@ -11,7 +11,8 @@ use Rattle.raft_rules.specs.Snapshots.{on_install, on_snapped}
 use Rattle.raft_rules.specs.Membership.{on_servers}
 use Rattle.raft_rules.specs.Receiving.{on_own_term, on_older_term, in_range, on_message}
 use Rattle.raft_rules.specs.Steps.{finish, serve, raft_step}
-use Rattle.raft_rules.specs.Laws.{HasShortTerm, TermsStayShort}
+use Rattle.raft_rules.specs.Compaction.{compacted_step}
+use Rattle.raft_rules.specs.Laws.{HasShortTerm, TermsStayShort, CutTermsStayShort}
 
 -- a follower may have any term
 none : {A : Type 0} → Follower ≢ Follower → A
@@ -137,3 +138,7 @@ terms_stay_short_holds voters_of me s (Local (Propose es)) h = ends voters_of me
 terms_stay_short_holds voters_of me s (Local (Transfer to)) h = ends voters_of me _ (hands me s to h)
 terms_stay_short_holds voters_of me s (Local (Snapped i)) h = ends voters_of me _ (snaps s i h)
 terms_stay_short_holds voters_of me s (Local (UseServers servers)) h = serves me _ (hears me s servers h)
+
+pub cut_terms_stay_short_holds : CutTermsStayShort
+unfolding compacted_step
+cut_terms_stay_short_holds me s i h = terms_stay_short_holds (λ log. voters s.servers) me s i h

@@ -4,6 +4,7 @@ use Rattle.raft_rules.specs.Log.{Entry, LogEnd, nth_term, term_at, accept}
 use Rattle.raft_rules.specs.Node.{Follower, What, AskVote, Vote, Append, Ack, Install, TimeoutNow, Node, Input, Local, Receive, Timeout, Beat, Propose, Transfer, Snapped, UseServers}
 use Rattle.raft_rules.specs.Commitment.{is_stored_by_majority, commit_up_to}
 use Rattle.raft_rules.specs.Steps.{raft_step}
+use Rattle.raft_rules.specs.Compaction.{compacted_step}
 
 -- The entry that came as the k-th, and what the log has at its index, have the same term.
 abbrev pub SameTerm : List Entry → ℕ → List Entry → ℕ → Type 0
@@ -40,6 +41,10 @@ HasShortTerm s = s.role ≢ Follower → s.term ≤ 4294967295
 -- Each step keeps that, whatever gives the voters: to lead or to stand comes by an own election alone, which raises a term below the last.
 abbrev pub TermsStayShort : Type 0
 TermsStayShort = (voters_of : List Entry → List ℕ) (me : ℕ) (s : Node) (i : Input) → HasShortTerm s → HasShortTerm (raft_step voters_of me s i).node
+
+-- So does each step of a node that has cut its log.
+abbrev pub CutTermsStayShort : Type 0
+CutTermsStayShort = (me : ℕ) (s : Node) (i : Input) → HasShortTerm s → HasShortTerm (compacted_step me s i).node
 
 -- The message brings a snapshot that ends there.
 abbrev pub BringsSnapshot : What → LogEnd → Type 0

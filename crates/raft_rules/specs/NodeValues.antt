@@ -1,7 +1,7 @@
 -- The value of the code's node: plain data, since a contract's value holds no function; and the node of the rules that it stands for.
-use Rattle.std.specs.Prelude.{◌≡◌, ◌≢◌, ℕ, ◌+◌, ◌≤◌, true, List, ◌++◌, length}
+use Rattle.std.specs.Prelude.{◌≡◌, ℕ, ◌+◌, ◌≤◌, true, List, ◌++◌, length}
 use Rattle.raft_rules.specs.Log.{Entry, LogEnd}
-use Rattle.raft_rules.specs.Node.{Role, Follower, Node, Server, peers}
+use Rattle.raft_rules.specs.Node.{Role, Node, Server, peers}
 use Rattle.raft_rules.specs.Compaction.{compacted}
 use Rattle.raft_rules.specs.Progress.{PeerProgress, next_in, match_in, ids_in}
 
@@ -39,11 +39,9 @@ node_of h = record {
   base = h.base;
 }
 
--- What holds of every node: the cut is not past the snapshot, the snapshot is applied, what is applied is in the log, each peer has its row, and who leads or
--- stands for election has a term of 32 bits.
+-- What holds of every node: the cut is not past the snapshot, the snapshot is applied, what is applied is in the log, and each peer has its row.
 pub record IsCoherent (h : NodeValue) : Type 0 where
   pub low : h.base ≤ h.snapshot.index
   pub applied : h.snapshot.index ≤ h.commit
   pub within : h.commit ≤ h.base + length h.entries
   pub rows : ids_in h.rows ≡ peers h.servers h.id
-  pub term : h.role ≢ Follower → h.term ≤ 4294967295
