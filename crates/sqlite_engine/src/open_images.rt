@@ -38,7 +38,18 @@ pub(crate) fn take(list: &mut Vec<OpenImage>, image: &Image, number: ImageNumber
 }
 
 /// Gives the connection over this image its number. `false` is that there is none.
-pub(crate) fn renumber(list: &mut [OpenImage], image: &Image, number: ImageNumber) -> bool
+pub(crate) fn renumber(list: &mut Vec<OpenImage>, image: &Image, number: ImageNumber) -> bool
+    requires { All (Knows number image.now) (known_in list.old.items) }
+    ensures knows { IsTrue result → Contains (known_in list.new.items) (record { number = number; image = image.now }) }
+    ensures among { IsTrue result → Contains (images_in list.old.items) image.now }
+    ensures none { result ≡ false → Contains (images_in list.old.items) image.now → ⊥ }
+    ensures same { result ≡ false → list.new.items ≡ list.old.items }
+    ensures keeps { IsTrue result → All (MayKnowBeside image.now number (known_in list.old.items)) (known_in list.new.items) }
+{
+    renumber_at(list, image, number)
+}
+
+fn renumber_at(list: &mut [OpenImage], image: &Image, number: ImageNumber) -> bool
     requires { All (Knows number image.now) (known_in list.old) }
     ensures knows { IsTrue result → Contains (known_in list.new) (record { number = number; image = image.now }) }
     ensures among { IsTrue result → Contains (images_in list.old) image.now }
@@ -86,10 +97,12 @@ fn is_number(known: Option<ImageNumber>, number: ImageNumber) -> bool
     match (known, number) {
         (Some(ImageNumber::Working(known)), ImageNumber::Working(number)) => known == number,
         (
-            Some(ImageNumber::Newest {
-                place: known_place,
-                commits: known_commits,
-            }),
+            Some(
+                ImageNumber::Newest {
+                    place: known_place,
+                    commits: known_commits,
+                },
+            ),
             ImageNumber::Newest { place, commits },
         ) => known_place == place && known_commits == commits,
         _ => false,
@@ -173,8 +186,8 @@ fn without(left: usize, image: &Image) -> Option<usize>
 }
 
 /// Forgets the numbers. The connections stay open.
-pub(crate) fn forget(list: &mut Vec<OpenImage>)
-    ensures { known_in list.new.items ≡ [] }
+pub(crate) fn forget(list: &mut [OpenImage])
+    ensures { known_in list.new ≡ [] }
 {
     for at in 0..list.len() {
         list[at].number = None;

@@ -1,4 +1,4 @@
-use Rattle.std.proofs.Common.{◌≡◌, get_or, arith, below_more, ap, sym, ◌∙◌}
+use Rattle.std.proofs.Common.{◌≡◌, get_or, arith, below_more, ap, ◌∙◌}
 use Rattle.std.proofs.lemmas.List.{get_or_default}
 use Rattle.sqlite_engine.specs.declared.open_images.OpenImage.{OpenImage}
 use Rattle.sqlite_engine.proofs.OpenImages.{not_open}
