@@ -252,3 +252,48 @@ fn each_kind_has_its_own_statements(rt: HostRuntime) -> Result<(), Fail> {
     }
     Ok(())
 }
+/// Texts that look at the listing of tables, or at rows, and change nothing.
+const LOOKS: &[&str] = &[
+    "SELECT name FROM sqlite_schema",
+    "SELECT name, sql FROM sqlite_master WHERE type = 'table'",
+    "SELECT count(*) FROM sqlite_schema",
+    "SELECT a FROM t",
+];
+
+/// How many pages a text changes that looks at a database with two commits, and how many openings were tried in all.
+fn looked(alloc: Global, text: &str) -> Result<(usize, u64), Fail> {
+    let mut database = filled(alloc)?;
+    let (_affected, pages) = database.write(text, &[])?;
+    Ok((pages, database.engine.openings()))
+}
+
+#[test]
+fn a_look_changes_nothing(rt: HostRuntime) -> Result<(), Fail> {
+    for &text in LOOKS {
+        assert_eq!(rt; looked(rt.alloc(), text)?, (0, 1));
+    }
+    Ok(())
+}
+
+/// A join of a table of 110 rows with itself twice.
+const JOIN: &str = "SELECT count(*) FROM n a, n b, n c";
+
+/// What the join answers in at most so many steps, and how many openings were tried in all: it leaves its connection.
+fn joined(alloc: Global, limit: u64) -> Result<(Option<EngineFault>, u64), Fail> {
+    let mut database = Database::new(alloc);
+    database.write("CREATE TABLE n (a INTEGER PRIMARY KEY)", &[])?;
+    database.write("INSERT INTO n VALUES (1), (2), (3), (4), (5), (6), (7), (8), (9), (10)", &[])?;
+    database.write("INSERT INTO n SELECT 10 + 10 * a.a + b.a FROM n a, n b", &[])?;
+    database.engine.forget();
+    let joined = database
+        .engine
+        .run(&database.image, NUMBERS, JOIN, &[], 1, Some(limit));
+    database.write("SELECT 1", &[])?;
+    Ok((joined.err(), database.engine.openings()))
+}
+
+#[test]
+fn a_long_join_is_cut_short(rt: HostRuntime) -> Result<(), Fail> {
+    assert_eq!(rt; joined(rt.alloc(), 10_000)?, (Some(EngineFault::Cut), 1));
+    Ok(())
+}
