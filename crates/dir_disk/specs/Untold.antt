@@ -7,7 +7,8 @@ use Rattle.disk_model.specs.Trait.{Text}
 abbrev pub no_states : Disk Text → Type 0
 no_states d = ⊥
 
--- how often it failed, and how often it wanted memory
+-- how often it failed, how often it wanted memory, and how many calls were made
 pub record Counts : Type 0 where
   pub faults : ℕ
   pub wants : ℕ
+  pub made : ℕ

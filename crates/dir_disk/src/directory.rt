@@ -1,5 +1,5 @@
 ghost use Rattle.std.specs.Prelude.{◌≡◌, ◌≤◌, false, length, IfOk};
-ghost use Rattle.dq_base.specs.Faults.{Rose};
+ghost use Rattle.dq_base.specs.Faults.{one_more, Rose};
 ghost use Rattle.disk_model.specs.declared.faults.DiskFault;
 ghost use Rattle.dir_disk.specs.Untold.{no_states};
 
@@ -13,19 +13,37 @@ use std::os::unix::fs::FileExt;
 use std::rt::Files;
 use std::{fs, io};
 
+/// The file that was written last, by its name.
+#[derive(Drop)]
+struct Written {
+    name: String,
+    file: File,
+}
+
 /// A disk over the files of a folder of the operating system.
 ///
 /// It tells nothing of what is on it: that real files follow what the trait says is trusted, and with it that an `Ok` of
 /// a sync after one that failed makes all sure, which some systems break. A name that has a `/`, or is `.` or `..`, is
-/// none of the folder: each call with it answers `Failed` and does nothing. Each call opens the file anew and makes its
-/// path, which takes memory in the order of its name. Its count of faults rises at each `Failed`, and that of wants
-/// at each `NoMemory`; both stay at 18,446,744,073,709,551,615.
+/// none of the folder: each call with it answers `Failed` and does nothing.
+///
+/// The first call opens the folder and locks it, by a lock on the folder itself that ends with the disk: no file is made
+/// for it. While another disk has the folder that call answers `Failed` and does nothing, and so does each call until the
+/// other one is gone.
+///
+/// The file that was written last stays open until another one is written, or it is removed: a sync is then of the handle
+/// that wrote, and no error of the system is lost between a close and an open. Each other call opens its file anew and
+/// makes its path, which takes memory in the order of its name. Its count of faults rises at each `Failed`, that of wants
+/// at each `NoMemory`, and that of calls at each call; all stay at 18,446,744,073,709,551,615.
 #[derive(Drop)]
 pub struct DirDisk<R: Files<File = File> + AllocGlobal + Clone + Drop> {
     rt: R,
     folder: String,
+    // the folder, from the first call on, locked
+    locked: Option<File>,
+    written: Option<Written>,
     faults: u64,
     wants: u64,
+    made: u64,
 }
 
 impl<R: Files<File = File> + AllocGlobal + Clone + Drop> Model for DirDisk<R> {
@@ -33,7 +51,7 @@ impl<R: Files<File = File> + AllocGlobal + Clone + Drop> Model for DirDisk<R> {
 
     ghost Value = { Counts };
 
-    ghost view = { λ a. record { faults = a.faults; wants = a.wants } };
+    ghost view = { λ a. record { faults = a.faults; wants = a.wants; made = a.made } };
 }
 
 /// Refuses a name that isn't one of a flat folder.
@@ -55,6 +73,11 @@ fn opened<R: Files<File = File>>(
         Err(error) if error.kind() == ErrorKind::NotFound => Ok(None),
         Err(error) => Err(error),
     }
+}
+
+/// Whether no entry can be made of a name of the folder, as it isn't UTF-8.
+fn is_other(error: &io::Error) -> bool {
+    error.kind() == ErrorKind::InvalidFilename
 }
 
 /// Fills a buffer with the bytes of a file from a place on, as many as there are and fit.
@@ -79,21 +102,24 @@ fn fill(file: &File, at: u64, into: &mut [u8]) -> io::Result<usize>
 impl<R: Files<File = File> + AllocGlobal + Clone + Drop> DirDisk<R> {
     /// A disk over the working folder, with no fault so far. `Err` is want of memory.
     pub fn new(rt: R) -> Result<DirDisk<R>, AllocError>
-        ensures { IfOk result (λ disk. disk ≡ record { faults = 0; wants = 0 }) }
+        ensures { IfOk result (λ disk. disk ≡ record { faults = 0; wants = 0; made = 0 }) }
     {
         DirDisk::in_folder(rt, ".")
     }
 
     /// A disk over the folder of a path, which is there. `Err` is want of memory.
     pub fn in_folder(rt: R, folder: &str) -> Result<DirDisk<R>, AllocError>
-        ensures { IfOk result (λ disk. disk ≡ record { faults = 0; wants = 0 }) }
+        ensures { IfOk result (λ disk. disk ≡ record { faults = 0; wants = 0; made = 0 }) }
     {
         let folder = String::from_str(rt.alloc(), folder)?;
         Ok(DirDisk {
             rt,
             folder,
+            locked: None,
+            written: None,
             faults: 0,
             wants: 0,
+            made: 0,
         })
     }
 
@@ -104,12 +130,22 @@ impl<R: Files<File = File> + AllocGlobal + Clone + Drop> DirDisk<R> {
         self.faults
     }
 
+    /// Counts a call.
+    fn count(&mut self)
+        ensures made { self.new.made ≡ one_more self.old.made }
+        ensures faults { self.new.faults ≡ self.old.faults }
+        ensures wants { self.new.wants ≡ self.old.wants }
+    {
+        self.made = self.made.saturating_add(1);
+    }
+
     /// Counts a fault or a want of memory.
     fn fault(&mut self, error: io::Error) -> DiskFault
         ensures never_falls { self.old.faults ≤ self.new.faults }
         ensures rose { result ≡ DiskFault.Failed → Rose self.old.faults self.new.faults }
         ensures wants_never_fall { self.old.wants ≤ self.new.wants }
         ensures wanted { result ≡ DiskFault.NoMemory → Rose self.old.wants self.new.wants }
+        ensures made { self.new.made ≡ self.old.made }
     {
         if error.kind() == ErrorKind::OutOfMemory {
             self.wants = self.wants.saturating_add(1);
@@ -117,6 +153,19 @@ impl<R: Files<File = File> + AllocGlobal + Clone + Drop> DirDisk<R> {
         }
         self.faults = self.faults.saturating_add(1);
         DiskFault::Failed
+    }
+
+    /// Locks the folder, where that wasn't done yet.
+    fn lock(&mut self) -> io::Result<()>
+        ensures { self.new ≡ self.old }
+    {
+        if self.locked.is_some() {
+            return Ok(());
+        }
+        let folder = File::open(&self.rt, self.folder.as_str())?;
+        folder.try_lock()?;
+        self.locked = Some(folder);
+        Ok(())
     }
 
     fn path(&self, name: &str) -> io::Result<String> {
@@ -127,10 +176,16 @@ impl<R: Files<File = File> + AllocGlobal + Clone + Drop> DirDisk<R> {
         Ok(path)
     }
 
-    fn names(&self) -> io::Result<Vec<Name>> {
+    fn names(&mut self) -> io::Result<Vec<Name>>
+        ensures { self.new ≡ self.old }
+    {
+        self.lock()?;
         let mut names = Vec::new(self.rt.alloc());
         for entry in fs::read_dir(&self.rt, self.folder.as_str())? {
-            let entry = entry?;
+            let entry = match entry {
+                Err(error) if is_other(&error) => continue,
+                entry => entry?,
+            };
             if !entry.metadata()?.is_file() {
                 continue;
             }
@@ -142,9 +197,11 @@ impl<R: Files<File = File> + AllocGlobal + Clone + Drop> DirDisk<R> {
         Ok(names)
     }
 
-    fn read_from(&self, name: &str, at: u64, into: &mut [u8]) -> io::Result<usize>
-        ensures { IfOk result (λ count. count ≤ length into.new) }
+    fn read_from(&mut self, name: &str, at: u64, into: &mut [u8]) -> io::Result<usize>
+        ensures bound { IfOk result (λ count. count ≤ length into.new) }
+        ensures same { self.new ≡ self.old }
     {
+        self.lock()?;
         let path = self.path(name)?;
         match opened(&self.rt, OpenOptions::new().read(true), path.as_str())? {
             Some(file) => fill(&file, at, into),
@@ -152,16 +209,55 @@ impl<R: Files<File = File> + AllocGlobal + Clone + Drop> DirDisk<R> {
         }
     }
 
-    fn write_to(&self, name: &str, at: u64, bytes: &[u8]) -> io::Result<()> {
+    /// Whether the file of this name is the one that was written last.
+    fn is_open(&self, name: &str) -> bool {
+        match &self.written {
+            Some(written) => written.name.as_str() == name,
+            None => false,
+        }
+    }
+
+    /// Opens the file of a name to write to it, where it isn't the one that was written last.
+    fn open(&mut self, name: &str) -> io::Result<()>
+        ensures { self.new ≡ self.old }
+    {
+        if self.is_open(name) {
+            return Ok(());
+        }
         let path = self.path(name)?;
+        let own = String::from_str(self.rt.alloc(), name)?;
         let file = OpenOptions::new()
+            .read(true)
             .write(true)
             .create(true)
             .open(&self.rt, path.as_str())?;
-        file.write_all_at(bytes, at)
+        self.written = Some(Written { name: own, file });
+        Ok(())
     }
 
-    fn cut_to(&self, name: &str, length: u64) -> io::Result<()> {
+    /// Writes parts behind each other. A file of which a write failed doesn't stay open.
+    fn write_to(&mut self, name: &str, at: u64, parts: [&[u8]; 3]) -> io::Result<()>
+        ensures { self.new ≡ self.old }
+    {
+        self.lock()?;
+        self.open(name)?;
+        let Some(written) = &self.written else {
+            return Err(ErrorKind::NotFound.into());
+        };
+        let mut place = at;
+        for part in &parts {
+            if !part.is_empty() {
+                written.file.write_all_at(part, place)?;
+            }
+            place = place.saturating_add(part.len() as u64);
+        }
+        Ok(())
+    }
+
+    fn cut_to(&mut self, name: &str, length: u64) -> io::Result<()>
+        ensures { self.new ≡ self.old }
+    {
+        self.lock()?;
         let path = self.path(name)?;
         if let Some(file) = opened(&self.rt, OpenOptions::new().write(true), path.as_str())? {
             if file.metadata()?.len() > length {
@@ -171,7 +267,15 @@ impl<R: Files<File = File> + AllocGlobal + Clone + Drop> DirDisk<R> {
         Ok(())
     }
 
-    fn sync_file(&self, name: &str) -> io::Result<()> {
+    fn sync_file(&mut self, name: &str) -> io::Result<()>
+        ensures { self.new ≡ self.old }
+    {
+        self.lock()?;
+        if let Some(written) = &self.written {
+            if written.name.as_str() == name {
+                return written.file.sync_data();
+            }
+        }
         let path = self.path(name)?;
         if let Some(file) = opened(&self.rt, OpenOptions::new().read(true), path.as_str())? {
             file.sync_data()?;
@@ -179,16 +283,28 @@ impl<R: Files<File = File> + AllocGlobal + Clone + Drop> DirDisk<R> {
         Ok(())
     }
 
-    fn remove_file(&self, name: &str) -> io::Result<()> {
+    fn remove_file(&mut self, name: &str) -> io::Result<()>
+        ensures { self.new ≡ self.old }
+    {
+        self.lock()?;
         let path = self.path(name)?;
+        if self.is_open(name) {
+            self.written = None;
+        }
         match fs::remove_file(&self.rt, path.as_str()) {
             Err(error) if error.kind() != ErrorKind::NotFound => Err(error),
             _ => Ok(()),
         }
     }
 
-    fn sync_folder(&self) -> io::Result<()> {
-        File::open(&self.rt, self.folder.as_str())?.sync_all()
+    fn sync_folder(&mut self) -> io::Result<()>
+        ensures { self.new ≡ self.old }
+    {
+        self.lock()?;
+        match &self.locked {
+            Some(folder) => folder.sync_all(),
+            None => Err(ErrorKind::NotFound.into()),
+        }
     }
 }
 
@@ -201,9 +317,12 @@ impl<R: Files<File = File> + AllocGlobal + Clone + Drop> Disk for DirDisk<R> {
 
     ghost wants = { λ disk. disk.wants };
 
-    /// The files of the folder whose names are names of a `Name`; folders and links aren't listed.
+    ghost made = { λ disk. disk.made };
+
+    /// The files of the folder whose names are names of a `Name`; folders, links and names that aren't UTF-8 aren't listed.
     #[tactic(auto, using(crate::proofs::Telling::looks_untold))]
     fn list(&mut self) -> Result<Items<Name>, DiskFault> {
+        self.count();
         match self.names() {
             Ok(names) => Ok(Items::new(names)),
             Err(error) => Err(self.fault(error)),
@@ -212,6 +331,7 @@ impl<R: Files<File = File> + AllocGlobal + Clone + Drop> Disk for DirDisk<R> {
 
     #[tactic(auto, using(crate::proofs::Telling::looks_untold))]
     fn read_at(&mut self, name: &str, at: u64, into: &mut [u8]) -> Result<usize, DiskFault> {
+        self.count();
         match self.read_from(name, at, into) {
             Ok(count) => Ok(count),
             Err(error) => Err(self.fault(error)),
@@ -221,7 +341,25 @@ impl<R: Files<File = File> + AllocGlobal + Clone + Drop> Disk for DirDisk<R> {
     /// One positioned write of all bytes.
     #[tactic(auto, using(crate::proofs::Telling::steps_untold))]
     fn write_at(&mut self, name: &str, at: u64, bytes: &[u8]) -> Result<(), DiskFault> {
-        match self.write_to(name, at, bytes) {
+        self.count();
+        match self.write_to(name, at, [bytes, &[], &[]]) {
+            Ok(()) => Ok(()),
+            Err(error) => Err(self.fault(error)),
+        }
+    }
+
+    /// Up to three positioned writes, one for each part that isn't empty.
+    #[tactic(auto, using(crate::proofs::Telling::steps_untold))]
+    fn write_parts(
+        &mut self,
+        name: &str,
+        at: u64,
+        head: &[u8],
+        body: &[u8],
+        tail: &[u8],
+    ) -> Result<(), DiskFault> {
+        self.count();
+        match self.write_to(name, at, [head, body, tail]) {
             Ok(()) => Ok(()),
             Err(error) => Err(self.fault(error)),
         }
@@ -229,6 +367,7 @@ impl<R: Files<File = File> + AllocGlobal + Clone + Drop> Disk for DirDisk<R> {
 
     #[tactic(auto, using(crate::proofs::Telling::steps_untold))]
     fn cut(&mut self, name: &str, length: u64) -> Result<(), DiskFault> {
+        self.count();
         match self.cut_to(name, length) {
             Ok(()) => Ok(()),
             Err(error) => Err(self.fault(error)),
@@ -238,6 +377,7 @@ impl<R: Files<File = File> + AllocGlobal + Clone + Drop> Disk for DirDisk<R> {
     /// An `fdatasync`.
     #[tactic(auto, using(crate::proofs::Telling::steps_untold))]
     fn sync(&mut self, name: &str) -> Result<(), DiskFault> {
+        self.count();
         match self.sync_file(name) {
             Ok(()) => Ok(()),
             Err(error) => Err(self.fault(error)),
@@ -246,6 +386,7 @@ impl<R: Files<File = File> + AllocGlobal + Clone + Drop> Disk for DirDisk<R> {
 
     #[tactic(auto, using(crate::proofs::Telling::steps_untold))]
     fn remove(&mut self, name: &str) -> Result<(), DiskFault> {
+        self.count();
         match self.remove_file(name) {
             Ok(()) => Ok(()),
             Err(error) => Err(self.fault(error)),
@@ -255,6 +396,7 @@ impl<R: Files<File = File> + AllocGlobal + Clone + Drop> Disk for DirDisk<R> {
     /// An `fsync` of the folder.
     #[tactic(auto, using(crate::proofs::Telling::steps_untold))]
     fn sync_names(&mut self) -> Result<(), DiskFault> {
+        self.count();
         match self.sync_folder() {
             Ok(()) => Ok(()),
             Err(error) => Err(self.fault(error)),

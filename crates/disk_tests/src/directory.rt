@@ -90,3 +90,19 @@ fn a_folder_keeps_files_under_flat_names(rt: HostRuntime) -> Result<(), Fail> {
     fs::remove_dir_all(&rt, FOLDER)?;
     Ok(())
 }
+
+const LOCKED: &str = "dir_disk_locked";
+
+#[test]
+fn a_folder_is_one_disk_at_a_time(rt: HostRuntime) -> Result<(), Fail> {
+    let _ = fs::remove_dir_all(&rt, LOCKED);
+    fs::create_dir(&rt, LOCKED)?;
+    let mut first = DirDisk::in_folder(rt.clone()?, LOCKED)?;
+    let mut second = DirDisk::in_folder(rt.clone()?, LOCKED)?;
+    assert_eq!(rt; make(&mut first, Step::Lists(0)), Ok(true));
+    assert_eq!(rt; make(&mut second, Step::Lists(0)), Err(DiskFault::Failed));
+    drop(first);
+    assert_eq!(rt; make(&mut second, Step::Lists(0)), Ok(true));
+    fs::remove_dir_all(&rt, LOCKED)?;
+    Ok(())
+}

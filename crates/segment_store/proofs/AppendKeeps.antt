@@ -28,6 +28,7 @@ use Rattle.segment_store.specs.FileNames.{file_name}
 use Rattle.segment_store.specs.Open.{Open, HasSize, IsOpen, segment_numbers, HasSnapshots}
 use Rattle.segment_store.specs.Grow.{grow_calls, begin_calls}
 use Rattle.segment_store.specs.Keeps.{folder, OldOrNew, HasNew}
+use Rattle.segment_store.proofs.Joints.{settled_none, kept_top, one_up, until_none, under_append}
 use Rattle.segment_store.proofs.NoTwoAlike.{no_two_alike}
 use Rattle.segment_store.proofs.Listing.{numbers_more, numbers_written, snapshots_same}
 
@@ -65,14 +66,14 @@ module _ (k : Kept) (b : Log) (fits : Fits b) (can : CanAppend k b) where
     files : (e : NodeDisk) → Done calls D e → Replaced (Segment n) (bytes ++ enc) D e
     files e u = batch_written node_format (suc n) D s n segment_word enc e u
 
-    pub moments : (e : NodeDisk) → Until calls D e → OldOrNew (suc n) k new e
-    moments e u = record { crash = law.0 e u; seen = (seen_holds node_format (suc n) D s).batch n segment_word enc e u }
+    pub moments : suc n ≤ 10000000000000000 → (e : NodeDisk) → Until calls D e → OldOrNew k new e
+    moments small e u = record { crash = λ g left fair. one_up k new (suc n) g (kept_top (suc n) e (until_none (suc n) calls D e (under_append n (D.read (Segment n)).there _ segment_word enc) (settled_none (suc n) D s) u) small g left) (law.0 e u g left fair); seen = (seen_holds node_format (suc n) D s).batch n segment_word enc e u }
 
     -- the store then, with its other facts as they were
-    pub opened : (e : NodeDisk) → Done calls D e → (version count : ℕ) (first second : Option ℕ) (snapshots : List ℕ)
+    pub opened : suc n ≤ 10000000000000000 → (e : NodeDisk) → Done calls D e → (version count : ℕ) (first second : Option ℕ) (snapshots : List ℕ)
         → next_stamp (meta_of node_format D.read) ≡ suc (suc version) → HasSize first (D.read First) → HasSize second (D.read Second) → length (bytes ++ enc) ≡ count → format_in bytes ≡ 2 → HasSnapshots snapshots D.read
         → HasNew (record { version = version; first = first; second = second; next = suc n; size = Some count; segments = segment_numbers n D.read ++ n ∷ []; snapshots = snapshots }) new e
-    opened e u version count first second snapshots stamp f1 f2 long format listed =
+    opened small e u version count first second snapshots stamp f1 f2 long format listed =
         let c = law.1 e u in
         let r = files e u in
         let one : e.read First ≡ D.read First = r.others First (λ q. absurd cc) in
@@ -93,7 +94,7 @@ module _ (k : Kept) (b : Log) (fits : Fits b) (can : CanAppend k b) where
             segments = numbers_written n (bytes ++ enc) D e r;
             snapshots = snapshots_same snapshots D.read e.read (λ j. r.others (Snapshot j) (λ q. absurd cc)) listed;
           };
-          crash = c.crash;
+          crash = λ g left. kept_top (suc n) e (settled_none (suc n) e c.settled) small g left ∙ c.crash g left;
         }
 
 module _ (k : Kept) (b : Log) (fits : Fits b) (can : CanAppend k b) (s : Open) (d : Disk Text) (o : IsOpen s k (folder d)) where
@@ -123,15 +124,15 @@ module _ (k : Kept) (b : Log) (fits : Fits b) (can : CanAppend k b) (s : Open) (
     listed : s.segments ≡ segment_numbers n D.read ++ n ∷ []
     listed = o.segments ∙ ap (λ (t : ℕ). segment_numbers t D.read) before ∙ numbers_more n D.read size.0
 
-    pub grow_done : (e : Disk Text) → Done (grow_calls (file_name (Segment n)) l (batch_bytes b)) d e → HasNew (record { version = s.version; first = s.first; second = s.second; next = suc n; size = Some (l + length (batch_bytes b)); segments = s.segments; snapshots = s.snapshots }) (with_batch b k) (folder e)
-    grow_done e u =
+    pub grow_done : suc n ≤ 10000000000000000 → (e : Disk Text) → Done (grow_calls (file_name (Segment n)) l (batch_bytes b)) d e → HasNew (record { version = s.version; first = s.first; second = s.second; next = suc n; size = Some (l + length (batch_bytes b)); segments = s.segments; snapshots = s.snapshots }) (with_batch b k) (folder e)
+    grow_done small e u =
         let v = done_under file_name no_two_alike (calls k b fits can n D settled reads (λ t. format)) d e (subst (λ (c : List (Call Text)). Done c d e) spelled u) in
         let long : length (cond (D.read (Segment n)).there (D.read (Segment n)).bytes segment_word ++ batch_bytes b) ≡ l + length (batch_bytes b) = ap (λ (x : List ℕ). length (x ++ batch_bytes b)) bytes_are ∙ length-append (D.read (Segment n)).bytes (batch_bytes b) ∙ ap (λ (x : ℕ). x + length (batch_bytes b)) size.1 in
         subst (λ (ms : List ℕ). HasNew (record { version = s.version; first = s.first; second = s.second; next = suc n; size = Some (l + length (batch_bytes b)); segments = ms; snapshots = s.snapshots }) (with_batch b k) (folder e)) (sym listed)
-        (opened k b fits can n D settled reads (λ t. format) (folder e) v s.version (l + length (batch_bytes b)) s.first s.second s.snapshots o.stamp o.first o.second long (ap format_in bytes_are ∙ format) o.snapshots)
+        (opened k b fits can n D settled reads (λ t. format) small (folder e) v s.version (l + length (batch_bytes b)) s.first s.second s.snapshots o.stamp o.first o.second long (ap format_in bytes_are ∙ format) o.snapshots)
 
-    pub grow_until : (e : Disk Text) → Until (grow_calls (file_name (Segment n)) l (batch_bytes b)) d e → OldOrNew (suc n) k (with_batch b k) (folder e)
-    grow_until e u = moments k b fits can n D settled reads (λ t. format) (folder e) (until_under file_name no_two_alike (calls k b fits can n D settled reads (λ t. format)) d e (subst (λ (c : List (Call Text)). Until c d e) spelled u))
+    pub grow_until : suc n ≤ 10000000000000000 → (e : Disk Text) → Until (grow_calls (file_name (Segment n)) l (batch_bytes b)) d e → OldOrNew k (with_batch b k) (folder e)
+    grow_until small e u = moments k b fits can n D settled reads (λ t. format) small (folder e) (until_under file_name no_two_alike (calls k b fits can n D settled reads (λ t. format)) d e (subst (λ (c : List (Call Text)). Until c d e) spelled u))
 
   -- in a new one
   none_there : (D.read (Segment s.next)).there ≡ false
@@ -152,12 +153,12 @@ module _ (k : Kept) (b : Log) (fits : Fits b) (can : CanAppend k b) (s : Open) (
   word_is : cond (D.read (Segment s.next)).there (D.read (Segment s.next)).bytes segment_word ≡ segment_word
   word_is = ap (λ (c : Bool). cond c (D.read (Segment s.next)).bytes segment_word) none_there
 
-  pub begin_done : (e : Disk Text) → Done (begin_calls (file_name (Segment s.next)) segment_word (batch_bytes b)) d e → HasNew (record { version = s.version; first = s.first; second = s.second; next = suc s.next; size = Some (8 + length (batch_bytes b)); segments = s.segments ++ s.next ∷ []; snapshots = s.snapshots }) (with_batch b k) (folder e)
-  begin_done e u =
+  pub begin_done : suc s.next ≤ 10000000000000000 → (e : Disk Text) → Done (begin_calls (file_name (Segment s.next)) segment_word (batch_bytes b)) d e → HasNew (record { version = s.version; first = s.first; second = s.second; next = suc s.next; size = Some (8 + length (batch_bytes b)); segments = s.segments ++ s.next ∷ []; snapshots = s.snapshots }) (with_batch b k) (folder e)
+  begin_done small e u =
       let v = done_under file_name no_two_alike (calls k b fits can s.next D room.0 (room.1 ∙ o.reads) no_format) d e (subst (λ (c : List (Call Text)). Done c d e) begun u) in
       let long : length (cond (D.read (Segment s.next)).there (D.read (Segment s.next)).bytes segment_word ++ batch_bytes b) ≡ 8 + length (batch_bytes b) = ap (λ (x : List ℕ). length (x ++ batch_bytes b)) word_is ∙ length-append segment_word (batch_bytes b) in
       subst (λ (ms : List ℕ). HasNew (record { version = s.version; first = s.first; second = s.second; next = suc s.next; size = Some (8 + length (batch_bytes b)); segments = ms ++ s.next ∷ []; snapshots = s.snapshots }) (with_batch b k) (folder e)) (sym o.segments)
-      (opened k b fits can s.next D room.0 (room.1 ∙ o.reads) no_format (folder e) v s.version (8 + length (batch_bytes b)) s.first s.second s.snapshots o.stamp o.first o.second long (ap format_in word_is ∙ word_format) o.snapshots)
+      (opened k b fits can s.next D room.0 (room.1 ∙ o.reads) no_format small (folder e) v s.version (8 + length (batch_bytes b)) s.first s.second s.snapshots o.stamp o.first o.second long (ap format_in word_is ∙ word_format) o.snapshots)
 
-  pub begin_until : (e : Disk Text) → Until (begin_calls (file_name (Segment s.next)) segment_word (batch_bytes b)) d e → OldOrNew (suc s.next) k (with_batch b k) (folder e)
-  begin_until e u = moments k b fits can s.next D room.0 (room.1 ∙ o.reads) no_format (folder e) (until_under file_name no_two_alike (calls k b fits can s.next D room.0 (room.1 ∙ o.reads) no_format) d e (subst (λ (c : List (Call Text)). Until c d e) begun u))
+  pub begin_until : suc s.next ≤ 10000000000000000 → (e : Disk Text) → Until (begin_calls (file_name (Segment s.next)) segment_word (batch_bytes b)) d e → OldOrNew k (with_batch b k) (folder e)
+  begin_until small e u = moments k b fits can s.next D room.0 (room.1 ∙ o.reads) no_format small (folder e) (until_under file_name no_two_alike (calls k b fits can s.next D room.0 (room.1 ∙ o.reads) no_format) d e (subst (λ (c : List (Call Text)). Until c d e) begun u))

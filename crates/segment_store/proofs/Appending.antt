@@ -1,5 +1,5 @@
 -- From the calls that write a batch to what is kept.
-use Rattle.std.proofs.Common.{◌≡◌, inl, ℕ, suc, ◌+◌, ◌-◌, ◌^◌, ◌<◌, Bool, true, false, cond, List, length, Option, Some, None, Result, Ok, Err, sym, ap, ◌∙◌, subst, arith}
+use Rattle.std.proofs.Common.{◌≡◌, inl, ℕ, suc, ◌+◌, ◌-◌, ◌^◌, ◌<◌, ◌≤◌, Bool, true, false, cond, List, length, Option, Some, None, Result, Ok, Err, sym, ap, ◌∙◌, subst, arith}
 use Rattle.std.specs.Prelude.{nat_lt, OnOk}
 use Rattle.disk_model.specs.Disk.{Disk}
 use Rattle.disk_model.specs.Calls.{Call, Done, Until, MayWrite}
@@ -21,7 +21,7 @@ use Rattle.segment_store.specs.Open.{Open, Grows, MayGrow, IsOpen}
 use Rattle.segment_store.specs.Grow.{grow_calls, begin_calls, IsFree, room_in, appended_to, with_appended}
 use Rattle.segment_store.specs.Keeps.{folder, OldOrNew, HasNew, Keeps, Went}
 use Rattle.segment_store.proofs.Segments.{not_gone}
-use Rattle.segment_store.proofs.Keeping.{nothing_called, known_went, as_noted, went_err, went_ok}
+use Rattle.segment_store.proofs.Keeping.{none_keeps, known_went, as_noted, went_err, went_ok}
 use Rattle.segment_store.proofs.AppendKeeps.{grow_done, grow_until, begin_done, begin_until}
 
 -- a segment with room is the one that is there
@@ -52,35 +52,34 @@ module _ {E : Type 0} (tells : Bool) (before after : Disk Text → Type 0) (s no
   abbrev count : ℕ
   count = length (batch_bytes b)
 
-  pub grow_kept : (l number : ℕ) → room_in s.size ≡ Some l → number ≡ s.next - 1 → OnOk result (now ≡ appended_to (Some l) count s)
+  pub grow_kept : s.next ≤ 10000000000000000 → (l number : ℕ) → room_in s.size ≡ Some l → number ≡ s.next - 1 → OnOk result (now ≡ appended_to (Some l) count s)
       → (Known tells before (MayWrite (file_name (Segment number)) l) → Went (grow_calls (file_name (Segment number)) l (batch_bytes b)) before after result)
-      → Keeps tells before after s now (with_appended count s).next k (with_batch b k) result
-  grow_kept l number room is noted went known =
+      → Keeps tells before after s now k (with_batch b k) result
+  grow_kept small l number room is noted went known =
       let may = known_map tells before (λ d. IsOpen s k (folder d)) (MayWrite (file_name (Segment number)) l) known (grow_may_write s k l number room is) in
-      as_noted tells before after s now (appended_to (Some l) count s) (with_appended count s).next k (with_batch b k) result noted (λ y. known_went _ before after result tells (λ d. IsOpen s k (folder d)) (λ e. HasNew (appended_to (Some l) count s) (with_batch b k) (folder e)) (λ e. OldOrNew (with_appended count s).next k (with_batch b k) (folder e)) y (went may) done until) known
+      as_noted tells before after s now (appended_to (Some l) count s) k (with_batch b k) result noted (λ y. known_went _ before after result tells (λ d. IsOpen s k (folder d)) (λ e. HasNew (appended_to (Some l) count s) (with_batch b k) (folder e)) (λ e. OldOrNew k (with_batch b k) (folder e)) y (went may) done until) known
     where
       done : (d e : Disk Text) → IsOpen s k (folder d) → Done (grow_calls (file_name (Segment number)) l (batch_bytes b)) d e → HasNew (appended_to (Some l) count s) (with_batch b k) (folder e)
       done d e o u =
           let g = may_grow s k d l room o in
           let n = last_is s k d l number g is in
           subst (λ (t : ℕ). HasNew (record { version = s.version; first = s.first; second = s.second; next = t; size = Some (l + count); segments = s.segments; snapshots = s.snapshots }) (with_batch b k) (folder e)) (sym g.before)
-          (grow_done k b fits can s d o l g.last g.before g.size g.format e (subst (λ (t : ℕ). Done (grow_calls (file_name (Segment t)) l (batch_bytes b)) d e) (sym n) u))
+          (grow_done k b fits can s d o l g.last g.before g.size g.format (subst (λ (t : ℕ). t ≤ 10000000000000000) g.before small) e (subst (λ (t : ℕ). Done (grow_calls (file_name (Segment t)) l (batch_bytes b)) d e) (sym n) u))
 
-      until : (d e : Disk Text) → IsOpen s k (folder d) → Until (grow_calls (file_name (Segment number)) l (batch_bytes b)) d e → OldOrNew (with_appended count s).next k (with_batch b k) (folder e)
+      until : (d e : Disk Text) → IsOpen s k (folder d) → Until (grow_calls (file_name (Segment number)) l (batch_bytes b)) d e → OldOrNew k (with_batch b k) (folder e)
       until d e o u =
           let g = may_grow s k d l room o in
           let n = last_is s k d l number g is in
-          subst (λ (t : ℕ). OldOrNew t k (with_batch b k) (folder e)) (sym g.before ∙ ap (λ (r : Option ℕ). (appended_to r count s).next) (sym room))
-          (grow_until k b fits can s d o l g.last g.before g.size g.format e (subst (λ (t : ℕ). Until (grow_calls (file_name (Segment t)) l (batch_bytes b)) d e) (sym n) u))
+          grow_until k b fits can s d o l g.last g.before g.size g.format (subst (λ (t : ℕ). t ≤ 10000000000000000) g.before small) e (subst (λ (t : ℕ). Until (grow_calls (file_name (Segment t)) l (batch_bytes b)) d e) (sym n) u)
 
-  pub begin_kept : room_in s.size ≡ None → OnOk result (now ≡ appended_to None count s)
+  pub begin_kept : s.next < 10000000000000000 → room_in s.size ≡ None → OnOk result (now ≡ appended_to None count s)
       → (Known tells before (IsFree (file_name (Segment s.next))) → Went (begin_calls (file_name (Segment s.next)) segment_word (batch_bytes b)) before after result)
-      → Keeps tells before after s now (with_appended count s).next k (with_batch b k) result
-  begin_kept room noted went known =
+      → Keeps tells before after s now k (with_batch b k) result
+  begin_kept small room noted went known =
       let free = known_map tells before (λ d. IsOpen s k (folder d)) (IsFree (file_name (Segment s.next))) known (λ d o. is_free s k d o) in
-      as_noted tells before after s now (appended_to None count s) (with_appended count s).next k (with_batch b k) result noted (λ y. known_went _ before after result tells (λ d. IsOpen s k (folder d)) (λ e. HasNew (appended_to None count s) (with_batch b k) (folder e)) (λ e. OldOrNew (with_appended count s).next k (with_batch b k) (folder e)) y (went free)
-      (λ d e o u. begin_done k b fits can s d o e u)
-      (λ d e o u. subst (λ (t : ℕ). OldOrNew t k (with_batch b k) (folder e)) (ap (λ (r : Option ℕ). (appended_to r count s).next) (sym room)) (begin_until k b fits can s d o e u))) known
+      as_noted tells before after s now (appended_to None count s) k (with_batch b k) result noted (λ y. known_went _ before after result tells (λ d. IsOpen s k (folder d)) (λ e. HasNew (appended_to None count s) (with_batch b k) (folder e)) (λ e. OldOrNew k (with_batch b k) (folder e)) y (went free)
+      (λ d e o u. begin_done k b fits can s d o (omega (arith, small)) e u)
+      (λ d e o u. begin_until k b fits can s d o (omega (arith, small)) e u)) known
 
 -- ---- names as the code has them
 
@@ -94,33 +93,24 @@ module _ (n wanted : Text) (tells : Bool) (before after : Disk Text → Type 0) 
 -- ---- of the code's calls
 
 module _ {E : Type 0} (tells : Bool) (before after : Disk Text → Type 0) (s now : Open) (k : Kept) (b : Log) (batch : List ℕ) (is : batch ≡ batch_bytes b) (fits : Fits b) (can : CanAppend k b) (result : Result Unit E) where
-  pub grown : (l number : ℕ) → room_in s.size ≡ Some l → number ≡ s.next - 1 → OnOk result (now ≡ appended_to (Some l) (length batch) s)
+  pub grown : s.next ≤ 10000000000000000 → (l number : ℕ) → room_in s.size ≡ Some l → number ≡ s.next - 1 → OnOk result (now ≡ appended_to (Some l) (length batch) s)
       → (Known tells before (MayWrite (file_name (Segment number)) l) → Went (grow_calls (file_name (Segment number)) l batch) before after result)
-      → Keeps tells before after s now (with_appended (length (batch_bytes b)) s).next k (with_batch b k) result
-  grown l number room is_number noted went =
-      grow_kept tells before after s now k b fits can result l number room is_number (subst (λ (x : List ℕ). OnOk result (now ≡ appended_to (Some l) (length x) s)) is noted)
+      → Keeps tells before after s now k (with_batch b k) result
+  grown small l number room is_number noted went =
+      grow_kept tells before after s now k b fits can result small l number room is_number (subst (λ (x : List ℕ). OnOk result (now ≡ appended_to (Some l) (length x) s)) is noted)
       (λ may. subst (λ (x : List ℕ). Went (grow_calls (file_name (Segment number)) l x) before after result) is (went may))
 
-  pub begun : (number : ℕ) → room_in s.size ≡ None → number ≡ s.next → OnOk result (now ≡ appended_to None (length batch) s)
+  pub begun : s.next < 10000000000000000 → (number : ℕ) → room_in s.size ≡ None → number ≡ s.next → OnOk result (now ≡ appended_to None (length batch) s)
       → (Known tells before (IsFree (file_name (Segment number))) → Went (begin_calls (file_name (Segment number)) segment_word batch) before after result)
-      → Keeps tells before after s now (with_appended (length (batch_bytes b)) s).next k (with_batch b k) result
-  begun number room is_number noted went =
-      begin_kept tells before after s now k b fits can result room (subst (λ (x : List ℕ). OnOk result (now ≡ appended_to None (length x) s)) is noted)
+      → Keeps tells before after s now k (with_batch b k) result
+  begun small number room is_number noted went =
+      begin_kept tells before after s now k b fits can result small room (subst (λ (x : List ℕ). OnOk result (now ≡ appended_to None (length x) s)) is noted)
       (subst (λ (n : ℕ). Known tells before (IsFree (file_name (Segment n))) → Went (begin_calls (file_name (Segment n)) segment_word (batch_bytes b)) before after result) is_number
       (λ free. subst (λ (x : List ℕ). Went (begin_calls (file_name (Segment number)) segment_word x) before after result) is (went free)))
 
--- where nothing was called the old state is there, whichever segment the batch would have gone to
-not_appended : (s : Open) (k new : Kept) (size : ℕ) (d : Disk Text) → IsOpen s k (folder d) → (room : Option ℕ) → OldOrNew (appended_to room size s).next k new (folder d)
-not_appended s k new size d o (Some l) = nothing_called s k new d o
-not_appended s k new size d o None =
-    let up = more_room_holds node_format s.next (folder d) o.settled in
-    record {
-      crash = λ g left fair. inl (settled_images node_format (suc s.next) (folder d) up.0 g left ∙ up.1 ∙ o.reads);
-      seen = all_seen node_format (suc s.next) (folder d) up.0;
-    }
-
-pub none_appended : {E : Type 0} (tells : Bool) (states : Disk Text → Type 0) (s now : Open) (k new : Kept) (size : ℕ) (fault : E) → Keeps tells states states s now (with_appended size s).next k new (Err fault)
-none_appended tells states s now k new size fault known = (tt, known_map tells states (λ d. IsOpen s k (folder d)) (λ d. OldOrNew (with_appended size s).next k new (folder d)) known (λ d o. not_appended s k new size d o (room_in s.size)))
+-- where nothing was called the old state is there
+pub none_appended : {E : Type 0} (tells : Bool) (states : Disk Text → Type 0) (s now : Open) (k new : Kept) (fault : E) → s.next ≤ 10000000000000000 → Keeps tells states states s now k new (Err fault)
+none_appended tells states s now k new fault small = none_keeps tells states s now k new fault small
 
 -- a batch that may be added and whose numbers fit
 pub fits_of : (k : Kept) (b : Log) → CanAppend k b → b.first < 2 ^ 64 → length b.entries < 2 ^ 64 → HaveHeads b.entries → Fits b

@@ -46,7 +46,7 @@ module _ (s : Open) (x : Snap) (new : Log) (p : KeepPlan) (plan : IsPlan s x new
 
     pub plan_kept : (now : Open) → new.first < 2 ^ 64 → OnOk result (now ≡ with_kept x.index (length p.segment.batch.items) s) → KeepsSnapshot tells before after s now k x new result
     plan_kept now first noted =
-        snapshot_kept tells before after s now k x new result can (record { some = can.some; first = first; count = plan.count; heads = plan.heads }) plan.index plan.term plan.size
+        snapshot_kept tells before after s now k x new result plan.number can (record { some = can.some; first = first; count = plan.count; heads = plan.heads }) plan.index plan.term plan.size
         (subst (λ (bytes : List ℕ). OnOk result (now ≡ with_kept x.index (length bytes) s)) plan.batch noted) plan_made
 
 -- the numbers that are noted have sixteen digits

@@ -1,5 +1,5 @@
 -- From lists of calls to what is kept.
-use Rattle.std.proofs.Common.{◌≡◌, inl, inr, ℕ, suc, ◌%◌, ◌^◌, ◌<◌, Bool, true, false, List, [], ◌∷◌, Option, Result, Ok, Err, refl, sym, ◌∙◌, subst, arith}
+use Rattle.std.proofs.Common.{◌≡◌, inl, inr, ℕ, suc, ◌%◌, ◌^◌, ◌<◌, ◌≤◌, Bool, true, false, List, [], ◌∷◌, Option, Result, Ok, Err, refl, sym, ◌∙◌, subst, arith}
 use Rattle.std.specs.Prelude.{◌⊎◌, ◌==◌, OnOk, OnErr}
 use Rattle.dq_base.specs.Faults.{Rose}
 use Rattle.disk_model.specs.Disk.{Disk}
@@ -21,6 +21,7 @@ use Rattle.segment_store.specs.Faults.{of_disk, DiskCause}
 use Rattle.segment_store.specs.Open.{Open, IsOpen, with_version, size_for}
 use Rattle.segment_store.specs.Keeps.{folder, OldOrNew, HasNew, Keeps, Went, block_calls}
 use Rattle.segment_store.proofs.MetaKeeps.{meta_done, meta_until}
+use Rattle.segment_store.proofs.Joints.{settled_none, kept_top}
 use Rattle.segment_store.proofs.Segments.{not_gone}
 
 -- ---- lists of calls under another fault
@@ -56,9 +57,9 @@ counted was now faults faults_after wants wants_after disk.NoMemory cause want =
 -- ---- an open store
 
 -- where nothing was called the old state is there
-pub nothing_called : (s : Open) (k new : Kept) (d : Disk Text) → IsOpen s k (folder d) → OldOrNew s.next k new (folder d)
-nothing_called s k new d o = record {
-  crash = λ g left fair. inl (settled_images node_format s.next (folder d) o.settled g left ∙ o.reads);
+pub nothing_called : (s : Open) (k new : Kept) → s.next ≤ 10000000000000000 → (d : Disk Text) → IsOpen s k (folder d) → OldOrNew k new (folder d)
+nothing_called s k new small d o = record {
+  crash = λ g left fair. inl (kept_top s.next (folder d) (settled_none s.next (folder d) o.settled) small g left ∙ settled_images node_format s.next (folder d) o.settled g left ∙ o.reads);
   seen = all_seen node_format s.next (folder d) o.settled;
 }
 
@@ -76,31 +77,31 @@ known_went calls before after (Err x) tells P Q R (untold e) went q r = (tt, unt
 
 -- a term and a vote
 pub meta_keeps : {E : Type 0} (tells : Bool) (before after : Disk Text → Type 0) (s : Open) (k : Kept) (m : Metadata) (result : Result Unit E)
-    → m.version ≡ suc s.version → m.version < 2 ^ 64 → m.term < 2 ^ 64 → m.vote < 2 ^ 64
+    → s.next ≤ 10000000000000000 → m.version ≡ suc s.version → m.version < 2 ^ 64 → m.term < 2 ^ 64 → m.vote < 2 ^ 64
     → (Known tells before (MayWrite (file_name (file_of (m.version % 2 == 1))) 0) → Went (block_calls (file_name (file_of (m.version % 2 == 1))) (block_bytes m) (size_for m.version s)) before after result)
-    → Keeps tells before after s (with_version m.version s) s.next k (with_vote m.term m.vote k) result
-meta_keeps tells before after s k m result version fv ft fo went known =
+    → Keeps tells before after s (with_version m.version s) k (with_vote m.term m.vote k) result
+meta_keeps tells before after s k m result small version fv ft fo went known =
     let may = known_map tells before (λ d. IsOpen s k (folder d)) (MayWrite (file_name (file_of (m.version % 2 == 1))) 0) known (λ d o. may_write_meta s k d (m.version % 2 == 1) o) in
-    known_went _ before after result tells (λ d. IsOpen s k (folder d)) (λ e. HasNew (with_version m.version s) (with_vote m.term m.vote k) (folder e)) (λ e. OldOrNew s.next k (with_vote m.term m.vote k) (folder e)) known (went may)
-    (λ d e o u. meta_done s k m d o version fv ft fo e u) (λ d e o u. meta_until s k m d o version fv ft fo e u)
+    known_went _ before after result tells (λ d. IsOpen s k (folder d)) (λ e. HasNew (with_version m.version s) (with_vote m.term m.vote k) (folder e)) (λ e. OldOrNew k (with_vote m.term m.vote k) (folder e)) known (went may)
+    (λ d e o u. meta_done s k m d o version fv ft fo small e u) (λ d e o u. meta_until s k m d o version fv ft fo small e u)
 
 -- nothing was called
-pub none_keeps : {E : Type 0} (tells : Bool) (states : Disk Text → Type 0) (s now : Open) (k new : Kept) (fault : E) → Keeps tells states states s now s.next k new (Err fault)
-none_keeps tells states s now k new fault known = (tt, known_map tells states (λ d. IsOpen s k (folder d)) (λ d. OldOrNew s.next k new (folder d)) known (λ d o. nothing_called s k new d o))
+pub none_keeps : {E : Type 0} (tells : Bool) (states : Disk Text → Type 0) (s now : Open) (k new : Kept) (fault : E) → s.next ≤ 10000000000000000 → Keeps tells states states s now k new (Err fault)
+none_keeps tells states s now k new fault small known = (tt, known_map tells states (λ d. IsOpen s k (folder d)) (λ d. OldOrNew k new (folder d)) known (λ d o. nothing_called s k new small d o))
 
 -- the store that a call noted
-pub as_noted : {E : Type 0} (tells : Bool) (before after : Disk Text → Type 0) (s now then : Open) (top : ℕ) (k new : Kept) (result : Result Unit E) → OnOk result (now ≡ then) → Keeps {E = E} tells before after s then top k new result → Keeps {E = E} tells before after s now top k new result
-as_noted tells before after s now then top k new (Err x) e keeps = keeps
-as_noted tells before after s now then top k new (Ok x) e keeps = λ known. let z = keeps known in (subst (λ (o : Open). Known tells after (λ d. HasNew o new (folder d))) (sym e) z.0, tt)
+pub as_noted : {E : Type 0} (tells : Bool) (before after : Disk Text → Type 0) (s now then : Open) (k new : Kept) (result : Result Unit E) → OnOk result (now ≡ then) → Keeps {E = E} tells before after s then k new result → Keeps {E = E} tells before after s now k new result
+as_noted tells before after s now then k new (Err x) e keeps = keeps
+as_noted tells before after s now then k new (Ok x) e keeps = λ known. let z = keeps known in (subst (λ (o : Open). Known tells after (λ d. HasNew o new (folder d))) (sym e) z.0, tt)
 
 -- the same of a call that noted the write after it
 pub set_meta_kept : {E : Type 0} (tells : Bool) (before after : Disk Text → Type 0) (s now : Open) (k : Kept) (m : Metadata) (size : Option ℕ) (result : Result Unit E)
-    → m.version ≡ suc s.version → m.version < 2 ^ 64 → m.term < 2 ^ 64 → m.vote < 2 ^ 64 → size ≡ size_for m.version s → OnOk result (now ≡ with_version m.version s)
+    → s.next ≤ 10000000000000000 → m.version ≡ suc s.version → m.version < 2 ^ 64 → m.term < 2 ^ 64 → m.vote < 2 ^ 64 → size ≡ size_for m.version s → OnOk result (now ≡ with_version m.version s)
     → (Known tells before (MayWrite (file_name (file_of (m.version % 2 == 1))) 0) → Went (block_calls (file_name (file_of (m.version % 2 == 1))) (block_bytes m) size) before after result)
-    → Keeps tells before after s now s.next k (with_vote m.term m.vote k) result
-set_meta_kept tells before after s now k m size result version fv ft fo is_size noted went =
+    → Keeps tells before after s now k (with_vote m.term m.vote k) result
+set_meta_kept tells before after s now k m size result small version fv ft fo is_size noted went =
     let sized = λ (may : Known tells before (MayWrite (file_name (file_of (m.version % 2 == 1))) 0)). subst (λ (n : Option ℕ). Went (block_calls (file_name (file_of (m.version % 2 == 1))) (block_bytes m) n) before after result) is_size (went may) in
-    as_noted tells before after s now (with_version m.version s) s.next k (with_vote m.term m.vote k) result noted (meta_keeps tells before after s k m result version fv ft fo sized)
+    as_noted tells before after s now (with_version m.version s) k (with_vote m.term m.vote k) result noted (meta_keeps tells before after s k m result small version fv ft fo sized)
 
 -- ---- names and bytes as the code has them
 

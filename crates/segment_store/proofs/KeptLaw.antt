@@ -1,5 +1,5 @@
 -- A snapshot is kept by an open store.
-use Rattle.std.proofs.Common.{◌≡◌, inl, ℕ, suc, ◌^◌, ◌<◌, Bool, false, List, length, Result, Ok, Err, refl, sym, ap, ◌∙◌, subst, arith, length-append}
+use Rattle.std.proofs.Common.{◌≡◌, inl, ℕ, suc, ◌^◌, ◌<◌, ◌≤◌, Bool, false, List, length, Result, Ok, Err, refl, sym, ap, ◌∙◌, subst, arith, length-append}
 use Rattle.std.specs.Prelude.{OnOk}
 use Rattle.disk_model.specs.Disk.{Disk, Found, Leaves}
 use Rattle.disk_model.specs.Calls.{Call, Done, Until, MayWrite}
@@ -32,6 +32,7 @@ use Rattle.segment_store.specs.Open.{Open, IsOpen, HasSize}
 use Rattle.segment_store.specs.Keeps.{folder, HasNew}
 use Rattle.segment_store.specs.MadeCalls.{Makes}
 use Rattle.segment_store.specs.Keeping.{older_than, kept_calls, with_kept, CanKeep, OldOrKept, KeepsSnapshot}
+use Rattle.segment_store.proofs.Joints.{settled_none, kept_top, longer_up, until_none, under_keep}
 use Rattle.segment_store.proofs.NoTwoAlike.{no_two_alike}
 use Rattle.segment_store.proofs.AppendKeeps.{word_format, format_stays}
 use Rattle.segment_store.proofs.KeptCalls.{kept_spelled}
@@ -87,8 +88,8 @@ module _ (k : Kept) (s : Snap) (new : Log) (can : CanKeep k s new) (fits : Fits 
   absent : (D.read (Segment was.next)).there ≡ false
   absent = o.settled.above was.next (omega arith)
 
-  opened : (e : NodeDisk) → Done calls D e → HasNew (with_kept s.index (length batch) was) (with_snapshot s new k) e
-  opened e u =
+  opened : suc was.next ≤ 10000000000000000 → (e : NodeDisk) → Done calls D e → HasNew (with_kept s.index (length batch) was) (with_snapshot s new k) e
+  opened small e u =
       let c = law.1 e u in
       let w = kept_files was.next s.index bytes segment_word batch was.snapshots D e ((o.settled.segment was.next).empty absent) o.snapshots u in
       record {
@@ -107,31 +108,29 @@ module _ (k : Kept) (s : Snap) (new : Log) (can : CanKeep k s new) (fits : Fits 
           segments = sym w.segments;
           snapshots = w.snapshots;
         };
-        crash = c.crash;
+        crash = λ g left. kept_top (suc was.next) e (settled_none (suc was.next) e c.settled) small g left ∙ c.crash g left;
       }
 
-  pub kept_done : (e : Disk Text) → Done (kept_calls was s.index bytes batch) d e → HasNew (with_kept s.index (length batch) was) (with_snapshot s new k) (folder e)
-  kept_done e u = opened (folder e) (done_under file_name no_two_alike calls d e (subst (λ (c : List (Call Text)). Done c d e) spelled u))
+  pub kept_done : suc was.next ≤ 10000000000000000 → (e : Disk Text) → Done (kept_calls was s.index bytes batch) d e → HasNew (with_kept s.index (length batch) was) (with_snapshot s new k) (folder e)
+  kept_done small e u = opened small (folder e) (done_under file_name no_two_alike calls d e (subst (λ (c : List (Call Text)). Done c d e) spelled u))
 
-  pub kept_until : (e : Disk Text) → Until (kept_calls was s.index bytes batch) d e → OldOrKept (suc was.next) k s new (folder e)
-  kept_until e u =
+  pub kept_until : suc was.next ≤ 10000000000000000 → (e : Disk Text) → Until (kept_calls was s.index bytes batch) d e → OldOrKept k s new (folder e)
+  kept_until small e u =
       let v = until_under file_name no_two_alike calls d e (subst (λ (c : List (Call Text)). Until c d e) spelled u) in
       record {
-        crash = law.0 (folder e) v;
+        crash = λ g left fair. longer_up k s new (suc was.next) g (kept_top (suc was.next) (folder e) (until_none (suc was.next) calls D (folder e) (under_keep D.read was.next s.index bytes segment_word batch older) (settled_none (suc was.next) D (more_room_holds node_format was.next D o.settled).0) v) small g left) (law.0 (folder e) v g left fair);
         seen = (seen_holds node_format was.next D o.settled).snapshot was.next s.index absent (omega (arith, newer_than_files was k s.index d o can.past)) bytes segment_word batch older (folder e) v;
       }
 
 -- where nothing was called the old state is there
-none_kept : (was : Open) (k : Kept) (s : Snap) (new : Log) (d : Disk Text) → IsOpen was k (folder d) → OldOrKept (suc was.next) k s new (folder d)
-none_kept was k s new d o =
-    let up = more_room_holds node_format was.next (folder d) o.settled in
-    record {
-      crash = λ g left fair. inl (settled_images node_format (suc was.next) (folder d) up.0 g left ∙ up.1 ∙ o.reads);
-      seen = all_seen node_format (suc was.next) (folder d) up.0;
-    }
+none_kept : (was : Open) (k : Kept) (s : Snap) (new : Log) → was.next ≤ 10000000000000000 → (d : Disk Text) → IsOpen was k (folder d) → OldOrKept k s new (folder d)
+none_kept was k s new small d o = record {
+  crash = λ g left fair. inl (kept_top was.next (folder d) (settled_none was.next (folder d) o.settled) small g left ∙ settled_images node_format was.next (folder d) o.settled g left ∙ o.reads);
+  seen = all_seen node_format was.next (folder d) o.settled;
+}
 
-pub nothing_kept : {E : Type 0} (tells : Bool) (states : Disk Text → Type 0) (was now : Open) (k : Kept) (s : Snap) (new : Log) (fault : E) → KeepsSnapshot tells states states was now k s new (Err fault)
-nothing_kept tells states was now k s new fault known = (tt, known_map tells states (λ d. IsOpen was k (folder d)) (λ d. OldOrKept (suc was.next) k s new (folder d)) known (λ d o. none_kept was k s new d o))
+pub nothing_kept : {E : Type 0} (tells : Bool) (states : Disk Text → Type 0) (was now : Open) (k : Kept) (s : Snap) (new : Log) (fault : E) → was.next ≤ 10000000000000000 → KeepsSnapshot tells states states was now k s new (Err fault)
+nothing_kept tells states was now k s new fault small known = (tt, known_map tells states (λ d. IsOpen was k (folder d)) (λ d. OldOrKept k s new (folder d)) known (λ d o. none_kept was k s new small d o))
 
 -- the store that a call noted
 as_noted : {E : Type 0} (tells : Bool) (before after : Disk Text → Type 0) (was now then : Open) (k : Kept) (s : Snap) (new : Log) (result : Result Unit E) → OnOk result (now ≡ then) → KeepsSnapshot {E = E} tells before after was then k s new result → KeepsSnapshot {E = E} tells before after was now k s new result
@@ -139,9 +138,9 @@ as_noted tells before after was now then k s new (Err x) e keeps = keeps
 as_noted tells before after was now then k s new (Ok x) e keeps = λ known. let z = keeps known in (subst (λ (o : Open). Known tells after (λ d. HasNew o (with_snapshot s new k) (folder d))) (sym e) z.0, tt)
 
 pub snapshot_kept : {E : Type 0} (tells : Bool) (before after : Disk Text → Type 0) (was now : Open) (k : Kept) (s : Snap) (new : Log) (result : Result Unit E)
-    → CanKeep k s new → Fits new → s.index < 10000000000000000 → s.term < 2 ^ 64 → length s.bytes < 2 ^ 64 → OnOk result (now ≡ with_kept s.index (length (batch_bytes new)) was)
+    → was.next < 10000000000000000 → CanKeep k s new → Fits new → s.index < 10000000000000000 → s.term < 2 ^ 64 → length s.bytes < 2 ^ 64 → OnOk result (now ≡ with_kept s.index (length (batch_bytes new)) was)
     → Makes tells before after was k (kept_calls was s.index (snapshot_bytes s.index s.term s.bytes) (batch_bytes new)) result
     → KeepsSnapshot tells before after was now k s new result
-snapshot_kept tells before after was now k s new result can fits digits term size noted made = as_noted tells before after was now (with_kept s.index (length (batch_bytes new)) was) k s new result noted (λ known.
-    known_went _ before after result tells (λ d. IsOpen was k (folder d)) (λ e. HasNew (with_kept s.index (length (batch_bytes new)) was) (with_snapshot s new k) (folder e)) (λ e. OldOrKept (suc was.next) k s new (folder e)) known (made known)
-    (λ d e o u. kept_done k s new can fits digits term size was d o e u) (λ d e o u. kept_until k s new can fits digits term size was d o e u))
+snapshot_kept tells before after was now k s new result small can fits digits term size noted made = as_noted tells before after was now (with_kept s.index (length (batch_bytes new)) was) k s new result noted (λ known.
+    known_went _ before after result tells (λ d. IsOpen was k (folder d)) (λ e. HasNew (with_kept s.index (length (batch_bytes new)) was) (with_snapshot s new k) (folder e)) (λ e. OldOrKept k s new (folder e)) known (made known)
+    (λ d e o u. kept_done k s new can fits digits term size was d o (omega (arith, small)) e u) (λ d e o u. kept_until k s new can fits digits term size was d o (omega (arith, small)) e u))

@@ -27,3 +27,5 @@ pub mod KeptFiles
 pub mod KeptLaw
 pub mod KeepRuns
 pub mod KeepStore
+pub mod Joints
+pub mod CountedCalls

@@ -32,7 +32,7 @@ plain : (d : NodeDisk) → IsSeen d → IsPlain d
 plain d seen n none = (seen.each n).empty none
 
 unmoved : (d : NodeDisk) → IsSeen d → StaysSeen d d
-unmoved d seen = record { crash = λ g left fair. (g, (left, refl)); seen = seen }
+unmoved d seen = record { crash = λ g left fair. (g, (left, (refl, λ was. fair))); seen = seen }
 
 -- ---- a load
 

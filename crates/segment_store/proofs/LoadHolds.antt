@@ -164,7 +164,7 @@ module _ (D : NodeDisk) (seen : IsSeen D) (ns : List Name) (listed : Names D ns)
     | inl last ↦ record {
       crash = λ g left fair.
           let z = (load_holds node_format is_lawful k D loadable ns listed).0 e u g left fair in
-          (z.0, (z.1.0, ap (λ (t : ℕ). kept node_format t g) (sym last) ∙ z.1.1 ∙ ap (λ (t : ℕ). kept node_format t z.0) last));
+          (z.0, (z.1.0, (ap (λ (t : ℕ). kept node_format t g) (sym last) ∙ z.1.1.0 ∙ ap (λ (t : ℕ). kept node_format t z.0) last, z.1.1.1)));
       seen = whole_load_seen node_format k D loadable ns listed segment_word enc e (front_in e u);
     }
   ]

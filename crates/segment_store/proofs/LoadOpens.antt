@@ -87,17 +87,17 @@ module _ (l : FolderList) (r : FilesRead) (first second : Option ℕ) (fits : r.
 
   pub empty_settles : (tells : Bool) (before mid after : Disk Text → Type 0) (u : Unit {0}) {T : Type 0} (v : T) (version number at next : ℕ) (store : Open) → Went {E = StoreFault} calls before mid (Ok u)
       → next_stamp r.meta ≡ suc (suc version) → is_stale r.snap r.segments.log ≡ true → number ≡ suc (last_number last) → at ≡ r.segments.log.first → next ≡ suc number
-      → Empties tells number at mid after {T = T} {E = StoreFault} (Ok v)
+      → number < 10000000000000000 → Empties tells number at mid after {T = T} {E = StoreFault} (Ok v)
       → store ≡ record { version = version; first = first; second = second; next = next; size = None; segments = left_after last l.segments ++ number ∷ []; snapshots = l.snapshots }
       → Settles l r first second before after {E = StoreFault} (Ok store)
-  empty_settles tells before mid after u v version number at next store went st s n e next_is empties is = record {
+  empty_settles tells before mid after u v version number at next store went st s n e next_is small empties is = record {
     each = λ d b seen listed all ok.
         let z = (by_last before mid (Ok u) went).each d b in
         let m : number ≡ suc (last_number r.segments.last) = n ∙ ap (λ (x : Option LastSegment). suc (last_number x)) is_last in
         let free = subst (λ (k : ℕ). IsFree (file_name (Segment k)) z.0) (sym m) (number_free l r first second d seen listed all ok fits z.0 z.1.1.0) in
         let w = empties.each (told z.0 z.1.0 free) z.0 z.1.0 in
         let calls_are : emptying_calls number at ≡ emptying_calls (suc (last_number r.segments.last)) r.segments.log.first = (λ i. emptying_calls (m i) (e i)) in
-        let o = empty_opens l r first second d seen listed all ok fits version st z.0 w.0 s z.1.1.0 (subst (λ (cs : List (Call Text)). Done cs z.0 w.0) calls_are w.1.1.0) in
+        let o = empty_opens l r first second d seen listed all ok fits (subst (λ (k : ℕ). k < 10000000000000000) m small) version st z.0 w.0 s z.1.1.0 (subst (λ (cs : List (Call Text)). Done cs z.0 w.0) calls_are w.1.1.0) in
         let same : store ≡ record { version = version; first = first; second = second; next = suc (suc (last_number r.segments.last)); size = None; segments = left_after r.segments.last l.segments ++ suc (last_number r.segments.last) ∷ []; snapshots = l.snapshots } =
         is ∙ (λ i. record { version = version; first = first; second = second; next = (next_is ∙ ap suc m) i; size = None; segments = left_after (is_last i) l.segments ++ m i ∷ []; snapshots = l.snapshots }) in
         (w.0, (w.1.0, (subst (λ (x : Open). HasNew x (kept_by r) (folder w.0)) (sym same) o, tt)));

@@ -1,5 +1,5 @@
 -- Which store is open after a load, and what is left where it failed.
-use Rattle.std.proofs.Common.{◌≡◌, inr, ℕ, suc, ◌^◌, ◌<◌, true, false, List, [], ◌∷◌, ◌++◌, Option, None, sym, ap, ◌∙◌, subst}
+use Rattle.std.proofs.Common.{◌≡◌, inr, ℕ, suc, ◌^◌, ◌<◌, true, false, List, [], ◌∷◌, ◌++◌, Option, None, sym, ap, ◌∙◌, subst, arith}
 use Rattle.std.specs.Prelude.{◌&&◌}
 use Rattle.disk_model.specs.Disk.{Disk, Found}
 use Rattle.disk_model.specs.Calls.{Call, Done, Until}
@@ -22,6 +22,7 @@ use Rattle.store_format.specs.FilesRead.{FilesRead, judged, kept_by}
 use Rattle.segment_store.specs.FileNames.{file_name}
 use Rattle.segment_store.specs.Grow.{IsFree}
 use Rattle.segment_store.specs.Keeps.{folder, HasNew}
+use Rattle.segment_store.proofs.Joints.{settled_none, kept_top}
 use Rattle.segment_store.specs.Listed.{FolderList, named, IsListed}
 use Rattle.segment_store.specs.Loading.{kept_in, IsSeen, StaysSeen}
 use Rattle.segment_store.specs.Open.{HasSize, HasSnapshots, segment_numbers}
@@ -115,7 +116,7 @@ module _ (l : FolderList) (r : FilesRead) (first second : Option ℕ) (d : Disk 
           segments = last.left ∙ sym (numbers_front (named l.files) k D E f);
           snapshots = snapshots E (λ j. other (Snapshot j) (λ q. absurd cc));
         };
-        crash = c.crash;
+        crash = λ g left. kept_top (suc k) E (settled_none (suc k) E c.settled) (omega (arith, last.digits)) g left ∙ c.crash g left;
       }
 
   -- ---- a log that is emptied
@@ -138,9 +139,9 @@ module _ (l : FolderList) (r : FilesRead) (first second : Option ℕ) (d : Disk 
       all_moments D seen (named l.files) listed.among k last.digits last.above last.below (kept_by r) reads room (folder e) small (sym stale_is ∙ s)
       (until_both its_front _ D (folder m) (folder e) (front_done m u) (until_under file_name no_two_alike (append_calls number false 0 segment_word _) m e (subst (λ (cs : List (Call Text)). Until cs m e) (sym emptying_is) v)))
 
-  pub empty_opens : (version : ℕ) → next_stamp r.meta ≡ suc (suc version) → (m e : Disk Text) → is_stale r.snap r.segments.log ≡ true → Done (all_spelled file_name (front_calls l r.segments.last)) d m → Done (emptying_calls number r.segments.log.first) m e
+  pub empty_opens : number < 10000000000000000 → (version : ℕ) → next_stamp r.meta ≡ suc (suc version) → (m e : Disk Text) → is_stale r.snap r.segments.log ≡ true → Done (all_spelled file_name (front_calls l r.segments.last)) d m → Done (emptying_calls number r.segments.log.first) m e
       → HasNew (record { version = version; first = first; second = second; next = suc number; size = None; segments = left_after r.segments.last l.segments ++ number ∷ []; snapshots = l.snapshots }) (kept_by r) (folder e)
-  empty_opens version v m e s u w =
+  empty_opens small version v m e s u w =
       let E = folder e in
       let a : Done its_all D E = done_both its_front _ D (folder m) E (front_done m u) (done_under file_name no_two_alike (append_calls number false 0 segment_word _) m e (subst (λ (cs : List (Call Text)). Done cs m e) (sym emptying_is) w)) in
       let c : Comes node_format (suc number) E (kept_by r) = all_ends D seen (named l.files) listed.among k last.digits last.above last.below (kept_by r) reads room E (sym stale_is ∙ s) a in
@@ -158,5 +159,5 @@ module _ (l : FolderList) (r : FilesRead) (first second : Option ℕ) (d : Disk 
           segments = ap (λ (xs : List ℕ). xs ++ number ∷ []) last.left ∙ sym (numbers_all its_front k segment_word _ D E a (segment_numbers k D.read ++ one_more k ((D.read (Segment k)).there && opens node_format (D.read (Segment k)).bytes)) (λ n f. numbers_front (named l.files) k D n f));
           snapshots = snapshots E (λ j. other (Snapshot j) (λ q. absurd cc) (λ q. absurd cc));
         };
-        crash = c.crash;
+        crash = λ g left. kept_top (suc number) E (settled_none (suc number) E c.settled) (omega (arith, small)) g left ∙ c.crash g left;
       }

@@ -28,6 +28,7 @@ use Rattle.store_format.proofs.BatchesLawful.{is_lawful}
 use Rattle.segment_store.specs.FileNames.{file_name}
 use Rattle.segment_store.specs.Open.{Open, HasSize, MayGrow, IsOpen, with_version, size_for}
 use Rattle.segment_store.specs.Keeps.{folder, OldOrNew, HasNew, block_calls}
+use Rattle.segment_store.proofs.Joints.{settled_none, kept_top, one_up, Under, until_none, under_short, under_long}
 use Rattle.segment_store.proofs.NoTwoAlike.{no_two_alike}
 use Rattle.segment_store.proofs.Listing.{same_numbers, snapshots_same}
 
@@ -116,17 +117,18 @@ module _ (s : Open) (k : Kept) (m : Metadata) (d : Disk Text) (o : IsOpen s k (f
     moment : AnyMoment node_format s.next calls D k new
     ok : AtOk node_format s.next calls D new
     seen : ReadsSeen calls D
+    under : Under s.next calls
     written : (e : NodeDisk) → Done calls D e → NewestWritten node_format D m.term m.vote block e
 
   led_short : length (D.read (meta_file node_format D)).bytes ≤ 40 → Led (meta_calls node_format D block)
   led_short short =
       let law = set_meta_holds node_format is_lawful s.next D o.settled k o.reads m.term m.vote block is_next short in
-      record { moment = law.0; ok = law.1; seen = (seen_holds node_format s.next D o.settled).metadata block; written = (meta_written node_format is_lawful s.next D o.settled k o.reads m.term m.vote block is_next).0 short }
+      record { moment = law.0; ok = law.1; seen = (seen_holds node_format s.next D o.settled).metadata block; under = under_short s.next _ (D.read (meta_file node_format D)).there block; written = (meta_written node_format is_lawful s.next D o.settled k o.reads m.term m.vote block is_next).0 short }
 
   led_long : 40 < length (D.read (meta_file node_format D)).bytes → Led (set_long_calls (meta_file node_format D) block)
   led_long long =
       let law = set_meta_long_holds node_format is_lawful s.next D o.settled k o.reads m.term m.vote block is_next long in
-      record { moment = law.0; ok = law.1; seen = (seen_holds node_format s.next D o.settled).long_metadata block; written = (meta_written node_format is_lawful s.next D o.settled k o.reads m.term m.vote block is_next).1 long }
+      record { moment = law.0; ok = law.1; seen = (seen_holds node_format s.next D o.settled).long_metadata block; under = under_long s.next _ block; written = (meta_written node_format is_lawful s.next D o.settled k o.reads m.term m.vote block is_next).1 long }
 
   -- the calls of the code are such
   record Found_calls : Type 0 where
@@ -162,8 +164,8 @@ module _ (s : Open) (k : Kept) (m : Metadata) (d : Disk Text) (o : IsOpen s k (f
   chosen = found_calls (size_for m.version s) refl has_size
 
   -- the store after it
-  opened : (e : NodeDisk) → Done chosen.calls D e → HasNew (with_version m.version s) new e
-  opened e u =
+  opened : s.next ≤ 10000000000000000 → (e : NodeDisk) → Done chosen.calls D e → HasNew (with_version m.version s) new e
+  opened small e u =
       let c = chosen.led.ok e u in
       let w = chosen.led.written e u in
       record {
@@ -177,7 +179,7 @@ module _ (s : Open) (k : Kept) (m : Metadata) (d : Disk Text) (o : IsOpen s k (f
           segments = o.segments ∙ sym (same_numbers s.next e.read D.read (λ j l. ap (λ (x : Found). x.there) (segment_same w.files j)));
           snapshots = snapshots_same s.snapshots D.read e.read (snapshot_same w.files) o.snapshots;
         };
-        crash = c.crash;
+        crash = λ g left. kept_top s.next e (settled_none s.next e c.settled) small g left ∙ c.crash g left;
       }
     where
       at_first : (b : Bool) → odd ≡ b → Replaced (meta_file node_format D) block D e → HasSize (cond b (Some 40) s.first) (e.read First)
@@ -218,10 +220,10 @@ module _ (s : Open) (k : Kept) (m : Metadata) (d : Disk Text) (o : IsOpen s k (f
           let same = segment_same r g.last in
           record { last = g.last; before = g.before; size = subst (HasSize (Some l)) (sym same) g.size; format = ap (λ (x : Found). format_in x.bytes) same ∙ g.format }
 
-  pub meta_done : (e : Disk Text) → Done (block_calls (file_name (file_of odd)) block (size_for m.version s)) d e → HasNew (with_version m.version s) new (folder e)
-  meta_done e u = opened (folder e) (done_under file_name no_two_alike chosen.calls d e (subst (λ (c : List (Call Text)). Done c d e) chosen.spelled u))
+  pub meta_done : s.next ≤ 10000000000000000 → (e : Disk Text) → Done (block_calls (file_name (file_of odd)) block (size_for m.version s)) d e → HasNew (with_version m.version s) new (folder e)
+  meta_done small e u = opened small (folder e) (done_under file_name no_two_alike chosen.calls d e (subst (λ (c : List (Call Text)). Done c d e) chosen.spelled u))
 
-  pub meta_until : (e : Disk Text) → Until (block_calls (file_name (file_of odd)) block (size_for m.version s)) d e → OldOrNew s.next k new (folder e)
-  meta_until e u =
+  pub meta_until : s.next ≤ 10000000000000000 → (e : Disk Text) → Until (block_calls (file_name (file_of odd)) block (size_for m.version s)) d e → OldOrNew k new (folder e)
+  meta_until small e u =
       let v = until_under file_name no_two_alike chosen.calls d e (subst (λ (c : List (Call Text)). Until c d e) chosen.spelled u) in
-      record { crash = chosen.led.moment (folder e) v; seen = chosen.led.seen (folder e) v }
+      record { crash = λ g left fair. one_up k new s.next g (kept_top s.next (folder e) (until_none s.next chosen.calls D (folder e) chosen.led.under (settled_none s.next D o.settled) v) small g left) (chosen.led.moment (folder e) v g left fair); seen = chosen.led.seen (folder e) v }

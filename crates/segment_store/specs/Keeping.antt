@@ -79,10 +79,10 @@ pub record CanKeep (k : Kept) (s : Snap) (new : Log) : Type 0 where
   pub upto : new.first ≤ suc s.index
   pub stays : Stays s k.log new
 
--- each crash leaves the state before, or the new snapshot with the log, maybe with a longer old part; and what is read is
--- what a crash may leave
-pub record OldOrKept (top : ℕ) (old : Kept) (s : Snap) (new : Log) (d : NodeDisk) : Type 0 where
-  pub crash : (g : NodeFiles) → Leaves d g → NoChance node_format d g → BeforeOrLonger node_format top old s new g
+-- After each crash a load answers the state before, or the new snapshot with the log, maybe with a longer old part; and
+-- what is read is what a crash may leave, so that it does so without one.
+pub record OldOrKept (old : Kept) (s : Snap) (new : Log) (d : NodeDisk) : Type 0 where
+  pub crash : (g : NodeFiles) → Leaves d g → NoChance node_format d g → BeforeOrLonger node_format 10000000000000000 old s new g
   pub seen : Leaves d d.read
 
 -- Where the store was open over a disk with the old state, it is so over the new one after Ok; after an Err the disk has
@@ -90,4 +90,4 @@ pub record OldOrKept (top : ℕ) (old : Kept) (s : Snap) (new : Log) (d : NodeDi
 abbrev pub KeepsSnapshot : {E : Type 0} → Bool → (Disk Text → Type 0) → (Disk Text → Type 0) → Open → Open → Kept → Snap → Log → Result Unit E → Type 0
 KeepsSnapshot tells before after was now old s new result =
     Known tells before (λ d. IsOpen was old (folder d))
-    → OnOk result (Known tells after (λ d. HasNew now (with_snapshot s new old) (folder d))) × OnErr result (Known tells after (λ d. OldOrKept (suc was.next) old s new (folder d)))
+    → OnOk result (Known tells after (λ d. HasNew now (with_snapshot s new old) (folder d))) × OnErr result (Known tells after (λ d. OldOrKept old s new (folder d)))

@@ -17,22 +17,23 @@ use Rattle.segment_store.specs.Open.{Open, IsOpen}
 abbrev pub folder : Disk Text → NodeDisk
 folder d = under file_name d
 
--- each crash leaves the state before or the new one, and what is read is what a crash may leave
-pub record OldOrNew (top : ℕ) (old new : Kept) (d : NodeDisk) : Type 0 where
-  pub crash : (g : NodeFiles) → Leaves d g → NoChance node_format d g → OneOf node_format top old new g
+-- A load answers the state before or the new one, after each crash; and what is read is what a crash may leave, so that
+-- it does so without one. Numbers of segments have sixteen digits.
+pub record OldOrNew (old new : Kept) (d : NodeDisk) : Type 0 where
+  pub crash : (g : NodeFiles) → Leaves d g → NoChance node_format d g → OneOf node_format 10000000000000000 old new g
   pub seen : Leaves d d.read
 
--- the store is open over the new state, which each crash leaves
+-- the store is open over the new state, which a load answers after each crash
 pub record HasNew (s : Open) (new : Kept) (d : NodeDisk) : Type 0 where
   pub is_open : IsOpen s new d
-  pub crash : (g : NodeFiles) → Leaves d g → kept node_format s.next g ≡ Loaded new
+  pub crash : (g : NodeFiles) → Leaves d g → kept node_format 10000000000000000 g ≡ Loaded new
 
 -- Where the store was open over a disk with the old state, it is so over the new one after Ok; after an Err the disk has
 -- the old state or the new one, whatever a crash leaves.
-abbrev pub Keeps : {E : Type 0} → Bool → (Disk Text → Type 0) → (Disk Text → Type 0) → Open → Open → ℕ → Kept → Kept → Result Unit E → Type 0
-Keeps tells before after was now top old new result =
+abbrev pub Keeps : {E : Type 0} → Bool → (Disk Text → Type 0) → (Disk Text → Type 0) → Open → Open → Kept → Kept → Result Unit E → Type 0
+Keeps tells before after was now old new result =
     Known tells before (λ d. IsOpen was old (folder d))
-    → OnOk result (Known tells after (λ d. HasNew now new (folder d))) × OnErr result (Known tells after (λ d. OldOrNew top old new (folder d)))
+    → OnOk result (Known tells after (λ d. HasNew now new (folder d))) × OnErr result (Known tells after (λ d. OldOrNew old new (folder d)))
 
 -- a list of calls, of a function with faults of its own: all were made where the answer is Ok, else a part of them
 pub record Went {E : Type 0} (calls : List (Call Text)) (before after : Disk Text → Type 0) (result : Result Unit E) : Type 0 where

@@ -25,10 +25,11 @@ damage_in g = damage node_format 10000000000000000 g
 abbrev pub IsSeen : NodeDisk → Type 0
 IsSeen d = Leaves d d.read
 
--- Each crash leaves what stands for the same as some files that a crash might have left before; and what is read is what
--- a crash may leave, so that the disk may be loaded again.
+-- Each crash leaves what stands for the same as some files that a crash might have left before, of which no checksum
+-- matches by chance where none did of what was read; and what is read is what a crash may leave, so that the disk may be
+-- loaded again.
 pub record StaysSeen (d e : NodeDisk) : Type 0 where
-  pub crash : (g : NodeFiles) → Leaves e g → NoChance node_format e g → (was : NodeFiles) × (Leaves d was × (kept_in g ≡ kept_in was))
+  pub crash : (g : NodeFiles) → Leaves e g → NoChance node_format e g → (was : NodeFiles) × (Leaves d was × ((kept_in g ≡ kept_in was) × (NoChance node_format d d.read → NoChance node_format d was)))
   pub seen : IsSeen e
 
 -- The store is open with what the files stood for, and each crash leaves that.

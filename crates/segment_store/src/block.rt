@@ -1,7 +1,8 @@
 ghost use Rattle.dq_base.specs.Names.{IsName};
 ghost use Rattle.disk_model.specs.Calls.{MayWrite};
-ghost use Rattle.disk_model.specs.Trait.{Known, Ran, HasCause, HasWant};
+ghost use Rattle.disk_model.specs.Trait.{Known, Ran, HasCause, HasWant, MakesCalls};
 ghost use Rattle.segment_store.specs.Keeps.{over_calls, block_calls};
+ghost use Rattle.segment_store.specs.MadeCalls.{block_count};
 
 use disk_model::{Disk, DiskFault, replace};
 
@@ -14,6 +15,7 @@ fn write_over<D: Disk>(disk: &mut D, name: &str, block: &[u8]) -> Result<(), Dis
     ensures ran { Known D.tells (D.states disk.old) (MayWrite name.now 0) → Ran (over_calls name.now block.now) (D.states disk.old) (D.states disk.new) result }
     ensures cause { HasCause (D.faults disk.old) (D.faults disk.new) result }
     ensures want { HasWant (D.wants disk.old) (D.wants disk.new) result }
+    ensures count { MakesCalls 4 (D.made disk.old) (D.made disk.new) result }
 {
     disk.write_at(name, 0, block)?;
     disk.sync(name)?;
@@ -32,6 +34,7 @@ pub(crate) fn write_block<D: Disk>(
     ensures ran { Known D.tells (D.states disk.old) (MayWrite name.now 0) → Ran (block_calls name.now block.now size) (D.states disk.old) (D.states disk.new) result }
     ensures cause { HasCause (D.faults disk.old) (D.faults disk.new) result }
     ensures want { HasWant (D.wants disk.old) (D.wants disk.new) result }
+    ensures count { MakesCalls (block_count size) (D.made disk.old) (D.made disk.new) result }
 {
     match size {
         None => replace(disk, name, block, false),

@@ -11,8 +11,7 @@ use crate::names::{File, file_name};
 use dq_base::Name;
 use raft_vote::Entry;
 use std::alloc::{AllocError, Global};
-use store_format::batch_bytes;
-use store_format::snapshot_bytes;
+use store_format::{batch_bytes, snapshot_bytes};
 
 /// The file of a snapshot.
 #[derive(Drop)]

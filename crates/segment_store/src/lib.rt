@@ -18,3 +18,4 @@ mod store;
 pub use fault::StoreFault;
 pub use load_fault::LoadFault;
 pub use store::Store;
+pub use store_format::{Kept, crc32, sum8};

@@ -1,5 +1,5 @@
 // Loading a store from a disk, and looking at its files.
-ghost use Rattle.std.specs.Prelude.{◌≡◌, ◌≤◌, ◌<◌, ◌++◌, ◌∷◌, [], suc, IfOk};
+ghost use Rattle.std.specs.Prelude.{◌≡◌, ◌≤◌, ◌<◌, ◌++◌, ◌∷◌, [], suc, None, IfOk};
 ghost use Rattle.disk_model.specs.Spelled.{all_spelled};
 ghost use Rattle.disk_model.specs.Trait.{Known};
 ghost use Rattle.store_laws.specs.Names.{Segment};
@@ -24,8 +24,7 @@ use crate::names::NUMBERS;
 use crate::store::{Store, begin_batch};
 use disk_model::Disk;
 use std::alloc::{AllocError, Global};
-use store_format::batch_bytes;
-use store_format::{FilesRead, Kept, LastSegment};
+use store_format::{FilesRead, Kept, LastSegment, batch_bytes};
 
 // Lists the files and reads them.
 fn read_folder<D: Disk>(
@@ -139,6 +138,7 @@ fn settle<D: Disk>(
     sizes: Sizes,
     read: &FilesRead,
 ) -> Result<Store, StoreFault>
+    ensures begins { IfOk result (λ store. store.size ≡ None) }
     ensures settles { Settles list read.now sizes.0 sizes.1 (D.states disk.old) (D.states disk.new) result }
     ensures cause { DiskCause (D.faults disk.old) (D.faults disk.new) result }
 {
@@ -164,13 +164,14 @@ impl Store {
     /// It judges first: after `NoMeta`, `Damaged` and `Gap` the disk is as it was. Then it syncs all files of a node and
     /// the names, cuts off a torn tail of the last segment, or removes that segment where its first word says no format,
     /// and where the snapshot drops the whole log it empties that log by a batch in a new segment. So what it answers
-    /// stands after each crash. Inside the call a crash leaves what a load of the files before may give. After
+    /// stands after each crash. The store's first batch begins a segment. Inside the call a crash leaves what a load of the files before may give. After
     /// `DiskFault` and `NoMemory` the disk may be loaded again.
     ///
     /// Other names in the folder are left alone. Takes memory for the entries, the newest snapshot, and one file at a
     /// time.
     pub fn load<D: Disk>(alloc: Global, disk: &mut D) -> Result<(Store, Kept), LoadFault>
         ensures loads { Loads (D.states disk.old) (D.states disk.new) result }
+        ensures begins { IfOk result (λ loaded. loaded.0.size ≡ None) }
         ensures cause { LoadCause (D.faults disk.old) (D.faults disk.new) result }
     {
         let mut read = FilesRead::new(alloc);

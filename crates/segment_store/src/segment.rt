@@ -1,6 +1,6 @@
 ghost use Rattle.dq_base.specs.Names.{IsName};
 ghost use Rattle.disk_model.specs.Calls.{MayWrite};
-ghost use Rattle.disk_model.specs.Trait.{Known, Ran, HasCause, HasWant};
+ghost use Rattle.disk_model.specs.Trait.{Known, Ran, HasCause, HasWant, MakesCalls};
 ghost use Rattle.store_format.specs.BatchesWritten.{segment_word};
 ghost use Rattle.segment_store.specs.Grow.{grow_calls, begin_calls, IsFree};
 
@@ -20,6 +20,7 @@ pub(crate) fn grow_segment<D: Disk>(
     ensures ran { Known D.tells (D.states disk.old) (MayWrite name.now size) → Ran (grow_calls name.now size batch.now) (D.states disk.old) (D.states disk.new) result }
     ensures cause { HasCause (D.faults disk.old) (D.faults disk.new) result }
     ensures want { HasWant (D.wants disk.old) (D.wants disk.new) result }
+    ensures count { MakesCalls 2 (D.made disk.old) (D.made disk.new) result }
 {
     disk.write_at(name, size, batch)?;
     disk.sync(name)
@@ -35,6 +36,7 @@ pub(crate) fn begin_segment<D: Disk>(
     ensures ran { Known D.tells (D.states disk.old) (IsFree name.now) → Ran (begin_calls name.now segment_word batch.now) (D.states disk.old) (D.states disk.new) result }
     ensures cause { HasCause (D.faults disk.old) (D.faults disk.new) result }
     ensures want { HasWant (D.wants disk.old) (D.wants disk.new) result }
+    ensures count { MakesCalls 5 (D.made disk.old) (D.made disk.new) result }
 {
     replace(disk, name, &SEGMENT_WORD, false)?;
     grow_segment(disk, name, 8, batch)

@@ -1,6 +1,6 @@
-ghost use Rattle.std.specs.Prelude.{◌≡◌, ◌==◌, ◌%◌, ◌<◌, ◌^◌, ◌-◌, ◌++◌, ◌∷◌, [], suc, length, MatchOption, Some, None, IfOk};
+ghost use Rattle.std.specs.Prelude.{◌≡◌, ◌==◌, ◌%◌, ◌<◌, ◌^◌, ◌-◌, ◌++◌, ◌∷◌, [], suc, length, MatchOption, Some, None, IfOk, OnOk};
 ghost use Rattle.disk_model.specs.Calls.{MayWrite};
-ghost use Rattle.disk_model.specs.Trait.{Known};
+ghost use Rattle.disk_model.specs.Trait.{Known, MakesCalls};
 ghost use Rattle.store_laws.specs.Names.{Segment};
 ghost use Rattle.store_laws.specs.Store.{Kept, Log};
 ghost use Rattle.store_laws.specs.Append.{with_batch, CanAppend};
@@ -16,7 +16,7 @@ ghost use Rattle.segment_store.specs.Open.{HaveDigits, size_for, with_version};
 ghost use Rattle.segment_store.specs.Keeps.{Keeps, Went, block_calls};
 ghost use Rattle.segment_store.specs.Keeping.{CanKeep, KeepsSnapshot, kept_calls, later_than, snap_value, with_kept};
 ghost use Rattle.segment_store.specs.Plans.{IsPlan};
-ghost use Rattle.segment_store.specs.MadeCalls.{Makes, version_calls, batch_calls_in};
+ghost use Rattle.segment_store.specs.MadeCalls.{Makes, version_calls, batch_calls_in, block_count, batch_count, kept_count};
 
 use crate::block::write_block;
 use crate::fault::StoreFault;
@@ -28,8 +28,7 @@ use disk_model::Disk;
 use raft_vote::{Entry, Snapshot};
 use std::alloc::{AllocError, Global};
 use std::marker::Model;
-use store_format::batch_bytes;
-use store_format::{Metadata, metadata_bytes};
+use store_format::{Metadata, batch_bytes, metadata_bytes};
 
 /// What a node keeps in its folder: a term with a vote, a log in segments, and a snapshot. A store is open over the disk
 /// that it was loaded from, which nobody else changes.
@@ -78,6 +77,7 @@ fn write_metadata<D: Disk>(
     ensures went { Known D.tells (D.states disk.old) (MayWrite (file_name (file_of (metadata.now.version % 2 == 1))) 0) → Went (block_calls (file_name (file_of (metadata.now.version % 2 == 1))) (block_bytes metadata.now) size) (D.states disk.old) (D.states disk.new) result }
     ensures cause { DiskCause (D.faults disk.old) (D.faults disk.new) result }
     ensures stays { StaysUnlessFailed disk.old disk.new (D.faults disk.old) (D.faults disk.new) (D.wants disk.old) (D.wants disk.new) result }
+    ensures count { MakesCalls (block_count size) (D.made disk.old) (D.made disk.new) result }
 {
     let block = metadata_bytes(alloc, metadata)?;
     let name = file_name(alloc, metadata_file(metadata.version))?;
@@ -97,6 +97,7 @@ fn grow_batch<D: Disk>(
     ensures went { Known D.tells (D.states disk.old) (MayWrite (file_name (Segment number)) size) → Went (grow_calls (file_name (Segment number)) size batch.now) (D.states disk.old) (D.states disk.new) result }
     ensures cause { DiskCause (D.faults disk.old) (D.faults disk.new) result }
     ensures stays { StaysUnlessFailed disk.old disk.new (D.faults disk.old) (D.faults disk.new) (D.wants disk.old) (D.wants disk.new) result }
+    ensures count { MakesCalls 2 (D.made disk.old) (D.made disk.new) result }
 {
     let name = file_name(alloc, File::Segment(number))?;
     grow_segment(disk, name.as_str(), size, batch)?;
@@ -114,6 +115,7 @@ pub(crate) fn begin_batch<D: Disk>(
     ensures went { Known D.tells (D.states disk.old) (IsFree (file_name (Segment number))) → Went (begin_calls (file_name (Segment number)) segment_word batch.now) (D.states disk.old) (D.states disk.new) result }
     ensures cause { DiskCause (D.faults disk.old) (D.faults disk.new) result }
     ensures stays { StaysUnlessFailed disk.old disk.new (D.faults disk.old) (D.faults disk.new) (D.wants disk.old) (D.wants disk.new) result }
+    ensures count { MakesCalls 5 (D.made disk.old) (D.made disk.new) result }
 {
     let name = file_name(alloc, File::Segment(number))?;
     begin_segment(disk, name.as_str(), batch)?;
@@ -189,10 +191,12 @@ impl Store {
         term: u64,
         vote: u64,
     ) -> Result<(), StoreFault>
-        ensures kept { (k : Kept) → Keeps D.tells (D.states disk.old) (D.states disk.new) self.old self.new self.old.next k (with_vote term vote k) result }
+        ensures kept { (k : Kept) → Keeps D.tells (D.states disk.old) (D.states disk.new) self.old self.new k (with_vote term vote k) result }
+        ensures store { OnOk result (self.new ≡ with_version (suc self.old.version) self.old) }
         ensures calls { (k : Kept) → Makes D.tells (D.states disk.old) (D.states disk.new) self.old k (version_calls (suc self.old.version) self.old term vote) result }
         ensures cause { DiskCause (D.faults disk.old) (D.faults disk.new) result }
         ensures stays { StaysUnlessFailed disk.old disk.new (D.faults disk.old) (D.faults disk.new) (D.wants disk.old) (D.wants disk.new) result }
+        ensures count { MakesCalls (block_count (size_for (suc self.old.version) self.old)) (D.made disk.old) (D.made disk.new) result }
     {
         let Some(version) = self.next_version() else {
             return Err(StoreFault::NoMemory);
@@ -254,11 +258,13 @@ impl Store {
     // Adds a batch to the segment that has room for it.
     fn grow<D: Disk>(&mut self, disk: &mut D, size: u64, batch: &[u8]) -> Result<(), StoreFault>
         requires { size < 8388608 }
+        ensures store { OnOk result (self.new ≡ appended_to (Some size) (length batch.now) self.old) }
         ensures kept { (k : Kept) (b : Log) → batch.now ≡ batch_bytes b → Fits b → CanAppend k b → room_in self.old.size ≡ Some size →
-            Keeps D.tells (D.states disk.old) (D.states disk.new) self.old self.new (with_appended (length (batch_bytes b)) self.old).next k (with_batch b k) result }
+            Keeps D.tells (D.states disk.old) (D.states disk.new) self.old self.new k (with_batch b k) result }
         ensures calls { (k : Kept) → room_in self.old.size ≡ Some size → Makes D.tells (D.states disk.old) (D.states disk.new) self.old k (batch_calls_in (Some size) self.old batch.now) result }
         ensures cause { DiskCause (D.faults disk.old) (D.faults disk.new) result }
         ensures stays { StaysUnlessFailed disk.old disk.new (D.faults disk.old) (D.faults disk.new) (D.wants disk.old) (D.wants disk.new) result }
+        ensures count { MakesCalls 2 (D.made disk.old) (D.made disk.new) result }
     {
         grow_batch(self.alloc, disk, self.last(), size, batch)?;
         self.note_grown(size, batch);
@@ -267,11 +273,13 @@ impl Store {
 
     // Begins a segment with a batch.
     fn begin<D: Disk>(&mut self, disk: &mut D, batch: &[u8]) -> Result<(), StoreFault>
+        ensures store { OnOk result (self.new ≡ appended_to None (length batch.now) self.old) }
         ensures kept { (k : Kept) (b : Log) → batch.now ≡ batch_bytes b → Fits b → CanAppend k b → room_in self.old.size ≡ None →
-            Keeps D.tells (D.states disk.old) (D.states disk.new) self.old self.new (with_appended (length (batch_bytes b)) self.old).next k (with_batch b k) result }
+            Keeps D.tells (D.states disk.old) (D.states disk.new) self.old self.new k (with_batch b k) result }
         ensures calls { (k : Kept) → Makes D.tells (D.states disk.old) (D.states disk.new) self.old k (batch_calls_in None self.old batch.now) result }
         ensures cause { DiskCause (D.faults disk.old) (D.faults disk.new) result }
         ensures stays { StaysUnlessFailed disk.old disk.new (D.faults disk.old) (D.faults disk.new) (D.wants disk.old) (D.wants disk.new) result }
+        ensures count { MakesCalls 5 (D.made disk.old) (D.made disk.new) result }
     {
         let Some(number) = self.new_number() else {
             return Err(StoreFault::NoMemory);
@@ -285,8 +293,8 @@ impl Store {
     /// Replaces the log from the index `first` on by these entries. `first` lies past the kept snapshot and at most one
     /// past the log's end, and a term is kept: else nothing is said of what is kept.
     ///
-    /// One write and one sync of the batch, in the segment that is there where it has fewer than 8,388,608 bytes, else in
-    /// a new one, which takes three calls more. Each entry is copied once. An entry of more than 4,294,967,295 bytes and a
+    /// One write and one sync of the batch, in the segment that is there where it has fewer than 8,388,608 bytes and a batch
+    /// went to it since the load, else in a new one, which takes three calls more. Each entry is copied once. An entry of more than 4,294,967,295 bytes and a
     /// segment of more than sixteen digits are answered as want of memory, with nothing written.
     pub fn append<D: Disk>(
         &mut self,
@@ -294,11 +302,13 @@ impl Store {
         first: u64,
         entries: &[Entry],
     ) -> Result<(), StoreFault>
+        ensures store { OnOk result (self.new ≡ with_appended (length (batch_bytes (record { first = first; entries = entries.now }))) self.old) }
         ensures kept { (k : Kept) → CanAppend k (record { first = first; entries = entries.now }) →
-            Keeps D.tells (D.states disk.old) (D.states disk.new) self.old self.new (with_appended (length (batch_bytes (record { first = first; entries = entries.now }))) self.old).next k (with_batch (record { first = first; entries = entries.now }) k) result }
+            Keeps D.tells (D.states disk.old) (D.states disk.new) self.old self.new k (with_batch (record { first = first; entries = entries.now }) k) result }
         ensures calls { (k : Kept) → Makes D.tells (D.states disk.old) (D.states disk.new) self.old k (batch_calls_in (room_in self.old.size) self.old (batch_bytes (record { first = first; entries = entries.now }))) result }
         ensures cause { DiskCause (D.faults disk.old) (D.faults disk.new) result }
         ensures stays { StaysUnlessFailed disk.old disk.new (D.faults disk.old) (D.faults disk.new) (D.wants disk.old) (D.wants disk.new) result }
+        ensures count { MakesCalls (batch_count (room_in self.old.size)) (D.made disk.old) (D.made disk.new) result }
     {
         let batch = batch_bytes(self.alloc, first, entries)?;
         match self.room() {
@@ -363,12 +373,14 @@ impl Store {
         first: u64,
         rest: &[Entry],
     ) -> Result<(), StoreFault>
+        ensures store { OnOk result (self.new ≡ with_kept snapshot.now.index (length (batch_bytes (record { first = first; entries = rest.now }))) self.old) }
         ensures kept { (k : Kept) → CanKeep k (snap_value snapshot.now) (record { first = first; entries = rest.now }) →
             KeepsSnapshot D.tells (D.states disk.old) (D.states disk.new) self.old self.new k (snap_value snapshot.now) (record { first = first; entries = rest.now }) result }
         ensures calls { (k : Kept) → CanKeep k (snap_value snapshot.now) (record { first = first; entries = rest.now }) →
             Makes D.tells (D.states disk.old) (D.states disk.new) self.old k (kept_calls self.old snapshot.now.index (snapshot_bytes snapshot.now.index snapshot.now.term snapshot.now.bytes) (batch_bytes (record { first = first; entries = rest.now }))) result }
         ensures cause { DiskCause (D.faults disk.old) (D.faults disk.new) result }
         ensures stays { StaysUnlessFailed disk.old disk.new (D.faults disk.old) (D.faults disk.new) (D.wants disk.old) (D.wants disk.new) result }
+        ensures count { MakesCalls (kept_count self.old snapshot.now.index) (D.made disk.old) (D.made disk.new) result }
     {
         let plan = self.plan(snapshot, first, rest)?;
         let segments = with_number(self.alloc, &[], self.next)?;

@@ -4,11 +4,11 @@ ghost use Rattle.wire_words.specs.Reading.{Finds};
 ghost use Rattle.byteorder.specs.Endian.{little_bytes};
 ghost use Rattle.store_format.specs.Batches.{sum_size, sums_size, batch_sum, body_at, is_sound, batch_in, read_of_found};
 
+use crate::sums::{crc32, sum8};
 use byteorder::{ByteOrder, LittleEndian};
 use dq_base::Items;
 use raft_vote::{Entries, read_entry_contents, read_entry_heads};
 use std::alloc::{AllocError, Global};
-use crate::sums::{crc32, sum8};
 use wire_words::{WordFault, Words};
 
 /// What stands behind the sums of a batch.

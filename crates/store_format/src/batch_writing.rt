@@ -3,9 +3,9 @@ ghost use Rattle.raft_vote.specs.Entries.{contents_bytes, HaveHeads};
 ghost use Rattle.store_format.specs.Sums.{sum8_of};
 ghost use Rattle.store_format.specs.Batches.{numbers_bytes, header_bytes, with_sums, batch_bytes};
 
+use crate::sums::sum8;
 use raft_vote::{Entry, write_entry_contents, write_entry_heads};
 use std::alloc::{AllocError, Global};
-use crate::sums::sum8;
 use wire_words::Writer;
 
 fn content_size(entry: &Entry) -> usize

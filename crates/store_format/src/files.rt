@@ -10,12 +10,12 @@ ghost use Rattle.store_format.specs.FilesRead.{nothing_read, snap_kept, with_met
 
 use crate::fault::FilesFault;
 use crate::kept::Kept;
+use crate::metadata::{Metadata, read_metadata};
 use crate::segment_log::{LastSegment, SegmentLog};
+use crate::snapshot::{SnapshotFile, read_snapshot};
 use raft_vote::{SharedBytes, Snapshot};
 use std::alloc::{AllocError, Global};
 use std::marker::Model;
-use crate::metadata::{Metadata, read_metadata};
-use crate::snapshot::{SnapshotFile, read_snapshot};
 use wire_words::WireBytes;
 
 /// What is read of the files of a node, one after another: the newest metadata, the newest snapshot, and the segments.

@@ -4,10 +4,10 @@ ghost use Rattle.store_format.specs.Batches.{batch_in};
 ghost use Rattle.store_format.specs.NodeFormat.{node_format};
 ghost use Rattle.store_format.specs.BatchesTaken.{Steps, ReadsAll, InLog};
 
-use crate::log::BatchLog;
-use std::alloc::{AllocError, Global};
 use crate::batch_reading::{FoundBatch, read_batch};
+use crate::log::BatchLog;
 use crate::words::format_in;
+use std::alloc::{AllocError, Global};
 
 // The batch that bytes begin with, if any. It has some bytes.
 #[tactic(auto, using(crate::proofs::Runs::found_or_none))]

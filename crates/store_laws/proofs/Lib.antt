@@ -30,3 +30,4 @@ pub mod Seen
 pub mod Damages
 pub mod Written
 pub mod WholeLoads
+pub mod Fair

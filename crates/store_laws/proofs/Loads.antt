@@ -21,6 +21,7 @@ use Rattle.store_laws.proofs.Stills.{image_same}
 use Rattle.store_laws.proofs.Repairs.{cut_tail_holds}
 use Rattle.store_laws.proofs.Removes.{remove_bad_holds}
 use Rattle.disk_model.proofs.Syncs.{sync_all_holds}
+use Rattle.store_laws.proofs.Fair.{sync_fair}
 use Rattle.store_laws.proofs.Tells.{tell}
 use Rattle.disk_model.proofs.Untils.{until_append, done_append}
 
@@ -151,10 +152,10 @@ load_holds f law k d l ns named = (inside, ends)
     reads : (p : NodeDisk) → Done (sync_all ns) d p → kept f (suc k) p.read ≡ kept f (suc k) d.read
     reads p v = let z = (sync_all_holds tell d l.seen ns named).1 p v in (λ i. kept f (suc k) (λ n. z.0 n i))
 
-    inside : (e : NodeDisk) → Until (sync_all ns ++ repair_calls f k (d.read (Segment k))) d e → (g : NodeFiles) → Leaves e g → NoChance f e g → (was : NodeFiles) × (Leaves d was × (kept f (suc k) g ≡ kept f (suc k) was))
+    inside : (e : NodeDisk) → Until (sync_all ns ++ repair_calls f k (d.read (Segment k))) d e → (g : NodeFiles) → Leaves e g → NoChance f e g → (was : NodeFiles) × (Leaves d was × ((kept f (suc k) g ≡ kept f (suc k) was) × (NoChance f d d.read → NoChance f d was)))
     inside e u g left fair = elim (until_append (sync_all ns) (repair_calls f k (d.read (Segment k))) d e u) [
-      | inl v ↦ (g, ((sync_all_holds tell d l.seen ns named).0 e v g left, refl))
-      | inr (p, (v, w)) ↦ (d.read, (l.seen, (synced p v).any_moment e w g left fair ∙ reads p v))
+      | inl v ↦ (g, ((sync_all_holds tell d l.seen ns named).0 e v g left, (refl, λ was. sync_fair f law d ns e v g left fair was)))
+      | inr (p, (v, w)) ↦ (d.read, (l.seen, ((synced p v).any_moment e w g left fair ∙ reads p v, λ was. was)))
     ]
 
     ends : (e : NodeDisk) → Done (sync_all ns ++ repair_calls f k (d.read (Segment k))) d e → LoadEnds f k d e

@@ -19,6 +19,7 @@ use Rattle.store_laws.specs.Append.{append_calls, Writes}
 use Rattle.store_laws.specs.Load.{Still, Repairs, repair_calls, Loadable, LoadEnds}
 use Rattle.store_laws.specs.Laws.{AnyMoment, AtOk, Comes}
 use Rattle.store_laws.specs.WholeLoad.{is_stale, empty_calls, load_calls, WholeLoad, WholeLoadSeen}
+use Rattle.store_laws.proofs.Fair.{sync_fair}
 use Rattle.store_laws.proofs.Tells.{tell}
 use Rattle.store_laws.proofs.Folders.{segments_suc}
 use Rattle.store_laws.proofs.Answers.{settled_images}
@@ -238,12 +239,12 @@ module _ (f : Format) (law : Lawful f) (k : ℕ) (d : NodeDisk) (l : Loadable f 
       let same : kept f (suc k) p.read ≡ kept f (suc k) d.read = (λ i. kept f (suc k) (λ n. z.0 n i)) in
       kept_up f (suc k) top g none (omega (arith, h)) ∙ r.any_moment e u g left fair ∙ same ∙ sym (up top h)
 
-  pub inside : (top : ℕ) → suc (suc k) ≤ top → (e : NodeDisk) → Until (load_calls f k d.read ns word enc) d e → (g : NodeFiles) → Leaves e g → NoChance f e g → (was : NodeFiles) × (Leaves d was × (kept f top g ≡ kept f top was))
+  pub inside : (top : ℕ) → suc (suc k) ≤ top → (e : NodeDisk) → Until (load_calls f k d.read ns word enc) d e → (g : NodeFiles) → Leaves e g → NoChance f e g → (was : NodeFiles) × (Leaves d was × ((kept f top g ≡ kept f top was) × (NoChance f d d.read → NoChance f d was)))
   inside top h e u g left fair = elim (until_append (sync_all ns) (rep ++ empty_calls f k d.read word enc) d e u) [
-    | inl v ↦ (g, ((sync_all_holds tell d l.seen ns named).0 e v g left, refl))
+    | inl v ↦ (g, ((sync_all_holds tell d l.seen ns named).0 e v g left, (refl, λ was. sync_fair f law d ns e v g left fair was)))
     | inr (p, (v, x)) ↦ elim (until_append rep (empty_calls f k d.read word enc) p e x) [
-      | inl y ↦ (d.read, (l.seen, repairing top h p e v y g left fair))
-      | inr (q, (y, z)) ↦ (d.read, (l.seen, moment p q v y stale refl top h e z g left fair))
+      | inl y ↦ (d.read, (l.seen, (repairing top h p e v y g left fair, λ was. was)))
+      | inr (q, (y, z)) ↦ (d.read, (l.seen, (moment p q v y stale refl top h e z g left fair, λ was. was)))
     ]
   ]
 

@@ -61,10 +61,11 @@ pub record LoadEnds (f : Format) (k : ℕ) (d e : NodeDisk) : Type 0 where
   pub log : file_log f (suc k) e.read ≡ file_log f (suc k) d.read
   pub snap : snap_in f e.read ≡ snap_in f d.read
 
--- inside a load a crash leaves what a load of some files that a crash might have left before gives
+-- inside a load a crash leaves what a load of some files that a crash might have left before gives, of which no checksum
+-- matches by chance where none did of what was read
 abbrev pub Load : Type 0
 Load = (f : Format) → Lawful f → (k : ℕ) (d : NodeDisk) → Loadable f k d → (ns : List Name) → Names d ns
-    → ((e : NodeDisk) → Until (sync_all ns ++ repair_calls f k (d.read (Segment k))) d e → (g : NodeFiles) → Leaves e g → NoChance f e g → (was : NodeFiles) × (Leaves d was × (kept f (suc k) g ≡ kept f (suc k) was)))
+    → ((e : NodeDisk) → Until (sync_all ns ++ repair_calls f k (d.read (Segment k))) d e → (g : NodeFiles) → Leaves e g → NoChance f e g → (was : NodeFiles) × (Leaves d was × ((kept f (suc k) g ≡ kept f (suc k) was) × (NoChance f d d.read → NoChance f d was))))
     × ((e : NodeDisk) → Done (sync_all ns ++ repair_calls f k (d.read (Segment k))) d e → LoadEnds f k d e)
 
 -- the files without the segments below a number

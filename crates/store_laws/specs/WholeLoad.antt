@@ -23,13 +23,14 @@ abbrev pub load_calls : Format → ℕ → NodeFiles → List Name → List ℕ 
 load_calls f k r ns word enc = sync_all ns ++ (repair_calls f k (r (Segment k)) ++ empty_calls f k r word enc)
 
 -- Segment k is the last one, and batches begin at index 1 or later. At each moment a crash leaves what a load of some
--- files that a crash might have left before gives, whatever the bound on the numbers; then the disk is settled with what
+-- files that a crash might have left before gives, whatever the bound on the numbers, and of them no checksum matches by
+-- chance where none did of what was read; then the disk is settled with what
 -- was read, which each crash leaves.
 abbrev pub WholeLoad : Type 0
 WholeLoad = (f : Format) → Lawful f → (k : ℕ) (d : NodeDisk) → Loadable f k d → (ns : List Name) → Names d ns
     → (new : Kept) → kept f (suc k) d.read ≡ Loaded new → 0 < (file_log f (suc k) d.read).first
     → (word enc : List ℕ) → Writes f (record { first = (file_log f (suc k) d.read).first; entries = [] }) word enc
-    → ((top : ℕ) → suc (suc k) ≤ top → (e : NodeDisk) → Until (load_calls f k d.read ns word enc) d e → (g : NodeFiles) → Leaves e g → NoChance f e g → (was : NodeFiles) × (Leaves d was × (kept f top g ≡ kept f top was)))
+    → ((top : ℕ) → suc (suc k) ≤ top → (e : NodeDisk) → Until (load_calls f k d.read ns word enc) d e → (g : NodeFiles) → Leaves e g → NoChance f e g → (was : NodeFiles) × (Leaves d was × ((kept f top g ≡ kept f top was) × (NoChance f d d.read → NoChance f d was))))
     × ((e : NodeDisk) → Done (load_calls f k d.read ns word enc) d e → Comes f (suc (suc k)) e new)
 
 -- and at each moment what is read is what a crash may leave

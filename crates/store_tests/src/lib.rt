@@ -5,6 +5,8 @@
 #[cfg(test)]
 mod batches;
 #[cfg(test)]
+mod fails;
+#[cfg(test)]
 mod formats;
 #[cfg(test)]
 mod loading;

@@ -32,7 +32,7 @@ const STOPS: &[(u64, Outcomes)] = &[
 ];
 
 /// Entries of term 1 from an index up to another, which say their index.
-fn entries(alloc: Global, first: u8, end: u8) -> Option<Vec<Entry>> {
+pub(crate) fn entries(alloc: Global, first: u8, end: u8) -> Option<Vec<Entry>> {
     let mut entries = Vec::new(alloc);
     for index in first..end {
         let bytes = Vec::from_slice(alloc, &[index]).ok()?;
@@ -66,7 +66,13 @@ fn keep(
 }
 
 /// Adds the entries from an index on up to an end.
-fn add(alloc: Global, disk: &mut MemDisk, store: &mut Store, first: u8, end: u8) -> Option<()> {
+pub(crate) fn add(
+    alloc: Global,
+    disk: &mut MemDisk,
+    store: &mut Store,
+    first: u8,
+    end: u8,
+) -> Option<()> {
     let entries = entries(alloc, first, end)?;
     store.append(disk, u64::from(first), &entries).ok()
 }

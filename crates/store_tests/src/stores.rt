@@ -1,10 +1,9 @@
 use disk_model::{Disk, MemDisk};
 use dq_base::Items;
-use raft_vote::{Entry, EntryKind, SharedBytes};
+use raft_vote::{Entry, EntryKind, SharedBytes, Snapshot};
 use segment_store::Store;
 use std::alloc::Global;
-use store_format::read_batch;
-use store_format::read_metadata;
+use store_format::{read_batch, read_metadata};
 
 /// The version, term and vote in a file of metadata.
 fn metadata_in(disk: &mut MemDisk, first: bool) -> Option<(u64, u64, u64)> {
@@ -58,4 +57,33 @@ fn one_batch(alloc: Global) -> Option<(u64, usize, usize)> {
 #[test]
 fn a_batch_stands_behind_its_format_word(rt: HostRuntime) {
     assert_eq!(rt; one_batch(rt.alloc()), Some((1, 1, 56)));
+}
+
+/// How many bytes a great snapshot has: more than a mebibyte.
+const GREAT: usize = 1_300_000;
+
+/// How many bytes of a great snapshot are loaded, where each is what was kept.
+fn great_snapshot(alloc: Global) -> Option<usize> {
+    let mut disk = MemDisk::new(alloc);
+    let (mut store, _kept) = Store::load(alloc, &mut disk).ok()?;
+    store.set_meta(&mut disk, 1, 0).ok()?;
+    let mut bytes = Vec::from_elem(alloc, 7, GREAT).ok()?;
+    bytes.push(8).ok()?;
+    let snapshot = Snapshot {
+        index: 3,
+        term: 1,
+        bytes: SharedBytes::new(alloc, Items::new(bytes)).ok()?,
+    };
+    store.keep_snapshot(&mut disk, &snapshot, 4, &[]).ok()?;
+    let (_store, kept) = Store::load(alloc, &mut disk).ok()?;
+    let loaded = kept.snapshot?;
+    if loaded.bytes.as_slice() != snapshot.bytes.as_slice() {
+        return None;
+    }
+    Some(loaded.bytes.len())
+}
+
+#[test]
+fn a_snapshot_of_more_than_a_mebibyte_is_loaded(rt: HostRuntime) {
+    assert_eq!(rt; great_snapshot(rt.alloc()), Some(GREAT + 1));
 }

@@ -1,5 +1,6 @@
 use Rattle.std.proofs.lemmas.Result.{err_from_is_err_and}
 use Rattle.disk_model.proofs.Runs.{ran_stops, ran_then, ran_last}
+use Rattle.disk_model.proofs.Counting.{calls_then, calls_stop, calls_one}
 use Rattle.segment_store.proofs.block.write_over.Goals as goal
 
 pub returns-in_err-write_at-clause-ran : goal.returns-in_err-write_at-clause-ran
@@ -22,3 +23,21 @@ returns-clause-ran g c = λ known.
     ran_then _ _ _ _ _ _ c.sync-2.result (c.in_ok-write_at.ensures.told known)
     (ran_then _ _ _ _ _ _ c.sync-2.result c.in_ok-sync.ensures.told
     (ran_then _ _ _ _ _ _ c.sync-2.result c.in_ok-cut.ensures.told (ran_last _ _ _ c.sync-2.result c.sync-2.ensures.told)))
+
+pub returns-in_err-write_at-clause-count : goal.returns-in_err-write_at-clause-count
+returns-in_err-write_at-clause-count g c =
+    let p = err_from_is_err_and c.from_residual.result c.from_residual.ensures.1 in
+    rw p.1 (calls_stop 3 _ _ _ c.in_err-write_at.ensures.count)
+
+pub returns-in_err-sync-clause-count : goal.returns-in_err-sync-clause-count
+returns-in_err-sync-clause-count g c =
+    let p = err_from_is_err_and c.from_residual-in_err-sync.result c.from_residual-in_err-sync.ensures.1 in
+    rw p.1 (calls_then 3 _ _ _ _ c.in_ok-write_at.ensures.count (calls_stop 2 _ _ _ c.in_err-sync.ensures.count))
+
+pub returns-in_err-cut-clause-count : goal.returns-in_err-cut-clause-count
+returns-in_err-cut-clause-count g c =
+    let p = err_from_is_err_and c.from_residual-in_err-cut.result c.from_residual-in_err-cut.ensures.1 in
+    rw p.1 (calls_then 3 _ _ _ _ c.in_ok-write_at.ensures.count (calls_then 2 _ _ _ _ c.in_ok-sync.ensures.count (calls_stop 1 _ _ _ c.in_err-cut.ensures.count)))
+
+pub returns-clause-count : goal.returns-clause-count
+returns-clause-count g c = calls_then 3 _ _ _ c.sync-2.result c.in_ok-write_at.ensures.count (calls_then 2 _ _ _ c.sync-2.result c.in_ok-sync.ensures.count (calls_then 1 _ _ _ c.sync-2.result c.in_ok-cut.ensures.count (calls_one _ _ c.sync-2.result c.sync-2.ensures.count)))

@@ -26,5 +26,5 @@ returns-in_ok-all-in-Some-clause-settles g c =
     let st = stale_by _ _ _ (sym c.in-Some.is ∙ c.stale_from-stale.ensures.first) in
     let next : c.next_number-next.result + 1 ≡ suc c.next_number-next.result = omega arith in
     empty_settles c.args.list c.args.read.now c.args.sizes.0 c.args.sizes.1 c.stale_from-stale.ensures.fits c.last_segment-last.result c.last_segment-last.ensures.is g.D.Disk.tells _ _ _ _ _ c.version-in-Some.result c.next_number-next.result _ _ _ c.in_ok-sync_and_repair.ensures.went
-    c.version-in-Some.ensures st.0 c.next_number-next.ensures.next st.1 next c.in_ok-all-in-Some.ensures.empties
+    c.version-in-Some.ensures st.0 c.next_number-next.ensures.next st.1 next c.in_ok-all-in-Some.ensures.digits.0 c.in_ok-all-in-Some.ensures.empties
     (store_is c.version-in-Some.result _ c.args.sizes _ _ _ _ _ c.opened-in-Some.ensures (c.in_ok-all-in-Some.ensures.segments ∙ ap (λ (xs : List ℕ). xs ++ c.next_number-next.result ∷ []) (c.left_after-left.ensures.left ∙ ap (left_after c.last_segment-last.result) c.into_numbers-segments.ensures.segments)) c.into_numbers-segments.ensures.snapshots)

@@ -4,6 +4,7 @@ use Rattle.std.proofs.Common.{false, length}
 use Rattle.store_format.specs.BatchesWritten.{segment_word}
 use Rattle.segment_store.specs.Grow.{grow_calls}
 use Rattle.segment_store.proofs.Segments.{ran_both, ran_front, free_write, behind_word}
+use Rattle.disk_model.proofs.Counting.{calls_broke, calls_more}
 use Rattle.segment_store.proofs.segment.begin_segment.Goals as goal
 
 pub returns-in_err-replace-clause-ran : goal.returns-in_err-replace-clause-ran
@@ -18,3 +19,11 @@ returns-clause-ran g c = λ known.
     let first = c.in_ok-replace.ensures.ran (free_write n g.D.Disk.tells _ known) in
     ran_both (replace_calls n segment_word false) (grow_calls n (length segment_word) c.args.batch.now) _ _ _ c.in_ok-replace.field-0 c.grow_segment.result first
     (c.grow_segment.ensures.ran (behind_word n segment_word g.D.Disk.tells _ _ c.in_ok-replace.field-0 known first))
+
+pub returns-in_err-replace-clause-count : goal.returns-in_err-replace-clause-count
+returns-in_err-replace-clause-count g c =
+    let p = err_from_is_err_and c.from_residual.result c.from_residual.ensures.1 in
+    rw p.1 (calls_broke 3 2 _ _ _ _ c.in_err-replace.ensures.count)
+
+pub returns-clause-count : goal.returns-clause-count
+returns-clause-count g c = calls_more 3 2 _ _ _ _ c.grow_segment.result c.in_ok-replace.ensures.count c.grow_segment.ensures.count

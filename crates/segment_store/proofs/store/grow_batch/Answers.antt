@@ -7,6 +7,7 @@ use Rattle.segment_store.specs.Grow.{grow_calls}
 use Rattle.segment_store.specs.FileNames.{file_name}
 use Rattle.segment_store.proofs.Appending.{named_err, named_ok}
 use Rattle.segment_store.proofs.Keeping.{counted}
+use Rattle.disk_model.proofs.Counting.{calls_failed, calls_as}
 use Rattle.segment_store.proofs.store.grow_batch.Goals as goal
 
 pub returns-in_err-grow_segment-clause-went : goal.returns-in_err-grow_segment-clause-went
@@ -24,3 +25,11 @@ pub returns-in_err-grow_segment-clause-stays : goal.returns-in_err-grow_segment-
 returns-in_err-grow_segment-clause-stays g c =
     let p = err_from_is_err_and c.from_residual-in_err-grow_segment.result c.from_residual-in_err-grow_segment.ensures.1 in
     rw p.1 (counted _ _ _ _ _ _ c.in_err-grow_segment.field-0.0 c.in_err-grow_segment.ensures.cause c.in_err-grow_segment.ensures.want)
+
+pub returns-in_err-grow_segment-clause-count : goal.returns-in_err-grow_segment-clause-count
+returns-in_err-grow_segment-clause-count g c =
+    let p = err_from_is_err_and c.from_residual-in_err-grow_segment.result c.from_residual-in_err-grow_segment.ensures.1 in
+    rw p.1 (calls_failed _ _ _ c.in_err-grow_segment.field-0.0 _ c.in_err-grow_segment.ensures.count)
+
+pub returns-clause-count : goal.returns-clause-count
+returns-clause-count g c = calls_as _ _ _ c.in_ok-grow_segment.field-0 tt c.in_ok-grow_segment.ensures.count

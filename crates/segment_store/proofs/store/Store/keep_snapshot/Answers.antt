@@ -1,3 +1,5 @@
+use Rattle.std.proofs.Common.{◌≤◌, subst}
+use Rattle.segment_store.specs.Open.{Open}
 use Rattle.std.proofs.Common.{ℕ, List, length, Result, Ok, Err, ap, ◌∙◌}
 use Rattle.std.proofs.lemmas.Result.{err_from_is_err_and}
 use Rattle.store_format.specs.Snapshots.{snapshot_bytes}
@@ -9,22 +11,25 @@ use Rattle.segment_store.proofs.Keeping.{went_err, went_ok, counted}
 use Rattle.segment_store.proofs.CallsMade.{none_made}
 use Rattle.segment_store.proofs.KeptLaw.{nothing_kept}
 use Rattle.segment_store.proofs.KeepStore.{plan_made, plan_kept}
+use Rattle.disk_model.proofs.Counting.{calls_refused, calls_failed, calls_as}
+use Rattle.segment_store.specs.MadeCalls.{kept_count}
+use Rattle.segment_store.proofs.CountedCalls.{counts_as, plan_count}
 use Rattle.segment_store.proofs.store.Store.keep_snapshot.Goals as goal
 
 pub returns-in_err-plan-clause-kept : goal.returns-in_err-plan-clause-kept
 returns-in_err-plan-clause-kept g c =
     let p = err_from_is_err_and c.from_residual.result c.from_residual.ensures.1 in
-    rw p.1 (λ k can. nothing_kept g.D.Disk.tells (g.D.Disk.states c.args.disk.now) c.args.self.now c.args.self.now k (snap_value c.args.snapshot.now) (record { first = c.args.first; entries = c.args.rest.now }) p.0)
+    rw p.1 (λ k can. nothing_kept g.D.Disk.tells (g.D.Disk.states c.args.disk.now) c.args.self.now c.args.self.now k (snap_value c.args.snapshot.now) (record { first = c.args.first; entries = c.args.rest.now }) p.0 (subst (λ (o : Open). o.next ≤ 10000000000000000) c.self.view_is c.self.invariant.0))
 
 pub returns-in_err-segments-clause-kept : goal.returns-in_err-segments-clause-kept
 returns-in_err-segments-clause-kept g c =
     let p = err_from_is_err_and c.from_residual-in_err-segments.result c.from_residual-in_err-segments.ensures.1 in
-    rw p.1 (λ k can. nothing_kept g.D.Disk.tells (g.D.Disk.states c.args.disk.now) c.args.self.now c.args.self.now k (snap_value c.args.snapshot.now) (record { first = c.args.first; entries = c.args.rest.now }) p.0)
+    rw p.1 (λ k can. nothing_kept g.D.Disk.tells (g.D.Disk.states c.args.disk.now) c.args.self.now c.args.self.now k (snap_value c.args.snapshot.now) (record { first = c.args.first; entries = c.args.rest.now }) p.0 (subst (λ (o : Open). o.next ≤ 10000000000000000) c.self.view_is c.self.invariant.0))
 
 pub returns-in_err-snapshots-clause-kept : goal.returns-in_err-snapshots-clause-kept
 returns-in_err-snapshots-clause-kept g c =
     let p = err_from_is_err_and c.from_residual-in_err-snapshots.result c.from_residual-in_err-snapshots.ensures.1 in
-    rw p.1 (λ k can. nothing_kept g.D.Disk.tells (g.D.Disk.states c.args.disk.now) c.args.self.now c.args.self.now k (snap_value c.args.snapshot.now) (record { first = c.args.first; entries = c.args.rest.now }) p.0)
+    rw p.1 (λ k can. nothing_kept g.D.Disk.tells (g.D.Disk.states c.args.disk.now) c.args.self.now c.args.self.now k (snap_value c.args.snapshot.now) (record { first = c.args.first; entries = c.args.rest.now }) p.0 (subst (λ (o : Open). o.next ≤ 10000000000000000) c.self.view_is c.self.invariant.0))
 
 pub returns-in_err-follow-clause-kept : goal.returns-in_err-follow-clause-kept
 returns-in_err-follow-clause-kept g c =
@@ -76,3 +81,26 @@ pub returns-in_err-follow-clause-stays : goal.returns-in_err-follow-clause-stays
 returns-in_err-follow-clause-stays g c =
     let p = err_from_is_err_and c.from_residual-in_err-follow.result c.from_residual-in_err-follow.ensures.1 in
     rw p.1 (counted _ _ _ _ _ _ c.in_err-follow.field-0.0 c.in_err-follow.ensures.cause c.in_err-follow.ensures.want)
+
+pub returns-in_err-plan-clause-count : goal.returns-in_err-plan-clause-count
+returns-in_err-plan-clause-count g c =
+    let p = err_from_is_err_and c.from_residual.result c.from_residual.ensures.1 in
+    rw p.1 (calls_refused _ _ p.0)
+
+pub returns-in_err-segments-clause-count : goal.returns-in_err-segments-clause-count
+returns-in_err-segments-clause-count g c =
+    let p = err_from_is_err_and c.from_residual-in_err-segments.result c.from_residual-in_err-segments.ensures.1 in
+    rw p.1 (calls_refused _ _ p.0)
+
+pub returns-in_err-snapshots-clause-count : goal.returns-in_err-snapshots-clause-count
+returns-in_err-snapshots-clause-count g c =
+    let p = err_from_is_err_and c.from_residual-in_err-snapshots.result c.from_residual-in_err-snapshots.ensures.1 in
+    rw p.1 (calls_refused _ _ p.0)
+
+pub returns-in_err-follow-clause-count : goal.returns-in_err-follow-clause-count
+returns-in_err-follow-clause-count g c =
+    let p = err_from_is_err_and c.from_residual-in_err-follow.result c.from_residual-in_err-follow.ensures.1 in
+    rw p.1 (calls_failed _ _ _ c.in_err-follow.field-0.0 _ (counts_as _ (kept_count c.args.self.now c.args.snapshot.now.index) _ _ _ (plan_count c.args.self.now (snap_value c.args.snapshot.now) (record { first = c.args.first; entries = c.args.rest.now }) c.in_ok-plan.plan c.in_ok-plan.ensures) c.in_err-follow.ensures.count))
+
+pub returns-clause-count : goal.returns-clause-count
+returns-clause-count g c = calls_as _ _ _ c.in_ok-follow.field-0 tt (counts_as _ (kept_count c.args.self.now c.args.snapshot.now.index) _ _ _ (plan_count c.args.self.now (snap_value c.args.snapshot.now) (record { first = c.args.first; entries = c.args.rest.now }) c.in_ok-plan.plan c.in_ok-plan.ensures) c.in_ok-follow.ensures.count)
