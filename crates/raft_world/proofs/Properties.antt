@@ -29,7 +29,7 @@ reached_log vs w (Crash n) = sym (put_log w n (stored_of (w.nodes n)) false [])
 reached_log vs w (Start n servers) = cond_both (w.nodes n).up w (put w n (loaded true servers (stored_of (w.nodes n))) []) (λ (x : World). (w.nodes n).log ≡ (x.nodes n).log) (λ u. refl) (λ u. sym (put_log w n (stored_of (w.nodes n)) true servers))
 
 -- an event leaves the chosen entries, or they are the front of a log then
-chosen_step : (vs : Setup) (ps : List Event) (e : Event) → (chosen vs (ps ++ e ∷ []) ≡ chosen vs ps) ⊎ ((k : ℕ) × (chosen vs (ps ++ e ∷ []) ≡ take k (log_at vs (ps ++ e ∷ []) (actor e))))
+pub chosen_step : (vs : Setup) (ps : List Event) (e : Event) → (chosen vs (ps ++ e ∷ []) ≡ chosen vs ps) ⊎ ((k : ℕ) × (chosen vs (ps ++ e ∷ []) ≡ take k (log_at vs (ps ++ e ∷ []) (actor e))))
 unfolding chosen run
 chosen_step vs ps e =
     let a = applied vs ps in
@@ -43,7 +43,7 @@ chosen_step vs ps e =
     (λ (q : chosen_more c x ≡ take (max x.applied x.snapshot.index) x.log). inr (max x.applied x.snapshot.index, is ∙ q ∙ ap (take (max x.applied x.snapshot.index)) log))
     (chosen_cases c a.list.bound (actor e) x next.world.hist (committed_later vs next.later a.list.settled) next.done)
 
-keep_front : (Q : List Entry → Type 0) (vs : Setup) (xs ys : List Event) (w : World) → EventsKeep Q vs w (xs ++ ys) → EventsKeep Q vs w xs
+pub keep_front : (Q : List Entry → Type 0) (vs : Setup) (xs ys : List Event) (w : World) → EventsKeep Q vs w (xs ++ ys) → EventsKeep Q vs w xs
 keep_front Q vs [] ys w h = tt
 keep_front Q vs (e ∷ xs) ys w h = (h.0, keep_front Q vs xs ys (happens vs w e) h.1)
 
