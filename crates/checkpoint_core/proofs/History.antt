@@ -6,7 +6,8 @@ use Rattle.std.proofs.lemmas.List.{get_or-replicate, get_or_past, length-replica
 use Rattle.dq_base.specs.declared.images.Image.{Image}
 use Rattle.read_marks.specs.Marks.{no_marks, mark_at, lowered}
 use Rattle.checkpoint_core.specs.Store.{Store, view, fresh_store, IsLive, image_under, pinned, released, sets_to_move, checkpointed, StillShows, MarksWithin}
-use Rattle.checkpoint_core.specs.Calls.{Call, Commit, Pin, Release, Checkpoint, after_call, run, ShowsImagePinned}
+use Rattle.checkpoint_core.specs.Calls.{Call, Commit, Pin, Release, Checkpoint, after_call, run, LeavesAlone, ShowsImagePinned}
+use Rattle.checkpoint_core.proofs.LaidSets.{all_both}
 use Rattle.checkpoint_core.proofs.Shown.{commit_shows, pin_shows_newest, release_shows, checkpoint_shows, mark_at-here, mark_at-else, mark_at-past, mark_at-lowered, live_is, is_live, unlowered, within-committed, within-pinned, within-released, within-moved}
 
 run-append : (start : Store) (xs ys : List Call) → run start (xs ++ ys) ≡ run (run start xs) ys
@@ -19,11 +20,12 @@ record Traced (start : Store) (calls : List Call) : Type 0 where
   pinned_then : (id : ℕ) → IsLive (run start calls) id → ShowsImagePinned start calls id
 
 -- one call more, which kept the mark
-kept : (start : Store) (calls : List Call) (call : Call) (id : ℕ) → StillShows (run start calls) (after_call (run start calls) call) id → IsLive (run start calls) id → ShowsImagePinned start calls id → ShowsImagePinned start (calls ++ call ∷ []) id
-kept start calls call id still live was = record {
+kept : (start : Store) (calls : List Call) (call : Call) (id : ℕ) → LeavesAlone id call → StillShows (run start calls) (after_call (run start calls) call) id → IsLive (run start calls) id → ShowsImagePinned start calls id → ShowsImagePinned start (calls ++ call ∷ []) id
+kept start calls call id alone still live was = record {
   before = was.before;
   later = was.later ++ call ∷ [];
   split = ap (λ (cs : List Call). cs ++ call ∷ []) was.split ∙ append_assoc was.before (Pin id ∷ was.later) (call ∷ []);
+  stands = all_both (LeavesAlone id) was.later (call ∷ []) was.stands (alone, tt);
   shows = ap (λ (s : Store). image_under s id) (run-append start calls (call ∷ [])) ∙ still.same_image live ∙ was.shows;
 }
 
@@ -35,7 +37,7 @@ step start calls (Commit pages) was = record {
   within = subst MarksWithin (sym (run-append start calls (Commit pages ∷ []))) (within-committed (run start calls) pages was.within);
   pinned_then = λ id live.
       let before : IsLive (run start calls) id = subst (λ (s : Store). IsLive s id) (run-append start calls (Commit pages ∷ [])) live in
-      kept start calls (Commit pages) id (commit_shows (run start calls) pages id was.within) before (was.pinned_then id before);
+      kept start calls (Commit pages) id tt (commit_shows (run start calls) pages id was.within) before (was.pinned_then id before);
 }
 step start calls (Pin pin) was = record {
   within = subst MarksWithin (sym (run-append start calls (Pin pin ∷ []))) (within-pinned (run start calls) pin was.within);
@@ -48,7 +50,7 @@ step start calls (Pin pin) was = record {
         let before : IsLive (run start calls) id = sym (ap is_some same) ∙ live in
         let still : StillShows (run start calls) (pinned (run start calls) pin) id =
         record { live = λ h. live; same_image = λ h. ap (λ (o : Option ℕ). view (run start calls).base (run start calls).sets (unwrap_or o 0)) same } in
-        kept start calls (Pin pin) id still before (was.pinned_then id before)
+        kept start calls (Pin pin) id (λ e. apart (sym e)) still before (was.pinned_then id before)
     pin_case id (inl same) live =
         let marks : List (Option ℕ) = (run start calls).marks in
         let mark : Option ℕ = Some (length (run start calls).sets) in
@@ -58,6 +60,7 @@ step start calls (Pin pin) was = record {
               record {
                 before = calls;
                 later = [];
+                stands = tt;
                 split = ap (λ (k : ℕ). calls ++ Pin k ∷ []) (sym same);
                 shows =
                     ap (λ (s : Store). image_under s id) (run-append start calls (Pin pin ∷ []))
@@ -75,7 +78,7 @@ step start calls (Release gone) was = record {
     release_case id (inr apart) live =
         let same : mark_at (released (run start calls) gone).marks id ≡ mark_at (run start calls).marks id = mark_at-else (run start calls).marks gone id None apart in
         let before : IsLive (run start calls) id = sym (ap is_some same) ∙ live in
-        kept start calls (Release gone) id (release_shows (run start calls) gone id apart) before (was.pinned_then id before)
+        kept start calls (Release gone) id (λ e. apart (sym e)) (release_shows (run start calls) gone id apart) before (was.pinned_then id before)
     release_case id (inl same) live =
         let marks : List (Option ℕ) = (run start calls).marks in
         let now : IsLive (released (run start calls) id) id = subst (λ (k : ℕ). IsLive (released (run start calls) k) id) (sym same) live in
@@ -91,7 +94,7 @@ step start calls Checkpoint was = record {
       let l = live_is (mark_at (lowered n (run start calls).marks) id) now in
       let u = unlowered n (mark_at (run start calls).marks id) l.0 (sym (mark_at-lowered n (run start calls).marks id) ∙ l.1) in
       let before : IsLive (run start calls) id = is_live (mark_at (run start calls).marks id) u.0 u.1 in
-      kept start calls Checkpoint id (checkpoint_shows (run start calls) id) before (was.pinned_then id before);
+      kept start calls Checkpoint id tt (checkpoint_shows (run start calls) id) before (was.pinned_then id before);
 }
 
 all_calls : (start : Store) (done rest : List Call) → Traced start done → Traced start (done ++ rest)

@@ -1,6 +1,6 @@
 -- What a live mark shows before and after each call of a store.
 use Rattle.std.proofs.Common.{◌≡◌, ℕ, ◌+◌, ◌-◌, ◌≤◌, ◌<◌, List, [], ◌∷◌, ◌++◌, length, take, drop, set, Option, Some, None, refl, sym, ap, ◌∙◌, arith, inl, inr}
-use Rattle.std.specs.Prelude.{unwrap_or, IsSome, is_some}
+use Rattle.std.specs.Prelude.{unwrap_or, IsSome, IfSome, IsSomeAnd, is_some}
 use Rattle.std.proofs.Math.ListN.{get_or-map}
 use Rattle.std.proofs.lemmas.Bool.{cases_lt, cases_eq, false≢true}
 use Rattle.std.proofs.lemmas.List.{take-append-le, get_or-set_same, get_or-set_other, set_past, get_or_past, take_all, take-take, drop-take, take-append-drop, length-drop, length_push}
@@ -29,6 +29,23 @@ take_split n m xs le =
 pub view-moved : (base : Image) (sets : List (List NumberedPage)) (n m : ℕ) → n ≤ m → view (view base sets n) (drop n sets) (m - n) ≡ view base sets m
 view-moved base sets n m le =
     sym (after_sets-append base (take n sets) (take (m - n) (drop n sets))) ∙ ap (after_sets base) (sym (take_split n m sets le))
+
+-- ---- the newest image
+
+pub newest_committed : (store : Store) (pages : List NumberedPage) → newest_image (committed store pages) ≡ applied (newest_image store) pages
+newest_committed store pages = after_sets-append store.base store.sets (pages ∷ [])
+
+pub newest_checkpointed : (store : Store) → newest_image (checkpointed store) ≡ newest_image store
+newest_checkpointed store =
+    let n : ℕ = sets_to_move store in
+    sym (after_sets-append store.base (take n store.sets) (drop n store.sets)) ∙ ap (after_sets store.base) (take-append-drop n store.sets)
+
+-- a share of an image that a commit brought along shows the image after the commit
+pub shows_committed : {A : Type 0} (value : A → Image) (was now : Option A) (old new : Image) (pages : List NumberedPage)
+    → IfSome was (λ w. value w ≡ old) → IfSome now (λ n. IsSomeAnd was (λ w. value n ≡ applied (value w) pages)) → new ≡ applied old pages → IfSome now (λ n. value n ≡ new)
+shows_committed value was None old new pages before along same = tt
+shows_committed value None (Some n) old new pages before along same = absurd along
+shows_committed value (Some w) (Some n) old new pages before along same = along ∙ ap (λ (image : Image). applied image pages) before ∙ sym same
 
 -- ---- live marks
 

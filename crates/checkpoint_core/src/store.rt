@@ -1,7 +1,8 @@
-ghost use Rattle.std.specs.Prelude.{◌≡◌, ◌≢◌, ℕ, ◌<◌, length, None, unwrap_or, IfOk, IfErr, OnOk, OnErr};
+ghost use Rattle.std.specs.Prelude.{◌≡◌, ◌≢◌, ℕ, ◌<◌, length, None, unwrap_or, IfOk, IfErr, IfSome, IsSomeAnd, OnOk, OnErr};
+ghost use Rattle.std.specs.Arc.{arc_value};
 ghost use Rattle.std.specs.List.{AllByRecursion};
 ghost use Rattle.dq_base.specs.Images.{page_at, page_count};
-ghost use Rattle.dq_base.specs.Applying.{page_fault, IsRefusal};
+ghost use Rattle.dq_base.specs.Applying.{applied, page_fault, IsRefusal};
 ghost use Rattle.read_marks.specs.Marks.{mark_at, live_count, least_mark};
 ghost use Rattle.read_marks.specs.declared.marks.MarkFault.TheVariants.{Full};
 ghost use Rattle.checkpoint_core.specs.Log.{IsSized};
@@ -10,14 +11,18 @@ ghost use Rattle.checkpoint_core.specs.Store.{fresh_store, newest, newest_image,
 use crate::files::{lay, make_room};
 use crate::frame_log::FrameLog;
 use crate::reading::{image_under, lengths_under, page_count_under, page_under};
-use dq_base::{Image, Lengths, NumberedPage, Page, PageFault, PageSet, set_lengths};
+use dq_base::{Image, Lengths, NumberedPage, Page, PageFault, PageSet, apply_pages, set_lengths};
 use read_marks::{MarkFault, MarkId, Marks};
 use std::alloc::{AllocError, Global};
 use std::marker::Model;
+use std::sync::Arc;
 
 /// A database under readers. It has a base image and, over it, the pages of each later commit as frames. A reader pins a
 /// mark and sees the image that was newest then, whatever is committed or checkpointed later. A checkpoint moves frames
 /// into the base, up to the least live mark.
+///
+/// It may also keep its newest image whole, to be lent without a copy. Each commit brings that image along, in place where
+/// nobody else holds it and in a copy where somebody does; where memory is short it is let go, and no commit fails for it.
 ///
 /// Contracts see it as the base, the list of page sets over it, the number of commits that are in the base, and a table
 /// of live marks, each with the number of sets that it sees.
@@ -28,12 +33,15 @@ pub struct PageStore {
     log: FrameLog,
     marks: Marks,
     newest: u64,
+    // the newest image, whole
+    whole: Option<Arc<Image, Global>>,
     alloc: Global,
 }
 
 impl Model for PageStore {
-    ghost use Rattle.std.specs.Prelude.{vec_capacity};
-    ghost use Rattle.checkpoint_core.specs.Store.{Store};
+    ghost use Rattle.std.specs.Prelude.{◌≡◌, vec_capacity, IfSome};
+    ghost use Rattle.std.specs.Arc.{arc_value};
+    ghost use Rattle.checkpoint_core.specs.Store.{Store, newest_image};
     ghost use Rattle.checkpoint_core.specs.Sets.{store_of};
     ghost use Rattle.checkpoint_core.specs.Holding.{Holds};
 
@@ -41,7 +49,8 @@ impl Model for PageStore {
 
     ghost view = { λ a. store_of (record { main = a.main.items; side = a.side.items }) a.log.pages a.newest a.marks };
 
-    ghost invariant = { λ a. Holds (vec_capacity a.main) (vec_capacity a.side) a.log.pages a.log.lengths a.newest a.marks };
+    ghost invariant = { λ a. Holds (vec_capacity a.main) (vec_capacity a.side) a.log.pages a.log.lengths a.newest a.marks
+        × IfSome a.whole (λ shared. arc_value shared ≡ newest_image (store_of (record { main = a.main.items; side = a.side.items }) a.log.pages a.newest a.marks)) };
 }
 
 impl PageStore {
@@ -55,6 +64,7 @@ impl PageStore {
             log: FrameLog::new(alloc),
             marks: Marks::new(),
             newest: 0,
+            whole: None,
             alloc,
         }
     }
@@ -90,11 +100,13 @@ impl PageStore {
         let Some(newest) = self.newest.checked_add(1) else {
             return Err(PageFault::NoMemory);
         };
+        let whole = self.whole.take();
         make_room(&mut self.main, lengths.main)?;
         make_room(&mut self.side, lengths.side)?;
         self.log.append(pages, lengths)?;
         let _frames = self.log.len();
         self.newest = newest;
+        self.whole = brought_along(self.alloc, whole, pages);
         Ok(newest)
     }
 
@@ -198,6 +210,25 @@ impl PageStore {
         image_under(self.alloc, main, side, &self.log, count)
     }
 
+    /// A share of the newest image: of the one that is kept whole, which costs nothing, and else of a fresh copy, as
+    /// `newest_image` makes it. Whoever holds it keeps that image, whatever is committed later. `Err` is want of memory.
+    pub fn newest_shared(&self) -> Result<Arc<Image, Global>, AllocError>
+        ensures { IfOk result (λ shared. arc_value shared ≡ newest_image self.now) }
+    {
+        if let Some(whole) = &self.whole {
+            return Ok(Arc::try_clone(whole)?);
+        }
+        Ok(Arc::new(self.alloc, self.newest_image()?)?)
+    }
+
+    /// Keeps the newest image whole from here on, where there is the memory. Copies it at the first time, and after it was
+    /// let go.
+    pub fn keep_newest(&mut self)
+        ensures { self.new ≡ self.old }
+    {
+        self.whole = self.newest_shared().ok();
+    }
+
     /// Moves frames into the base: those up to the least live mark, or all where no mark is live. Answers how many moved,
     /// which is the number of pages of the sets that moved. Every live mark shows what it showed before.
     ///
@@ -225,4 +256,25 @@ fn frames_to_move(marks: &Marks, frames: u64) -> u64
         Some(least) => least,
         None => frames,
     }
+}
+
+/// An image that was kept whole, after a commit of these pages: changed in place where nobody else holds it, and in a copy
+/// where somebody does. `None` where memory is short.
+fn brought_along(
+    alloc: Global,
+    whole: Option<Arc<Image, Global>>,
+    pages: &[NumberedPage],
+) -> Option<Arc<Image, Global>>
+    ensures { IfSome result (λ now. IsSomeAnd whole (λ was. arc_value now ≡ applied (arc_value was) pages.now)) }
+{
+    let mut shared = whole?;
+    if let Some(alone) = Arc::get_mut(&mut shared) {
+        return match apply_pages(alone, pages) {
+            Ok(()) => Some(shared),
+            Err(_) => None,
+        };
+    }
+    let mut copy = shared.try_clone(alloc).ok()?;
+    apply_pages(&mut copy, pages).ok()?;
+    Arc::new(alloc, copy).ok()
 }

@@ -9,3 +9,6 @@ pub mod PageBytes
 pub mod SizesTests
 pub mod ChangeFaults
 pub mod Steps
+pub mod Choices
+pub mod Numbers
+pub mod Halves

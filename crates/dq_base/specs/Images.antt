@@ -2,6 +2,7 @@
 use Rattle.std.specs.Prelude.{ℕ, ◌+◌, ◌-◌, ◌*◌, ◌/◌, ◌%◌, Bool, ◌&&◌, ◌==◌, nat_lt, if◌then◌else◌, List, ◌++◌, length, take, drop, replicate, Option, Some, None}
 use Rattle.byteorder.specs.Endian.{little_bytes}
 use Rattle.dq_base.specs.declared.images.Image.{Image}
+use Rattle.dq_base.specs.declared.sizes.Lengths.{Lengths}
 
 -- so many zeros
 unfoldable pub zeros : ℕ → List ℕ
@@ -18,6 +19,10 @@ page_from file start = resized 4096 (drop start file)
 -- the lengths of the main and the side file, little-endian in 8 bytes each, and zeros
 unfoldable pub sizes_page : ℕ → ℕ → List ℕ
 sizes_page main side = (little_bytes 8 main ++ little_bytes 8 side) ++ zeros 4080
+
+-- the lengths of an image's files
+abbrev pub lengths_of : Image → Lengths
+lengths_of image = record { main = length image.main; side = length image.side }
 
 -- where a page begins in its file: page k of a file, from k = 1, has the number 2k or 2k + 1
 abbrev pub page_start : ℕ → ℕ

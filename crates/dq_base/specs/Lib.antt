@@ -8,3 +8,5 @@ pub mod Images
 pub mod Changes
 pub mod Applying
 pub mod Names
+pub mod Decimal
+pub mod Texts

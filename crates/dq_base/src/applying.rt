@@ -1,11 +1,11 @@
 ghost use Rattle.std.specs.Prelude.{◌≡◌, ◌≤◌, None, IfErr, OnOk, OnErr, IsOk, vec_capacity};
-ghost use Rattle.dq_base.specs.Images.{resized, page_start, is_page_of};
-ghost use Rattle.dq_base.specs.Applying.{replaced, put_pages, applied, page_fault, IsRefusal};
+ghost use Rattle.dq_base.specs.Images.{resized};
+ghost use Rattle.dq_base.specs.Applying.{applied, page_fault, IsRefusal};
 
+use crate::files::put_pages;
 use crate::images::Image;
 use crate::page_fault::PageFault;
-use crate::page_numbers::start_within;
-use crate::pages::{NumberedPage, PAGE_SIZE, PageSet};
+use crate::pages::{NumberedPage, PageSet};
 use crate::set_checks::set_lengths;
 use crate::sizes::Lengths;
 use std::alloc::AllocError;
@@ -38,8 +38,8 @@ pub fn apply_pages(image: &mut Image, pages: &[NumberedPage]) -> Result<(), Page
     let main = &mut image.main;
     let side = &mut image.side;
     resize_both(&mut main.inner, &mut side.inner, lengths)?;
-    put_all(&mut main.inner, pages, 0);
-    put_all(&mut side.inner, pages, 1);
+    put_pages(&mut main.inner, pages, 0);
+    put_pages(&mut side.inner, pages, 1);
     Ok(())
 }
 
@@ -72,33 +72,4 @@ fn resize(file: &mut Vec<u8>, len: usize) -> Result<(), AllocError>
     ensures room { len ≤ vec_capacity file.old → IsOk result }
 {
     file.resize(len, 0)
-}
-
-/// Puts each page of a file into it: the file whose pages' numbers have this remainder by 2.
-fn put_all(file: &mut [u8], pages: &[NumberedPage], parity: u64)
-    ensures { file.new ≡ put_pages (is_page_of parity) pages.now file.old }
-{
-    for page in pages {
-        if is_page_of(page.number, parity) {
-            put_page(file, page);
-        }
-    }
-}
-
-fn is_page_of(number: u64, parity: u64) -> bool
-    ensures { result ≡ is_page_of parity number }
-{
-    number > 1 && number % 2 == parity
-}
-
-/// Replaces the bytes that a page stands for, as far as they lie inside its file.
-#[tactic(auto, unfolding(crate::specs::Applying::replaced))]
-fn put_page(file: &mut [u8], page: &NumberedPage)
-    ensures { file.new ≡ replaced file.old (page_start page.now.number) page.now.page }
-{
-    let Some(start) = start_within(page.number, file.len()) else {
-        return;
-    };
-    let count = PAGE_SIZE.min(file.len() - start);
-    file[start..start + count].copy_from_slice(&page.page.bytes()[..count]);
 }

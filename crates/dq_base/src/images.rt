@@ -1,9 +1,11 @@
-ghost use Rattle.std.specs.Prelude.{◌≡◌, ◌<◌, [], length, IfOk};
-ghost use Rattle.dq_base.specs.Images.{page_at, page_count, pages_in, file_of, sizes_page, page_from};
+ghost use Rattle.std.specs.Prelude.{◌≡◌, ◌<◌, ◌^◌, [], length, IfOk};
+ghost use Rattle.dq_base.specs.Images.{page_at, page_count, pages_in, file_of, lengths_of, sizes_page, page_from};
+ghost use Rattle.dq_base.specs.Changes.{sizes_of};
 
 use crate::items::Bytes;
 use crate::page_numbers::start_within;
-use crate::pages::{PAGE_SIZE, Page, zeroed_bytes};
+use crate::pages::{NumberedPage, PAGE_SIZE, Page, zeroed_bytes};
+use crate::sizes::Lengths;
 use byteorder::{ByteOrder, LittleEndian};
 use std::alloc::{AllocError, Global};
 
@@ -47,7 +49,7 @@ pub fn page_at(image: &Image, number: u64) -> Option<Page>
     ensures { result ≡ page_at image.now number }
 {
     if number == 1 {
-        return Some(sizes_page(image.main.len() as u64, image.side.len() as u64));
+        return Some(sizes_page(lengths_of(image)));
     }
     if number == 0 {
         return None;
@@ -83,15 +85,39 @@ fn pages_in(file: &[u8]) -> u64
     file.len().div_ceil(PAGE_SIZE) as u64
 }
 
-fn sizes_page(main: u64, side: u64) -> Page
-    ensures { result ≡ sizes_page main side }
+/// The lengths of an image's files, in bytes.
+pub fn lengths_of(image: &Image) -> Lengths
+    ensures lengths { result ≡ lengths_of image.now }
+    ensures main_fits { length image.now.main < 2 ^ 64 }
+    ensures side_fits { length image.now.side < 2 ^ 64 }
+{
+    Lengths {
+        main: image.main.len(),
+        side: image.side.len(),
+    }
+}
+
+/// The sizes page of files with these lengths: both in eight bytes, little-endian, and zeros behind them.
+pub fn sizes_page(lengths: Lengths) -> Page
+    ensures { result ≡ sizes_page lengths.main lengths.side }
 {
     let mut bytes = zeroed_bytes();
-    LittleEndian::write_u64(&mut bytes, main);
-    LittleEndian::write_u64(&mut bytes[8..], side);
+    LittleEndian::write_u64(&mut bytes, lengths.main as u64);
+    LittleEndian::write_u64(&mut bytes[8..], lengths.side as u64);
     Page::new(bytes)
 }
 
+/// The sizes page of an image, with its number 1.
+pub fn sizes_of(image: &Image) -> NumberedPage
+    ensures { result ≡ sizes_of image.now }
+{
+    NumberedPage {
+        number: 1,
+        page: sizes_page(lengths_of(image)),
+    }
+}
+
+/// The page that begins at a byte of a file.
 fn page_from(file: &[u8], start: usize) -> Page
     requires { start < length file.now }
     ensures { result ≡ page_from file.now start }

@@ -9,6 +9,9 @@ use std::alloc::{AllocError, Global};
 use std::cmp::Ordering;
 use std::marker::Model;
 
+/// How many bytes a name may have.
+pub const MAX_NAME_LENGTH: usize = 255;
+
 /// The name of a database: a text of 1 to 255 bytes without a NUL. Contracts see it as its bytes, and names compare by
 /// them.
 #[derive(Debug, Drop)]
@@ -32,7 +35,7 @@ impl Name {
     pub fn new(text: String) -> Option<Name>
         ensures { SomeIff result (IsName (string_bytes text)) (string_bytes text) }
     {
-        if text.is_empty() || text.len() > 255 || holds_nul(text.as_bytes()) {
+        if text.is_empty() || text.len() > MAX_NAME_LENGTH || holds_nul(text.as_bytes()) {
             return None;
         }
         Some(Name { text })

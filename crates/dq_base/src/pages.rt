@@ -1,5 +1,5 @@
-ghost use Rattle.std.specs.Prelude.{◌≡◌, length};
-ghost use Rattle.dq_base.specs.Images.{zeros};
+ghost use Rattle.std.specs.Prelude.{◌≡◌, ◌≤◌, length};
+ghost use Rattle.dq_base.specs.Images.{zeros, resized};
 
 use crate::items::Items;
 use std::marker::Model;
@@ -47,6 +47,16 @@ impl Page {
     {
         let mut page = zeroed_bytes();
         page.copy_from_slice(bytes);
+        Page { bytes: page }
+    }
+
+    /// A page with a copy of these bytes first, of which there are at most 4,096, and zeros behind them. Takes no memory.
+    pub fn padded(bytes: &[u8]) -> Page
+        requires { length bytes.now ≤ 4096 }
+        ensures { result ≡ resized 4096 bytes.now }
+    {
+        let mut page = zeroed_bytes();
+        page[..bytes.len()].copy_from_slice(bytes);
         Page { bytes: page }
     }
 

@@ -5,7 +5,7 @@ ghost use Rattle.dq_base.specs.Source.{Moves};
 
 use crate::faults::{Failed, count_fault};
 use crate::source::Source;
-use crate::tries::{RETRIES, Trouble};
+use crate::tries::{MAX_RETRIES, Trouble};
 use std::io::Read;
 use std::marker::Model;
 
@@ -67,7 +67,7 @@ impl<R: Read> Source for ReadSource<R> {
     ghost faults = { λ source. source.faults };
 
     fn read(&mut self, into: &mut [u8]) -> Result<usize, Failed> {
-        'tries: for _ in 0..RETRIES {
+        'tries: for _ in 0..MAX_RETRIES {
             match self.read_once(into) {
                 Ok(count) => return Ok(count),
                 Err(Trouble::Interrupted) => {}

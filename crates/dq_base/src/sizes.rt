@@ -5,8 +5,8 @@ ghost use Rattle.dq_base.specs.Applying.{stated_main, stated_side, is_sizes};
 use crate::pages::NumberedPage;
 use byteorder::{ByteOrder, LittleEndian};
 
-/// The longest file that a sizes page may state, in bytes.
-pub const LONGEST_FILE: u64 = 67_108_864;
+/// How long a file may be that a sizes page states, in bytes.
+pub const MAX_FILE_LENGTH: u64 = 67_108_864;
 
 /// The lengths of both files of an image, in bytes.
 #[derive(Clone, Copy, Debug, PartialEq, Eq)]
@@ -30,7 +30,7 @@ pub fn stated_lengths(page: &NumberedPage) -> Option<Lengths>
     }
     let main = main_length(bytes);
     let side = side_length(bytes);
-    if main > LONGEST_FILE || side > LONGEST_FILE {
+    if main > MAX_FILE_LENGTH || side > MAX_FILE_LENGTH {
         return None;
     }
     Some(Lengths {

@@ -5,7 +5,7 @@ use std::io;
 use std::io::ErrorKind;
 
 /// How often in a row an interrupted call of a reader or a writer is tried again.
-pub(crate) const RETRIES: u32 = 1_000;
+pub(crate) const MAX_RETRIES: u32 = 1_000;
 
 /// Why one call of a reader or a writer failed.
 #[derive(Clone, Copy)]

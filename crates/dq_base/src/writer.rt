@@ -4,7 +4,7 @@ ghost use Rattle.dq_base.specs.Faults.{Rose, HasCause};
 
 use crate::faults::{Failed, count_fault};
 use crate::sink::Sink;
-use crate::tries::{RETRIES, Trouble};
+use crate::tries::{MAX_RETRIES, Trouble};
 use std::io::Write;
 use std::marker::Model;
 
@@ -70,7 +70,7 @@ impl<W: Write> WriteSink<W> {
         ensures err { OnErr result (Keeps self.old.bytes self.new.bytes) }
         ensures cause { HasCause self.old.faults self.new.faults result }
     {
-        'tries: for _ in 0..RETRIES {
+        'tries: for _ in 0..MAX_RETRIES {
             match self.write_once(bytes) {
                 Ok(count) => return Ok(count),
                 Err(Trouble::Interrupted) => {}

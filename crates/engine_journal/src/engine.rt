@@ -4,8 +4,8 @@ ghost use Rattle.engine_journal.specs.Noting.{note_of};
 
 use crate::copying::note;
 use crate::noted::Noted;
-use dq_base::Image;
-use sql_engine::{Engine, EngineFault, Ran};
+use dq_base::{Image, ImageNumber};
+use sql_engine::{Engine, EngineFault, ImageNumbers, Ran};
 use std::alloc::{AllocError, Global};
 use std::marker::Model;
 use wire_words::Value;
@@ -16,8 +16,8 @@ use wire_words::Value;
 /// A copy of an answer takes as many bytes as the answer: its rows, the names of its columns and its pages. A run costs what
 /// it costs in the engine, and that copy.
 ///
-/// Where there is no room for a copy the run answers want of memory, and from then on the list is cut: each later run answers
-/// want of memory too, and the engine in it isn't asked again.
+/// Where there is no room for a copy the run answers want of memory, and from then on the list is cut: the engine in it knows
+/// nothing any more and isn't asked again, and each later run answers want of memory too.
 #[derive(Drop)]
 pub struct NotedEngine<E> {
     alloc: Global,
@@ -90,21 +90,28 @@ impl<E: Engine> Engine for NotedEngine<E> {
 
     ghost told = { λ e. Some (told_by e.noted e.cut) };
 
+    ghost known = { λ e. E.known e.engine };
+
+    ghost gets_ready = { λ image number before now. E.gets_ready image number before.engine now.engine };
+
     fn run(
         &mut self,
         image: &Image,
+        numbers: ImageNumbers,
         text: &str,
         params: &[Value],
         tx: u64,
+        limit: Option<u64>,
     ) -> Result<Ran, EngineFault> {
         if self.cut {
             return Err(EngineFault::NoMemory);
         }
-        let answer = self.engine.run(image, text, params, tx);
+        let answer = self.engine.run(image, numbers, text, params, tx, limit);
         match keep(self.alloc, &mut self.noted, &answer) {
             Ok(()) => answer,
             Err(AllocError) => {
                 self.cut = true;
+                self.engine.forget();
                 Err(EngineFault::NoMemory)
             }
         }
@@ -114,7 +121,11 @@ impl<E: Engine> Engine for NotedEngine<E> {
         Ok(NotedEngine::new(self.alloc, self.engine.fork()?))
     }
 
-    fn ready(&mut self, image: &Image) {
-        self.engine.ready(image);
+    fn ready(&mut self, image: &Image, number: ImageNumber) {
+        self.engine.ready(image, number);
+    }
+
+    fn forget(&mut self) {
+        self.engine.forget();
     }
 }

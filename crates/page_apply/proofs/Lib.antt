@@ -17,3 +17,4 @@ pub mod WrittenLogs
 pub mod RestoredLaws
 pub mod SnapshotLaws
 pub mod RestoringSteps
+pub mod ImageNumbers

@@ -2,6 +2,7 @@ pub mod ByName
 pub mod Files
 pub mod AsMap
 pub mod Databases
+pub mod ImageNumbers
 pub mod Pins
 pub mod Machines
 pub mod Stated

@@ -1,4 +1,4 @@
-ghost use Rattle.std.specs.Prelude.{◌≡◌, ℕ, ◌≤◌, List, [], ◌∷◌, ◌++◌, length, fold, sum_by, Ok, None, Some};
+ghost use Rattle.std.specs.Prelude.{◌≡◌, ℕ, ◌<◌, ◌≤◌, List, [], ◌∷◌, ◌++◌, length, fold, sum_by, Ok, None, Some};
 ghost use Rattle.std.specs.List.{AllByRecursion, Contains};
 ghost use Rattle.page_apply.specs.Stated.{greatest_stated, length_of_files, IsSpelled, names_opened};
 ghost use Rattle.dq_base.specs.declared.images.Image.{Image};
@@ -16,6 +16,9 @@ ghost use Rattle.page_apply.specs.Snapshot.{IsSnapshot};
 ghost use Rattle.page_apply.specs.Restoring.{snapshot_of, restored};
 ghost use Rattle.page_apply.specs.AsMap.{AreInOrder, Does};
 ghost use Rattle.page_apply.specs.Databases.{contents_of, act};
+ghost use Rattle.page_apply.specs.ImageNumbers.{NumbersGoOn, NumbersStay};
+ghost use Rattle.page_apply.specs.Machines.{IsMachine};
+ghost use Rattle.page_apply.specs.Pins.{Pinning, with_pin, without_pin};
 
 /// What a command does to databases under readers is what it does to the files and pending pages that these show. So a
 /// machine that was made by a list of commands shows the files of that list. A law: the function does nothing.
@@ -71,4 +74,16 @@ pub fn images_are_their_pages()
     ensures each { (image : Image) → AllByRecursion (λ p. page_at image p.number ≡ Some p.page) (all_pages image) }
     ensures sound { (image : Image) → IsShort image → page_fault (all_pages image) ≡ None }
     ensures whole { (image : Image) → IsShort image → applied empty_image (all_pages image) ≡ image }
+{}
+
+/// A number stands for one image, as long as the machine is one and the same. After a command each database is one of those
+/// before, with the same number and the same newest image or with more commits, or it is new, and its place in the order of
+/// opening is behind theirs. A pin and a release change no number and no newest image. No two databases of a machine are of
+/// one place, and each place is below their number.
+pub fn numbers_stand_for_images()
+    ensures act { (databases : List Database) (command : Command) → NumbersGoOn databases (act databases command) }
+    ensures pin { (databases : List Database) (name : List ℕ) (mark : ℕ) → NumbersGoOn databases (with_pin name mark databases) × NumbersStay databases (with_pin name mark databases) }
+    ensures release { (databases : List Database) (pin : Pinning) → NumbersGoOn databases (without_pin pin databases) × NumbersStay databases (without_pin pin databases) }
+    ensures apart { (databases : List Database) (a b : Database) → IsMachine databases → Contains databases a → Contains databases b → a.place ≡ b.place → a ≡ b }
+    ensures below { (databases : List Database) (a : Database) → IsMachine databases → Contains databases a → a.place < length databases }
 {}

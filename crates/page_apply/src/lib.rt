@@ -18,7 +18,8 @@ pub use database::Database;
 pub use fault::SnapFault;
 pub use laws::{
     commands_do_what_they_say, files_are_no_longer_than_stated, images_are_their_pages,
-    limit_bounds_files, machines_show_files, snapshots_read_back, split_sets_apply_whole,
+    limit_bounds_files, machines_show_files, numbers_stand_for_images, snapshots_read_back,
+    split_sets_apply_whole,
 };
 pub use machine::Machine;
 pub use pin::{Pin, PinFault};

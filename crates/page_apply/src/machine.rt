@@ -1,6 +1,7 @@
 //! The machine: databases by their names.
 
 ghost use Rattle.std.specs.Prelude.{◌≡◌, [], map, OnOk, OnErr, IfOk};
+ghost use Rattle.std.specs.Arc.{arc_value};
 ghost use Rattle.std.specs.Option.{option_map};
 ghost use Rattle.dq_base.specs.Images.{page_count};
 ghost use Rattle.frame_commands.specs.Numbers.{HasLowNumbers};
@@ -8,16 +9,18 @@ ghost use Rattle.checkpoint_core.specs.Store.{newest, newest_image};
 ghost use Rattle.page_apply.specs.ByName.{change_first, Ascend};
 ghost use Rattle.page_apply.specs.declared.database.Database.{Database};
 ghost use Rattle.page_apply.specs.Files as of_files;
+ghost use Rattle.page_apply.specs.ImageNumbers.{number_of};
 ghost use Rattle.page_apply.specs.Machines.{names_of, AllShort};
 ghost use Rattle.page_apply.specs.Pins.{Pinning, StillPinned};
 ghost use Rattle.page_apply.specs.Databases.{contents_of, has_name, named, frames, undone, moved, changed, act, tx_pending};
 
 use crate::database::Database;
 use crate::lookup::{find_named, named, place_of};
-use dq_base::{Image, Name, NumberedPage};
+use dq_base::{Image, ImageNumber, Name, NumberedPage};
 use frame_commands::Command;
 use std::alloc::{AllocError, Global};
 use std::marker::Model;
+use std::sync::Arc;
 
 /// What replicated commands make of a node's databases. Each is under readers: a base image, the page sets committed over
 /// it, and live read marks. Contracts see a machine as the list of its databases, by the bytes of their names.
@@ -110,6 +113,16 @@ fn names(alloc: Global, databases: &[Database]) -> Result<Vec<Name>, AllocError>
         names.push(database.name.try_clone(alloc)?)?;
     }
     Ok(names)
+}
+
+/// Keeps the newest image of the database of a name whole, where there is one.
+fn keep_newest(databases: &mut Vec<Database>, name: &str)
+    ensures { databases.new.items ≡ databases.old.items }
+{
+    if let Some(place) = find_named(databases.as_slice(), name) {
+        let database = &mut databases[place];
+        database.store.keep_newest();
+    }
 }
 
 /// Does what a command says. `Err` is want of memory; the databases are then unchanged.
@@ -212,6 +225,38 @@ impl Machine {
             Some(database) => Ok(Some(database.store.newest_image()?)),
             None => Ok(None),
         }
+    }
+
+    /// The newest image of the database of a name, shared; `None` exactly where there is none. Where the machine keeps it
+    /// whole this copies nothing, and else it copies the image. Whoever holds it keeps that image, whatever the machine does
+    /// later. `Err` is want of memory.
+    pub fn newest_shared(&self, name: &str) -> Result<Option<Arc<Image, Global>>, AllocError>
+        ensures { IfOk result (λ shared. option_map arc_value shared ≡ option_map (λ (database : Database). newest_image database.store) (named name.now self.now)) }
+    {
+        match named(self.databases.as_slice(), name) {
+            Some(database) => Ok(Some(database.store.newest_shared()?)),
+            None => Ok(None),
+        }
+    }
+
+    /// Keeps the newest image of the database of a name whole from here on, where there is one and there is the memory. Each
+    /// commit brings it along, and no command fails for it. Copies the image at the first time, and after it was let go.
+    pub fn keep_newest(&mut self, name: &str)
+        ensures { self.new ≡ self.old }
+    {
+        keep_newest(&mut self.databases, name);
+    }
+
+    /// The number of the newest image of the database of a name; `None` exactly where there is none. As long as the machine
+    /// is one and the same, images of one number are one image. Takes no memory.
+    pub fn number(&self, name: &str) -> Option<ImageNumber>
+        ensures { result ≡ option_map number_of (named name.now self.now) }
+    {
+        let database = named(self.databases.as_slice(), name)?;
+        Some(ImageNumber::Newest {
+            place: database.place as u64,
+            commits: database.store.newest(),
+        })
     }
 
     /// The names of all databases, ascending by their bytes. `Err` is want of memory.

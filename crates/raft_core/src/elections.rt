@@ -9,7 +9,7 @@ ghost use Rattle.raft_core.specs.Nodes.{told};
 
 use crate::effects::{Effects, LogChange, Recipients, Say};
 use crate::node::RaftNode;
-use raft_vote::{Entry, EntryKind, LogEnd};
+use raft_vote::{Entry, EntryKind, LogEnd, SharedBytes};
 use std::alloc::{AllocError, Global};
 use wire_words::WireBytes;
 
@@ -20,14 +20,15 @@ const LAST_TERM: u64 = 4_294_967_295;
 const MOST_ENTRIES: u64 = 4_294_900_000;
 
 // The entry that a new leader appends first.
-fn barrier_of(alloc: Global, term: u64) -> Entry
-    ensures { result ≡ barrier term }
+fn barrier_of(alloc: Global, term: u64) -> Result<Entry, AllocError>
+    ensures { IfOk result (λ entry. entry ≡ barrier term) }
 {
-    Entry {
+    let bytes = WireBytes::new(Vec::new(alloc));
+    Ok(Entry {
         term,
         kind: EntryKind::Barrier,
-        bytes: WireBytes::new(Vec::new(alloc)),
-    }
+        bytes: SharedBytes::new(alloc, bytes)?,
+    })
 }
 
 impl RaftNode {
@@ -53,7 +54,8 @@ impl RaftNode {
         }
         let first = self.next_index()?;
         self.lead(first);
-        self.push(barrier_of(alloc, self.term()))?;
+        let barrier = barrier_of(alloc, self.term())?;
+        self.push(barrier)?;
         Ok(Effects {
             say,
             recipients: Recipients::Everyone,

@@ -28,16 +28,16 @@ fn copies(alloc: Global, entries: &[Entry]) -> Result<Vec<Entry>, AllocError>
 {
     let mut copies = Vec::with_capacity(alloc, entries.len())?;
     for entry in entries {
-        copies.push(entry.copied(alloc)?)?;
+        copies.push(entry.copied()?)?;
     }
     Ok(copies)
 }
 
 // A copy of an entry, in this term.
-fn copy_in(alloc: Global, entry: &Entry, term: u64) -> Result<Entry, AllocError>
+fn copy_in(entry: &Entry, term: u64) -> Result<Entry, AllocError>
     ensures { IfOk result (λ copy. copy ≡ record entry.now { term = term }) }
 {
-    let mut copy = entry.copied(alloc)?;
+    let mut copy = entry.copied()?;
     copy.term = term;
     Ok(copy)
 }
@@ -70,7 +70,7 @@ impl RaftNode {
     {
         let term = self.term();
         for entry in entries {
-            self.push(copy_in(alloc, entry, term)?)?;
+            self.push(copy_in(entry, term)?)?;
         }
         Ok(())
     }

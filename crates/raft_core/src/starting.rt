@@ -42,7 +42,7 @@ fn log_of(alloc: Global, cut: LogEnd, entries: &[Entry]) -> Result<Log, AllocErr
 {
     let mut log = Log::new(alloc, cut);
     for entry in entries {
-        log.push(entry.copied(alloc)?)?;
+        log.push(entry.copied()?)?;
     }
     Ok(log)
 }

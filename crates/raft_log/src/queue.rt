@@ -133,7 +133,7 @@ pub fn copied(
     let mut copies = Vec::with_capacity(alloc, to - from)?;
     for place in from..to {
         let entry = &queue[place];
-        copies.push(entry.copied(alloc)?)?;
+        copies.push(entry.copied()?)?;
     }
     Ok(Entries::new(copies))
 }

@@ -1,5 +1,5 @@
 use raft_log::{Accepted, Log, Progress};
-use raft_vote::{Entry, EntryKind, LogEnd};
+use raft_vote::{Entry, EntryKind, LogEnd, SharedBytes};
 use std::alloc::{AllocError, Global};
 use std::test::Fail;
 use wire_words::WireBytes;
@@ -11,7 +11,7 @@ fn entries_of(alloc: Global, terms: &[u64]) -> Result<Vec<Entry>, AllocError> {
         entries.push(Entry {
             term: *term,
             kind: EntryKind::Command,
-            bytes: WireBytes::new(Vec::new(alloc)),
+            bytes: SharedBytes::new(alloc, WireBytes::new(Vec::new(alloc)))?,
         })?;
     }
     Ok(entries)

@@ -1,6 +1,6 @@
 // Nodes to test.
 use raft_core::{Kept2, RaftEvent, RaftNode, Todo};
-use raft_vote::{Entries, Entry, EntryKind, read_servers};
+use raft_vote::{Entries, Entry, EntryKind, SharedBytes, read_servers};
 use std::alloc::{AllocError, Global};
 use std::test::Fail;
 use wire_words::WireBytes;
@@ -32,7 +32,7 @@ pub fn entries(alloc: Global, terms: &[u64]) -> Result<Entries, AllocError> {
         entries.push(Entry {
             term: *term,
             kind: EntryKind::Command,
-            bytes: WireBytes::new(Vec::new(alloc)),
+            bytes: SharedBytes::new(alloc, WireBytes::new(Vec::new(alloc)))?,
         })?;
     }
     Ok(Entries::new(entries))

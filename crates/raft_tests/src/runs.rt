@@ -1,6 +1,6 @@
 use crate::nodes::{FIVE, configuration, fresh, step};
 use raft_core::{Kept2, RaftEvent, RaftNode, RaftRole, Sending, Todo};
-use raft_vote::{Entries, Entry, EntryKind, RaftMessage, read_servers};
+use raft_vote::{Entries, Entry, EntryKind, RaftMessage, SharedBytes, read_servers};
 use std::alloc::{AllocError, Global};
 use std::test::*;
 use wire_words::WireBytes;
@@ -36,7 +36,7 @@ impl Disk {
     fn copied(&self, alloc: Global) -> Result<Entries, AllocError> {
         let mut log = Vec::new(alloc);
         for entry in &self.log {
-            log.push(entry.copied(alloc)?)?;
+            log.push(entry.copied()?)?;
         }
         Ok(Entries::new(log))
     }
@@ -136,7 +136,7 @@ fn proposal(alloc: Global, byte: u8) -> Result<RaftEvent, AllocError> {
     entries.push(Entry {
         term: 0,
         kind: EntryKind::Command,
-        bytes: WireBytes::new(bytes),
+        bytes: SharedBytes::new(alloc, WireBytes::new(bytes))?,
     })?;
     Ok(RaftEvent::Propose(Entries::new(entries)))
 }

@@ -1,6 +1,6 @@
 use crate::nodes::{FIVE, THREE, configuration, entries, fresh, step};
 use raft_core::{RaftEvent, RaftNode, RaftRole, Sending, Todo};
-use raft_vote::{LogEnd, RaftMessage, Snapshot, What, read_servers};
+use raft_vote::{LogEnd, RaftMessage, SharedBytes, Snapshot, What, read_servers};
 use std::alloc::{AllocError, Global};
 use std::test::*;
 use wire_words::WireBytes;
@@ -72,7 +72,7 @@ fn event_of(alloc: Global, row: Row) -> Result<RaftEvent, AllocError> {
             let snapshot = Snapshot {
                 index,
                 term: last,
-                bytes: WireBytes::new(Vec::new(alloc)),
+                bytes: SharedBytes::new(alloc, WireBytes::new(Vec::new(alloc)))?,
             };
             (from, term, What::Install { snapshot })
         }

@@ -5,6 +5,7 @@ ghost use Rattle.raft_vote.specs.Kinds.{kind_code, kind_with};
 ghost use Rattle.raft_vote.specs.Entries.{head_bytes, heads_bytes, contents_bytes, HasHead, HaveHeads, known_kind, head_at, heads_at, entry_at, contents_at, Yields};
 
 use crate::entry::{Entry, EntryKind};
+use crate::shared::SharedBytes;
 use std::alloc::{AllocError, Global};
 use wire_words::{WordFault, Words, Writer};
 
@@ -68,6 +69,7 @@ fn entry(alloc: Global, words: &mut Words<'_>, head: &EntryHead) -> Result<Entry
     ensures { Finds (λ entry. entry) (entry_at head.now) words.old words.new result }
 {
     let bytes = words.raw(alloc, u64::from(head.size))?;
+    let bytes = SharedBytes::new(alloc, bytes)?;
     Ok(Entry {
         term: head.term,
         kind: head.kind,

@@ -1,10 +1,10 @@
 ghost use Rattle.std.specs.Prelude.{◌≡◌, IfOk};
 ghost use Rattle.raft_vote.specs.Kinds.{kind_code, kind_with};
 
+use crate::shared::SharedBytes;
 use dq_base::Items;
-use std::alloc::{AllocError, Global};
+use std::alloc::AllocError;
 use std::marker::Model;
-use wire_words::WireBytes;
 
 /// What an entry of the log is for.
 #[derive(Clone, Copy, Debug, PartialEq, Eq)]
@@ -49,8 +49,8 @@ pub struct Entry {
     pub term: u64,
     /// What it is for.
     pub kind: EntryKind,
-    /// What it says.
-    pub bytes: WireBytes,
+    /// What it says, shared with every copy of the entry.
+    pub bytes: SharedBytes,
 }
 
 impl Model for Entry {
@@ -67,15 +67,14 @@ impl Model for Entry {
 pub type Entries = Items<Entry>;
 
 impl Entry {
-    /// A copy of the entry, which copies its bytes. Fails where memory runs out.
-    pub fn copied(&self, alloc: Global) -> Result<Entry, AllocError>
+    /// The entry for one more owner: its bytes are shared, and none is copied. `Err` where their count is full.
+    pub fn copied(&self) -> Result<Entry, AllocError>
         ensures { IfOk result (λ copy. copy ≡ self.now) }
     {
-        let bytes = Vec::from_slice(alloc, self.bytes.as_slice())?;
         Ok(Entry {
             term: self.term,
             kind: self.kind,
-            bytes: WireBytes::new(bytes),
+            bytes: self.bytes.share()?,
         })
     }
 }

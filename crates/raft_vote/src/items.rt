@@ -5,6 +5,7 @@ use crate::entries::{read_entry_contents, read_entry_heads};
 use crate::entry::{Entries, LogEnd};
 use crate::kind::MessageKind;
 use crate::message::{RaftMessage, Snapshot, What};
+use crate::shared::SharedBytes;
 use std::alloc::Global;
 use wire_words::{WordFault, Words};
 
@@ -97,6 +98,7 @@ fn install(alloc: Global, words: &mut Words<'_>) -> Result<Said, WordFault>
 {
     let last = log_end(words)?;
     let bytes = words.blob(alloc)?;
+    let bytes = SharedBytes::new(alloc, bytes)?;
     let snapshot = Snapshot {
         index: last.index,
         term: last.term,

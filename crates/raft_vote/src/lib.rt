@@ -13,6 +13,7 @@ mod range;
 mod reading;
 mod server;
 mod servers_fault;
+mod shared;
 mod votes;
 mod writing;
 
@@ -29,5 +30,6 @@ pub use message::{RaftMessage, Snapshot, What};
 pub use reading::read_message;
 pub use server::{Server, ServerRole, Servers};
 pub use servers_fault::ServersFault;
+pub use shared::SharedBytes;
 pub use votes::VoteCore;
 pub use writing::write_message;

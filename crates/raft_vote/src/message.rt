@@ -1,5 +1,9 @@
+//! What nodes say to each other.
+ghost use Rattle.std.specs.Prelude.{◌≡◌, IfOk};
+
 use crate::entry::{Entries, LogEnd};
-use wire_words::WireBytes;
+use crate::shared::SharedBytes;
+use std::alloc::AllocError;
 
 /// A snapshot: the state that the entries up to its end make, as bytes.
 #[derive(Debug, Drop)]
@@ -8,8 +12,21 @@ pub struct Snapshot {
     pub index: u64,
     /// The term of that entry.
     pub term: u64,
-    /// The state.
-    pub bytes: WireBytes,
+    /// The state, shared with every copy of the snapshot.
+    pub bytes: SharedBytes,
+}
+
+impl Snapshot {
+    /// The snapshot for one more owner: its bytes are shared, and none is copied. `Err` where their count is full.
+    pub fn share(&self) -> Result<Snapshot, AllocError>
+        ensures { IfOk result (λ copy. copy ≡ self.now) }
+    {
+        Ok(Snapshot {
+            index: self.index,
+            term: self.term,
+            bytes: self.bytes.share()?,
+        })
+    }
 }
 
 /// What a message says. In Raft's papers AskVote is RequestVote, Append is AppendEntries and Install is

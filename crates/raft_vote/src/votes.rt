@@ -4,6 +4,7 @@ ghost use Rattle.raft_rules.specs.Votes.{after_term, after_timeout, after_reques
 ghost use Rattle.raft_vote.specs.Grants.{AreDistinct, AreAmong};
 
 use crate::entry::LogEnd;
+use arrayvec::ArrayVec;
 use std::marker::Model;
 
 /// The greatest term.
@@ -20,21 +21,19 @@ pub struct VoteCore {
     id: u64,
     term: u64,
     vote: u64,
-    grants: [u64; MOST_VOTERS],
-    count: usize,
+    grants: ArrayVec<u64, MOST_VOTERS>,
 }
 
 impl Model for VoteCore {
-    ghost use Rattle.std.specs.Prelude.{◌≤◌, take};
     ghost use Rattle.raft_rules.specs.Votes.{Votes};
 
     ghost Value = { Votes };
 
     ghost use Rattle.raft_vote.specs.Grants.{AreDistinct};
 
-    ghost view = { λ v. record { id = v.id; term = v.term; vote = v.vote; grants = take v.count v.grants } };
+    ghost view = { λ v. record { id = v.id; term = v.term; vote = v.vote; grants = v.grants.items } };
 
-    ghost invariant = { λ v. (v.count ≤ 7) × AreDistinct (take v.count v.grants) };
+    ghost invariant = { λ v. AreDistinct v.grants.items };
 }
 
 /// Whether the id is one of these.
@@ -68,8 +67,7 @@ impl VoteCore {
             id,
             term,
             vote,
-            grants: [0; MOST_VOTERS],
-            count: 0,
+            grants: ArrayVec::new(),
         }
     }
 
@@ -105,8 +103,8 @@ impl VoteCore {
         }
         self.term += 1;
         self.vote = self.id;
-        self.grants = [self.id, 0, 0, 0, 0, 0, 0];
-        self.count = 1;
+        self.grants.clear();
+        self.grants.push(self.id);
         true
     }
 
@@ -121,7 +119,7 @@ impl VoteCore {
         }
         self.term = term;
         self.vote = 0;
-        self.count = 0;
+        self.grants.clear();
         true
     }
 
@@ -170,7 +168,7 @@ impl VoteCore {
         ensures answer { result ≡ among self.now.grants id }
         ensures distinct { AreDistinct self.now.grants }
     {
-        contains(&self.grants[..self.count], id)
+        contains(self.grants.as_slice(), id)
     }
 
     /// Whether more than half of the voters granted.
@@ -178,17 +176,16 @@ impl VoteCore {
         requires { length voters.now ≤ 7 }
         ensures { result ≡ majority voters.now (among self.now.grants) }
     {
-        is_majority(voters, &self.grants[..self.count])
+        is_majority(voters, self.grants.as_slice())
     }
 
     /// Puts one grant more behind the others.
-    #[tactic(auto, using(std::proofs::lemmas::List::take_more_set, crate::proofs::Grants::distinct_more))]
+    #[tactic(auto, using(crate::proofs::Grants::distinct_more))]
     fn add_grant(&mut self, from: u64)
         requires other { among self.old.grants from ≡ false }
         requires room { length self.old.grants < 7 }
         ensures { self.new ≡ record self.old { grants = self.old.grants ++ from ∷ [] } }
     {
-        self.grants[self.count] = from;
-        self.count += 1;
+        self.grants.push(from);
     }
 }

@@ -94,6 +94,13 @@ fn a_table_is_made_and_filled(rt: HostRuntime) -> Result<(), Fail> {
     Ok(())
 }
 
+#[test]
+fn a_chain_of_writes_opens_once(rt: HostRuntime) -> Result<(), Fail> {
+    let database = filled(rt.alloc())?;
+    assert_eq!(rt; database.engine.openings(), 1);
+    Ok(())
+}
+
 /// The pages that a statement changes.
 fn pages_of(database: &mut Database, text: &str, params: &[Value]) -> Result<PageSet, Fail> {
     let Ran {

@@ -19,7 +19,7 @@ use crate::turn::Turn;
 use dq_base::Name;
 use frame_commands::{Command, write_command};
 use page_apply::Machine;
-use raft_vote::{Entries, Entry, EntryKind};
+use raft_vote::{Entries, Entry, EntryKind, SharedBytes};
 use session_asking::{View, pages_full};
 use session_table::{
     Cause, Change, Flight, FlightKind, Prepared, Reply, Session, free_id, other_holds,
@@ -39,7 +39,7 @@ fn opening_entry(alloc: Global, term: u64, name: &Name) -> Result<Entry, AllocEr
     Ok(Entry {
         term,
         kind: EntryKind::Command,
-        bytes,
+        bytes: SharedBytes::new(alloc, bytes)?,
     })
 }
 

@@ -10,7 +10,7 @@ ghost use Rattle.session_rules.specs.Seen.{HasSpelling};
 
 use dq_base::{Name, PageSet};
 use frame_commands::{Command, split, write_command};
-use raft_vote::{Entries, Entry, EntryKind};
+use raft_vote::{Entries, Entry, EntryKind, SharedBytes};
 use std::alloc::{AllocError, Global};
 
 /// A command as an entry of a term. No number of it is out of its range. `Err` is want of memory.
@@ -24,7 +24,7 @@ pub(crate) fn entry(alloc: Global, term: u64, command: &Command) -> Result<Entry
     Ok(Entry {
         term,
         kind: EntryKind::Command,
-        bytes,
+        bytes: SharedBytes::new(alloc, bytes)?,
     })
 }
 

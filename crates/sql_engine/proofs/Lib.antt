@@ -12,3 +12,4 @@ pub mod CellChanged
 pub mod SpelledCells
 pub mod CellOutcomes
 pub mod Leading
+pub mod Knowing

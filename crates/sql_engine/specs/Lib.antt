@@ -1,5 +1,6 @@
 pub mod Replies
 pub mod Meanings
+pub mod Known
 pub mod Runs
 pub mod CellTexts
 pub mod Cells

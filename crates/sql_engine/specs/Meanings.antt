@@ -1,5 +1,5 @@
 -- What statements mean under engines of a kind, and what an answer of an engine says of it.
-use Rattle.std.specs.Prelude.{◌≡◌, ◌<◌, ◌≤◌, ◌^◌, ⊤, ℕ, Bool, true, false, List, [], ◌∷◌, ◌++◌, length, Option, Some, None, Result, Err}
+use Rattle.std.specs.Prelude.{◌≡◌, ◌<◌, ◌≤◌, ◌^◌, ⊤, ℕ, Bool, true, false, List, [], ◌∷◌, ◌++◌, length, Option, Some, None, IsSome, Result, Err}
 use Rattle.dq_base.specs.declared.images.Image.{Image}
 use Rattle.dq_base.specs.Changes.{changed}
 use Rattle.sql_engine.specs.declared.answer.Ran.{Ran}
@@ -47,19 +47,28 @@ pub record CantBeTold (m : Meaning) (image : Image) (s : Statement) (fault : Eng
   pub found : fault_in reply.rows ≡ Some fault
 
 -- What a fault says: the statement may be refused so, or it may give a reply that the wire can't carry. Only an engine of
--- SQLite opens files. Want of memory says nothing.
+-- SQLite opens files, and counts steps. Want of memory says nothing.
 abbrev pub Faults : Meaning → EngineKind → Image → Statement → EngineFault → Type 0
 Faults m kind image s faults.Constraint = m.refuses image s constraint
 Faults m kind image s faults.Sql = m.refuses image s sql
 Faults m kind image s (faults.Float row column) = CantBeTold m image s (faults.Float row column)
 Faults m kind image s (faults.NotText row column) = CantBeTold m image s (faults.NotText row column)
 Faults m kind image s faults.Unopened = kind ≡ Sqlite
+Faults m kind image s faults.Cut = kind ≡ Sqlite
 Faults m kind image s faults.NoMemory = ⊤
 
--- the count of refused openings did not fall, and it rose where the answer is that the files were not opened
-pub record CountsOpenings (before now : ℕ) (result : Result Ran EngineFault) : Type 0 where
-  pub never_falls : before ≤ now
-  pub unopened : result ≡ Err faults.Unopened → before < now
+-- a statement is cut short only where there is a limit
+abbrev pub IsCutBy : Option ℕ → Result Ran EngineFault → Type 0
+IsCutBy limit result = result ≡ Err faults.Cut → IsSome limit
+
+-- an engine stays what it is: its kind stays, and its count of refused openings does not fall
+pub record Stays (kind_before kind_now : EngineKind) (refused_before refused_now : ℕ) : Type 0 where
+  pub kind : kind_now ≡ kind_before
+  pub openings : refused_before ≤ refused_now
+
+-- the count of refused openings rose where the answer is that the files were not opened
+abbrev pub CountsOpenings : ℕ → ℕ → Result Ran EngineFault → Type 0
+CountsOpenings before now result = result ≡ Err faults.Unopened → before < now
 
 -- the answers that an engine has given so far, and whether it has lost one since
 pub record Told : Type 0 where

@@ -1,4 +1,4 @@
-ghost use Rattle.std.specs.Prelude.{None};
+ghost use Rattle.std.specs.Prelude.{[], None};
 ghost use Rattle.sql_engine.specs.declared.kind.EngineKind.TheVariants.{Cells};
 ghost use Rattle.sql_engine.specs.Cells.{cells};
 
@@ -6,7 +6,8 @@ use crate::answer::Ran;
 use crate::cell_answers::run_statement;
 use crate::engine::Engine;
 use crate::fault::EngineFault;
-use dq_base::Image;
+use crate::image_numbers::ImageNumbers;
+use dq_base::{Image, ImageNumber};
 use std::alloc::{AllocError, Global};
 use wire_words::Value;
 
@@ -20,7 +21,7 @@ use wire_words::Value;
 /// Numbers are in decimal without sign or leading zeros. `k` is 1 to 8,192, `n` is 0 to 8,192, `v` has 1 to 19 digits. A
 /// value above 9,223,372,036,854,775,807 is refused as `Constraint`; every other text, and any parameter, as `Sql`.
 ///
-/// It keeps nothing between two runs, and opens no files. A run looks at the pages that it changes alone, and its cost is in
+/// It keeps nothing between two runs, opens no files and counts no steps. A run looks at the pages that it changes alone, and its cost is in
 /// their order, whatever the size of the image.
 #[derive(Drop)]
 pub struct CellEngine {
@@ -43,13 +44,19 @@ impl Engine for CellEngine {
 
     ghost told = { λ _. None };
 
+    ghost known = { λ _. [] };
+
+    ghost gets_ready = { λ _ _ _ _. Unit {0} };
+
     #[tactic(auto, using(crate::proofs::CellOutcomes::performed_answers, crate::proofs::CellOutcomes::performed_faults))]
     fn run(
         &mut self,
         image: &Image,
+        _numbers: ImageNumbers,
         text: &str,
         params: &[Value],
         tx: u64,
+        _limit: Option<u64>,
     ) -> Result<Ran, EngineFault> {
         run_statement(self.alloc, image, text, params, tx)
     }
@@ -57,4 +64,8 @@ impl Engine for CellEngine {
     fn fork(&self) -> Result<CellEngine, AllocError> {
         Ok(CellEngine { alloc: self.alloc })
     }
+
+    fn ready(&mut self, _image: &Image, _number: ImageNumber) {}
+
+    fn forget(&mut self) {}
 }

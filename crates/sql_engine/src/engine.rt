@@ -1,6 +1,7 @@
 use crate::answer::Ran;
 use crate::fault::EngineFault;
-use dq_base::Image;
+use crate::image_numbers::ImageNumbers;
+use dq_base::{Image, ImageNumber};
 use std::alloc::AllocError;
 use wire_words::Value;
 
@@ -10,14 +11,20 @@ use wire_words::Value;
 /// refused. The image handed in is never changed. How an engine comes to its answer, and what it keeps between two runs, is
 /// its own affair.
 ///
+/// What an engine has open it knows by the numbers of images, so that it needs no look at their bytes to find it. Who calls it
+/// sees to it that no number stands for two images.
+///
 /// An engine counts the openings that were refused: `run` answers `Unopened` only where that count rose in the call.
 ///
 /// An engine may tell the list of its answers. Then each run adds its answer to the list; or the list loses it and takes no
 /// more, and the answer is want of memory.
 pub trait Engine: Sized {
-    ghost use Rattle.std.specs.Prelude.{◌≡◌, ◌≤◌, ℕ, Option, IfOk, IfErr};
+    ghost use Rattle.std.specs.Prelude.{◌≡◌, ◌≤◌, ℕ, [], List, Option, All, IfOk, IfErr};
+    ghost use Rattle.dq_base.specs.declared.images.Image.{Image};
+    ghost use Rattle.dq_base.specs.declared.image_number.ImageNumber.{ImageNumber};
     ghost use Rattle.sql_engine.specs.declared.kind.EngineKind.{EngineKind};
-    ghost use Rattle.sql_engine.specs.Meanings.{Meaning, Answers, Faults, CountsOpenings, Told, Tells, told_anew};
+    ghost use Rattle.sql_engine.specs.Meanings.{Meaning, Answers, Faults, CountsOpenings, IsCutBy, Stays, Told, Tells, told_anew};
+    ghost use Rattle.sql_engine.specs.Known.{Known, Knows, MayRun, MayKnow, MayKnowBeside};
 
     /// What statements mean under engines of a kind.
     ghost meaning: { EngineKind → Meaning };
@@ -31,36 +38,57 @@ pub trait Engine: Sized {
     /// The answers so far, where the engine tells them.
     ghost told: { Self → Option Told };
 
-    /// Runs one statement over the image, for the transaction of a number.
+    /// The images that the engine has open by their numbers.
+    ghost known: { Self → List Known };
+
+    /// What telling the engine of an image by its number comes to, from the engine before to the engine after.
+    ghost gets_ready: { Image → ImageNumber → Self → Self → Type 0 };
+
+    /// Runs one statement over the image, for the transaction of a number, in at most so many steps, where there is a limit. What a
+    /// step is is up to the kind of the engine.
     ///
     /// - `Constraint`, `Sql`: the statement is refused so on the image.
     /// - `Float`, `NotText`: it gives a reply with such a value, of which the place is told.
     /// - `Unopened`: an engine of SQLite did not open the files.
+    /// - `Cut`: it would take more steps than the limit.
     /// - `NoMemory`: want of memory.
     fn run(
         &mut self,
         image: &Image,
+        numbers: ImageNumbers,
         text: &str,
         params: &[Value],
         tx: u64,
+        limit: Option<u64>,
     ) -> Result<Ran, EngineFault>
+        requires numbers { MayRun (known self.old) image.now numbers }
         ensures answers { IfOk result (Answers (meaning (kind self.old)) image.now (record { text = text.now; params = params.now }) tx) }
         ensures faults { IfErr result (Faults (meaning (kind self.old)) (kind self.old) image.now (record { text = text.now; params = params.now })) }
-        ensures kind { kind self.new ≡ kind self.old }
-        ensures openings { CountsOpenings (refused_openings self.old) (refused_openings self.new) result }
+        ensures cut { IsCutBy limit result }
+        ensures stays { Stays (kind self.old) (kind self.new) (refused_openings self.old) (refused_openings self.new) }
+        ensures unopened { CountsOpenings (refused_openings self.old) (refused_openings self.new) result }
+        ensures known { All (MayKnow image.now numbers result (known self.old)) (known self.new) }
         ensures told { Tells result (told self.old) (told self.new) };
 
-    /// Another engine of the same kind, which has run nothing yet. `Err` is want of memory.
+    /// Another engine of the same kind, which has run nothing yet and knows nothing. `Err` is want of memory.
     fn fork(&self) -> Result<Self, AllocError>
         ensures kind { IfOk result (λ other. kind other ≡ kind self.now) }
         ensures openings { IfOk result (λ other. refused_openings other ≡ 0) }
+        ensures known { IfOk result (λ other. known other ≡ []) }
         ensures told { IfOk result (λ other. told other ≡ told_anew (told self.now)) };
 
-    /// Tells the engine that the next statements will run over this image, so that it may open it ahead. No answer depends
-    /// on it.
-    fn ready(&mut self, _image: &Image)
-        ensures kind { kind self.new ≡ kind self.old }
-        ensures openings { refused_openings self.old ≤ refused_openings self.new }
-        ensures told { told self.new ≡ told self.old }
-    {}
+    /// Tells the engine that the next statements will run over this image under this number, so that it may open it ahead. No
+    /// answer depends on it.
+    fn ready(&mut self, image: &Image, number: ImageNumber)
+        requires number { All (Knows number image.now) (known self.old) }
+        ensures ready { gets_ready image.now number self.old self.new }
+        ensures stays { Stays (kind self.old) (kind self.new) (refused_openings self.old) (refused_openings self.new) }
+        ensures known { All (MayKnowBeside image.now number (known self.old)) (known self.new) }
+        ensures told { told self.new ≡ told self.old };
+
+    /// Knows nothing any more, so that numbers may begin anew, as they do where another machine takes a machine's place.
+    fn forget(&mut self)
+        ensures known { known self.new ≡ [] }
+        ensures stays { Stays (kind self.old) (kind self.new) (refused_openings self.old) (refused_openings self.new) }
+        ensures told { told self.new ≡ told self.old };
 }

@@ -22,6 +22,9 @@ pub enum EngineFault {
     /// The files of the image were not opened as a database. The engine's count of refused openings rose in the call.
     #[error("the files are not opened")]
     Unopened,
+    /// The statement would take more steps than its limit.
+    #[error("the statement takes more steps than its limit")]
+    Cut,
     /// Memory ran out.
     #[error("out of memory")]
     NoMemory,

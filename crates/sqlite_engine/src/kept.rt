@@ -1,26 +1,33 @@
-ghost use Rattle.std.specs.Prelude.{◌≡◌, ◌↔◌, false, [], Some, IsTrue, IfOk, IfErr, IfSome, Err};
+ghost use Rattle.std.specs.Prelude.{◌≡◌, ◌↔◌, true, false, [], None, Some, IsTrue, IfOk, IfErr, IfSome, Err};
+ghost use Rattle.counts.specs.Counts.{LooksOnly, Returns};
+ghost use Rattle.dq_base.specs.Changes.{changed};
+ghost use Rattle.sql_engine.specs.Meanings.{IsShort};
 ghost use Rattle.sqlite.specs.Files.{file_state};
 ghost use Rattle.sqlite.specs.Listing.{understood};
 ghost use Rattle.sqlite.specs.State.{Executes, FailsToQuery};
 ghost use Rattle.sqlite.specs.Values.{bound};
-ghost use Rattle.sqlite_engine.specs.Sql.{Finds, HasColumns, ShowsOnly, Gives, RanOn, FailsOn, is_of_store, refusal_of};
+ghost use Rattle.sqlite_engine.specs.Sql.{Closed, HasColumns, Stands, RanOn, FailsOn, is_of_store, refusal_of};
+ghost use Rattle.sqlite_engine.specs.Led.{Led};
+ghost use Rattle.sqlite_engine.specs.Settling.{Asked, Settled};
 ghost use Rattle.sqlite_engine.specs.Shows.{showing, FailsSomehow};
 
 use crate::connection::{Conn, OpenFault, close, execute, let_go, open, outline, query};
 use crate::errors::is_of_store;
-use crate::plan::shows_only;
+use crate::plan::looks_only;
 use crate::shows::Shows;
-use dq_base::Image;
-use record_disk::PairDisk;
+use dq_base::{Image, PAGE_SIZE, PageSet};
+use open_files::{connected, image_of, log_of};
+use record_disk::changes_between;
 use sqlite::types::ValueRef;
 use sqlite::{Error, ErrorCode, Row, Statement};
 use std::alloc::Global;
 
-/// A connection that is kept open over an image. It finds that image.
+/// A connection that is kept open over an image. But for what it has counted, it stands to that image as one that was just
+/// opened over it.
 pub(crate) struct Kept {
     pub(crate) base: Image,
     pub(crate) conn: Conn,
-    ghost stands: { ∥ Finds base (file_state conn) ∥₁ },
+    ghost stands: { ∥ Stands base conn ∥₁ },
 }
 
 // It is written out, so that a caller does not prove again how a connection is dropped.
@@ -39,7 +46,7 @@ pub(crate) struct Failure {
 }
 
 fn kept_over(base: Image, conn: Conn) -> Kept
-    requires { ∥ Finds base (file_state conn) ∥₁ }
+    requires { ∥ Stands base conn ∥₁ }
     ensures base { result.base ≡ base }
     ensures conn { result.conn ≡ conn }
 {
@@ -60,11 +67,13 @@ impl Kept {
         }
     }
 
-    /// Whether the text is understood and has no RETURNING, so that it changes nothing where it shows rows.
-    pub(crate) fn shows_only(&self, alloc: Global, text: &str) -> bool
-        ensures { IsTrue result → ShowsOnly (understood (file_state self.now.conn).now.schema text.now) }
+    /// Whether the text changes nothing where it shows rows, or is one with RETURNING. `None` is want of memory, or a text
+    /// that isn't understood.
+    pub(crate) fn looks_only(&self, alloc: Global, text: &str) -> Option<bool>
+        ensures looks { result ≡ Some true → LooksOnly (understood (file_state self.now.conn).now.schema text.now) }
+        ensures returns { result ≡ Some false → Returns (understood (file_state self.now.conn).now.schema text.now) }
     {
-        shows_only(alloc, &self.conn, text)
+        looks_only(alloc, &self.conn, text)
     }
 
     /// Whether it is open over this image. It compares the bytes, the side file's first.
@@ -100,7 +109,7 @@ impl Kept {
         params: &[ValueRef<'_>],
     ) -> Result<(Kept, Shows), Failure>
         requires columns { HasColumns (file_state self.conn) text.now statement.now.columns }
-        requires only { ShowsOnly (understood (file_state self.conn).now.schema text.now) }
+        requires only { LooksOnly (understood (file_state self.conn).now.schema text.now) }
         ensures base { IfOk result (λ r. r.0.base ≡ self.base) }
         ensures ran { IfOk result (λ r. ∥ RanOn self.base text.now (bound params.now) self.base (showing statement.now.columns r.1) ∥₁) }
         ensures left { IfErr result (λ failure. IfSome failure.left (λ left. left.base ≡ self.base)) }
@@ -109,7 +118,7 @@ impl Kept {
         let Kept { base, mut conn } = self;
         match query(&mut conn, text, params) {
             Ok(rows) => {
-                let shows = shows_of(&conn, rows);
+                let shows = Shows { affected: 0, rows };
                 Ok((kept_over(base, conn), shows))
             }
             Err(error) => Err(Failure {
@@ -119,26 +128,28 @@ impl Kept {
         }
     }
 
-    /// Runs a statement that may change something, and closes the files. They come back with the image that was kept; the
-    /// connection is used up.
+    /// Runs a statement that may change something, and looks at what the files are then. The connection stays, unless the
+    /// statement has begun a transaction or committed much.
     pub(crate) fn change(
         self,
         alloc: Global,
         statement: &Statement,
         text: &str,
         params: &[ValueRef<'_>],
-    ) -> Result<(Image, PairDisk, Shows), Failure>
+        tx: u64,
+    ) -> Result<(Option<Kept>, Shows, PageSet), Failure>
         requires columns { HasColumns (file_state self.conn) text.now statement.now.columns }
-        ensures base { IfOk result (λ r. r.0 ≡ self.base) }
-        ensures ran { IfOk result (λ r. ∥ RanOn self.base text.now (bound params.now) r.1.after (showing statement.now.columns r.2) ∥₁) }
-        ensures bare { IfOk result (λ r. statement.now.columns ≡ [] → r.2.rows.items ≡ []) }
+        requires returns { (statement.now.columns ≡ [] → ⊥) → Returns (understood (file_state self.conn).now.schema text.now) }
+        ensures led { IfOk result (λ r. Led self.base text.now (bound params.now) tx (showing statement.now.columns r.1) r.2) }
+        ensures over { IfOk result (λ r. IfSome r.0 (λ kept. r.2 ≡ record { tx = tx; pages = changed self.base kept.base })) }
+        ensures bare { IfOk result (λ r. statement.now.columns ≡ [] → r.1.rows.items ≡ []) }
         ensures left { IfErr result (λ failure. IfSome failure.left (λ left. left.base ≡ self.base)) }
         ensures fails { IfErr result (λ failure. (refusal : _) → refusal_of failure.error ≡ Some refusal → ∥ FailsOn self.base text.now (bound params.now) failure.error ∥₁) }
     {
         let Kept { base, mut conn } = self;
         match ask(alloc, &mut conn, statement, text, params) {
-            Ok(shows) => match close(conn) {
-                Some(pair) => Ok((base, pair, shows)),
+            Ok(shows) => match settled(alloc, base, conn, tx) {
+                Some((left, set)) => Ok((left, shows, set)),
                 None => Err(Failure {
                     left: None,
                     error: Error::SqliteFailure(ErrorCode::OutOfMemory),
@@ -152,9 +163,84 @@ impl Kept {
     }
 }
 
+/// The pages that lead to what the files of a connection are now, and the connection itself, where it is in no transaction.
+fn settled(alloc: Global, base: Image, conn: Conn, tx: u64) -> Option<(Option<Kept>, PageSet)>
+    requires open { IsTrue (file_state conn).is_open }
+    requires unlimited { (file_state conn).step_limit ≡ None }
+    ensures settled { IfSome result (λ r. Settled base conn tx r.1) }
+    ensures over { IfSome result (λ r. IfSome r.0 (λ kept. r.1 ≡ record { tx = tx; pages = changed base kept.base })) }
+{
+    if conn.is_autocommit() && has_short_log(&conn) {
+        match followed(alloc, base, conn, tx) {
+            Some((kept, set)) => Some((Some(kept), set)),
+            None => None,
+        }
+    } else {
+        match closed(alloc, base, conn, tx) {
+            Some(set) => Some((None, set)),
+            None => None,
+        }
+    }
+}
+
+/// The longest log with which a connection goes on. It keeps the length that its largest commit gave it, and each look at the
+/// files goes through it; a close cuts it.
+const LONGEST_LOG: usize = 32 * PAGE_SIZE;
+
+fn has_short_log(conn: &Conn) -> bool {
+    log_of(conn).bytes().len() <= LONGEST_LOG
+}
+
+/// The connection over the image that its files are now, and the pages that lead to it.
+fn followed(alloc: Global, base: Image, conn: Conn, tx: u64) -> Option<(Kept, PageSet)>
+    requires open { IsTrue (file_state conn).is_open }
+    requires autocommit { (file_state conn).in_transaction ≡ false }
+    requires unlimited { (file_state conn).step_limit ≡ None }
+    ensures pages { IfSome result (λ r. r.1 ≡ record { tx = tx; pages = changed base r.0.base }) }
+    ensures short { IfSome result (λ r. IsShort r.0.base) }
+    ensures closed { IfSome result (λ r. Closed r.0.base (file_state conn)) }
+{
+    connected(&conn);
+    let Ok(after) = image_of(alloc, &conn) else {
+        let_go(conn);
+        return None;
+    };
+    is_short(&after);
+    match changes_between(alloc, base, &after, tx) {
+        Ok(set) => Some((kept_over(after, conn), set)),
+        Err(_) => {
+            let_go(conn);
+            None
+        }
+    }
+}
+
+/// The pages that lead to what the files of a connection are once they are closed.
+fn closed(alloc: Global, base: Image, conn: Conn, tx: u64) -> Option<PageSet>
+    ensures { IfSome result (λ set. Settled base conn tx set) }
+{
+    let pair = close(conn)?;
+    let Ok((after, _set)) = pair.changes(alloc, tx) else {
+        return None;
+    };
+    is_short(&after);
+    match changes_between(alloc, base, &after, tx) {
+        Ok(set) => Some(set),
+        Err(_) => None,
+    }
+}
+
+/// The files of any image are shorter than 2^64 bytes.
+pub(crate) fn is_short(image: &Image)
+    ensures { IsShort image.now }
+{
+    let _main = image.main.len();
+    let _side = image.side.len();
+}
+
 /// What is left of a connection after an error.
 fn left_after(base: Image, conn: Conn, error: Error) -> Option<Kept>
-    requires { is_of_store error ≡ false → ∥ Finds base (file_state conn) ∥₁ }
+    requires { is_of_store error ≡ false → ∥ Stands base conn ∥₁ }
     ensures { IfSome result (λ left. left.base ≡ base) }
 {
     if is_of_store(error) {
@@ -177,7 +263,8 @@ fn shows_of(conn: &Conn, rows: Vec<Row>) -> Shows
 }
 
 fn run_rows(conn: &mut Conn, text: &str, params: &[ValueRef<'_>]) -> Result<Shows, Error>
-    ensures ok { (columns : _) → IfOk result (λ shows. Gives text.now (bound params.now) (file_state conn.old) (file_state conn.new) (showing columns shows)) }
+    requires { Returns (understood (file_state conn.old).now.schema text.now) }
+    ensures ok { (columns : _) → IfOk result (λ shows. Asked text.now (bound params.now) conn.old conn.new (showing columns shows)) }
     ensures err { IfErr result (FailsToQuery text.now (bound params.now) (file_state conn.old) (file_state conn.new)) }
     ensures limit { (file_state conn.new).step_limit ≡ (file_state conn.old).step_limit }
 {
@@ -193,7 +280,7 @@ fn run_plain(
     text: &str,
     params: &[ValueRef<'_>],
 ) -> Result<Shows, Error>
-    ensures ok { (columns : _) → columns ≡ [] → IfOk result (λ shows. Gives text.now (bound params.now) (file_state conn.old) (file_state conn.new) (showing columns shows)) }
+    ensures ok { (columns : _) → columns ≡ [] → IfOk result (λ shows. Asked text.now (bound params.now) conn.old conn.new (showing columns shows)) }
     ensures bare { IfOk result (λ shows. shows.rows.items ≡ []) }
     ensures err { IfErr result (λ error. Executes text.now (bound params.now) (file_state conn.old) (file_state conn.new) (Err error)) }
     ensures limit { (file_state conn.new).step_limit ≡ (file_state conn.old).step_limit }
@@ -214,7 +301,8 @@ fn ask(
     text: &str,
     params: &[ValueRef<'_>],
 ) -> Result<Shows, Error>
-    ensures ok { IfOk result (λ shows. Gives text.now (bound params.now) (file_state conn.old) (file_state conn.new) (showing statement.now.columns shows)) }
+    requires { (statement.now.columns ≡ [] → ⊥) → Returns (understood (file_state conn.old).now.schema text.now) }
+    ensures ok { IfOk result (λ shows. Asked text.now (bound params.now) conn.old conn.new (showing statement.now.columns shows)) }
     ensures bare { IfOk result (λ shows. statement.now.columns ≡ [] → shows.rows.items ≡ []) }
     ensures err { IfErr result (FailsSomehow text.now (bound params.now) (file_state conn.old) (file_state conn.new)) }
     ensures limit { (file_state conn.new).step_limit ≡ (file_state conn.old).step_limit }

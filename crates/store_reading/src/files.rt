@@ -11,7 +11,7 @@ ghost use Rattle.store_reading.specs.FilesRead.{nothing_read, snap_kept, with_me
 use crate::fault::FilesFault;
 use crate::kept::Kept;
 use crate::segment_log::{LastSegment, SegmentLog};
-use raft_vote::Snapshot;
+use raft_vote::{SharedBytes, Snapshot};
 use std::alloc::{AllocError, Global};
 use std::marker::Model;
 use store_format::{Metadata, SnapshotFile, read_metadata, read_snapshot};
@@ -71,10 +71,11 @@ fn term_of(snapshot: &Option<Snapshot>) -> u64
 fn copied(alloc: Global, file: SnapshotFile<'_>) -> Result<Snapshot, AllocError>
     ensures { IfOk result (λ s. snap_kept (Some s) ≡ snap_of_found (Some file.entry)) }
 {
+    let bytes = WireBytes::new(Vec::from_slice(alloc, file.bytes)?);
     Ok(Snapshot {
         index: file.index,
         term: file.term,
-        bytes: WireBytes::new(Vec::from_slice(alloc, file.bytes)?),
+        bytes: SharedBytes::new(alloc, bytes)?,
     })
 }
 

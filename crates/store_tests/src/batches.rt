@@ -1,5 +1,5 @@
 use dq_base::Items;
-use raft_vote::{Entry, EntryKind};
+use raft_vote::{Entry, EntryKind, SharedBytes};
 use std::alloc::{AllocError, Global};
 use std::test::Fail;
 use store_batches::{batch_bytes, read_batch};
@@ -26,7 +26,7 @@ fn is_written_as(alloc: Global, wanted: &[u8]) -> Result<bool, AllocError> {
     let entry = Entry {
         term: 2,
         kind: EntryKind::Command,
-        bytes: Items::new(Vec::from_slice(alloc, b"abc")?),
+        bytes: SharedBytes::new(alloc, Items::new(Vec::from_slice(alloc, b"abc")?))?,
     };
     let written = batch_bytes(alloc, 3, &[entry])?;
     Ok(written.as_slice() == wanted)

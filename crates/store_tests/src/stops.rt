@@ -1,6 +1,6 @@
 use disk_model::{Disk, MemDisk, Stop};
 use dq_base::Items;
-use raft_vote::{Entry, EntryKind, Snapshot};
+use raft_vote::{Entry, EntryKind, SharedBytes, Snapshot};
 use segment_store::Store;
 use std::alloc::Global;
 use store_reading::Kept;
@@ -39,7 +39,7 @@ fn entries(alloc: Global, first: u8, end: u8) -> Option<Vec<Entry>> {
         let entry = Entry {
             term: 1,
             kind: EntryKind::Command,
-            bytes: Items::new(bytes),
+            bytes: SharedBytes::new(alloc, Items::new(bytes)).ok()?,
         };
         entries.push(entry).ok()?;
     }
@@ -58,7 +58,7 @@ fn keep(
     let snapshot = Snapshot {
         index,
         term: 1,
-        bytes: Items::new(Vec::from_slice(alloc, b"state").ok()?),
+        bytes: SharedBytes::new(alloc, Items::new(Vec::from_slice(alloc, b"state").ok()?)).ok()?,
     };
     let rest = entries(alloc, first, end)?;
     let done = store.keep_snapshot(disk, &snapshot, u64::from(first), &rest);

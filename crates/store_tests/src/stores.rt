@@ -1,6 +1,6 @@
 use disk_model::{Disk, MemDisk};
 use dq_base::Items;
-use raft_vote::{Entry, EntryKind};
+use raft_vote::{Entry, EntryKind, SharedBytes};
 use segment_store::Store;
 use std::alloc::Global;
 use store_batches::read_batch;
@@ -49,7 +49,7 @@ fn one_batch(alloc: Global) -> Option<(u64, usize, usize)> {
     let entry = Entry {
         term: 1,
         kind: EntryKind::Command,
-        bytes: Items::new(Vec::from_slice(alloc, b"abc").ok()?),
+        bytes: SharedBytes::new(alloc, Items::new(Vec::from_slice(alloc, b"abc").ok()?)).ok()?,
     };
     store.append(&mut disk, 1, &[entry]).ok()?;
     batch_in(alloc, &mut disk)

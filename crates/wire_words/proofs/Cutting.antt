@@ -122,7 +122,7 @@ take_front (suc n) [] more long = absurd (omega (arith, long))
 take_front (suc n) (b ∷ bytes) more long = ap (λ (xs : List ℕ). b ∷ xs) (take_front n bytes more (omega (arith, long)))
 
 -- a front of eight bytes or more, by its header
-front_is_with : (limit : ℕ) (bytes : List ℕ) → ltb (length bytes) 8 ≡ false → front limit bytes ≡ front_with limit (header_of bytes) (drop 8 bytes)
+pub front_is_with : (limit : ℕ) (bytes : List ℕ) → ltb (length bytes) 8 ≡ false → front limit bytes ≡ front_with limit (header_of bytes) (drop 8 bytes)
 unfolding front
 front_is_with limit bytes e = ap (λ (b : Bool). cond b Part (front_with limit (header_of bytes) (drop 8 bytes))) e
 

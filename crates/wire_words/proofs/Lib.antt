@@ -19,3 +19,4 @@ pub mod Utf8
 pub mod ValueLaws
 pub mod Whole
 pub mod Writable
+pub mod Widening

@@ -1,13 +1,12 @@
--- The steps of the loops that read types and values.
-use Rattle.std.proofs.Common.{◌≡◌, ℕ, ◌+◌, ◌<◌, ◌≤◌, ◌/◌, ◌%◌, List, [], ◌∷◌, ◌++◌, length, get_or, drop, Option, Some, None, Result, Ok, Err, refl, sym, ap, ◌∙◌, append_assoc}
+-- The steps of loops that read items: so many of them, or one for each element of a list; and of those that read types.
+use Rattle.std.proofs.Common.{◌≡◌, ℕ, suc, ◌+◌, ◌-◌, ◌<◌, ◌≤◌, ◌/◌, ◌%◌, List, [], ◌∷◌, ◌++◌, length, get_or, drop, Option, Some, None, Result, Ok, Err, refl, sym, ap, ◌∙◌, append_assoc, arith}
 use Rattle.std.proofs.lemmas.List.{append-nil, at_drop_more, at_drop_all}
 use Rattle.wire_words.specs.declared.fault.WordFault.{WordFault}
 use Rattle.wire_words.specs.declared.fault.WordFault.TheVariants as faults
-use Rattle.wire_words.specs.declared.value.Value.{Value}
 use Rattle.wire_words.specs.declared.value.ValueType.{ValueType}
 use Rattle.wire_words.specs.declared.value.Dialect.{Dialect}
-use Rattle.wire_words.specs.Reading.{◌>>=◌, Unread, Fails}
-use Rattle.wire_words.specs.ReadingValues.{type_with, known, all_types, value_at, values_at, split_halves}
+use Rattle.wire_words.specs.Reading.{◌>>=◌, Unread, Fails, many_at, each_at}
+use Rattle.wire_words.specs.ReadingValues.{type_with, known, all_types, split_halves}
 
 -- what was read before, and what is still read
 abbrev pub with_front : {A : Type 0} → List A → Result (List A × Unread) WordFault → Result (List A × Unread) WordFault
@@ -27,35 +26,56 @@ fails_so (faults.Pad n) step whole so fails = so (faults.Pad n) fails
 fails_so (faults.BadCode n m) step whole so fails = so (faults.BadCode n m) fails
 fails_so (faults.Float n) step whole so fails = so (faults.Float n) fails
 
--- ---- values
+-- ---- so many items
 
-abbrev pub values_so_far : Dialect → List Value → List ValueType → Unread → Result (List Value × Unread) WordFault
-values_so_far dialect front types left = with_front front (values_at dialect types left)
+pub many_more : {A : Type 0} (one : Unread → Result (A × Unread) WordFault) (front : List A) (count i : ℕ) (left next : Unread) (x : A) (total : Result (List A × Unread) WordFault) → i < count → one left ≡ Ok (x, next)
+    → with_front front (many_at one (count - i) left) ≡ total → with_front (front ++ x ∷ []) (many_at one (count - (i + 1)) next) ≡ total
+unfolding many_at
+many_more one front count i left next x total lt h so_far =
+    let k : count - i ≡ suc (count - (i + 1)) = omega arith in
+    let step : with_front front (many_at one (count - i) left) ≡ with_front (front ++ x ∷ []) (many_at one (count - (i + 1)) next) = rw (k, h) (regroup front x (many_at one (count - (i + 1)) next)) in
+    sym step ∙ so_far
 
--- what a list leaves to do at its type, one type on
-next_type : {Y : Type 0} (F : List ValueType → Y) (ts : List ValueType) (i : ℕ) (t : ValueType) → i < length ts → t ≡ get_or ts i t → F (drop i ts) ≡ F (t ∷ drop (i + 1) ts)
-next_type F ts i t lt is = at_drop_more F ts i t lt ∙ ap (λ (q : ValueType). F (q ∷ drop (i + 1) ts)) (sym is)
+pub many_end : {A : Type 0} (one : Unread → Result (A × Unread) WordFault) (e : WordFault) (front : List A) (count i : ℕ) (left : Unread) (total : Result (List A × Unread) WordFault) → i < count → Fails e (one left)
+    → with_front front (many_at one (count - i) left) ≡ total → Fails e total
+unfolding many_at
+many_end one e front count i left total lt fails so_far =
+    let k : count - i ≡ suc (count - (i + 1)) = omega arith in
+    fails_so e (one left) total (λ f h. let step : with_front front (many_at one (count - i) left) ≡ Err f = rw (k, h) refl in sym so_far ∙ step) fails
 
-pub values_more : (dialect : Dialect) (front : List Value) (ts : List ValueType) (i : ℕ) (t : ValueType) (left next : Unread) (v : Value) (total : Result (List Value × Unread) WordFault) → i < length ts → t ≡ get_or ts i t → value_at dialect t left ≡ Ok (v, next)
-    → values_so_far dialect front (drop i ts) left ≡ total → values_so_far dialect (front ++ v ∷ []) (drop (i + 1) ts) next ≡ total
-unfolding values_at
-values_more dialect front ts i t left next v total lt is h so_far =
-    let one : values_so_far dialect front (t ∷ drop (i + 1) ts) left ≡ values_so_far dialect (front ++ v ∷ []) (drop (i + 1) ts) next = rw h (regroup front v (values_at dialect (drop (i + 1) ts) next)) in
-    sym (next_type (λ (ms : List ValueType). values_so_far dialect front ms left) ts i t lt is ∙ one) ∙ so_far
+pub many_done : {A : Type 0} (one : Unread → Result (A × Unread) WordFault) (front : List A) (count i : ℕ) (left : Unread) (total : Result (List A × Unread) WordFault) → count ≤ i → with_front front (many_at one (count - i) left) ≡ total → total ≡ Ok (front, left)
+unfolding many_at
+many_done {A} one front count i left total le so_far =
+    let k : count - i ≡ 0 = omega arith in
+    let step : with_front front (many_at one (count - i) left) ≡ Ok (front, left) = rw k (ap (λ (ns : List A). Ok (ns, left)) (append-nil front)) in
+    sym so_far ∙ step
 
-pub values_end : (dialect : Dialect) (e : WordFault) (front : List Value) (ts : List ValueType) (i : ℕ) (t : ValueType) (left : Unread) (total : Result (List Value × Unread) WordFault) → i < length ts → t ≡ get_or ts i t → Fails e (value_at dialect t left)
-    → values_so_far dialect front (drop i ts) left ≡ total → Fails e total
-unfolding values_at
-values_end dialect e front ts i t left total lt is fails so_far =
-    fails_so e (value_at dialect t left) total (λ f h.
-    let one : values_so_far dialect front (t ∷ drop (i + 1) ts) left ≡ Err f = rw h refl in
-    sym so_far ∙ next_type (λ (ms : List ValueType). values_so_far dialect front ms left) ts i t lt is ∙ one) fails
+-- ---- an item for each element of a list
 
-pub values_done : (dialect : Dialect) (front : List Value) (ts : List ValueType) (i : ℕ) (left : Unread) (total : Result (List Value × Unread) WordFault) → length ts ≤ i → values_so_far dialect front (drop i ts) left ≡ total → total ≡ Ok (front, left)
-unfolding values_at
-values_done dialect front ts i left total le so_far =
-    let one : values_so_far dialect front [] left ≡ Ok (front, left) = ap (λ (ps : List Value). Ok (ps, left)) (append-nil front) in
-    sym so_far ∙ at_drop_all (λ (ms : List ValueType). values_so_far dialect front ms left) ts i le ∙ one
+-- what a list leaves to do at an element, one element on
+next_element : {X Y : Type 0} (F : List X → Y) (xs : List X) (i : ℕ) (x : X) → i < length xs → x ≡ get_or xs i x → F (drop i xs) ≡ F (x ∷ drop (i + 1) xs)
+next_element {X} F xs i x lt is = at_drop_more F xs i x lt ∙ ap (λ (q : X). F (q ∷ drop (i + 1) xs)) (sym is)
+
+pub each_more : {X A : Type 0} (one : X → Unread → Result (A × Unread) WordFault) (front : List A) (xs : List X) (i : ℕ) (x : X) (left next : Unread) (a : A) (total : Result (List A × Unread) WordFault) → i < length xs → x ≡ get_or xs i x → one x left ≡ Ok (a, next)
+    → with_front front (each_at one (drop i xs) left) ≡ total → with_front (front ++ a ∷ []) (each_at one (drop (i + 1) xs) next) ≡ total
+unfolding each_at
+each_more {X} one front xs i x left next a total lt is h so_far =
+    let step : with_front front (each_at one (x ∷ drop (i + 1) xs) left) ≡ with_front (front ++ a ∷ []) (each_at one (drop (i + 1) xs) next) = rw h (regroup front a (each_at one (drop (i + 1) xs) next)) in
+    sym (next_element (λ (ys : List X). with_front front (each_at one ys left)) xs i x lt is ∙ step) ∙ so_far
+
+pub each_end : {X A : Type 0} (one : X → Unread → Result (A × Unread) WordFault) (e : WordFault) (front : List A) (xs : List X) (i : ℕ) (x : X) (left : Unread) (total : Result (List A × Unread) WordFault) → i < length xs → x ≡ get_or xs i x → Fails e (one x left)
+    → with_front front (each_at one (drop i xs) left) ≡ total → Fails e total
+unfolding each_at
+each_end {X} one e front xs i x left total lt is fails so_far =
+    fails_so e (one x left) total (λ f h.
+    let step : with_front front (each_at one (x ∷ drop (i + 1) xs) left) ≡ Err f = rw h refl in
+    sym so_far ∙ next_element (λ (ys : List X). with_front front (each_at one ys left)) xs i x lt is ∙ step) fails
+
+pub each_done : {X A : Type 0} (one : X → Unread → Result (A × Unread) WordFault) (front : List A) (xs : List X) (i : ℕ) (left : Unread) (total : Result (List A × Unread) WordFault) → length xs ≤ i → with_front front (each_at one (drop i xs) left) ≡ total → total ≡ Ok (front, left)
+unfolding each_at
+each_done {X} {A} one front xs i left total le so_far =
+    let step : with_front front (each_at one [] left) ≡ Ok (front, left) = ap (λ (ps : List A). Ok (ps, left)) (append-nil front) in
+    sym so_far ∙ at_drop_all (λ (ys : List X). with_front front (each_at one ys left)) xs i le ∙ step
 
 -- ---- types
 

@@ -13,7 +13,7 @@ use Rattle.wire_words.specs.declared.value.Dialect.{Dialect}
 use Rattle.wire_words.specs.declared.value.Dialect.TheVariants as dialects
 use Rattle.wire_words.specs.Items.{AreBytes, IsWord, IsText}
 use Rattle.wire_words.specs.Values.{code, codes, type_of, types_of, IsInteger, IsValue, AreValues}
-use Rattle.wire_words.specs.Reading.{◌>>=◌, Unread, word_at, text_at, blob_at, Took}
+use Rattle.wire_words.specs.Reading.{◌>>=◌, Unread, word_at, text_at, blob_at, each_at, Took}
 use Rattle.wire_words.specs.ReadingValues.{client_type, type_with, known, all_types, is_float, no_float, types_at, integer_at, text_value_at, blob_value_at, null_at, value_at, values_at}
 use Rattle.wire_words.proofs.Choices.{one_of, none_of}
 use Rattle.wire_words.proofs.ReadBack.{refused_not, passed, ok_is, bind_ok, same_unread, word_took, word_again}
@@ -94,7 +94,7 @@ values_none old new t =
     same_unread old new place bytes
 
 pub values_took : (dialect : Dialect) (ts : List ValueType) (old new : Unread) (vs : List Value) → AreBytes old.bytes → values_at dialect ts old ≡ Ok (vs, new) → Took (AreValues dialect ts vs) old new
-unfolding values_at
+unfolding each_at
 values_took dialect [] old new vs fits e =
     subst (λ (x : List Value × Unread). Took (AreValues dialect [] x.0) old x.1) (ok_is ([], old) (vs, new) e)
     (record { item = []; spelled = refl; parts = refl; place = omega arith })
@@ -107,7 +107,7 @@ values_took dialect (t ∷ ts) old new vs fits e =
     subst (λ (x : List Value × Unread). Took (AreValues dialect (t ∷ ts) x.0) old x.1) (ok_is made (vs, new) b.2) (took_both old a.0.1 b.0.1 first others)
 
 pub values_again : (dialect : Dialect) (ts : List ValueType) (vs : List Value) (old new : Unread) → Took (AreValues dialect ts vs) old new → values_at dialect ts old ≡ Ok (vs, new)
-unfolding values_at
+unfolding each_at
 values_again dialect [] [] old new t = ap (λ (left : Unread). Ok ([], left)) (values_none old new t)
 values_again dialect [] (v ∷ vs) old new t = absurd t.spelled
 values_again dialect (t ∷ ts) [] old new s = absurd s.spelled

@@ -1,5 +1,5 @@
 -- Reading items from left to right, with the first fault that is met and the place of its item.
-use Rattle.std.specs.Prelude.{◌≡◌, ◌+◌, ℕ, Bool, true, not, List, ◌++◌, length, take, drop, Option, Some, None, Result, Ok, Err, MatchResult, nat_lt, if◌then◌else◌}
+use Rattle.std.specs.Prelude.{◌≡◌, ◌+◌, ℕ, zero, suc, Bool, true, not, List, [], ◌∷◌, ◌++◌, length, take, drop, Option, Some, None, Result, Ok, Err, MatchResult, nat_lt, if◌then◌else◌}
 use Rattle.std.specs.List.{list_all, position}
 use Rattle.std.specs.Str.{is_utf8}
 use Rattle.byteorder.specs.Endian.{little_number}
@@ -84,6 +84,22 @@ unfoldable pub blob_at : Dialect → Unread → Result (List ℕ × Unread) Word
 blob_at dialect left = do
   size ← word_at left
   filled_at dialect left.at size.0 size.1
+
+-- so many items, one after the other
+unfoldable pub many_at : {A E : Type 0} → (Unread → Result (A × Unread) E) → ℕ → Unread → Result (List A × Unread) E
+many_at one zero left = Ok ([], left)
+many_at one (suc count) left = do
+  first ← one left
+  others ← many_at one count first.1
+  Ok (first.0 ∷ others.0, others.1)
+
+-- an item for each element of a list, one after the other
+unfoldable pub each_at : {X A E : Type 0} → (X → Unread → Result (A × Unread) E) → List X → Unread → Result (List A × Unread) E
+each_at one [] left = Ok ([], left)
+each_at one (x ∷ xs) left = do
+  first ← one x left
+  others ← each_at one xs first.1
+  Ok (first.0 ∷ others.0, others.1)
 
 -- A fault is the one that reading gives, unless memory ran out.
 abbrev pub Fails : {Y : Type 0} → WordFault → Result Y WordFault → Type 0

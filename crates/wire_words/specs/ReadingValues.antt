@@ -13,7 +13,7 @@ use Rattle.wire_words.specs.declared.value.ValueType.TheVariants as types
 use Rattle.wire_words.specs.declared.value.Dialect.{Dialect}
 use Rattle.wire_words.specs.declared.value.Dialect.TheVariants as dialects
 use Rattle.wire_words.specs.Items.{gap, is_zero}
-use Rattle.wire_words.specs.Reading.{◌>>=◌, Unread, word_at, text_at, raw_at, blob_at, filled_at, Fails}
+use Rattle.wire_words.specs.Reading.{◌>>=◌, Unread, word_at, text_at, raw_at, blob_at, filled_at, each_at, Fails}
 
 -- ---- types by their codes
 
@@ -88,12 +88,8 @@ value_at dialect types.Iso8601 left = text_value_at left
 value_at dialect types.Boolean left = integer_at left
 
 -- values of these types, one after the other
-unfoldable pub values_at : Dialect → List ValueType → Unread → Result (List Value × Unread) WordFault
-values_at dialect [] left = Ok ([], left)
-values_at dialect (t ∷ ts) left = do
-  first ← value_at dialect t left
-  others ← values_at dialect ts first.1
-  Ok (first.0 ∷ others.0, others.1)
+abbrev pub values_at : Dialect → List ValueType → Unread → Result (List Value × Unread) WordFault
+values_at dialect ts left = each_at (value_at dialect) ts left
 
 -- ---- tuples and rows
 

@@ -91,6 +91,12 @@ unread_bytes (Opening bytes) = bytes
 unread_bytes (Rest bytes) = bytes
 unread_bytes (Broken fault) = []
 
+-- the fault at which a stream is at its end
+abbrev pub fault_in : End → Option SplitFault
+fault_in (Opening bytes) = None
+fault_in (Rest bytes) = None
+fault_in (Broken fault) = Some fault
+
 -- What a splitter stands for: how many words a message may have, and how the stream ends so far.
 pub record Splitting : Type 0 where
   pub limit : ℕ
@@ -99,6 +105,10 @@ pub record Splitting : Type 0 where
 -- how many words a message of a client or to a client may have
 abbrev pub client_limit : ℕ
 client_limit = 2097152
+
+-- and one between nodes
+abbrev pub peer_limit : ℕ
+peer_limit = 33554432
 
 -- a splitter that was fed these bytes
 abbrev pub fed : ℕ → List ℕ → Splitting

@@ -20,7 +20,7 @@ pub use laws::{
     values_read_back, what_is_read_can_be_written, words_read_back,
 };
 pub use message::{Header, Message};
-pub use splitter::{CLIENT_LIMIT, SplitFault, Splitter};
+pub use splitter::{MAX_CLIENT_WORDS, MAX_PEER_WORDS, SplitFault, Splitter};
 pub use text::WireText;
 pub use value::{Dialect, Value, ValueType};
 pub use words::Words;

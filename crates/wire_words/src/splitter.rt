@@ -1,6 +1,6 @@
-ghost use Rattle.std.specs.Prelude.{◌≡◌, ◌++◌, [], length, IfOk, IfErr, List, ℕ};
+ghost use Rattle.std.specs.Prelude.{◌≡◌, ◌++◌, [], length, None, IfOk, IfErr, List, ℕ};
 ghost use Rattle.wire_words.specs.declared.splitter.SplitFault.TheVariants.{NoMemory};
-ghost use Rattle.wire_words.specs.Stream.{Feeds, Answers, Adds, BreaksWith, going_on, fed, client_limit, version_word, unread_bytes};
+ghost use Rattle.wire_words.specs.Stream.{Feeds, Answers, Adds, BreaksWith, going_on, fed, client_limit, peer_limit, version_word, unread_bytes, fault_in, stream};
 
 use crate::message::Message;
 use crate::unfinished::{Unfinished, go_on};
@@ -39,7 +39,10 @@ impl<T: Drop> From<AllocFailed<T>> for SplitFault {
 }
 
 /// How many words a message from a client or to a client may have: 16 MiB.
-pub const CLIENT_LIMIT: u32 = 2_097_152;
+pub const MAX_CLIENT_WORDS: u32 = 2_097_152;
+
+/// How many words a message between nodes may have: 256 MiB.
+pub const MAX_PEER_WORDS: u32 = 33_554_432;
 
 /// Cuts a stream into its messages, however it comes. A stream is the version word 1 and then messages, one after the
 /// other. Clauses see how many words a message may have and how the stream ends so far: within its version word, with a
@@ -57,14 +60,15 @@ pub struct Splitter {
 }
 
 impl Model for Splitter {
-    ghost use Rattle.wire_words.specs.Stream.{Splitting, end_with};
+    ghost use Rattle.std.specs.Prelude.{◌≤◌};
+    ghost use Rattle.wire_words.specs.Stream.{Splitting, end_with, peer_limit};
     ghost use Rattle.wire_words.specs.Holding.{Holds, held_bytes};
 
     ghost Value = { Splitting };
 
     ghost view = { λ s. record { limit = s.limit; end = end_with s.fault s.unfinished.begun (held_bytes s.unfinished) } };
 
-    ghost invariant = { λ s. Holds s.limit s.unfinished };
+    ghost invariant = { λ s. Holds s.limit s.unfinished × (s.limit ≤ peer_limit) };
 }
 
 /// The messages, or where there are none the fault.
@@ -84,7 +88,7 @@ impl Splitter {
     {
         Splitter {
             alloc,
-            limit: CLIENT_LIMIT,
+            limit: MAX_CLIENT_WORDS,
             fault: None,
             unfinished: Unfinished::nothing(alloc, false),
         }
@@ -97,10 +101,33 @@ impl Splitter {
     {
         Splitter {
             alloc,
-            limit: CLIENT_LIMIT,
+            limit: MAX_CLIENT_WORDS,
             fault: None,
             unfinished: Unfinished::nothing(alloc, true),
         }
+    }
+
+    /// The splitter of the same stream where a peer's messages follow, which may have 33,554,432 words: what is unread stays so,
+    /// and so does a fault. Where the stream has none, it stands as if that had been its limit from the start. Takes no memory.
+    pub fn for_peer(self) -> Splitter
+        ensures value { result ≡ record { limit = peer_limit; end = self.end } }
+        ensures joined { (before : List ℕ) → self ≡ fed self.limit before → fault_in self.end ≡ None → result ≡ fed peer_limit before }
+        ensures same { (before : List ℕ) → self ≡ fed self.limit before → fault_in self.end ≡ None →
+            stream peer_limit before ≡ stream self.limit before }
+    {
+        Splitter {
+            alloc: self.alloc,
+            limit: MAX_PEER_WORDS,
+            fault: self.fault,
+            unfinished: self.unfinished,
+        }
+    }
+
+    /// The fault at which the stream is at its end, if there is one: `Version` or `TooLong`. Takes no memory.
+    pub fn fault(&self) -> Option<SplitFault>
+        ensures { result ≡ fault_in self.now.end }
+    {
+        self.fault
     }
 
     /// How many bytes are unread: those of the message that isn't there whole yet, its header included. After a fault

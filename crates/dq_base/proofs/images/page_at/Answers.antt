@@ -4,7 +4,7 @@ use Rattle.dq_base.proofs.ChangedPages.{page_at_inside, page_at_past, page_at-on
 use Rattle.dq_base.proofs.images.page_at.Goals as goal
 
 pub returns-then-number-eq1 : goal.returns-then-number-eq1
-returns-then-number-eq1 c = ap (λ (x : List ℕ). Some x) (rw (c.len.ensures, c.len-then-number-eq1.ensures) at c.sizes_page.ensures) ∙ sym (page_at-one c.args.image.now c.args.number c.if-number-eq1.true)
+returns-then-number-eq1 c = ap (λ (x : List ℕ). Some x) (rw c.lengths_of.ensures.lengths at c.sizes_page.ensures) ∙ sym (page_at-one c.args.image.now c.args.number c.if-number-eq1.true)
 
 pub returns-then-number-eq0 : goal.returns-then-number-eq0
 returns-then-number-eq0 c = sym (page_at-zero c.args.image.now c.args.number c.if-number-eq0.true)

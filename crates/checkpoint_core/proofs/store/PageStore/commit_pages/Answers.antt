@@ -1,16 +1,17 @@
 use Rattle.std.proofs.Common.{◌≡◌, ℕ, ◌+◌, List, [], ◌∷◌, ◌++◌, Some, map, sym, ap, ◌∙◌, subst, arith}
-use Rattle.std.specs.Prelude.{vec_capacity}
+use Rattle.std.specs.Prelude.{vec_capacity, IfSome}
+use Rattle.std.specs.Arc.{arc_value}
 use Rattle.std.specs.List.{AllByRecursion}
 use Rattle.std.proofs.lemmas.Result.{err_from_is_err_and}
 use Rattle.dq_base.specs.declared.images.Image.{Image}
 use Rattle.dq_base.specs.declared.pages.NumberedPage.{NumberedPage}
 use Rattle.dq_base.specs.Applying.{page_fault}
 use Rattle.dq_base.proofs.PageFaults.{page_fault-refuses}
-use Rattle.checkpoint_core.specs.Store.{Store, newest, committed, StillShows, MarksWithin}
+use Rattle.checkpoint_core.specs.Store.{Store, newest, newest_image, committed, StillShows, MarksWithin}
 use Rattle.checkpoint_core.specs.Sets.{store_of}
 use Rattle.checkpoint_core.specs.Log.{Log, IsSized}
 use Rattle.checkpoint_core.specs.Holding.{Holds}
-use Rattle.checkpoint_core.proofs.Shown.{commit_shows}
+use Rattle.checkpoint_core.proofs.Shown.{commit_shows, newest_committed, shows_committed}
 use Rattle.checkpoint_core.proofs.StoreKept.{marks_within, holds_commit, commit_is, next_newest}
 use Rattle.checkpoint_core.proofs.store.PageStore.commit_pages.Goals as goal
 
@@ -29,9 +30,16 @@ invariant_of-self-2 c =
     let done = c.in_ok-append.ensures.done in
     let next : a.newest + 1 ≡ c.in-Some.newest = omega (arith, c.in-Some.ensures) in
     let sized : AllByRecursion IsSized (a.log.pages ++ set) = subst (λ (l : Log). AllByRecursion IsSized l.pages) done c.len-frames.ensures.sized in
-    let kept = holds_commit (vec_capacity a.main) (vec_capacity a.side) main side a.log.pages set a.log.lengths c.in_ok-lengths.lengths a.newest a.marks c.self.invariant c.in_ok-lengths.ensures.0 sized c.in_ok-lengths.ensures.1
+    let kept = holds_commit (vec_capacity a.main) (vec_capacity a.side) main side a.log.pages set a.log.lengths c.in_ok-lengths.lengths a.newest a.marks c.self.invariant.0 c.in_ok-lengths.ensures.0 sized c.in_ok-lengths.ensures.1
     c.make_room.ensures.capacity c.make_room-2.ensures.capacity c.in_ok-make_room.ensures.room c.in_ok-make_room-2.ensures.room in
-    subst (λ (l : Log). Holds main side l.pages l.lengths c.in-Some.newest a.marks) (sym done) (subst (λ (n : ℕ). Holds main side (a.log.pages ++ set) (a.log.lengths ++ map (λ (p : NumberedPage). c.in_ok-lengths.lengths) set) n a.marks) next kept)
+    let base : Image = record { main = a.main.items; side = a.side.items } in
+    let grown : store_of (record { main = c.make_room.new.file.items; side = c.make_room-2.new.file.items }) c.append.new.self.pages c.in-Some.newest a.marks ≡ committed (store_of base a.log.pages a.newest a.marks) set =
+    (λ i. store_of (record { main = c.make_room.ensures.kept i; side = c.make_room-2.ensures.kept i }) (c.in_ok-append.ensures.done i).pages (sym next i) a.marks)
+    ∙ commit_is base (vec_capacity a.main) (vec_capacity a.side) a.log.pages set a.log.lengths a.newest a.marks c.self.invariant.0 c.in_ok-lengths.ensures.0 in
+    let image = ap newest_image grown ∙ newest_committed (store_of base a.log.pages a.newest a.marks) set in (
+      subst (λ (l : Log). Holds main side l.pages l.lengths c.in-Some.newest a.marks) (sym done) (subst (λ (n : ℕ). Holds main side (a.log.pages ++ set) (a.log.lengths ++ map (λ (p : NumberedPage). c.in_ok-lengths.lengths) set) n a.marks) next kept),
+      shows_committed arc_value c.take-whole.result c.brought_along.result _ _ set (subst (λ o. IfSome o (λ shared. arc_value shared ≡ newest_image (store_of base a.log.pages a.newest a.marks))) (sym c.take-whole.ensures.value) c.self.invariant.1) c.brought_along.ensures image,
+    )
 
 pub returns-clause-done : goal.returns-clause-done
 returns-clause-done c =
@@ -40,7 +48,7 @@ returns-clause-done c =
     let base : Image = record { main = a.main.items; side = a.side.items } in
     let next : c.in-Some.newest ≡ a.newest + 1 = omega (arith, c.in-Some.ensures) in
     (λ i. store_of (record { main = c.make_room.ensures.kept i; side = c.make_room-2.ensures.kept i }) (c.in_ok-append.ensures.done i).pages (next i) a.marks)
-    ∙ commit_is base (vec_capacity a.main) (vec_capacity a.side) a.log.pages set a.log.lengths a.newest a.marks c.self.invariant c.in_ok-lengths.ensures.0
+    ∙ commit_is base (vec_capacity a.main) (vec_capacity a.side) a.log.pages set a.log.lengths a.newest a.marks c.self.invariant.0 c.in_ok-lengths.ensures.0
     ∙ ap (λ (s : Store). committed s set) c.self.view_is
 
 -- what holds of all items holds of the later ones
@@ -61,8 +69,8 @@ returns-clause-newest c =
     let next : c.in-Some.newest ≡ a.newest + 1 = omega (arith, c.in-Some.ensures) in
     let done : store_of (record { main = c.make_room.new.file.items; side = c.make_room-2.new.file.items }) c.append.new.self.pages c.in-Some.newest a.marks ≡ committed (store_of base a.log.pages a.newest a.marks) set =
     (λ i. store_of (record { main = c.make_room.ensures.kept i; side = c.make_room-2.ensures.kept i }) (c.in_ok-append.ensures.done i).pages (next i) a.marks)
-    ∙ commit_is base (vec_capacity a.main) (vec_capacity a.side) a.log.pages set a.log.lengths a.newest a.marks c.self.invariant c.in_ok-lengths.ensures.0 in
-    next ∙ next_newest base (vec_capacity a.main) (vec_capacity a.side) a.log.pages set a.log.lengths a.newest a.marks c.self.invariant ∙ ap newest (sym done)
+    ∙ commit_is base (vec_capacity a.main) (vec_capacity a.side) a.log.pages set a.log.lengths a.newest a.marks c.self.invariant.0 c.in_ok-lengths.ensures.0 in
+    next ∙ next_newest base (vec_capacity a.main) (vec_capacity a.side) a.log.pages set a.log.lengths a.newest a.marks c.self.invariant.0 ∙ ap newest (sym done)
 
 pub returns-clause-shown : goal.returns-clause-shown
 returns-clause-shown c id =
@@ -72,8 +80,8 @@ returns-clause-shown c id =
     let next : c.in-Some.newest ≡ a.newest + 1 = omega (arith, c.in-Some.ensures) in
     let done : store_of (record { main = c.make_room.new.file.items; side = c.make_room-2.new.file.items }) c.append.new.self.pages c.in-Some.newest a.marks ≡ committed c.args.self.now set =
     (λ i. store_of (record { main = c.make_room.ensures.kept i; side = c.make_room-2.ensures.kept i }) (c.in_ok-append.ensures.done i).pages (next i) a.marks)
-    ∙ commit_is base (vec_capacity a.main) (vec_capacity a.side) a.log.pages set a.log.lengths a.newest a.marks c.self.invariant c.in_ok-lengths.ensures.0
+    ∙ commit_is base (vec_capacity a.main) (vec_capacity a.side) a.log.pages set a.log.lengths a.newest a.marks c.self.invariant.0 c.in_ok-lengths.ensures.0
     ∙ ap (λ (s : Store). committed s set) c.self.view_is in
     let within : MarksWithin c.args.self.now =
-    subst MarksWithin c.self.view_is (marks_within base (vec_capacity a.main) (vec_capacity a.side) a.log.pages a.log.lengths a.newest a.marks c.self.invariant) in
+    subst MarksWithin c.self.view_is (marks_within base (vec_capacity a.main) (vec_capacity a.side) a.log.pages a.log.lengths a.newest a.marks c.self.invariant.0) in
     subst (λ (s : Store). StillShows c.args.self.now s id) (sym done) (commit_shows c.args.self.now set id within)

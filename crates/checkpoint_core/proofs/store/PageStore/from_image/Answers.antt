@@ -9,9 +9,11 @@ use Rattle.checkpoint_core.proofs.store.PageStore.from_image.Goals as goal
 pub invariant_of-result : goal.invariant_of-result
 invariant_of-result c =
     let main : ℕ = vec_capacity c.into_vec.result in
-    let side : ℕ = vec_capacity c.into_vec-2.result in
-    subst (λ (l : Log). Holds main side l.pages l.lengths 0 c.new-2.result) (sym c.new.ensures)
-    (subst (λ (ms : List (Option ℕ)). Holds main side [] [] 0 ms) (sym c.new-2.ensures) (holds_fresh main side))
+    let side : ℕ = vec_capacity c.into_vec-2.result in (
+      subst (λ (l : Log). Holds main side l.pages l.lengths 0 c.new-2.result) (sym c.new.ensures)
+          (subst (λ (ms : List (Option ℕ)). Holds main side [] [] 0 ms) (sym c.new-2.ensures) (holds_fresh main side)),
+      tt,
+    )
 
 pub returns : goal.returns
 returns c =

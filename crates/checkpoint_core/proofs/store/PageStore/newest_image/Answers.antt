@@ -13,5 +13,5 @@ returns c =
     let parts : laid_image a.log c.len-count.result c.as_slice-main.result.now c.as_slice-side.result.now ≡ laid_image a.log (length a.log.pages) a.main.items a.side.items =
     λ i. laid_image a.log (c.len-count.ensures.value i) (c.as_slice-main.ensures.value i) (c.as_slice-side.ensures.value i) in
     let shown : laid_image a.log c.len-count.result c.as_slice-main.result.now c.as_slice-side.result.now ≡ newest_image c.args.self.now =
-    parts ∙ newest_is base (vec_capacity a.main) (vec_capacity a.side) a.log a.newest a.marks c.self.invariant ∙ ap newest_image c.self.view_is in
+    parts ∙ newest_is base (vec_capacity a.main) (vec_capacity a.side) a.log a.newest a.marks c.self.invariant.0 ∙ ap newest_image c.self.view_is in
     subst (λ (im : Image). IfOk c.image_under.result (λ image. image ≡ im)) shown c.image_under.ensures

@@ -9,7 +9,7 @@ use Rattle.checkpoint_core.proofs.store.PageStore.pin.Goals as goal
 pub invariant_of-self : goal.invariant_of-self
 invariant_of-self c =
     let a = c.self.inside in
-    pinned_holds c.pin.result (vec_capacity a.main) (vec_capacity a.side) a.log.pages a.log.lengths a.newest a.marks c.pin.new.self c.len-count.result c.len-count.ensures.value c.pin.ensures.pinned c.pin.ensures.kept c.self.invariant
+    (pinned_holds c.pin.result (vec_capacity a.main) (vec_capacity a.side) a.log.pages a.log.lengths a.newest a.marks c.pin.new.self c.len-count.result c.len-count.ensures.value c.pin.ensures.pinned c.pin.ensures.kept c.self.invariant.0, c.self.invariant.1)
 
 pub returns-clause-done : goal.returns-clause-done
 returns-clause-done c =

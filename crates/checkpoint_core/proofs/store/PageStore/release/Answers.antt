@@ -10,9 +10,11 @@ use Rattle.checkpoint_core.proofs.store.PageStore.release.Goals as goal
 
 pub invariant_of-self : goal.invariant_of-self
 invariant_of-self c =
-    let a = c.self.inside in
-    subst (λ (ms : List (Option ℕ)). Holds (vec_capacity a.main) (vec_capacity a.side) a.log.pages a.log.lengths a.newest ms) (sym c.release.ensures)
-    (holds_release (vec_capacity a.main) (vec_capacity a.side) a.log.pages a.log.lengths a.newest a.marks c.args.id c.self.invariant)
+    let a = c.self.inside in (
+      subst (λ (ms : List (Option ℕ)). Holds (vec_capacity a.main) (vec_capacity a.side) a.log.pages a.log.lengths a.newest ms) (sym c.release.ensures)
+          (holds_release (vec_capacity a.main) (vec_capacity a.side) a.log.pages a.log.lengths a.newest a.marks c.args.id c.self.invariant.0),
+      c.self.invariant.1,
+    )
 
 pub returns-clause-done : goal.returns-clause-done
 returns-clause-done c =

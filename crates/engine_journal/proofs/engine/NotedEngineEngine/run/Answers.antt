@@ -1,5 +1,8 @@
 use Rattle.std.proofs.Common.{◌≡◌, ◌∙◌, Some, refl, sym, ap, subst}
+use Rattle.std.specs.Prelude.{All}
 use Rattle.sql_engine.specs.Meanings.{Tells}
+use Rattle.sql_engine.specs.Known.{MayKnow}
+use Rattle.sql_engine.proofs.Knowing.{still_known}
 use Rattle.engine_journal.specs.Noting.{told_by}
 use Rattle.engine_journal.proofs.Telling.{told_more, told_lost}
 use Rattle.engine_journal.proofs.engine.NotedEngineEngine.run.Goals as goal
@@ -20,3 +23,8 @@ returns-in-Err-clause-told g c =
       | in-Ok-1 w ↦ told_lost _ _ _ _ (ap (λ v. v.noted) w.self-is ∙ same) (ap (λ v. v.cut) w.self-is)
       | in-Err-1 w ↦ told_lost _ _ _ _ (ap (λ v. v.noted) w.self-is ∙ same) (ap (λ v. v.cut) w.self-is)
     ]
+
+pub returns-in-Ok-clause-known : goal.returns-in-Ok-clause-known
+returns-in-Ok-clause-known g c =
+    subst (λ v. All (MayKnow c.args.image.now c.args.numbers c.run-answer.result (g.E.Engine.known v.engine)) (g.E.Engine.known c.run-answer.new.self)) c.self.view_is
+    c.run-answer.ensures.known
