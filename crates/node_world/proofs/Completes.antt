@@ -47,8 +47,8 @@ told_count conn [] = refl
 told_count conn (x ∷ xs) = ap (λ n. cond (x.conn == conn) 1 0 + n) (told_count conn xs) ∙ by (x.conn == conn)
   where
     by : (b : Bool) → cond b 1 0 + length (said_to conn xs) ≡ length (cond b (x ∷ said_to conn xs) (said_to conn xs))
-    by true = refl
-    by false = refl
+    by true = omega arith
+    by false = omega arith
 
 sums : (told busy1 busy0 asks1 wait1 wait0 asks0 : ℕ) → told + busy1 ≡ busy0 + asks1 → asks1 + wait1 ≡ wait0 + asks0 → told + (wait1 + busy1) ≡ (wait0 + busy0) + asks0
 sums told busy1 busy0 asks1 wait1 wait0 asks0 a b = omega (arith, a, b)

@@ -98,7 +98,10 @@ still_gate : (lacks : List ℕ → ℕ) (g : Gateway) → NoneOpen g → shifted
 still_gate lacks g none = λ i. record { conns = g.conns; session = λ conn. still_session lacks (g.session conn) (none conn) i; weight = g.weight }
 
 same_counts : (m : Machine) → restarted (λ name. 0) (λ name. (m.base name).since) m ≡ m
-same_counts m = refl
+same_counts m = λ i. record { names = m.names; base = λ name. record { image = (m.base name).image; pending = (m.base name).pending; newest = none_more (m.base name).newest i; since = (m.base name).since } }
+  where
+    none_more : (n : ℕ) → 0 + n ≡ n
+    none_more n = omega arith
 
 none_in : NoneOpen no_sessions
 none_in conn = refl

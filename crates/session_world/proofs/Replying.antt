@@ -1,5 +1,5 @@
 -- Replies are those to the requests that are handled.
-use Rattle.std.proofs.Common.{◌≡◌, ◌≢◌, ℕ, zero, suc, Bool, true, false, true≢false, cond, List, [], ◌∷◌, ◌++◌, length, map, refl, sym, ap, ◌∙◌, subst, ⊎_elim, append_assoc}
+use Rattle.std.proofs.Common.{◌≡◌, ◌≢◌, ℕ, zero, suc, ◌+◌, Bool, true, false, true≢false, cond, List, [], ◌∷◌, ◌++◌, length, map, refl, sym, ap, ◌∙◌, subst, ⊎_elim, arith, append_assoc}
 use Rattle.std.specs.Prelude.{◌==◌, ◌&&◌, not, nat_le, is_none, Option, Some, None}
 use Rattle.std.specs.List.{filter}
 use Rattle.std.proofs.lemmas.List.{append-nil}
@@ -61,9 +61,9 @@ surely (x ∷ xs) (h ∷ hs) owed a = (a.0 refl, surely xs hs owed a.1)
 
 -- each request is answered, or owed its reply
 pub pairs_count : (b : Bool) (xs : List Said) (hs owed : List Handled) → Paired b xs hs owed → length xs + length owed ≡ length hs
-pairs_count b [] hs owed a = ap length (sym a)
+pairs_count b [] hs owed a = let e : length owed ≡ length hs = ap length (sym a) in omega (arith, e)
 pairs_count b (x ∷ xs) [] owed a = absurd a
-pairs_count b (x ∷ xs) (h ∷ hs) owed a = ap suc (pairs_count b xs hs owed a.1)
+pairs_count b (x ∷ xs) (h ∷ hs) owed a = let e = pairs_count b xs hs owed a.1 in omega (arith, e)
 
 pub pairs_append : (b : Bool) (xs ys : List Said) (hs gs mid end : List Handled) → Paired b xs hs mid → Paired b ys (mid ++ gs) end → Paired b (xs ++ ys) (hs ++ gs) end
 pairs_append b [] ys hs gs mid end one two = subst (λ l. Paired b ys (l ++ gs) end) (sym one) two
@@ -75,11 +75,11 @@ pair_one b c x h e r = subst (λ l. Paired b l (h ∷ []) []) (sym (to_it c x []
 
 -- ---- a request whose proposal is in flight
 
-record Waiting (b : Bool) (c : ℕ) (s : Session) (t : Trail) (h : Handled) : Type 0 where
-  flight : Flight
-  is : s.flight ≡ Some flight
-  here : s.hung ≡ false
-  reply : Replies b h (said_landed c t flight flight.kind)
+pub record Waiting (b : Bool) (c : ℕ) (s : Session) (t : Trail) (h : Handled) : Type 0 where
+  pub flight : Flight
+  pub is : s.flight ≡ Some flight
+  pub here : s.hung ≡ false
+  pub reply : Replies b h (said_landed c t flight flight.kind)
 
 abbrev pub Pending : Bool → ℕ → Session → Trail → Option Handled → Type 0
 Pending b c s t None = s.flight ≡ None
@@ -199,7 +199,7 @@ own_called b w c q o (Answers s r note) free here ok told = record {
   said = refl;
   after = None;
   pending = ap (λ (x : Session). x.flight) (with_here w.gate c s) ∙ ok.free free;
-  paired = pair_one b c _ (request_of w c q o) refl (λ y. record { query = query_noted w c q o r note ok.note told; commit = tt });
+  paired = pair_one b c _ (request_of w c q o) refl (λ y. record { query = query_noted w c q o r note ok.noted told; commit = tt });
 }
 own_called b w c q o (Proposes s contents note) free here ok told =
     let at = with_here w.gate c s in
@@ -300,7 +300,7 @@ apply_next b mean c w (Some h) a wait =
 -- ---- leadership is lost
 
 -- how often a number is among these
-hits : ℕ → List ℕ → ℕ
+abbrev hits : ℕ → List ℕ → ℕ
 hits c [] = 0
 hits c (d ∷ ds) = cond (d == c) (suc (hits c ds)) (hits c ds)
 
@@ -326,15 +326,15 @@ hits_filter f c [] = sym (both (f c))
     both true = refl
     both false = refl
 hits_filter f c (d ∷ ds) = ⊎_elim
-    (λ (q : d ≡ c). subst (λ k. hits k (filter f (d ∷ ds)) ≡ cond (f k) (hits k (d ∷ ds)) 0) q (own (f d) refl))
+    (λ (q : d ≡ c). subst (λ k. hits k (filter f (d ∷ ds)) ≡ cond (f k) (hits k (d ∷ ds)) 0) q (own (f d) refl (hits_filter f d ds)))
     (λ (q : d ≢ c). cond_both (f d) (d ∷ filter f ds) (filter f ds) (λ l. hits c l ≡ cond (f c) (hits c (d ∷ ds)) 0)
     (λ e. cond-false (d == c) (suc (hits c (filter f ds))) (hits c (filter f ds)) (ne_eqb d c q) ∙ hits_filter f c ds ∙ ap (λ n. cond (f c) n 0) (sym (cond-false (d == c) (suc (hits c ds)) (hits c ds) (ne_eqb d c q))))
     (λ e. hits_filter f c ds ∙ ap (λ n. cond (f c) n 0) (sym (cond-false (d == c) (suc (hits c ds)) (hits c ds) (ne_eqb d c q)))))
     (cases_eq d c)
   where
-    own : (b : Bool) → f d ≡ b → hits d (cond b (d ∷ filter f ds) (filter f ds)) ≡ cond b (hits d (d ∷ ds)) 0
-    own true e = ap (λ n. cond (d == d) (suc n) n) (hits_filter f d ds ∙ cond-true (f d) (hits d ds) 0 e)
-    own false e = hits_filter f d ds ∙ cond-false (f d) (hits d ds) 0 e
+    own : (b : Bool) → f d ≡ b → hits d (filter f ds) ≡ cond (f d) (hits d ds) 0 → hits d (cond b (d ∷ filter f ds) (filter f ds)) ≡ cond b (hits d (d ∷ ds)) 0
+    own true e so = ap (λ n. cond (d == d) (suc n) n) (so ∙ cond-true (f d) (hits d ds) 0 e)
+    own false e so = so ∙ cond-false (f d) (hits d ds) 0 e
 
 hits_out : (c : ℕ) (ds : List ℕ) → among ds c ≡ false → hits c ds ≡ 0
 hits_out c [] e = refl
@@ -348,7 +348,7 @@ hits_once c (d ∷ ds) o e = ⊎_elim
     (cases_eq d c)
 
 -- so many refusals
-copies : ℕ → ℕ → List Said
+abbrev copies : ℕ → ℕ → List Said
 copies c zero = []
 copies c (suc n) = tells c (Refusal LeadershipLost) ∷ copies c n
 
@@ -605,7 +605,7 @@ own_ran w c o Lacks ok told = all_same c w w refl refl
 own_ran w c o (Affects effect) ok told = all_same c w (called w c (Affects effect)) (effect_same w.gate effect c) refl
 own_ran w c o (Answers s r note) ok told =
     two_conds (in_tx ((called w c (Answers s r note)).gate.session c)) _ (runs_on (transaction_ran w c) (statements_in o) note) []
-    (λ e. ap (λ (x : Trail). x.ran) (cond-true (c == c) (answered_trail w.applied (w.trail c) note) (w.trail c) (eq-eqb c c refl)) ∙ by note ok.note ok.tx told (sym (ap in_tx (with_here w.gate c s)) ∙ e))
+    (λ e. ap (λ (x : Trail). x.ran) (cond-true (c == c) (answered_trail w.applied (w.trail c) note) (w.trail c) (eq-eqb c c refl)) ∙ by note ok.noted ok.tx told (sym (ap in_tx (with_here w.gate c s)) ∙ e))
   where
     by : (n : Note) → NoteOk (w.gate.session c).tx r n → TxAfter (w.gate.session c) s n → NoteTells o n → in_tx s ≡ true → (answered_trail w.applied (w.trail c) n).ran ≡ runs_on (transaction_ran w c) (statements_in o) n
     by Nothing k x t e = sym (cond-true (in_tx (w.gate.session c)) (w.trail c).ran [] (x e))
