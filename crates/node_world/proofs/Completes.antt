@@ -94,19 +94,18 @@ module _ (mean : Meaning) (kind : EngineKind) where
       ap (λ k. told_to conn (map told k)) (ap (drop (length w.said)) l.said ∙ drop-append_seam w.said l.more) ∙ told_count conn l.more in
       let counts : length (said_to conn l.more) + n ≡ m + length (handled_in conn w life) = pairs_count false (said_to conn l.more) (owed_by p.0 ++ handled_in conn w life) (owed_by l.after) l.paired ∙ length-append (owed_by p.0) (handled_in conn w life) in
       let same : length (handled_in conn w life) ≡ length (calls conn life) = sym (length-map (handled_in conn w life) (λ (h : Handled). h.request)) ∙ ap length all.handled in
-      let asks : length (calls conn life) + length (new.waiting conn) ≡ length (old.waiting conn) + length (x.asks conn) = sym (length-append (calls conn life) (new.waiting conn)) ∙ ap length all.all ∙ length-append (old.waiting conn) (x.asks conn) in
-      (
+      let asks : length (calls conn life) + length (new.waiting conn) ≡ length (old.waiting conn) + length (x.asks conn) = sym (length-append (calls conn life) (new.waiting conn)) ∙ ap length all.all ∙ length-append (old.waiting conn) (x.asks conn) in (
         ap (λ k. k + owed new conn) told_now
-        ∙ ap (λ k. length (said_to conn l.more) + (length (new.waiting conn) + k)) (sym new_busy)
-        ∙ sums (length (said_to conn l.more)) n m (length (calls conn life)) (length (new.waiting conn)) (length (old.waiting conn)) (length (x.asks conn)) (counts ∙ ap (λ k. m + k) same) asks
-        ∙ ap (λ k. (length (old.waiting conn) + k) + length (x.asks conn)) old_busy,
+            ∙ ap (λ k. length (said_to conn l.more) + (length (new.waiting conn) + k)) (sym new_busy)
+            ∙ sums (length (said_to conn l.more)) n m (length (calls conn life)) (length (new.waiting conn)) (length (old.waiting conn)) (length (x.asks conn)) (counts ∙ ap (λ k. m + k) same) asks
+            ∙ ap (λ k. (length (old.waiting conn) + k) + length (x.asks conn)) old_busy,
         (λ pos. waiting (new.sessions.session conn).flight refl pos),
       )
     where
       waiting : (f : Option Flight) → (new.sessions.session conn).flight ≡ f → 0 < owed new conn → Waits new conn
       waiting None e pos =
           let nothing : length (new.waiting conn) ≡ 0 = ap length (all.waits e) in
-          let free : cond (is_busy (new.sessions.session conn)) 1 0 ≡ 0 = ap (λ (q : Option Flight). cond (not (is_none q)) 1 0) e in
+          let free : ◌≡◌ {A = ℕ} (cond (is_busy (new.sessions.session conn)) 1 0) 0 = ap (λ (q : Option Flight). cond (not (is_none q)) 1 0) e in
           absurd (omega (arith, nothing, free, pos))
       waiting (Some f) e pos = waits_so vs new t (lives_on w life) conn f su (run_ok mean kind w life fit ok) e
 

@@ -254,17 +254,17 @@ nothing_said : (before : List Said) → drop (length before) ((before ++ []) ++ 
 nothing_said before = ap (drop (length before)) (append-nil (before ++ []) ∙ append-nil before) ∙ drop_all (length before) before (omega arith)
 
 elects_so : (trail : ℕ → Trail) (before : List Said) → Shows (lone only) (leading (Other ∷ []) no_sessions []) (taken first_run 1 Timeout []) [] [] (node_of (lone only).raft) (blank_life trail before) (raft.Local raft.Timeout ∷ [])
-unfolding is_space is_digit is_letter is_word_start is_word_part is_sigil is_quote is_in_line has_end kind_of quoted starred decimal in_range parameter solid extended finished statements_from scan_of sigil_token dash_token slash_token sign_token token_of tokens_past is_write is_left_out keyword_of followed_by kind_so_far parts_of first_count cut first_nul zeros resized page_from sizes_page page_at stated_main stated_side replaced put_pages applied is_sizes order_fault length_fault fault_before changed_from changed at_name change_first split_from asked_by takes runs tx_of tidy on_applied told_applied on_lost told_lost on_hangup connects connected holds other_holds change_in_flight all_names one_too_many flown pages_with too_full hindrance with_commit framed act files row_cause outside_write outside inside committed does on_request handed with_session may_ask goes_on cell_page with_page with_cell wiped outcome_of change_at configuration voters_after may_change member_step log_end matches merged conflict_place accept first_replaced accept_above first_replaced_above is_up_to_date term_at voters others peers majority on_grants may_start_election start_election on_ask_vote grants_with on_vote agrees take_entries replaces_committed on_append on_install on_snapped on_ack message_in_range on_message on_propose on_beat on_transfer on_servers majority_stores commit_below commit_index needs_snapshot message_to finish serve raft_step step_acts put run is_stored_by_majority commit_up_to may_grant compacted_step writes_it writing files
+unfolding is_space is_digit is_letter is_word_start is_word_part is_sigil is_quote is_in_line has_end kind_of quoted starred decimal in_range parameter solid extended finished statements_from scan_of sigil_token dash_token slash_token sign_token token_of tokens_past is_write is_left_out keyword_of followed_by kind_so_far parts_of first_count cut first_nul zeros resized page_from sizes_page page_at stated_main stated_side replaced put_pages applied is_sizes order_fault length_fault fault_before changed_from changed at_name change_first split_from asked_by takes runs tx_of tidy on_applied told_applied on_lost told_lost on_hangup connects connected holds other_holds change_in_flight all_names one_too_many flown pages_with too_full hindrance with_commit framed act files row_cause outside_write outside inside committed does on_request handed with_session may_ask goes_on cell_page with_page with_cell wiped outcome_of change_at configuration voters_after may_change member_step log_end matches merged conflict_place accept first_replaced accept_above first_replaced_above is_up_to_date term_at voters others peers majority on_grants may_start_election start_election on_ask_vote grants_with on_vote agrees take_entries replaces_committed on_append on_install on_snapped on_ack message_in_range on_message on_propose on_beat on_transfer on_servers majority_stores commit_below commit_index needs_snapshot message_to finish serve raft_step step_acts put run is_stored_by_majority commit_up_to may_grant compacted_step writes_it writing
 elects_so trail before =
     let v = lives_on (blank_life trail before) elects in
     let quiet : said_in (blank_life trail before) elects ≡ [] = nothing_said before in (
       elects,
       record {
-          weaves = (tt, tt);
-          fits = (tt, (refl, ((refl, (tt, tt)), (omega arith, ((refl, refl, λ n. refl), tt)))));
-          terms = subst (InTerm v) (sym quiet) tt;
-          coherent = record { log = same_log (entries_of 1 (Other ∷ [])) (written 1 (Other ∷ [])) refl refl first_seen; applied = refl; term = refl; leads = refl };
-        },
+        weaves = (tt, tt);
+        fits = (tt, (refl, ((refl, (tt, tt)), (omega arith, ((refl, refl, λ n. refl), tt)))));
+        terms = subst (InTerm v) (sym quiet) tt;
+        coherent = record { log = same_log (entries_of 1 (Other ∷ [])) (written 1 (Other ∷ [])) refl refl first_seen; applied = refl; term = refl; leads = refl };
+      },
       stands_after (Other ∷ []) no_sessions [] (steps (member_step (fixed only) 1) (node_of (lone only).raft) (raft.Local raft.Timeout ∷ [])) v v.trail v.said refl refl (stands_leading (Other ∷ []) no_sessions [] v.trail v.said first_seen none_in machine_none files_none),
       refl,
       sym (ap (map told) quiet),
@@ -289,7 +289,7 @@ same_number : (n k : ℕ) → Comes_in n ≡ Comes_in k → n ≡ k
 same_number n k e = cc
 
 comes_so : (trail : ℕ → Trail) (before : List Said) → Shows (leading (Other ∷ []) no_sessions []) (leading (Other ∷ []) (client []) []) (taken first_run 1 (Connect 5) []) [] [] (node_of (leading (Other ∷ []) no_sessions []).raft) (life_of (Other ∷ []) no_sessions trail before) []
-unfolding is_space is_digit is_letter is_word_start is_word_part is_sigil is_quote is_in_line has_end kind_of quoted starred decimal in_range parameter solid extended finished statements_from scan_of sigil_token dash_token slash_token sign_token token_of tokens_past is_write is_left_out keyword_of followed_by kind_so_far parts_of first_count cut first_nul zeros resized page_from sizes_page page_at stated_main stated_side replaced put_pages applied is_sizes order_fault length_fault fault_before changed_from changed at_name change_first split_from asked_by takes runs tx_of tidy on_applied told_applied on_lost told_lost on_hangup connects connected holds other_holds change_in_flight all_names one_too_many flown pages_with too_full hindrance with_commit framed act files row_cause outside_write outside inside committed does on_request handed with_session may_ask goes_on cell_page with_page with_cell wiped outcome_of change_at configuration voters_after may_change member_step log_end matches merged conflict_place accept first_replaced accept_above first_replaced_above is_up_to_date term_at voters others peers majority on_grants may_start_election start_election on_ask_vote grants_with on_vote agrees take_entries replaces_committed on_append on_install on_snapped on_ack message_in_range on_message on_propose on_beat on_transfer on_servers majority_stores commit_below commit_index needs_snapshot message_to finish serve raft_step step_acts put run is_stored_by_majority commit_up_to may_grant compacted_step writes_it writing files
+unfolding is_space is_digit is_letter is_word_start is_word_part is_sigil is_quote is_in_line has_end kind_of quoted starred decimal in_range parameter solid extended finished statements_from scan_of sigil_token dash_token slash_token sign_token token_of tokens_past is_write is_left_out keyword_of followed_by kind_so_far parts_of first_count cut first_nul zeros resized page_from sizes_page page_at stated_main stated_side replaced put_pages applied is_sizes order_fault length_fault fault_before changed_from changed at_name change_first split_from asked_by takes runs tx_of tidy on_applied told_applied on_lost told_lost on_hangup connects connected holds other_holds change_in_flight all_names one_too_many flown pages_with too_full hindrance with_commit framed act files row_cause outside_write outside inside committed does on_request handed with_session may_ask goes_on cell_page with_page with_cell wiped outcome_of change_at configuration voters_after may_change member_step log_end matches merged conflict_place accept first_replaced accept_above first_replaced_above is_up_to_date term_at voters others peers majority on_grants may_start_election start_election on_ask_vote grants_with on_vote agrees take_entries replaces_committed on_append on_install on_snapped on_ack message_in_range on_message on_propose on_beat on_transfer on_servers majority_stores commit_below commit_index needs_snapshot message_to finish serve raft_step step_acts put run is_stored_by_majority commit_up_to may_grant compacted_step writes_it writing
 comes_so trail before =
     let w = life_of (Other ∷ []) no_sessions trail before in
     let life = Comes_in 5 ∷ [] in
@@ -339,7 +339,7 @@ abbrev opens_life : List Doing
 opens_life = lives.opens 5 ∷ Apply ∷ []
 
 opens_so : (trail : ℕ → Trail) (before : List Said) → Shows (leading (Other ∷ []) (client []) []) (leading (Other ∷ opening ∷ []) (client (codes "d")) opened) (taken first_run 1 (Asks 5 (asks_open ∷ [])) (raft.Propose (written 0 (opening ∷ [])) ∷ [])) [] ((5, db) ∷ []) (node_of (leading (Other ∷ []) (client []) []).raft) (life_of (Other ∷ []) (client []) trail before) (raft.Local (raft.Propose (written 0 (opening ∷ []))) ∷ [])
-unfolding is_space is_digit is_letter is_word_start is_word_part is_sigil is_quote is_in_line has_end kind_of quoted starred decimal in_range parameter solid extended finished statements_from scan_of sigil_token dash_token slash_token sign_token token_of tokens_past is_write is_left_out keyword_of followed_by kind_so_far parts_of first_count cut first_nul zeros resized page_from sizes_page page_at stated_main stated_side replaced put_pages applied is_sizes order_fault length_fault fault_before changed_from changed at_name change_first split_from asked_by takes runs tx_of tidy on_applied told_applied on_lost told_lost on_hangup connects connected holds other_holds change_in_flight all_names one_too_many flown pages_with too_full hindrance with_commit framed act files row_cause outside_write outside inside committed does on_request handed with_session may_ask goes_on cell_page with_page with_cell wiped outcome_of change_at configuration voters_after may_change member_step log_end matches merged conflict_place accept first_replaced accept_above first_replaced_above is_up_to_date term_at voters others peers majority on_grants may_start_election start_election on_ask_vote grants_with on_vote agrees take_entries replaces_committed on_append on_install on_snapped on_ack message_in_range on_message on_propose on_beat on_transfer on_servers majority_stores commit_below commit_index needs_snapshot message_to finish serve raft_step step_acts put run is_stored_by_majority commit_up_to may_grant compacted_step writes_it writing files
+unfolding is_space is_digit is_letter is_word_start is_word_part is_sigil is_quote is_in_line has_end kind_of quoted starred decimal in_range parameter solid extended finished statements_from scan_of sigil_token dash_token slash_token sign_token token_of tokens_past is_write is_left_out keyword_of followed_by kind_so_far parts_of first_count cut first_nul zeros resized page_from sizes_page page_at stated_main stated_side replaced put_pages applied is_sizes order_fault length_fault fault_before changed_from changed at_name change_first split_from asked_by takes runs tx_of tidy on_applied told_applied on_lost told_lost on_hangup connects connected holds other_holds change_in_flight all_names one_too_many flown pages_with too_full hindrance with_commit framed act files row_cause outside_write outside inside committed does on_request handed with_session may_ask goes_on cell_page with_page with_cell wiped outcome_of change_at configuration voters_after may_change member_step log_end matches merged conflict_place accept first_replaced accept_above first_replaced_above is_up_to_date term_at voters others peers majority on_grants may_start_election start_election on_ask_vote grants_with on_vote agrees take_entries replaces_committed on_append on_install on_snapped on_ack message_in_range on_message on_propose on_beat on_transfer on_servers majority_stores commit_below commit_index needs_snapshot message_to finish serve raft_step step_acts put run is_stored_by_majority commit_up_to may_grant compacted_step writes_it writing
 opens_so trail before =
     let w = life_of (Other ∷ []) (client []) trail before in
     let v = lives_on w opens_life in
@@ -349,11 +349,11 @@ opens_so trail before =
     let is : v ≡ life_of (Other ∷ opening ∷ []) (client (codes "d")) v.trail v.said = λ i. record { term = 1; leads = true; serving = true; log = v.log; applied = 2; gate = gate i; trail = v.trail; said = v.said } in (
       opens_life,
       record {
-          weaves = ((λ r s. plain_weaves 1 (written 1 (Other ∷ [])) (opening ∷ []) (opening_spelled, tt) (tt, tt) s), tt);
-          fits = ((λ h. tt), (omega arith, tt));
-          terms = subst (InTerm v) (sym says) ((λ h. (refl, refl)), tt);
-          coherent = record { log = same_log (entries_of 1 (Other ∷ opening ∷ [])) (written 1 (Other ∷ opening ∷ [])) refl refl two_seen; applied = refl; term = refl; leads = refl };
-        },
+        weaves = ((λ r s. plain_weaves 1 (written 1 (Other ∷ [])) (opening ∷ []) (opening_spelled, tt) (tt, tt) s), tt);
+        fits = ((λ h. tt), (omega arith, tt));
+        terms = subst (InTerm v) (sym says) ((λ h. (refl, refl)), tt);
+        coherent = record { log = same_log (entries_of 1 (Other ∷ opening ∷ [])) (written 1 (Other ∷ opening ∷ [])) refl refl two_seen; applied = refl; term = refl; leads = refl };
+      },
       stands_after (Other ∷ opening ∷ []) (client (codes "d")) opened (steps (member_step (fixed only) 1) (node_of (leading (Other ∷ []) (client []) []).raft) (raft.Local (raft.Propose (written 0 (opening ∷ []))) ∷ [])) v v.trail v.said refl is (stands_leading (Other ∷ opening ∷ []) (client (codes "d")) opened v.trail v.said two_seen (none_at (codes "d")) machine_opened files_opened),
       refl,
       sym (ap (map told) says),
@@ -366,7 +366,7 @@ abbrev writes_life : List Doing
 writes_life = lives.sets 5 empty_image 7 ∷ Apply ∷ []
 
 writes_so : (trail : ℕ → Trail) (before : List Said) → Shows (leading (Other ∷ opening ∷ []) (client (codes "d")) opened) (leading (Other ∷ opening ∷ writing ∷ []) (client (codes "d")) wrote) (taken first_run 1 (Asks 5 (asks_set ∷ [])) (raft.Propose (written 0 (writing ∷ [])) ∷ [])) [] ((5, result 1) ∷ []) (node_of (leading (Other ∷ opening ∷ []) (client (codes "d")) opened).raft) (life_of (Other ∷ opening ∷ []) (client (codes "d")) trail before) (raft.Local (raft.Propose (written 0 (writing ∷ []))) ∷ [])
-unfolding is_space is_digit is_letter is_word_start is_word_part is_sigil is_quote is_in_line has_end kind_of quoted starred decimal in_range parameter solid extended finished statements_from scan_of sigil_token dash_token slash_token sign_token token_of tokens_past is_write is_left_out keyword_of followed_by kind_so_far parts_of first_count cut first_nul zeros resized page_from sizes_page page_at stated_main stated_side replaced put_pages applied is_sizes order_fault length_fault fault_before changed_from changed at_name change_first split_from asked_by takes runs tx_of tidy on_applied told_applied on_lost told_lost on_hangup connects connected holds other_holds change_in_flight all_names one_too_many flown pages_with too_full hindrance with_commit framed act files row_cause outside_write outside inside committed does on_request handed with_session may_ask goes_on cell_page with_page with_cell wiped outcome_of change_at configuration voters_after may_change member_step log_end matches merged conflict_place accept first_replaced accept_above first_replaced_above is_up_to_date term_at voters others peers majority on_grants may_start_election start_election on_ask_vote grants_with on_vote agrees take_entries replaces_committed on_append on_install on_snapped on_ack message_in_range on_message on_propose on_beat on_transfer on_servers majority_stores commit_below commit_index needs_snapshot message_to finish serve raft_step step_acts put run is_stored_by_majority commit_up_to may_grant compacted_step writes_it writing files
+unfolding is_space is_digit is_letter is_word_start is_word_part is_sigil is_quote is_in_line has_end kind_of quoted starred decimal in_range parameter solid extended finished statements_from scan_of sigil_token dash_token slash_token sign_token token_of tokens_past is_write is_left_out keyword_of followed_by kind_so_far parts_of first_count cut first_nul zeros resized page_from sizes_page page_at stated_main stated_side replaced put_pages applied is_sizes order_fault length_fault fault_before changed_from changed at_name change_first split_from asked_by takes runs tx_of tidy on_applied told_applied on_lost told_lost on_hangup connects connected holds other_holds change_in_flight all_names one_too_many flown pages_with too_full hindrance with_commit framed act files row_cause outside_write outside inside committed does on_request handed with_session may_ask goes_on cell_page with_page with_cell wiped outcome_of change_at configuration voters_after may_change member_step log_end matches merged conflict_place accept first_replaced accept_above first_replaced_above is_up_to_date term_at voters others peers majority on_grants may_start_election start_election on_ask_vote grants_with on_vote agrees take_entries replaces_committed on_append on_install on_snapped on_ack message_in_range on_message on_propose on_beat on_transfer on_servers majority_stores commit_below commit_index needs_snapshot message_to finish serve raft_step step_acts put run is_stored_by_majority commit_up_to may_grant compacted_step writes_it writing
 writes_so trail before =
     let w = life_of (Other ∷ opening ∷ []) (client (codes "d")) trail before in
     let v = lives_on w writes_life in
@@ -377,11 +377,11 @@ writes_so trail before =
     let is : v ≡ life_of (Other ∷ opening ∷ writing ∷ []) (client (codes "d")) v.trail v.said = λ i. record { term = 1; leads = true; serving = true; log = v.log; applied = 3; gate = gate i; trail = v.trail; said = v.said } in (
       writes_life,
       record {
-          weaves = ((λ r s. writing_weaves s), tt);
-          fits = ((λ h. ((0, may_set), tt)), (omega arith, tt));
-          terms = subst (InTerm v) (sym says) ((λ h. (refl, refl)), tt);
-          coherent = record { log = same_log (entries_of 1 (Other ∷ opening ∷ writing ∷ [])) (written 1 (Other ∷ opening ∷ writing ∷ [])) refl refl three_seen; applied = refl; term = refl; leads = refl };
-        },
+        weaves = ((λ r s. writing_weaves s), tt);
+        fits = ((λ h. ((0, may_set), tt)), (omega arith, tt));
+        terms = subst (InTerm v) (sym says) ((λ h. (refl, refl)), tt);
+        coherent = record { log = same_log (entries_of 1 (Other ∷ opening ∷ writing ∷ [])) (written 1 (Other ∷ opening ∷ writing ∷ [])) refl refl three_seen; applied = refl; term = refl; leads = refl };
+      },
       stands_after (Other ∷ opening ∷ writing ∷ []) (client (codes "d")) wrote (steps (member_step (fixed only) 1) (node_of (leading (Other ∷ opening ∷ []) (client (codes "d")) opened).raft) (raft.Local (raft.Propose (written 0 (writing ∷ []))) ∷ [])) v v.trail v.said refl is (stands_leading (Other ∷ opening ∷ writing ∷ []) (client (codes "d")) wrote v.trail v.said three_seen (none_at (codes "d")) machine_wrote files_wrote),
       refl,
       sym (ap (map told) says),
@@ -393,7 +393,7 @@ writes_so trail before =
 -- ---- the run
 
 pub run_writes_holds : RunWrites
-unfolding voters configuration voters_after
+unfolding voters configuration voters_after peers others
 run_writes_holds = (
   (nothing_kept, refl, lone_starts (fixed only) only refl refl),
   (

@@ -183,9 +183,9 @@ flight_noted w c q o f (Writing r) note n t =
     let none = ran_out w c n.0 in
     subst (λ z. IsReplyTo (request_of w c q o) (said_landed c (proposed_trail w.applied (w.trail c) z) f (Writing r))) (sym n.3)
     (record {
-        query = its_query (request_of w c q o) r f.name w.applied [] ss (w.trail c).seen (sym none) own n.4;
-        commit = sym own ∙ ap (λ l. l ++ statements_in o) (sym none);
-      })
+      query = its_query (request_of w c q o) r f.name w.applied [] ss (w.trail c).seen (sym none) own n.4;
+      commit = sym own ∙ ap (λ l. l ++ statements_in o) (sym none);
+    })
 flight_noted w c q o f Committing note n t =
     let own : statements_in o ≡ [] = told_nothing o (subst (NoteTells o) n.1 t) in
     subst (λ z. IsReplyTo (request_of w c q o) (said_landed c (proposed_trail w.applied (w.trail c) z) f Committing)) (sym n.1)
@@ -208,11 +208,11 @@ own_called b w c q o (Proposes s contents note) free here ok told =
       said = sym (append-nil w.said);
       after = Some (request_of w c q o);
       pending = record {
-          flight = ok.flight;
-          is = ap (λ (x : Session). x.flight) at ∙ ok.is;
-          here = ap (λ (x : Session). x.hung) at ∙ ok.still.hung ∙ here;
-          reply = λ y. subst (λ t. IsReplyTo (request_of w c q o) (said_landed c t ok.flight ok.flight.kind)) (sym (cond-true (c == c) (proposed_trail w.applied (w.trail c) note) (w.trail c) (eq-eqb c c refl))) (flight_noted w c q o ok.flight ok.flight.kind note ok.kind told);
-        };
+        flight = ok.flight;
+        is = ap (λ (x : Session). x.flight) at ∙ ok.is;
+        here = ap (λ (x : Session). x.hung) at ∙ ok.still.hung ∙ here;
+        reply = λ y. subst (λ t. IsReplyTo (request_of w c q o) (said_landed c t ok.flight ok.flight.kind)) (sym (cond-true (c == c) (proposed_trail w.applied (w.trail c) note) (w.trail c) (eq-eqb c c refl))) (flight_noted w c q o ok.flight ok.flight.kind note ok.kind told);
+      };
       paired = refl;
     }
 own_called b w c q o (Affects effect) free here ok told = record { more = tells c empty ∷ []; said = refl; after = None; pending = ap (λ (x : Session). x.flight) (effect_same w.gate effect c) ∙ free; paired = pair_one b c (tells c empty) (request_of w c q o) refl (λ s. record { query = tt; commit = tt }) }
