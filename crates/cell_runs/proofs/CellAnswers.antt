@@ -68,6 +68,7 @@ fault_known i s faults.Sql h ample = ap fault_for h
 fault_known i s (faults.Float row column) h ample = ap fault_for h.runs ∙ h.found
 fault_known i s (faults.NotText row column) h ample = ap fault_for h.runs ∙ h.found
 fault_known i s faults.Unopened h ample = absurd (not_sqlite h)
+fault_known i s faults.Cut h ample = absurd (not_sqlite h)
 fault_known i s faults.NoMemory h ample = absurd (ample refl)
 
 no_fault : (i : Image) (s : Statement) (tx : ℕ) (ran : Ran) → Answers cells i s tx ran → fault_for (outcome_of i s) ≡ None

@@ -1,11 +1,10 @@
 ghost use Rattle.std.specs.Prelude.{◌≡◌, ◌≤◌, ◌==◌, ◌%◌, if◌then◌else◌, length, take, OnOk, vec_capacity};
-ghost use Rattle.dq_base.specs.Images.{resized, page_start, is_page_of};
-ghost use Rattle.dq_base.specs.Applying.{replaced};
+ghost use Rattle.dq_base.specs.Images.{resized};
 ghost use Rattle.checkpoint_core.specs.Laying.{length_of, laid_one, laid, Room};
 ghost use Rattle.checkpoint_core.specs.Log.{first_of};
 
 use crate::frame_log::FrameLog;
-use dq_base::{Lengths, NumberedPage, PAGE_SIZE, start_within};
+use dq_base::{Lengths, NumberedPage, is_page_of, put_page};
 use std::alloc::AllocError;
 
 /// Lays the first frames of a log into one file: parity 0 is the main file, and 1 the side file. The file grows in the
@@ -71,18 +70,6 @@ fn resize(file: &mut Vec<u8>, len: usize)
     let _ = file.resize(len, 0);
 }
 
-/// Replaces the bytes that a page stands for, as far as they lie inside its file.
-#[tactic(auto, unfolding(dq_base::specs::Applying::replaced))]
-fn put_page(file: &mut [u8], page: &NumberedPage)
-    ensures { file.new ≡ replaced file.old (page_start page.now.number) page.now.page }
-{
-    let Some(start) = start_within(page.number, file.len()) else {
-        return;
-    };
-    let count = PAGE_SIZE.min(file.len() - start);
-    file[start..start + count].copy_from_slice(&page.page.bytes()[..count]);
-}
-
 /// Of two lengths the one of a file.
 pub(crate) fn length_of(lengths: Lengths, parity: u64) -> usize
     ensures { result ≡ length_of parity lengths }
@@ -92,10 +79,4 @@ pub(crate) fn length_of(lengths: Lengths, parity: u64) -> usize
     } else {
         lengths.side
     }
-}
-
-fn is_page_of(number: u64, parity: u64) -> bool
-    ensures { result ≡ is_page_of parity number }
-{
-    number > 1 && number % 2 == parity
 }

@@ -142,10 +142,15 @@ impl FrameLog {
         ensures kept { OnErr result (self.new ≡ self.old) }
     {
         let _bytes = page.page.bytes();
-        let frame = next_frame(&self.frames, *page, lengths);
+        let (back, least) = next_stretch(&self.frames, lengths);
         self.frames.reserve(1)?;
         self.index.push(page.number)?;
-        self.frames.push_back(frame)?;
+        self.frames.push_back(Frame {
+            page: *page,
+            lengths,
+            back,
+            least,
+        })?;
         Ok(())
     }
 
@@ -174,22 +179,6 @@ impl FrameLog {
         if let Some(_frame) = self.frames.pop_back() {
             self.index.truncate(self.frames.len() as u64);
         }
-    }
-}
-
-/// The frame that comes behind others.
-fn next_frame(frames: &VecDeque<Frame>, page: NumberedPage, lengths: Lengths) -> Frame
-    requires { AllLookBack frames.now.items }
-    ensures page { result.page ≡ page }
-    ensures lengths { result.lengths ≡ lengths }
-    ensures looks_back { LooksBack (lengths_of frames.now.items ++ lengths ∷ []) (length frames.now.items) result.back result.least }
-{
-    let (back, least) = next_stretch(frames, lengths);
-    Frame {
-        page,
-        lengths,
-        back,
-        least,
     }
 }
 

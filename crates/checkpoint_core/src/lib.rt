@@ -5,7 +5,6 @@
 mod files;
 mod frame_log;
 mod laws;
-mod page_bytes;
 mod reading;
 mod store;
 

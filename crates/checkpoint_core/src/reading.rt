@@ -5,8 +5,7 @@ ghost use Rattle.checkpoint_core.specs.Log.{laid_image, PageOfFrame, PageOfBase}
 
 use crate::files::{lay, length_of, make_room_for};
 use crate::frame_log::FrameLog;
-use crate::page_bytes::{padded_page, sizes_page};
-use dq_base::{Bytes, Image, Lengths, PAGE_SIZE, Page, start_within};
+use dq_base::{Bytes, Image, Lengths, PAGE_SIZE, Page, sizes_page, start_within};
 use std::alloc::{AllocError, Global};
 
 /// The page of a number in the image that the first frames of a log make of a base.
@@ -104,7 +103,7 @@ fn page_of_frame(log: &FrameLog, frame: usize, count: usize, parity: u64, start:
     let page = log.page(frame);
     let least = length_of(log.least(frame, count - 1), parity);
     let kept = least.saturating_sub(start).min(PAGE_SIZE);
-    padded_page(&page.page.bytes()[..kept])
+    Page::padded(&page.page.bytes()[..kept])
 }
 
 /// The bytes of a page of the base, as far as no set cut the file.
@@ -114,7 +113,7 @@ fn page_of_base(file: &[u8], log: &FrameLog, count: usize, parity: u64, start: u
 {
     let end = end_of_base(file, log, count, parity);
     let begin = start.min(end);
-    padded_page(&file[begin..begin + PAGE_SIZE.min(end - begin)])
+    Page::padded(&file[begin..begin + PAGE_SIZE.min(end - begin)])
 }
 
 /// How much of a file of the base no set cut.

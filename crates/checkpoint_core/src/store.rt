@@ -41,8 +41,8 @@ pub struct PageStore {
 impl Model for PageStore {
     ghost use Rattle.std.specs.Prelude.{◌≡◌, vec_capacity, IfSome};
     ghost use Rattle.std.specs.Arc.{arc_value};
-    ghost use Rattle.checkpoint_core.specs.Store.{Store, newest_image};
-    ghost use Rattle.checkpoint_core.specs.Sets.{store_of};
+    ghost use Rattle.checkpoint_core.specs.Store.{Store, after_sets};
+    ghost use Rattle.checkpoint_core.specs.Sets.{sets_of, store_of};
     ghost use Rattle.checkpoint_core.specs.Holding.{Holds};
 
     ghost Value = { Store };
@@ -50,7 +50,7 @@ impl Model for PageStore {
     ghost view = { λ a. store_of (record { main = a.main.items; side = a.side.items }) a.log.pages a.newest a.marks };
 
     ghost invariant = { λ a. Holds (vec_capacity a.main) (vec_capacity a.side) a.log.pages a.log.lengths a.newest a.marks
-        × IfSome a.whole (λ shared. arc_value shared ≡ newest_image (store_of (record { main = a.main.items; side = a.side.items }) a.log.pages a.newest a.marks)) };
+        × IfSome a.whole (λ shared. arc_value shared ≡ after_sets (record { main = a.main.items; side = a.side.items }) (sets_of a.log.pages)) };
 }
 
 impl PageStore {
@@ -71,10 +71,13 @@ impl PageStore {
 
     /// Adds the pages of a set as frames, and answers the number of commits so far. A set is refused as `dq_base::apply`
     /// refuses it: by its first fault `NoSizes`, `Order` or `NotInLength`, and a set without a fault by `NoMemory` where
-    /// memory runs out or 2^64 commits would be passed. After every refusal the store is unchanged.
+    /// memory runs out or 2^64 commits would be passed. After every refusal the store is unchanged: a set that isn't
+    /// applied counts nowhere.
     ///
     /// It makes the room first that the base needs for the set's two lengths. It looks at the set's pages and costs a
-    /// look-up for each; now and then, as the frames or the base outgrow their room, they are moved.
+    /// look-up and a copy for each; now and then, as the frames or the base outgrow their room, they are moved. Where the
+    /// newest image is kept whole, each page is copied once more, into that image, and the image is copied first where
+    /// somebody else holds it.
     pub fn commit(&mut self, set: &PageSet) -> Result<u64, PageFault>
         ensures done { OnOk result (self.new ≡ committed self.old set.now.pages) }
         ensures newest { IfOk result (λ mark. mark ≡ newest self.new) }
@@ -110,7 +113,7 @@ impl PageStore {
         Ok(newest)
     }
 
-    /// How many commits there were. Constant cost; takes no memory.
+    /// How many commits there were; a refused set is none. Constant cost; takes no memory.
     pub fn newest(&self) -> u64
         ensures { result ≡ newest self.now }
     {
@@ -200,10 +203,14 @@ impl PageStore {
         image_under(self.alloc, main, side, &self.log, count)
     }
 
-    /// The image with all commits. Copies the base, and lays all frames into the copy. `Err` is want of memory.
+    /// The image with all commits. Copies the image that is kept whole, and where none is, copies the base and lays all
+    /// frames into the copy. `Err` is want of memory.
     pub fn newest_image(&self) -> Result<Image, AllocError>
         ensures { IfOk result (λ image. image ≡ newest_image self.now) }
     {
+        if let Some(whole) = &self.whole {
+            return whole.try_clone(self.alloc);
+        }
         let main = self.main.as_slice();
         let side = self.side.as_slice();
         let count = self.log.len();

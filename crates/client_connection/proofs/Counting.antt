@@ -1,5 +1,5 @@
 -- The counts of a connection: the bytes of the messages that wait, and for how many there is room.
-use Rattle.std.proofs.Common.{◌≡◌, ◌+◌, ◌-◌, ◌≤◌, ◌<◌, ◌^◌, ℕ, Bool, true, false, cond, not, ◌||◌, ltb, List, [], ◌∷◌, ◌++◌, length, take, get_or, sum_by, refl, sym, ap, subst, ◌∙◌, arith}
+use Rattle.std.proofs.Common.{◌≡◌, ◌+◌, ◌-◌, ◌≤◌, ◌<◌, ◌^◌, ℕ, Bool, false, cond, not, ◌||◌, ltb, List, [], ◌++◌, length, take, get_or, sum_by, refl, sym, ap, subst, ◌∙◌, arith}
 use Rattle.std.proofs.lemmas.List.Sums.{sum_by-append, sum_by_more, sum_by_more_le}
 use Rattle.wire_words.specs.declared.message.Message.{Message}
 use Rattle.wire_words.specs.Stream.{End, Opening, Rest, Broken, Splitting, stream, fed, going_on, client_limit, unread_bytes}

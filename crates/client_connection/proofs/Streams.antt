@@ -1,12 +1,12 @@
 -- What the answers of a splitter tell of its stream.
-use Rattle.std.proofs.Common.{◌≡◌, ◌≤◌, ℕ, Bool, true, false, cond, ltb, length, take, List, [], ◌∷◌, ◌++◌, None, Ok, Err, refl, sym, ap, ◌∙◌, append_assoc, ltb-false}
+use Rattle.std.proofs.Common.{◌≡◌, ◌≤◌, ℕ, Bool, true, false, cond, ltb, length, take, List, [], ◌∷◌, ◌++◌, refl, sym, ap, ◌∙◌, append_assoc, ltb-false}
 use Rattle.std.proofs.lemmas.List.{append-nil, take_all}
 use Rattle.wire_words.specs.declared.message.Message.{Message}
 use Rattle.wire_words.specs.declared.splitter.SplitFault.{SplitFault}
 use Rattle.wire_words.specs.declared.splitter.SplitFault.TheVariants as faults
-use Rattle.wire_words.specs.Stream.{End, Opening, Rest, Broken, Stream, Splitting, stream, going_on, client_limit, after_messages, answer_of, Adds, BreaksWith}
+use Rattle.wire_words.specs.Stream.{End, Stream, Splitting, stream, going_on, client_limit, after_messages, Adds, BreaksWith}
 use Rattle.wire_words.proofs.Cutting.{stream_joined}
-use Rattle.client_connection.specs.Connection.{Conn, IsFed, HasTaken, received, read_of, with_more, room, stream_reason}
+use Rattle.client_connection.specs.Connection.{Conn, IsFed, HasTaken, received, read_of, with_more, room}
 
 -- ---- what was fed so far
 
@@ -47,29 +47,3 @@ taken_more old new bytes taken m h is = record {
   messages = h.messages ∙ ap (λ (c : Conn). taken ++ c.waiting) is ∙ sym (append_assoc taken (m ∷ []) new.waiting);
   end = h.end ∙ ap (λ (c : Conn). c.end) is;
 }
-
--- ---- the answers of a feed
-
--- the messages of an answer are those of the stream, and where there are none no fault is at its end
-answered : (ms : List Message) (end : End) (xs : List Message) → answer_of ms end ≡ Ok xs → (ms ≡ xs) × (xs ≡ [] → stream_reason end ≡ None)
-answered [] (Opening bytes) xs e = let same : [] ≡ xs = cc in (same, λ none. refl)
-answered [] (Rest bytes) xs e = let same : [] ≡ xs = cc in (same, λ none. refl)
-answered [] (Broken fault) xs e = absurd cc
-answered (m ∷ ms) end xs e =
-    let same : m ∷ ms ≡ xs = cc in
-    (same, λ none. let both : m ∷ ms ≡ [] = same ∙ none in absurd cc)
-
-refused : (ms : List Message) (end : End) (fault : SplitFault) → answer_of ms end ≡ Err fault → (ms ≡ []) × (end ≡ Broken fault)
-refused [] (Opening bytes) fault e = absurd cc
-refused [] (Rest bytes) fault e = absurd cc
-refused [] (Broken other) fault e = let same : other ≡ fault = cc in (refl, ap Broken same)
-refused (m ∷ ms) end fault e = absurd cc
-
--- the splitter was still fed a stream
-pub fed_ok : (piece : List ℕ) (old new : Splitting) (messages : List Message) → (f : IsFed old) → Adds client_limit f.bytes (f.bytes ++ piece) messages new → IsFed new
-fed_ok piece old new messages f a = record { bytes = f.bytes ++ piece; is = a.stands }
-
-pub fed_err : (piece : List ℕ) (old new : Splitting) (fault : SplitFault) → (f : IsFed old) → BreaksWith fault client_limit f.bytes (f.bytes ++ piece) old new → IsFed new
-fed_err piece old new faults.NoMemory f b = record { bytes = f.bytes; is = b ∙ f.is }
-fed_err piece old new (faults.Version n) f b = record { bytes = f.bytes ++ piece; is = b.1 }
-fed_err piece old new (faults.TooLong n) f b = record { bytes = f.bytes ++ piece; is = b.1 }

@@ -4,7 +4,7 @@ use Rattle.std.specs.Prelude.{◌≡◌, ◌+◌, ◌-◌, ◌≤◌, ℕ, Bool,
 use Rattle.wire_words.specs.declared.message.Message.{Message}
 use Rattle.wire_words.specs.declared.splitter.SplitFault.{SplitFault}
 use Rattle.wire_words.specs.declared.splitter.SplitFault.TheVariants as faults
-use Rattle.wire_words.specs.Stream.{End, Opening, Rest, Broken, Stream, Splitting, stream, fed, going_on, client_limit, unread_bytes}
+use Rattle.wire_words.specs.Stream.{End, Opening, Rest, Broken, Stream, Splitting, stream, fed, going_on, client_limit, unread_bytes, fault_in}
 use Rattle.client_connection.specs.declared.connection.CloseReason.{CloseReason}
 use Rattle.client_connection.specs.declared.connection.CloseReason.TheVariants as reasons
 
@@ -49,11 +49,13 @@ reason_for (faults.Version word) = Some reasons.Version
 reason_for (faults.TooLong words) = Some reasons.TooLong
 reason_for faults.NoMemory = None
 
+abbrev pub fault_reason : Option SplitFault → Option CloseReason
+fault_reason None = None
+fault_reason (Some fault) = reason_for fault
+
 -- the reason in a stream that ends so, if there is one
 abbrev pub stream_reason : End → Option CloseReason
-stream_reason (Opening bytes) = None
-stream_reason (Rest bytes) = None
-stream_reason (Broken fault) = reason_for fault
+stream_reason end = fault_reason (fault_in end)
 
 -- the reason of a byte for which there was no room
 abbrev pub limit_reason : Bool → Option CloseReason

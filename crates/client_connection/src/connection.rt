@@ -35,7 +35,7 @@ impl CloseReason {
 
 /// How many bytes of a connection may wait to be handled: 32 MiB. Those of a message that isn't there whole count, and header
 /// and body of each message that wasn't taken.
-pub const HELD_LIMIT: u64 = 33_554_432;
+pub const MAX_HELD_BYTES: u64 = 33_554_432;
 
 /// A client's connection. Clauses see how its stream ends so far, the messages that wait, and whether a byte came for which
 /// there was no room.
@@ -82,17 +82,14 @@ fn feed(alloc: Global, splitter: &mut Splitter, piece: &[u8]) -> Result<Vec<Mess
     }
 }
 
-// Why the stream is at its end, if it is: a piece without bytes is answered by that.
-fn end_reason(splitter: &mut Splitter) -> Result<Option<CloseReason>, AllocError>
-    requires { IsFed splitter.old }
-    ensures same { splitter.new ≡ splitter.old }
-    ensures reason { IfOk result (λ reason. reason ≡ stream_reason splitter.old.end) }
+// Why the stream is at its end, if it is.
+fn end_reason(splitter: &Splitter) -> Option<CloseReason>
+    ensures { result ≡ stream_reason splitter.now.end }
 {
-    match splitter.feed(&[]) {
-        Ok(_) => Ok(None),
-        Err(SplitFault::Version(_)) => Ok(Some(CloseReason::Version)),
-        Err(SplitFault::TooLong(_)) => Ok(Some(CloseReason::TooLong)),
-        Err(SplitFault::NoMemory) => Err(AllocError),
+    match splitter.fault() {
+        Some(SplitFault::Version(_)) => Some(CloseReason::Version),
+        Some(SplitFault::TooLong(_)) => Some(CloseReason::TooLong),
+        Some(SplitFault::NoMemory) | None => None,
     }
 }
 
@@ -180,7 +177,7 @@ impl Connection {
     fn room(&self) -> u64
         ensures { result ≡ room self.now }
     {
-        HELD_LIMIT + version_room(self.is_begun) - self.held()
+        MAX_HELD_BYTES + version_room(self.is_begun) - self.held()
     }
 
     // Reads bytes for which there is room. `Err` is want of memory, and changes nothing.
@@ -225,15 +222,14 @@ impl Connection {
     }
 
     /// Why the connection closes behind the messages that wait, if its stream is at its end or there was no room for a byte.
-    /// Where both are so, it is what came first. Nothing changes. `Err` is want of memory.
-    pub fn close_reason(&mut self) -> Result<Option<CloseReason>, AllocError>
-        ensures same { self.new ≡ self.old }
-        ensures reason { IfOk result (λ reason. reason ≡ reason_of self.old) }
+    /// Where both are so, it is what came first. Takes no memory.
+    pub fn close_reason(&self) -> Option<CloseReason>
+        ensures { result ≡ reason_of self.now }
     {
-        match end_reason(&mut self.splitter)? {
-            Some(reason) => Ok(Some(reason)),
-            None if self.is_full => Ok(Some(CloseReason::Limit)),
-            None => Ok(None),
+        match end_reason(&self.splitter) {
+            Some(reason) => Some(reason),
+            None if self.is_full => Some(CloseReason::Limit),
+            None => None,
         }
     }
 

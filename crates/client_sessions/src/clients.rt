@@ -203,25 +203,17 @@ impl Clients {
     }
 
     /// Closes a connection whose stream is at its end or has no room for a byte, and answers why; it goes as one that hangs
-    /// up. To be called once its messages have had their turn. Any other connection stays. `Err` is want of memory; nothing
-    /// has changed then.
-    pub fn close(
-        &mut self,
-        conn: u64,
-        machine: &mut Machine,
-    ) -> Result<Option<CloseReason>, AllocError>
+    /// up. To be called once its messages have had their turn. Any other connection stays. Takes no memory.
+    pub fn close(&mut self, conn: u64, machine: &mut Machine) -> Option<CloseReason>
         requires stand { StandOver self.old machine.old }
-        ensures closed { OnOk result (clients_of self.new machine.new ≡ closed (clients_of self.old machine.old) conn) }
-        ensures told { IfOk result (λ reason. reason ≡ closing ((clients_of self.old machine.old).streams conn)) }
-        ensures failed { OnErr result (clients_of self.new machine.new ≡ clients_of self.old machine.old) }
+        ensures closed { clients_of self.new machine.new ≡ closed (clients_of self.old machine.old) conn }
+        ensures told { result ≡ closing ((clients_of self.old machine.old).streams conn) }
         ensures stands { StandOver self.new machine.new }
         ensures files { machine_of machine.new ≡ machine_of machine.old }
     {
-        let Some(reason) = self.reason(conn)? else {
-            return Ok(None);
-        };
+        let reason = self.reason(conn)?;
         self.hang_up(conn, machine);
-        Ok(Some(reason))
+        Some(reason)
     }
 
     // Whether a number is that of a connection that is open, or of one that hung up while its proposal is in flight.
@@ -255,16 +247,11 @@ impl Clients {
         }
     }
 
-    // Why a connection is to be closed, where it is open and is to be. Nothing changes.
-    fn reason(&mut self, conn: u64) -> Result<Option<CloseReason>, AllocError>
-        ensures same { (databases : List Database) → clients_of self.new databases ≡ clients_of self.old databases }
-        ensures gateway { self.new.gateway ≡ self.old.gateway }
-        ensures reason { IfOk result (λ reason. (databases : List Database) → reason ≡ closing ((clients_of self.old databases).streams conn)) }
+    // Why a connection is to be closed, where it is open and is to be.
+    fn reason(&self, conn: u64) -> Option<CloseReason>
+        ensures { (databases : List Database) → result ≡ closing ((clients_of self.now databases).streams conn) }
     {
-        match self.connections.get_mut(&conn) {
-            Some(stream) => stream.close_reason(),
-            None => Ok(None),
-        }
+        self.connections.get(&conn)?.close_reason()
     }
 
     // Takes the first message that waits on a connection, where it is open and its session isn't busy.

@@ -35,7 +35,7 @@ use Rattle.cluster_runner.specs.Run.{Place, Opening, Within, Next, Fault, Run, i
 use Rattle.cluster_runner.specs.Alike.{fleet_in, fleet_at, led, led_from, commands_of, moment, run_until, BeginsWith, Follows, IsDigestOf, Tells, length_of_all, KeepsAlike}
 use Rattle.cluster_runner.proofs.Bounded.{list_sound, follower_within}
 use Rattle.cluster_runner.proofs.Elements.{all_weaker, all_append, all_set, all_get_or, where_some, where_mapped}
-use Rattle.cluster_runner.proofs.Choices.{some_is}
+use Rattle.dq_base.proofs.Choices.{some_is}
 use Rattle.cluster_runner.proofs.Sightings.{ok_is, all_seen}
 
 -- ---- one machine, and a list that grows

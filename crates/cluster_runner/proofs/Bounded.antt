@@ -33,7 +33,7 @@ use Rattle.cluster_runner.specs.Machines.{Fleet, take_at, with_command, applies,
 use Rattle.cluster_runner.specs.Scenes.{Scene, Nodes, Pages, plays, lacks_answer, shown}
 use Rattle.cluster_runner.specs.Run.{Place, Opening, Within, Next, Fault, after_event, after_show, opened_at, line_step, said_step, step}
 use Rattle.cluster_runner.specs.Alike.{fleet_in, fleet_at, led, led_from, commands_of, Follows, length_of_all}
-use Rattle.cluster_runner.proofs.Choices.{some_is}
+use Rattle.dq_base.proofs.Choices.{some_is}
 use Rattle.cluster_runner.proofs.Elements.{all_append, where_mapped}
 use Rattle.cluster_runner.proofs.Sightings.{ok_is}
 use Rattle.cluster_runner.proofs.SpelledLines.{line_spelled}

@@ -8,7 +8,7 @@ use Rattle.hex.proofs.HexLemmas.{IsDigits-lower_digits, IsDigits-upper_digits, d
 use Rattle.hex.proofs.Pairs.{cons_byte, decode_pairs-ok_pair}
 use Rattle.cluster_runner.specs.Grammar.{hex_bytes}
 use Rattle.cluster_runner.specs.Spelling.{IsHexDigit, AreHex}
-use Rattle.cluster_runner.proofs.Choices.{some_is, not_passed}
+use Rattle.dq_base.proofs.Choices.{some_is, not_passed}
 
 -- ---- a digit
 

@@ -1,13 +1,10 @@
 pub mod Agreement
 pub mod Bounded
-pub mod Choices
 pub mod Elements
 pub mod Growing
-pub mod Halves
 pub mod Happening
 pub mod HexWords
 pub mod LineStops
-pub mod Numbers
 pub mod Pieces
 pub mod Printed
 pub mod Reading

@@ -27,7 +27,7 @@ use Rattle.cluster_runner.specs.Machines.{Fleet, idle, joins, refusal, applies, 
 use Rattle.cluster_runner.specs.Scenes.{Scene, Nodes, Pages, plays, lacks_answer, shown}
 use Rattle.cluster_runner.specs.Run.{Place, Opening, Within, Next, Fault, after_event, after_show, opened_at, line_step, said_step, step, onward, closing, run_from, run}
 use Rattle.cluster_runner.specs.Alike.{fleet_in, fleet_at, led, led_from, IsSeenIn, IsSeen}
-use Rattle.cluster_runner.proofs.Choices.{some_is}
+use Rattle.dq_base.proofs.Choices.{some_is}
 use Rattle.cluster_runner.proofs.Elements.{all_weaker, all_append, where_some, where_mapped}
 
 abbrev AllSeenIn : Fleet → List Say → Type 0

@@ -1,9 +1,8 @@
 -- A line is read exactly where its bytes spell it.
-use Rattle.std.proofs.Common.{◌≡◌, ℕ, ◌<◌, ◌^◌, Bool, true, false, cond, ltb, leb, ◌&&◌, inl, inr, List, [], ◌∷◌, ◌++◌, length, take, drop, codes, Option, Some, None, option_map, refl, sym, ap, subst, ◌∙◌, take-append-drop}
+use Rattle.std.proofs.Common.{◌≡◌, ℕ, ◌<◌, ◌^◌, Bool, true, false, cond, ltb, leb, inl, inr, List, [], ◌∷◌, ◌++◌, length, take, drop, codes, Option, Some, None, option_map, refl, sym, ap, subst, ◌∙◌, take-append-drop, arith}
 use Rattle.std.specs.Prelude.{bytes_eq}
 use Rattle.std.specs.List.{AllByRecursion, list_all}
 use Rattle.std.specs.Fmt.{decimal}
-use Rattle.std.specs.Str.Parse.{digits_value}
 use Rattle.std.proofs.lemmas.Bool.{and_parts, and_from, ltb-true, lt-ltb, leb-true, le-leb, eqb-true}
 use Rattle.std.proofs.lemmas.Slice.Eq.{bytes_eq-Decides}
 use Rattle.cluster_runner.specs.ScriptSize.{line_limit}
@@ -11,12 +10,13 @@ use Rattle.cluster_runner.specs.declared.grammar.Event.{Event}
 use Rattle.cluster_runner.specs.declared.grammar.Event.TheVariants.{Timeout, Connect, Bytes, Hangup, Put, Take}
 use Rattle.cluster_runner.specs.declared.grammar.ScriptLine.{ScriptLine}
 use Rattle.cluster_runner.specs.declared.grammar.ScriptLine.TheVariants as says
-use Rattle.cluster_runner.specs.Grammar.{number, hex_bytes, halves, behind, ◌>>=◌, connect_of, bytes_of, event_line, words_line, is_fit, is_blank, line_of}
+use Rattle.dq_base.specs.Texts.{halves, behind}
+use Rattle.dq_base.proofs.Choices.{some_is, passed, mapped, bound, chosen}
+use Rattle.dq_base.proofs.Numbers.{number_is, number_again}
+use Rattle.dq_base.proofs.Halves.{halves_cut, halves_of, decimal_no_space}
+use Rattle.cluster_runner.specs.Grammar.{number, hex_bytes, ◌>>=◌, connect_of, bytes_of, event_line, words_line, is_fit, is_blank, line_of}
 use Rattle.cluster_runner.specs.Spelling.{AreHex, IsNumbered, IsEvent, IsNothing, IsLineText, Spells}
-use Rattle.cluster_runner.proofs.Numbers.{IsNumber, number_some}
-use Rattle.cluster_runner.proofs.Choices.{some_is, passed, mapped, bound, chosen}
 use Rattle.cluster_runner.proofs.HexWords.{hex_spelled, hex_read}
-use Rattle.cluster_runner.proofs.Halves.{halves_cut, halves_of, decimal_no_space}
 
 -- ---- ASCII
 
@@ -32,15 +32,6 @@ ascii_test (b ∷ bytes) h = and_from (ltb b 128) (list_all (λ b. ltb b 128) by
 
 -- ---- what is read is spelled so
 
--- a word that is read as a number is it
-number_is : (word : List ℕ) (n : ℕ) → number word ≡ Some n → IsNumber word n
-unfolding number
-number_is word n e =
-    let v = digits_value 10 word in
-    let a = passed (bytes_eq (decimal v) word && ltb v (2 ^ 32)) (Some v) n e in
-    let both = and_parts (bytes_eq (decimal v) word) (ltb v (2 ^ 32)) a.0 in
-    subst (IsNumber word) (some_is v n a.1) (record { small = ltb-true v (2 ^ 32) both.1; written = sym ((bytes_eq-Decides (decimal v) word).0 both.0) })
-
 -- what stands behind a word
 behind_is : (word line text : List ℕ) → behind word line ≡ Some text → line ≡ word ++ text
 behind_is word line text e =
@@ -53,7 +44,7 @@ numbered : (word line text : List ℕ) (make : ℕ → ScriptLine) (said : Scrip
     → option_map make (number text) ≡ Some said → IsLineText said line
 numbered word line text make said texts at e =
     let a = mapped make (number text) said e in
-    let n = number_is text a.0 a.1 in
+    let n = number_is (2 ^ 32) text a.0 a.1 in
     subst (λ (s : ScriptLine). IsLineText s line) a.2
     (texts a.0 (record { in_range = n.small; parts = behind_is word line text at ∙ ap (λ (x : List ℕ). word ++ x) n.written }))
 
@@ -63,8 +54,8 @@ connect_is line text said at e =
     let a = bound (halves text) (λ both. number both.0 >>= λ node. number both.1 >>= λ connection. Some (says.Event (Connect node connection))) said e in
     let b = bound (number a.0.0) (λ node. number a.0.1 >>= λ connection. Some (says.Event (Connect node connection))) said a.2 in
     let c = bound (number a.0.1) (λ connection. Some (says.Event (Connect b.0 connection))) said b.2 in
-    let node = number_is a.0.0 b.0 b.1 in
-    let connection = number_is a.0.1 c.0 c.1 in
+    let node = number_is (2 ^ 32) a.0.0 b.0 b.1 in
+    let connection = number_is (2 ^ 32) a.0.1 c.0 c.1 in
     let front : List ℕ → List ℕ → List ℕ = λ x y. codes "connect " ++ (x ++ (codes " " ++ y)) in
     subst (λ (s : ScriptLine). IsLineText s line) (some_is (says.Event (Connect b.0 c.0)) said c.2) (record {
       node_in_range = node.small;
@@ -78,7 +69,7 @@ bytes_are line text said at e =
     let a = bound (halves text) (λ both. number both.0 >>= λ connection. hex_bytes both.1 >>= λ bytes. Some (says.Event (Bytes connection bytes))) said e in
     let b = bound (number a.0.0) (λ connection. hex_bytes a.0.1 >>= λ bytes. Some (says.Event (Bytes connection bytes))) said a.2 in
     let c = bound (hex_bytes a.0.1) (λ bytes. Some (says.Event (Bytes b.0 bytes))) said b.2 in
-    let connection = number_is a.0.0 b.0 b.1 in
+    let connection = number_is (2 ^ 32) a.0.0 b.0 b.1 in
     let hex = hex_spelled a.0.1 c.0 c.1 in
     subst (λ (s : ScriptLine). IsLineText s line) (some_is (says.Event (Bytes b.0 c.0)) said c.2) (record {
       digits = a.0.1;
@@ -151,8 +142,14 @@ line_spelled said line e =
 
 -- ---- what is spelled so is read
 
+again : (n : ℕ) → n < 2 ^ 32 → number (decimal n) ≡ Some n
+again n small = number_again (2 ^ 32) n (omega arith) small
+
+wide : (n : ℕ) → n < 2 ^ 32 → n < 2 ^ 64
+wide n small = omega arith
+
 read_number : (make : ℕ → ScriptLine) (n : ℕ) → n < 2 ^ 32 → option_map make (number (decimal n)) ≡ Some (make n)
-read_number make n small = rw (number_some (decimal n) n (record { small = small; written = refl })) refl
+read_number make n small = rw (again n small) refl
 
 nodes_read : (text : List ℕ) → words_line (codes "nodes " ++ text) ≡ option_map says.Nodes (number text)
 unfolding words_line
@@ -194,13 +191,13 @@ connect_again : (node connection : ℕ) → node < 2 ^ 32 → connection < 2 ^ 3
     → connect_of (decimal node ++ (codes " " ++ decimal connection)) ≡ Some (says.Event (Connect node connection))
 unfolding connect_of
 connect_again node connection node_small connection_small =
-    rw (halves_of (decimal node) (decimal connection) (decimal_no_space node node_small), number_some (decimal node) node (record { small = node_small; written = refl }), number_some (decimal connection) connection (record { small = connection_small; written = refl })) refl
+    rw (halves_of (decimal node) (decimal connection) (decimal_no_space node (wide node node_small)), again node node_small, again connection connection_small) refl
 
 bytes_again : (connection : ℕ) (digits bytes : List ℕ) → connection < 2 ^ 32 → AreHex digits bytes → 0 < length bytes
     → bytes_of (decimal connection ++ (codes " " ++ digits)) ≡ Some (says.Event (Bytes connection bytes))
 unfolding bytes_of
 bytes_again connection digits bytes small hex some =
-    rw (halves_of (decimal connection) digits (decimal_no_space connection small), number_some (decimal connection) connection (record { small = small; written = refl }), hex_read digits bytes hex some) refl
+    rw (halves_of (decimal connection) digits (decimal_no_space connection (wide connection small)), again connection small, hex_read digits bytes hex some) refl
 
 -- what a line of this text says
 abbrev said_by : List ℕ → Option ScriptLine

@@ -35,7 +35,7 @@ use Rattle.cluster_runner.specs.Run.{onward as onward_line}
 use Rattle.cluster_runner.specs.Playing.{AreAllowed}
 use Rattle.cluster_runner.specs.Outcome.{IsAllowed, IsSpent}
 use Rattle.cluster_runner.proofs.Elements.{where_some, where_mapped}
-use Rattle.cluster_runner.proofs.Choices.{some_is}
+use Rattle.dq_base.proofs.Choices.{some_is}
 use Rattle.cluster_runner.proofs.Happening.{joins_by, joins_so, joins_allowed}
 use Rattle.cluster_runner.proofs.Sightings.{ok_is}
 

@@ -1,41 +1,23 @@
 -- What a line of a script says.
-use Rattle.std.specs.Prelude.{◌≡◌, ◌≢◌, ◌==◌, ◌<◌, ◌^◌, ◌&&◌, ℕ, Bool, List, [], ◌∷◌, length, slice_index, take, drop, codes, nat_lt, nat_le, position, true, Option, Some, None, option_and_then, if◌then◌else◌}
+use Rattle.std.specs.Prelude.{◌==◌, ◌^◌, ◌&&◌, ℕ, Bool, List, [], ◌∷◌, length, codes, nat_lt, nat_le, true, Option, Some, None, option_and_then, if◌then◌else◌}
 use Rattle.std.specs.Option.{option_map}
 use Rattle.std.specs.List.{list_all}
 use Rattle.std.specs.Result.{result_ok}
-use Rattle.std.specs.Str.{bytes_eq}
-use Rattle.std.specs.Str.Parse.{digits_value}
-use Rattle.std.specs.Fmt.{decimal}
+use Rattle.dq_base.specs.Decimal.{number_below}
+use Rattle.dq_base.specs.Texts.{halves, behind, or_else}
 use Rattle.hex.specs.Hex.{decode_of}
 use Rattle.cluster_runner.specs.ScriptSize.{line_limit}
 use Rattle.cluster_runner.specs.declared.grammar.Event.TheVariants.{Timeout, Connect, Bytes, Hangup, Put, Take}
 use Rattle.cluster_runner.specs.declared.grammar.ScriptLine.{ScriptLine}
 use Rattle.cluster_runner.specs.declared.grammar.ScriptLine.TheVariants as says
 
--- neither a sign nor a leading zero, as `0` itself has not
-pub record IsPlain (word : List ℕ) : Type 0 where
-  pub some : 0 < length word
-  pub unsigned : slice_index word 0 ≢ 43
-  pub tight : slice_index word 0 ≡ 48 → length word ≡ 1
-
--- a number in decimal, without sign or leading zeros, below 2 ^ 32: writing it gives the word again
-unfoldable pub number : List ℕ → Option ℕ
-number word =
-    if bytes_eq (decimal (digits_value 10 word)) word && nat_lt (digits_value 10 word) (2 ^ 32)
-    then Some (digits_value 10 word)
-    else None
+-- a number in decimal below 2 ^ 32
+abbrev pub number : List ℕ → Option ℕ
+number word = number_below (2 ^ 32) word
 
 -- the bytes of hex digits of either case, at least two of them
 unfoldable pub hex_bytes : List ℕ → Option (List ℕ)
 hex_bytes word = if length word == 0 then None else result_ok (decode_of word)
-
--- what stands before and behind the first space
-unfoldable pub halves : List ℕ → Option (List ℕ × List ℕ)
-halves text = option_map (λ i. (take i text, drop 1 (drop i text))) (position (λ b. b == 32) text)
-
--- what stands behind a word and its space, where the line begins so
-abbrev pub behind : List ℕ → List ℕ → Option (List ℕ)
-behind word line = if bytes_eq (take (length word) line) word then Some (drop (length word) line) else None
 
 infixl 10 ◌>>=◌
 abbrev pub ◌>>=◌ : {A B : Type 0} → Option A → (A → Option B) → Option B
@@ -56,11 +38,6 @@ bytes_of text = do
   connection ← number both.0
   bytes ← hex_bytes both.1
   Some (says.Event (Bytes connection bytes))
-
--- the first that is there
-abbrev pub or_else : {A : Type 0} → Option (List ℕ) → (List ℕ → Option A) → Option A → Option A
-or_else None f other = other
-or_else (Some text) f other = f text
 
 -- a line that has something happen: words, each behind one space
 unfoldable pub event_line : List ℕ → Option ScriptLine

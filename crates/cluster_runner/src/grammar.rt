@@ -1,12 +1,12 @@
 //! What a line of a script says.
 
-ghost use Rattle.std.specs.Prelude.{◌≡◌, ◌==◌, ◌<◌, ◌↔◌, length, nat_lt, position, IfOk, IfSome, IsTrue};
+ghost use Rattle.std.specs.Prelude.{◌≡◌, nat_lt, IfOk};
 ghost use Rattle.std.specs.Option.{option_map};
 ghost use Rattle.std.specs.List.{list_all};
-ghost use Rattle.cluster_runner.specs.Grammar.{IsPlain, number, hex_bytes, halves, connect_of, bytes_of, event_line, words_line, is_fit, is_blank, line_of};
+ghost use Rattle.cluster_runner.specs.Grammar.{hex_bytes, connect_of, bytes_of, event_line, words_line, is_fit, is_blank, line_of};
 
 use crate::lines::LINE_LIMIT;
-use dq_base::Bytes;
+use dq_base::{Bytes, decimal_u32, halves_of};
 use hex::FromHexError;
 use std::alloc::{AllocError, Global};
 
@@ -42,30 +42,6 @@ pub enum ScriptLine {
     Event(Event),
 }
 
-/// Whether a word has neither a sign nor a leading zero, as `0` itself has not.
-fn is_plain(word: &[u8]) -> bool
-    ensures { IsTrue result ↔ IsPlain word.now }
-{
-    match word {
-        [] | [b'+', ..] => false,
-        [b'0', ..] => word.len() == 1,
-        [..] => true,
-    }
-}
-
-/// A number in decimal, without sign or leading zeros, below 2^32.
-fn number_in(word: &[u8]) -> Option<u32>
-    ensures { result ≡ number word.now }
-{
-    if !is_plain(word) {
-        return None;
-    }
-    let Ok(text) = std::str::from_utf8(word) else {
-        return None;
-    };
-    text.parse().ok()
-}
-
 /// The bytes of hex digits of either case, at least two of them.
 #[tactic(auto, unfolding(crate::specs::Grammar::hex_bytes))]
 fn hex_in(alloc: Global, word: &[u8]) -> Result<Option<Bytes>, AllocError>
@@ -81,32 +57,14 @@ fn hex_in(alloc: Global, word: &[u8]) -> Result<Option<Bytes>, AllocError>
     }
 }
 
-/// The place of the first space.
-fn space_in(text: &[u8]) -> Option<usize>
-    ensures place { result ≡ position (λ b. b == 32) text.now }
-    ensures within { IfSome result (λ at. at < length text.now) }
-{
-    text.iter().position(|b| *b == b' ')
-}
-
-/// What stands before and behind the first space.
-#[tactic(auto, unfolding(crate::specs::Grammar::halves))]
-fn halves_of(text: &[u8]) -> Option<(&[u8], &[u8])>
-    ensures { option_map (λ both. (both.0.now, both.1.now)) result ≡ halves text.now }
-{
-    let at = space_in(text)?;
-    let (before, rest) = text.split_at(at);
-    Some((before, &rest[1..]))
-}
-
 /// `connect N C`, behind its first word.
 #[tactic(auto, unfolding(crate::specs::Grammar::connect_of))]
 fn connect_in(text: &[u8]) -> Option<ScriptLine>
     ensures { result ≡ connect_of text.now }
 {
     let (node, connection) = halves_of(text)?;
-    let node = number_in(node)?;
-    let connection = number_in(connection)?;
+    let node = decimal_u32(node)?;
+    let connection = decimal_u32(connection)?;
     Some(ScriptLine::Event(Event::Connect { node, connection }))
 }
 
@@ -118,7 +76,7 @@ fn bytes_in(alloc: Global, text: &[u8]) -> Result<Option<ScriptLine>, AllocError
     let Some((connection, digits)) = halves_of(text) else {
         return Ok(None);
     };
-    let Some(connection) = number_in(connection) else {
+    let Some(connection) = decimal_u32(connection) else {
         return Ok(None);
     };
     let Some(bytes) = hex_in(alloc, digits)? else {
@@ -141,7 +99,7 @@ fn event_in(alloc: Global, line: &[u8]) -> Result<Option<ScriptLine>, AllocError
     ensures { IfOk result (λ said. said ≡ event_line line.now) }
 {
     if let Some(text) = line.strip_prefix(b"timeout ") {
-        return Ok(number_in(text).map(|node| ScriptLine::Event(Event::Timeout { node })));
+        return Ok(decimal_u32(text).map(|node| ScriptLine::Event(Event::Timeout { node })));
     }
     if let Some(text) = line.strip_prefix(b"connect ") {
         return Ok(connect_in(text));
@@ -153,10 +111,10 @@ fn event_in(alloc: Global, line: &[u8]) -> Result<Option<ScriptLine>, AllocError
         return put_in(alloc, text);
     }
     if let Some(text) = line.strip_prefix(b"take ") {
-        return Ok(number_in(text).map(|machine| ScriptLine::Event(Event::Take { machine })));
+        return Ok(decimal_u32(text).map(|machine| ScriptLine::Event(Event::Take { machine })));
     }
     if let Some(text) = line.strip_prefix(b"hangup ") {
-        return Ok(number_in(text).map(|connection| ScriptLine::Event(Event::Hangup {
+        return Ok(decimal_u32(text).map(|connection| ScriptLine::Event(Event::Hangup {
             connection,
         })));
     }
@@ -169,13 +127,13 @@ fn words_in(alloc: Global, line: &[u8]) -> Result<Option<ScriptLine>, AllocError
     ensures { IfOk result (λ said. said ≡ words_line line.now) }
 {
     if let Some(text) = line.strip_prefix(b"nodes ") {
-        return Ok(number_in(text).map(|voters| ScriptLine::Nodes { voters }));
+        return Ok(decimal_u32(text).map(|voters| ScriptLine::Nodes { voters }));
     }
     if let Some(text) = line.strip_prefix(b"pages ") {
-        return Ok(number_in(text).map(|machines| ScriptLine::Pages { machines }));
+        return Ok(decimal_u32(text).map(|machines| ScriptLine::Pages { machines }));
     }
     if let Some(text) = line.strip_prefix(b"show ") {
-        return Ok(number_in(text).map(|number| ScriptLine::Show { number }));
+        return Ok(decimal_u32(text).map(|number| ScriptLine::Show { number }));
     }
     event_in(alloc, line)
 }

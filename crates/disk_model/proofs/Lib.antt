@@ -19,3 +19,5 @@ pub mod Spelling
 pub mod Seen
 pub mod Counts
 pub mod Storing
+pub mod Counting
+pub mod Fronts

@@ -8,7 +8,7 @@ use Rattle.disk_model.specs.Disk.{missing}
 use Rattle.disk_model.specs.SyncAll.{Among}
 use Rattle.disk_model.specs.Trait.{Text, Once}
 use Rattle.disk_model.specs.Folder.{file_of, has_name, ListsFiles}
-use Rattle.disk_model.specs.declared.folder.MemFile.{MemFile}
+use Rattle.disk_model.specs.MemFiles.{MemFile}
 use Rattle.disk_model.proofs.Effects.{eq_here}
 
 -- the first so many files of a list are looked at

@@ -7,7 +7,7 @@ use Rattle.disk_model.specs.Trait.{Text, Reads}
 use Rattle.disk_model.specs.Folder.{Tables, tables_of, base_changed, replayed}
 use Rattle.disk_model.specs.declared.open_calls.Effect.{Effect}
 use Rattle.disk_model.specs.declared.open_calls.Uncovered.{Uncovered}
-use Rattle.disk_model.specs.declared.folder.MemFile.{MemFile}
+use Rattle.disk_model.specs.MemFiles.{MemFile}
 use Rattle.std.proofs.lemmas.List.{take_more, append-nil}
 use Rattle.std.proofs.lemmas.Result.{on_ok_weaker}
 use Rattle.std.specs.declared.alloc.AllocError.{AllocError}

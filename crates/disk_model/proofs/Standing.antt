@@ -10,7 +10,7 @@ use Rattle.disk_model.specs.Disk.{Found, missing}
 use Rattle.disk_model.specs.Trait.{Text}
 use Rattle.disk_model.specs.Memory.{at_name, named, shown}
 use Rattle.disk_model.specs.Folder.{Tables, file_of, tables_of, read_changed, base_changed, file_put_down, names_put_down, settled, settled_file, all_settled, named_file, StandsAt}
-use Rattle.disk_model.specs.declared.folder.MemFile.{MemFile}
+use Rattle.disk_model.specs.MemFiles.{MemFile}
 use Rattle.disk_model.proofs.Effects.{eq_here, eq_else, tell}
 use Rattle.disk_model.proofs.Names.{same, apart}
 
@@ -217,23 +217,23 @@ settled_next files copies new i x f so lt is one more =
     more ∙ (λ j. so j ++ one j ∷ []) ∙ sym (settled_more (take i files) x) ∙ ap all_settled (sym (take_more files i x lt ∙ ap (λ (y : MemFile). take i files ++ y ∷ []) (sym is)))
 
 -- a call that changes what is read, or what stands, of the file at a place
-pub read_taken : (n : Text) (was own files : List MemFile) (place : ℕ) (x : MemFile) (b : Found) (c : Found → Found) (r : Result Unit AllocError) → own ≡ was → tables_of files ≡ tables_of own → StandsAt n files place → x ≡ get_or files place x → OnOk r (b ≡ c x.read)
-    → OnOk r (tables_of (set files place (record { name = x.name; read = b; base = x.base })) ≡ read_changed n c (tables_of was))
-read_taken n was own files place x b c r view same_tables at is ok =
-    on_ok_weaker r (λ e. read_done n was files place (record { name = x.name; read = b; base = x.base }) x c at (same_tables ∙ ap tables_of view) (ap (λ (f : MemFile). f.name) is) (e ∙ ap (λ (f : MemFile). c f.read) is) (ap (λ (f : MemFile). f.base) is)) ok
+pub read_taken : (n : Text) (was own files : List MemFile) (place : ℕ) (x f : MemFile) (c : Found → Found) (r : Result Unit AllocError) → own ≡ was → tables_of files ≡ tables_of own → StandsAt n files place → x ≡ get_or files place x → OnOk r (f ≡ record { name = x.name; read = c x.read; base = x.base })
+    → OnOk r (tables_of (set files place f) ≡ read_changed n c (tables_of was))
+read_taken n was own files place x f c r view same_tables at is ok =
+    on_ok_weaker r (λ e. read_done n was files place f x c at (same_tables ∙ ap tables_of view) ((λ i. (e i).name) ∙ ap (λ (f : MemFile). f.name) is) ((λ i. (e i).read) ∙ ap (λ (f : MemFile). c f.read) is) ((λ i. (e i).base) ∙ ap (λ (f : MemFile). f.base) is)) ok
 
-pub base_taken : (n : Text) (was own files : List MemFile) (place : ℕ) (x : MemFile) (b : Found) (c : Found → Found) (r : Result Unit AllocError) → own ≡ was → tables_of files ≡ tables_of own → StandsAt n files place → x ≡ get_or files place x → OnOk r (b ≡ c x.base)
-    → OnOk r (tables_of (set files place (record { name = x.name; read = x.read; base = b })) ≡ base_changed n c (tables_of was))
-base_taken n was own files place x b c r view same_tables at is ok =
-    on_ok_weaker r (λ e. base_done n was files place (record { name = x.name; read = x.read; base = b }) x c at (same_tables ∙ ap tables_of view) (ap (λ (f : MemFile). f.name) is) (ap (λ (f : MemFile). f.read) is) (e ∙ ap (λ (f : MemFile). c f.base) is)) ok
+pub base_taken : (n : Text) (was own files : List MemFile) (place : ℕ) (x f : MemFile) (c : Found → Found) (r : Result Unit AllocError) → own ≡ was → tables_of files ≡ tables_of own → StandsAt n files place → x ≡ get_or files place x → OnOk r (f ≡ record { name = x.name; read = x.read; base = c x.base })
+    → OnOk r (tables_of (set files place f) ≡ base_changed n c (tables_of was))
+base_taken n was own files place x f c r view same_tables at is ok =
+    on_ok_weaker r (λ e. base_done n was files place f x c at (same_tables ∙ ap tables_of view) ((λ i. (e i).name) ∙ ap (λ (f : MemFile). f.name) is) ((λ i. (e i).read) ∙ ap (λ (f : MemFile). f.read) is) ((λ i. (e i).base) ∙ ap (λ (f : MemFile). c f.base) is)) ok
 
-pub put_down_done : (n : Text) (was own files : List MemFile) (place : ℕ) (x : MemFile) (b : Found) (bytes : List ℕ) → own ≡ was → tables_of files ≡ tables_of own → StandsAt n files place → x ≡ get_or files place x → b ≡ record { there = x.base.there; bytes = bytes } → bytes ≡ x.read.bytes
-    → tables_of (set files place (record { name = x.name; read = x.read; base = b })) ≡ file_put_down n (tables_of was)
-put_down_done n was own files place x b bytes view same_tables at is put same_bytes =
+pub put_down_taken : (n : Text) (was own files : List MemFile) (place : ℕ) (x f : MemFile) (r : Result Unit AllocError) → own ≡ was → tables_of files ≡ tables_of own → StandsAt n files place → x ≡ get_or files place x → OnOk r (f ≡ record { name = x.name; read = x.read; base = record { there = x.base.there; bytes = x.read.bytes } })
+    → OnOk r (tables_of (set files place f) ≡ file_put_down n (tables_of was))
+put_down_taken n was own files place x f r view same_tables at is ok =
     let tables : tables_of files ≡ tables_of was = same_tables ∙ ap tables_of view in
-    let q : bytes ≡ ((tables_of was).read n).bytes = same_bytes ∙ ap (λ (f : MemFile). f.read.bytes) (is ∙ sym (at.here x)) ∙ ap (λ (t : Tables). (t.read n).bytes) tables in
-    base_done n was files place (record { name = x.name; read = x.read; base = b }) x (λ f. record { there = f.there; bytes = ((tables_of was).read n).bytes }) at tables
-    (ap (λ (f : MemFile). f.name) is) (ap (λ (f : MemFile). f.read) is) (put ∙ (λ i. record { there = (is i).base.there; bytes = q i }))
+    let q : x.read.bytes ≡ ((tables_of was).read n).bytes = ap (λ (f : MemFile). f.read.bytes) (is ∙ sym (at.here x)) ∙ ap (λ (t : Tables). (t.read n).bytes) tables in
+    on_ok_weaker r (λ e. base_done n was files place f x (λ f. record { there = f.there; bytes = ((tables_of was).read n).bytes }) at tables
+    ((λ i. (e i).name) ∙ ap (λ (f : MemFile). f.name) is) ((λ i. (e i).read) ∙ ap (λ (f : MemFile). f.read) is) ((λ i. (e i).base) ∙ (λ i. record { there = (is i).base.there; bytes = q i }))) ok
 
 -- files that are settled, in a list of their own
 pub settled_as : (was own copies : List MemFile) → own ≡ was → copies ≡ all_settled own → tables_of copies ≡ settled (tables_of was)

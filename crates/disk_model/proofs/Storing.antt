@@ -7,7 +7,7 @@ use Rattle.disk_model.specs.Trait.{Text}
 use Rattle.disk_model.specs.Memory.{Memory, done_to, noted, removed, synced, names_synced, crashed, kept, left_by_file_sync, left_by_names_sync, each_left}
 use Rattle.disk_model.specs.Folder.{Tables, tables_of, read_changed, file_put_down, names_put_down, settled, replayed}
 use Rattle.disk_model.specs.Stored.{Contents, memory_of}
-use Rattle.disk_model.specs.declared.folder.MemFile.{MemFile}
+use Rattle.disk_model.specs.MemFiles.{MemFile}
 use Rattle.disk_model.specs.declared.open_calls.Effect.{Effect}
 use Rattle.disk_model.specs.declared.open_calls.Effect.TheVariants.{Removal}
 use Rattle.disk_model.specs.declared.open_calls.Uncovered.{Uncovered}

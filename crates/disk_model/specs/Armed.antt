@@ -1,5 +1,5 @@
 -- Calls that are counted, of which one is to fail, and one is to stop the disk.
-use Rattle.std.specs.Prelude.{◌≡◌, ℕ, Bool, true, false, ◌||◌, ◌==◌, if◌then◌else◌, Option, Some, None, is_some, Result, Ok, Err}
+use Rattle.std.specs.Prelude.{◌≡◌, ℕ, Bool, true, false, ◌||◌, ◌==◌, if◌then◌else◌, Option, Some, None, is_some, Result, Ok, Err, cond}
 use Rattle.std.specs.declared.alloc.AllocError.{AllocError}
 use Rattle.dq_base.specs.Faults.{one_more}
 use Rattle.disk_model.specs.declared.faults.DiskFault.{DiskFault}
@@ -7,6 +7,7 @@ use Rattle.disk_model.specs.declared.faults.DiskFault.TheVariants.{Failed, NoMem
 use Rattle.disk_model.specs.declared.armed.Stop.{Stop}
 use Rattle.disk_model.specs.declared.armed.Armed.{Armed}
 use Rattle.disk_model.specs.declared.armed.Turn.{Turn}
+use Rattle.disk_model.specs.Memory.{Memory}
 use Rattle.disk_model.specs.declared.armed.Turn.TheVariants.{Goes, Stops}
 
 -- the pick of a stop, where it comes at this call
@@ -30,6 +31,26 @@ is_idle_next a = is_some a.stopped || is_number a.fail (one_more a.made)
 -- whether the next call answers Failed: the disk is then stopped, or that call is to fail
 abbrev pub fails_next : Armed → Bool
 fails_next a = is_some (stopped_next a) || is_number a.fail (one_more a.made)
+
+-- how the next call begins: it fails at once, or goes on, and the disk stops in it or not
+abbrev pub turn_next : Armed → Result Turn DiskFault
+turn_next a = cond (is_idle_next a) (Err Failed) (cond (is_some (stopped_next a)) (Ok Stops) (Ok Goes))
+
+-- the same of a call that is done whole or not at all
+abbrev pub whole_next : Armed → Result Unit DiskFault
+whole_next a = cond (fails_next a) (Err Failed) (Ok tt)
+
+-- What becomes of the memory by a call that would make this of it: a call that fails does nothing, that of the stop is
+-- done, and want of memory leaves all as it was.
+abbrev pub after_call : Bool → Result Unit DiskFault → Memory → Memory → Memory
+after_call idle (Ok x) was done = done
+after_call idle (Err Failed) was done = cond idle was done
+after_call idle (Err NoMemory) was done = was
+
+-- and by a call that isn't done where the disk stops in it
+abbrev pub after_whole : Result Unit DiskFault → Memory → Memory → Memory
+after_whole (Ok x) was done = done
+after_whole (Err e) was done = was
 
 -- What a call made of the counts: one more call, maybe a stop, and a fault at most where the call was to answer Failed.
 pub record Counted (old new : Armed) : Type 0 where

@@ -5,7 +5,7 @@ use Rattle.disk_model.specs.Disk.{Found, missing, Files}
 use Rattle.disk_model.specs.SyncAll.{Among}
 use Rattle.disk_model.specs.Trait.{Text, Once}
 use Rattle.disk_model.specs.Memory.{at_name, shown, named, done_in_turn, effects_on}
-use Rattle.disk_model.specs.declared.folder.MemFile.{MemFile}
+use Rattle.disk_model.specs.MemFiles.{MemFile}
 use Rattle.disk_model.specs.declared.open_calls.Uncovered.{Uncovered}
 
 -- the files as they are read, and as they surely stand

@@ -7,6 +7,8 @@ pub mod Writing
 pub mod Trait
 pub mod Memory
 pub mod Holds
+pub mod MemFiles
+pub mod Fronts
 pub mod Folder
 pub mod Stored
 pub mod Armed

@@ -6,7 +6,7 @@ use Rattle.disk_model.specs.Holds.{Holds}
 use Rattle.disk_model.specs.Armed.{picked}
 use Rattle.disk_model.specs.Memory.{Memory}
 use Rattle.disk_model.specs.Folder.{file_of}
-use Rattle.disk_model.specs.declared.folder.MemFile.{MemFile}
+use Rattle.disk_model.specs.MemFiles.{MemFile}
 use Rattle.disk_model.specs.declared.armed.Armed.{Armed}
 use Rattle.disk_model.specs.declared.open_calls.Uncovered.{Uncovered}
 

@@ -1,6 +1,6 @@
 -- What a call of a disk does to the states that the disk may be said to be in.
-use Rattle.std.specs.Prelude.{◌≡◌, ◌≤◌, ℕ, ◌-◌, ◌++◌, min, Bool, true, false, List, [], ◌∷◌, length, take, drop, Result, Err, IfOk, OnOk, OnErr}
-use Rattle.dq_base.specs.Faults.{Rose}
+use Rattle.std.specs.Prelude.{◌≡◌, ◌≤◌, ℕ, zero, suc, ◌-◌, ◌++◌, min, Bool, true, false, List, [], ◌∷◌, length, take, drop, Result, Err, IfOk, OnOk, OnErr}
+use Rattle.dq_base.specs.Faults.{one_more, Rose}
 use Rattle.disk_model.specs.Disk.{Disk}
 use Rattle.disk_model.specs.Calls.{Call, Done, Until, Does, Fails}
 use Rattle.disk_model.specs.Rest.{AfterCrash}
@@ -59,3 +59,15 @@ pub record HasCause {T : Type 0} (before now : ℕ) (result : Result T DiskFault
 pub record HasWant {T : Type 0} (before now : ℕ) (result : Result T DiskFault) : Type 0 where
   pub never_falls : before ≤ now
   pub wanted : result ≡ Err NoMemory → Rose before now
+
+-- the count after so many calls more
+abbrev pub after_calls : ℕ → ℕ → ℕ
+after_calls zero before = before
+after_calls (suc more) before = after_calls more (one_more before)
+
+-- So many calls were made where the answer is Ok, and no more where it is an Err.
+pub record MakesCalls {T E : Type 0} (count before now : ℕ) (result : Result T E) : Type 0 where
+  pub made : ℕ
+  pub within : made ≤ count
+  pub counted : now ≡ after_calls made before
+  pub all : OnOk result (made ≡ count)

@@ -1,7 +1,7 @@
 ghost use Rattle.std.specs.Prelude.{◌≡◌, ◌≤◌, false, is_some, if◌then◌else◌, IfOk, OnOk};
 ghost use Rattle.dq_base.specs.Faults.{one_more};
 ghost use Rattle.disk_model.specs.Trait.{HasCause, HasWant};
-ghost use Rattle.disk_model.specs.Armed.{pick_at, is_number, is_idle_next, fails_next, Counted, IsTurn, finished, with_end, unarmed, armed_with, disarmed, picked};
+ghost use Rattle.disk_model.specs.Armed.{pick_at, is_number, is_idle_next, fails_next, turn_next, whole_next, Counted, IsTurn, finished, with_end, unarmed, armed_with, disarmed, picked};
 
 use crate::faults::DiskFault;
 use std::alloc::AllocError;
@@ -143,6 +143,7 @@ impl Armed {
     pub(crate) fn start(&mut self) -> Result<Turn, DiskFault>
         ensures counted { Counted self.old self.new }
         ensures turn { IfOk result (IsTurn (fails_next self.old)) }
+        ensures turns { result ≡ turn_next self.old }
         ensures cause { HasCause self.old.faults self.new.faults result }
         ensures want { HasWant self.old.wants self.new.wants result }
     {
@@ -183,6 +184,7 @@ impl Armed {
     pub(crate) fn start_whole(&mut self) -> Result<(), DiskFault>
         ensures counted { Counted self.old self.new }
         ensures goes { OnOk result (fails_next self.old ≡ false) }
+        ensures turns { result ≡ whole_next self.old }
         ensures cause { HasCause self.old.faults self.new.faults result }
         ensures want { HasWant self.old.wants self.new.wants result }
     {

@@ -15,11 +15,13 @@ use dq_base::{Items, Name};
 /// only by disks that know it, as one over memory; clauses on content hold where it is told. After an `Err` a call that
 /// changes the disk may have been done in any part, but a failed `sync` or `sync_names` makes nothing sure. Want of
 /// memory is an `Err` like a failure, without a fault; it has a count of its own, which rose where `NoMemory` is answered.
+/// All calls are counted too, whatever they answer, so that a caller's caller knows how many were made.
 ///
 /// A crash inside a call is that call over a disk whose calls fail from that moment on. So it is enough to know, at each
 /// answer, what a crash may leave.
 pub trait Disk {
-    ghost use Rattle.std.specs.Prelude.{ℕ, Bool, ◌≤◌, length, IfOk};
+    ghost use Rattle.std.specs.Prelude.{◌≡◌, ℕ, Bool, ◌≤◌, ◌++◌, length, IfOk};
+    ghost use Rattle.dq_base.specs.Faults.{one_more};
     ghost use Rattle.dq_base.specs.Names.{IsName};
     ghost use Rattle.disk_model.specs.Disk.{Disk};
     ghost use Rattle.disk_model.specs.Calls.{WriteAt, CutTo, Sync, Remove, SyncNames, MayWrite};
@@ -37,11 +39,15 @@ pub trait Disk {
     /// How often a call wanted memory of the disk's own.
     ghost wants: { Self → ℕ };
 
+    /// How many calls were made, failed ones too. It stays at its last value.
+    ghost made: { Self → ℕ };
+
     /// The names of the files that are there, each once, in any order.
     fn list(&mut self) -> Result<Items<Name>, DiskFault>
         ensures told { Looks (states self.old) (states self.new) result Lists }
         ensures cause { HasCause (faults self.old) (faults self.new) result }
-        ensures want { HasWant (wants self.old) (wants self.new) result };
+        ensures want { HasWant (wants self.old) (wants self.new) result }
+        ensures count { made self.new ≡ one_more (made self.old) };
 
     /// Reads the bytes of a file from `at` on into the front of `into`, as many as there are and fit, and answers their
     /// number. 0 for an `into` with room is the end.
@@ -50,7 +56,8 @@ pub trait Disk {
         ensures bound { IfOk result (λ count. count ≤ length into.new) }
         ensures told { Looks (states self.old) (states self.new) result (λ d. Reads (d.read name.now).bytes at into.old into.new) }
         ensures cause { HasCause (faults self.old) (faults self.new) result }
-        ensures want { HasWant (wants self.old) (wants self.new) result };
+        ensures want { HasWant (wants self.old) (wants self.new) result }
+        ensures count { made self.new ≡ one_more (made self.old) };
 
     /// Writes the bytes over those of a file from `at` on, and past its end. It makes the file where it isn't there.
     ///
@@ -60,32 +67,52 @@ pub trait Disk {
         requires { IsName name.now }
         ensures told { Known tells (states self.old) (MayWrite name.now at) → Steps (WriteAt name.now at bytes.now) (states self.old) (states self.new) result }
         ensures cause { HasCause (faults self.old) (faults self.new) result }
-        ensures want { HasWant (wants self.old) (wants self.new) result };
+        ensures want { HasWant (wants self.old) (wants self.new) result }
+        ensures count { made self.new ≡ one_more (made self.old) };
+
+    /// The same for bytes that lie in three parts, behind each other: one call, and no copy of them in one piece.
+    fn write_parts(
+        &mut self,
+        name: &str,
+        at: u64,
+        head: &[u8],
+        body: &[u8],
+        tail: &[u8],
+    ) -> Result<(), DiskFault>
+        requires { IsName name.now }
+        ensures told { Known tells (states self.old) (MayWrite name.now at) → Steps (WriteAt name.now at (head.now ++ body.now ++ tail.now)) (states self.old) (states self.new) result }
+        ensures cause { HasCause (faults self.old) (faults self.new) result }
+        ensures want { HasWant (wants self.old) (wants self.new) result }
+        ensures count { made self.new ≡ one_more (made self.old) };
 
     /// Keeps the first `length` bytes of a file. A shorter file stays as it is.
     fn cut(&mut self, name: &str, length: u64) -> Result<(), DiskFault>
         requires { IsName name.now }
         ensures told { Steps (CutTo name.now length) (states self.old) (states self.new) result }
         ensures cause { HasCause (faults self.old) (faults self.new) result }
-        ensures want { HasWant (wants self.old) (wants self.new) result };
+        ensures want { HasWant (wants self.old) (wants self.new) result }
+        ensures count { made self.new ≡ one_more (made self.old) };
 
     /// Puts the bytes of a file on the disk; whether its name is there is up to `sync_names`.
     fn sync(&mut self, name: &str) -> Result<(), DiskFault>
         requires { IsName name.now }
         ensures told { Steps (Sync name.now) (states self.old) (states self.new) result }
         ensures cause { HasCause (faults self.old) (faults self.new) result }
-        ensures want { HasWant (wants self.old) (wants self.new) result };
+        ensures want { HasWant (wants self.old) (wants self.new) result }
+        ensures count { made self.new ≡ one_more (made self.old) };
 
     /// Removes a file.
     fn remove(&mut self, name: &str) -> Result<(), DiskFault>
         requires { IsName name.now }
         ensures told { Steps (Remove name.now) (states self.old) (states self.new) result }
         ensures cause { HasCause (faults self.old) (faults self.new) result }
-        ensures want { HasWant (wants self.old) (wants self.new) result };
+        ensures want { HasWant (wants self.old) (wants self.new) result }
+        ensures count { made self.new ≡ one_more (made self.old) };
 
     /// Puts the names on the disk: those of files that were made are sure from now on, and removed ones are gone.
     fn sync_names(&mut self) -> Result<(), DiskFault>
         ensures told { Steps SyncNames (states self.old) (states self.new) result }
         ensures cause { HasCause (faults self.old) (faults self.new) result }
-        ensures want { HasWant (wants self.old) (wants self.new) result };
+        ensures want { HasWant (wants self.old) (wants self.new) result }
+        ensures count { made self.new ≡ one_more (made self.old) };
 }

@@ -1,10 +1,11 @@
-ghost use Rattle.std.specs.Prelude.{◌≡◌, ◌<◌, [], ℕ, Option, Some, None, false, length, set, get_or, IfOk, OnOk, OnErr, MatchOption};
+ghost use Rattle.std.specs.Prelude.{◌≡◌, ◌<◌, [], ℕ, Option, Some, None, false, min, length, set, get_or, IfOk, OnOk, OnErr, MatchOption};
 ghost use Rattle.std.specs.Str.{bytes_eq};
 ghost use Rattle.dq_base.specs.Names.{IsName};
 ghost use Rattle.disk_model.specs.Disk.{missing};
 ghost use Rattle.disk_model.specs.Memory.{done_to, half_of};
+ghost use Rattle.disk_model.specs.Fronts.{front_left};
 ghost use Rattle.disk_model.specs.Folder.{file_of, tables_of, read_changed, base_changed, file_put_down, names_put_down, settled, settled_file, all_settled, named_file, has_name, ListsFiles, StandsAt};
-ghost use Rattle.disk_model.specs.declared.folder.MemFile.{MemFile};
+ghost use Rattle.disk_model.specs.MemFiles.{MemFile};
 
 use crate::open_calls::Effect;
 use crate::stored::Stored;
@@ -12,12 +13,24 @@ use dq_base::Name;
 use std::alloc::{AllocError, Global};
 use std::marker::Model;
 
-/// One file over memory: as it is read, and as it surely stands.
+/// One file over memory: as it is read, and as it surely stands. So many bytes at its front are the same in both.
 #[derive(Drop)]
 pub struct MemFile {
-    pub(crate) name: Name,
-    pub(crate) read: Stored,
-    pub(crate) base: Stored,
+    name: Name,
+    read: Stored,
+    base: Stored,
+    same: usize,
+}
+
+impl Model for MemFile {
+    ghost use Rattle.disk_model.specs.MemFiles.{MemFile as MemFileValue};
+    ghost use Rattle.disk_model.specs.Fronts.{SameFront};
+
+    ghost Value = { MemFileValue };
+
+    ghost view = { λ f. record { name = f.name; read = f.read; base = f.base } };
+
+    ghost invariant = { λ f. SameFront f.same f.read.bytes f.base.bytes };
 }
 
 /// Files over memory, each by its name: as they are read, and as they surely stand.
@@ -29,9 +42,9 @@ pub struct Folder {
 
 impl Model for Folder {
     ghost use Rattle.std.specs.Prelude.{List};
-    ghost use Rattle.disk_model.specs.declared.folder.MemFile.{MemFile};
+    ghost use Rattle.disk_model.specs.MemFiles.{MemFile as MemFileValue};
 
-    ghost Value = { List MemFile };
+    ghost Value = { List MemFileValue };
 
     ghost view = { λ a. a.files.items };
 }
@@ -42,7 +55,7 @@ fn place_of(files: &[MemFile], name: &str) -> Option<usize>
     ensures { MatchOption result ((k : ℕ) → k < length files.now → (d : MemFile) → bytes_eq (get_or files.now k d).name name.now ≡ false) (StandsAt name.now files.now) }
 {
     for (place, file) in files.iter().enumerate() {
-        if file.name.as_str() == name {
+        if file.name() == name {
             return Some(place);
         }
     }
@@ -63,21 +76,17 @@ fn opened(alloc: Global, files: &mut Vec<MemFile>, name: &str) -> Result<usize, 
         return Err(AllocError);
     };
     let place = files.len();
-    files.push(MemFile {
-        name: own,
-        read: Stored::missing(alloc),
-        base: Stored::missing(alloc),
-    })?;
+    files.push(MemFile::missing(alloc, own))?;
     Ok(place)
 }
 
 /// Each name surely stands as it is read.
 #[tactic(auto, using(crate::proofs::Standing::all_named))]
-fn put_names_down(files: &mut [MemFile])
+fn put_names_down(alloc: Global, files: &mut [MemFile])
     ensures { tables_of files.new ≡ names_put_down (tables_of files.old) }
 {
     for file in files.iter_mut() {
-        file.put_name_down();
+        file.put_name_down(alloc);
     }
 }
 
@@ -108,7 +117,7 @@ fn is_there(files: &[MemFile], name: &str) -> bool
     ensures { result ≡ (file_of files.now name.now).read.there }
 {
     match place_of(files, name) {
-        Some(place) => files[place].read.is_there(),
+        Some(place) => files[place].read().is_there(),
         None => false,
     }
 }
@@ -132,11 +141,11 @@ fn listed(alloc: Global, files: &[MemFile]) -> Result<Vec<Name>, AllocError>
 {
     let mut names = Vec::new(alloc);
     for file in files {
-        if !is_there(files, file.name.as_str()) {
+        if !is_there(files, file.name()) {
             continue;
         }
-        if !has_name(names.as_slice(), file.name.as_str()) {
-            names.push(file.name.try_clone(alloc)?)?;
+        if !has_name(names.as_slice(), file.name()) {
+            names.push(file.copied_name(alloc)?)?;
         }
     }
     Ok(names)
@@ -159,7 +168,7 @@ impl Folder {
         ensures { MatchOption result ((file_of self.now name.now).read ≡ missing) (λ file. file.now ≡ (file_of self.now name.now).read) }
     {
         match place_of(self.files.as_slice(), name) {
-            Some(place) => Some(&self.files[place].read),
+            Some(place) => Some(self.files[place].read()),
             None => None,
         }
     }
@@ -173,7 +182,7 @@ impl Folder {
     {
         let place = opened(self.alloc, &mut self.files, name)?;
         let file = &mut self.files[place];
-        file.read.take(effect)
+        file.change_read(effect)
     }
 
     /// A call changes what surely stands of a file.
@@ -185,7 +194,7 @@ impl Folder {
     {
         let place = opened(self.alloc, &mut self.files, name)?;
         let file = &mut self.files[place];
-        file.base.take(effect)
+        file.change_base(effect)
     }
 
     /// Half of a call changes what surely stands of a file.
@@ -201,7 +210,7 @@ impl Folder {
     {
         let place = opened(self.alloc, &mut self.files, name)?;
         let file = &mut self.files[place];
-        file.base.take_half(effect)
+        file.change_base_by_half(effect)
     }
 
     /// Nothing is read of a file any more.
@@ -211,11 +220,12 @@ impl Folder {
     {
         if let Some(place) = place_of(self.files.as_slice(), name) {
             let file = &mut self.files[place];
-            file.read.vanish();
+            file.hide(self.alloc);
         }
     }
 
-    /// What is read of a file surely stands. Copies its bytes.
+    /// What is read of a file surely stands. Copies the bytes that were changed since that last was so.
+    #[tactic(auto, using(crate::proofs::Standing::put_down_taken))]
     pub(crate) fn put_down(&mut self, name: &str) -> Result<(), AllocError>
         requires { IsName name.now }
         ensures ok { OnOk result (tables_of self.new ≡ file_put_down name.now (tables_of self.old)) }
@@ -223,17 +233,14 @@ impl Folder {
     {
         let place = opened(self.alloc, &mut self.files, name)?;
         let file = &mut self.files[place];
-        let mut bytes = Vec::new(self.alloc);
-        bytes.extend_from_slice(file.read.bytes())?;
-        file.base.set_bytes(bytes);
-        Ok(())
+        file.put_down()
     }
 
     /// Each name surely stands as it is read.
     pub(crate) fn put_names_down(&mut self)
         ensures { tables_of self.new ≡ names_put_down (tables_of self.old) }
     {
-        put_names_down(&mut self.files);
+        put_names_down(self.alloc, &mut self.files);
     }
 
     /// A copy in which what surely stands is also what is read.
@@ -264,14 +271,115 @@ impl Folder {
     }
 }
 
+impl Effect {
+    // How many bytes at the front of a file are left as they were.
+    fn front_left(&self, same: usize) -> usize
+        ensures { result ≡ front_left self.now same }
+    {
+        match self {
+            Effect::Creation { .. } => 0,
+            Effect::Write { at, .. } => at_most(same, *at),
+            Effect::Truncation { length } => at_most(same, *length),
+            Effect::Naming | Effect::Removal | Effect::Nothing => same,
+        }
+    }
+}
+
+fn at_most(same: usize, limit: u64) -> usize
+    ensures { result ≡ min same limit }
+{
+    if (same as u64) < limit {
+        same
+    } else {
+        limit as usize
+    }
+}
+
 impl MemFile {
-    fn put_name_down(&mut self)
+    fn missing(alloc: Global, name: Name) -> MemFile
+        ensures { result ≡ record { name = name; read = missing; base = missing } }
+    {
+        MemFile {
+            name,
+            read: Stored::missing(alloc),
+            base: Stored::missing(alloc),
+            same: 0,
+        }
+    }
+
+    fn name(&self) -> &str
+        ensures { result.now ≡ self.now.name }
+    {
+        self.name.as_str()
+    }
+
+    fn copied_name(&self, alloc: Global) -> Result<Name, AllocError>
+        ensures { IfOk result (λ copy. copy ≡ self.now.name) }
+    {
+        self.name.try_clone(alloc)
+    }
+
+    fn read(&self) -> &Stored
+        ensures { result.now ≡ self.now.read }
+    {
+        &self.read
+    }
+
+    #[tactic(auto, using(crate::proofs::Fronts::front_done))]
+    fn change_read(&mut self, effect: &Effect) -> Result<(), AllocError>
+        ensures ok { OnOk result (self.new ≡ record { name = self.old.name; read = done_to effect.now self.old.read; base = self.old.base }) }
+        ensures err { OnErr result (self.new ≡ self.old) }
+    {
+        let left = effect.front_left(self.same);
+        self.read.take(effect)?;
+        self.same = left;
+        Ok(())
+    }
+
+    #[tactic(auto, using(crate::proofs::Fronts::front_none))]
+    fn change_base(&mut self, effect: &Effect) -> Result<(), AllocError>
+        ensures ok { OnOk result (self.new ≡ record { name = self.old.name; read = self.old.read; base = done_to effect.now self.old.base }) }
+        ensures err { OnErr result (self.new ≡ self.old) }
+    {
+        self.same = 0;
+        self.base.take(effect)
+    }
+
+    #[tactic(auto, using(crate::proofs::Fronts::front_none))]
+    fn change_base_by_half(&mut self, effect: &Effect) -> Result<(), AllocError>
+        ensures ok { OnOk result (self.new ≡ record { name = self.old.name; read = self.old.read; base = done_to (half_of effect.now) self.old.base }) }
+        ensures err { OnErr result (self.new ≡ self.old) }
+    {
+        self.same = 0;
+        self.base.take_half(effect)
+    }
+
+    #[tactic(auto, using(crate::proofs::Fronts::front_none))]
+    fn hide(&mut self, alloc: Global)
+        ensures { self.new ≡ record { name = self.old.name; read = missing; base = self.old.base } }
+    {
+        self.same = 0;
+        self.read.vanish(alloc);
+    }
+
+    fn put_down(&mut self) -> Result<(), AllocError>
+        ensures ok { OnOk result (self.new ≡ record { name = self.old.name; read = self.old.read; base = record { there = self.old.base.there; bytes = self.old.read.bytes } }) }
+        ensures err { OnErr result (self.new ≡ self.old) }
+    {
+        self.base.follow(&self.read, self.same)?;
+        self.same = self.read.bytes().len();
+        Ok(())
+    }
+
+    #[tactic(auto, using(crate::proofs::Fronts::front_none))]
+    fn put_name_down(&mut self, alloc: Global)
         ensures { self.new ≡ named_file self.old }
     {
         if self.read.is_there() {
             self.base.appear();
         } else {
-            self.base.vanish();
+            self.same = 0;
+            self.base.vanish(alloc);
         }
     }
 
@@ -282,9 +390,11 @@ impl MemFile {
             name: self.name.try_clone(alloc)?,
             read: self.read.try_clone(alloc)?,
             base: self.base.try_clone(alloc)?,
+            same: self.same,
         })
     }
 
+    #[tactic(auto, using(crate::proofs::Fronts::front_none))]
     fn settled(&self, alloc: Global) -> Result<MemFile, AllocError>
         ensures { IfOk result (λ file. file ≡ settled_file self.now) }
     {
@@ -292,6 +402,7 @@ impl MemFile {
             name: self.name.try_clone(alloc)?,
             read: self.base.shown(alloc)?,
             base: self.base.shown(alloc)?,
+            same: 0,
         })
     }
 }

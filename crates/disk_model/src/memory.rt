@@ -1,10 +1,11 @@
-ghost use Rattle.std.specs.Prelude.{◌≡◌, ◌≤◌, true, length, is_some, IfOk, OnOk, OnErr};
+ghost use Rattle.std.specs.Prelude.{◌≡◌, ◌≤◌, ◌++◌, true, length, is_some, IfOk, OnOk, OnErr};
+ghost use Rattle.dq_base.specs.Faults.{one_more};
 ghost use Rattle.dq_base.specs.Names.{IsName};
 ghost use Rattle.disk_model.specs.Disk.{no_files};
 ghost use Rattle.disk_model.specs.Calls.{WriteAt, CutTo, Sync, Remove, SyncNames, MayWrite};
 ghost use Rattle.disk_model.specs.Trait.{Known, Steps, Looks, Lists, Reads, HasCause, HasWant, Crashes};
-ghost use Rattle.disk_model.specs.Memory.{no_memory, crashed};
-ghost use Rattle.disk_model.specs.Armed.{armed_with, disarmed, unarmed, Counted};
+ghost use Rattle.disk_model.specs.Memory.{no_memory, wrote, truncated, removed, synced, names_synced, crashed};
+ghost use Rattle.disk_model.specs.Armed.{armed_with, disarmed, unarmed, is_idle_next, after_call, after_whole, Counted};
 ghost use Rattle.disk_model.specs.Stored.{memory_of, states_of, pick_of};
 
 use crate::armed::{Armed, Stop};
@@ -103,12 +104,16 @@ impl Disk for MemDisk {
 
     ghost wants = { λ disk. disk.calls.wants };
 
+    ghost made = { λ disk. disk.calls.made };
+
     #[tactic(auto, using(crate::proofs::Told::list_told, crate::proofs::Told::looks_none))]
     fn list(&mut self) -> Result<Items<Name>, DiskFault>
         ensures told { Looks (states_of self.old) (states_of self.new) result Lists }
         ensures cause { HasCause self.old.calls.faults self.new.calls.faults result }
         ensures want { HasWant self.old.calls.wants self.new.calls.wants result }
         ensures counted { Counted self.old.calls self.new.calls }
+        ensures count { self.new.calls.made ≡ one_more self.old.calls.made }
+        ensures contents { memory_of self.new.contents ≡ memory_of self.old.contents }
     {
         self.calls.start_whole()?;
         match self.storage.names() {
@@ -126,6 +131,8 @@ impl Disk for MemDisk {
         ensures cause { HasCause self.old.calls.faults self.new.calls.faults result }
         ensures want { HasWant self.old.calls.wants self.new.calls.wants result }
         ensures counted { Counted self.old.calls self.new.calls }
+        ensures count { self.new.calls.made ≡ one_more self.old.calls.made }
+        ensures contents { memory_of self.new.contents ≡ memory_of self.old.contents }
     {
         self.calls.start_whole()?;
         Ok(self.storage.read_at(name, at, into))
@@ -139,9 +146,34 @@ impl Disk for MemDisk {
         ensures cause { HasCause self.old.calls.faults self.new.calls.faults result }
         ensures want { HasWant self.old.calls.wants self.new.calls.wants result }
         ensures counted { Counted self.old.calls self.new.calls }
+        ensures count { self.new.calls.made ≡ one_more self.old.calls.made }
+        ensures contents { memory_of self.new.contents ≡ after_call (is_idle_next self.old.calls) result (memory_of self.old.contents) (wrote name.now at bytes.now (memory_of self.old.contents)) }
     {
         let turn = self.calls.start()?;
         let done = self.storage.write(name, at, bytes);
+        self.calls.finish(turn, done)
+    }
+
+    /// Copies the bytes twice.
+    #[tactic(auto, using(crate::proofs::Told::ended_cause_at, crate::proofs::Told::ended_want_at))]
+    fn write_parts(
+        &mut self,
+        name: &str,
+        at: u64,
+        head: &[u8],
+        body: &[u8],
+        tail: &[u8],
+    ) -> Result<(), DiskFault>
+        requires { IsName name.now }
+        ensures told { Known true (states_of self.old) (MayWrite name.now at) → Steps (WriteAt name.now at (head.now ++ body.now ++ tail.now)) (states_of self.old) (states_of self.new) result }
+        ensures cause { HasCause self.old.calls.faults self.new.calls.faults result }
+        ensures want { HasWant self.old.calls.wants self.new.calls.wants result }
+        ensures counted { Counted self.old.calls self.new.calls }
+        ensures count { self.new.calls.made ≡ one_more self.old.calls.made }
+        ensures contents { memory_of self.new.contents ≡ after_call (is_idle_next self.old.calls) result (memory_of self.old.contents) (wrote name.now at (head.now ++ body.now ++ tail.now) (memory_of self.old.contents)) }
+    {
+        let turn = self.calls.start()?;
+        let done = self.storage.write_parts(name, at, head, body, tail);
         self.calls.finish(turn, done)
     }
 
@@ -152,13 +184,15 @@ impl Disk for MemDisk {
         ensures cause { HasCause self.old.calls.faults self.new.calls.faults result }
         ensures want { HasWant self.old.calls.wants self.new.calls.wants result }
         ensures counted { Counted self.old.calls self.new.calls }
+        ensures count { self.new.calls.made ≡ one_more self.old.calls.made }
+        ensures contents { memory_of self.new.contents ≡ after_call (is_idle_next self.old.calls) result (memory_of self.old.contents) (truncated name.now length (memory_of self.old.contents)) }
     {
         let turn = self.calls.start()?;
         let done = self.storage.cut(name, length);
         self.calls.finish(turn, done)
     }
 
-    /// Copies the bytes of the file.
+    /// Copies the bytes that were written since the last sync.
     #[tactic(auto, using(crate::proofs::Told::sync_told, crate::proofs::Told::sync_idle))]
     fn sync(&mut self, name: &str) -> Result<(), DiskFault>
         requires { IsName name.now }
@@ -166,6 +200,8 @@ impl Disk for MemDisk {
         ensures cause { HasCause self.old.calls.faults self.new.calls.faults result }
         ensures want { HasWant self.old.calls.wants self.new.calls.wants result }
         ensures counted { Counted self.old.calls self.new.calls }
+        ensures count { self.new.calls.made ≡ one_more self.old.calls.made }
+        ensures contents { memory_of self.new.contents ≡ after_whole result (memory_of self.old.contents) (synced name.now (memory_of self.old.contents)) }
     {
         self.calls.start_whole()?;
         match self.storage.sync(name) {
@@ -181,6 +217,8 @@ impl Disk for MemDisk {
         ensures cause { HasCause self.old.calls.faults self.new.calls.faults result }
         ensures want { HasWant self.old.calls.wants self.new.calls.wants result }
         ensures counted { Counted self.old.calls self.new.calls }
+        ensures count { self.new.calls.made ≡ one_more self.old.calls.made }
+        ensures contents { memory_of self.new.contents ≡ after_call (is_idle_next self.old.calls) result (memory_of self.old.contents) (removed name.now (memory_of self.old.contents)) }
     {
         let turn = self.calls.start()?;
         let done = self.storage.remove(name);
@@ -194,6 +232,8 @@ impl Disk for MemDisk {
         ensures cause { HasCause self.old.calls.faults self.new.calls.faults result }
         ensures want { HasWant self.old.calls.wants self.new.calls.wants result }
         ensures counted { Counted self.old.calls self.new.calls }
+        ensures count { self.new.calls.made ≡ one_more self.old.calls.made }
+        ensures contents { memory_of self.new.contents ≡ after_whole result (memory_of self.old.contents) (names_synced (memory_of self.old.contents)) }
     {
         self.calls.start_whole()?;
         self.storage.sync_names();

@@ -1,7 +1,8 @@
+ghost use Rattle.std.specs.Prelude.{length};
 ghost use Rattle.dq_base.specs.Names.{IsName};
 ghost use Rattle.disk_model.specs.Calls.{MayWrite};
 ghost use Rattle.disk_model.specs.Writing.{replace_calls};
-ghost use Rattle.disk_model.specs.Trait.{Known, Ran, HasCause, HasWant};
+ghost use Rattle.disk_model.specs.Trait.{Known, Ran, HasCause, HasWant, MakesCalls};
 
 use crate::disk::Disk;
 use crate::faults::DiskFault;
@@ -19,6 +20,7 @@ pub fn replace<D: Disk>(
     ensures ran { Known D.tells (D.states disk.old) (MayWrite name.now 0) → Ran (replace_calls name.now bytes.now is_there) (D.states disk.old) (D.states disk.new) result }
     ensures cause { HasCause (D.faults disk.old) (D.faults disk.new) result }
     ensures want { HasWant (D.wants disk.old) (D.wants disk.new) result }
+    ensures count { MakesCalls (length (replace_calls name.now bytes.now is_there)) (D.made disk.old) (D.made disk.new) result }
 {
     disk.write_at(name, 0, bytes)?;
     disk.sync(name)?;

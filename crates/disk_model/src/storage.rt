@@ -1,4 +1,4 @@
-ghost use Rattle.std.specs.Prelude.{◌≡◌, ◌<◌, ◌≤◌, ◌^◌, ◌∷◌, [], cond, true, false, length, IfOk, OnOk, OnErr};
+ghost use Rattle.std.specs.Prelude.{◌≡◌, ◌<◌, ◌≤◌, ◌^◌, ◌∷◌, ◌++◌, [], cond, true, false, length, IfOk, OnOk, OnErr};
 ghost use Rattle.std.specs.Str.{bytes_eq};
 ghost use Rattle.dq_base.specs.Names.{IsName};
 ghost use Rattle.disk_model.specs.Disk.{missing};
@@ -35,6 +35,16 @@ fn copied(alloc: Global, bytes: &[u8]) -> Result<Bytes, AllocError>
 {
     let mut copy = Vec::new(alloc);
     copy.extend_from_slice(bytes)?;
+    Ok(Bytes::new(copy))
+}
+
+fn joined(alloc: Global, head: &[u8], body: &[u8], tail: &[u8]) -> Result<Bytes, AllocError>
+    ensures { IfOk result (λ copy. copy ≡ head.now ++ body.now ++ tail.now) }
+{
+    let mut copy = Vec::new(alloc);
+    copy.extend_from_slice(head)?;
+    copy.extend_from_slice(body)?;
+    copy.extend_from_slice(tail)?;
     Ok(Bytes::new(copy))
 }
 
@@ -278,21 +288,46 @@ impl Storage {
         Ok(())
     }
 
+    // Writes bytes to a file, and keeps them.
+    fn put(&mut self, name: &str, at: u64, bytes: Bytes) -> Result<(), AllocError>
+        requires { IsName name.now }
+        ensures ok { OnOk result (memory_of self.new ≡ wrote name.now at bytes (memory_of self.old)) }
+        ensures err { OnErr result (memory_of self.new ≡ memory_of self.old) }
+    {
+        if !self.is_there(name) {
+            return self.note(name, Effect::Creation { bytes });
+        }
+        if bytes.is_empty() {
+            return Ok(());
+        }
+        self.note(name, Effect::Write { at, bytes })
+    }
+
     /// Writes bytes to a file. Copies them twice.
     pub(crate) fn write(&mut self, name: &str, at: u64, bytes: &[u8]) -> Result<(), AllocError>
         requires { IsName name.now }
         ensures ok { OnOk result (memory_of self.new ≡ wrote name.now at bytes.now (memory_of self.old)) }
         ensures err { OnErr result (memory_of self.new ≡ memory_of self.old) }
     {
-        if !self.is_there(name) {
-            let bytes = copied(self.alloc, bytes)?;
-            return self.note(name, Effect::Creation { bytes });
-        }
-        if bytes.is_empty() {
-            return Ok(());
-        }
         let bytes = copied(self.alloc, bytes)?;
-        self.note(name, Effect::Write { at, bytes })
+        self.put(name, at, bytes)
+    }
+
+    /// Writes bytes in three parts to a file. Copies them twice.
+    pub(crate) fn write_parts(
+        &mut self,
+        name: &str,
+        at: u64,
+        head: &[u8],
+        body: &[u8],
+        tail: &[u8],
+    ) -> Result<(), AllocError>
+        requires { IsName name.now }
+        ensures ok { OnOk result (memory_of self.new ≡ wrote name.now at (head.now ++ body.now ++ tail.now) (memory_of self.old)) }
+        ensures err { OnErr result (memory_of self.new ≡ memory_of self.old) }
+    {
+        let bytes = joined(self.alloc, head, body, tail)?;
+        self.put(name, at, bytes)
     }
 
     /// Keeps the first bytes of a file.
@@ -325,7 +360,7 @@ impl Storage {
         Ok(())
     }
 
-    /// Puts the bytes of a file down. Copies them.
+    /// Puts the bytes of a file down. Copies those that were written since they last were put down.
     pub(crate) fn sync(&mut self, name: &str) -> Result<(), AllocError>
         requires { IsName name.now }
         ensures ok { OnOk result (memory_of self.new ≡ synced name.now (memory_of self.old)) }

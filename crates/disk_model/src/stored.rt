@@ -1,7 +1,8 @@
-ghost use Rattle.std.specs.Prelude.{◌≡◌, IfOk, OnOk, OnErr};
+ghost use Rattle.std.specs.Prelude.{◌≡◌, ◌≤◌, length, IfOk, OnOk, OnErr};
 ghost use Rattle.disk_model.specs.Disk.{found, missing};
 ghost use Rattle.disk_model.specs.Calls.{put};
 ghost use Rattle.disk_model.specs.Memory.{done_to, half_of, shown};
+ghost use Rattle.disk_model.specs.Fronts.{SameFront};
 
 use crate::open_calls::Effect;
 use std::alloc::{AllocError, Global};
@@ -80,11 +81,17 @@ impl Stored {
         self.bytes.as_slice()
     }
 
-    /// Takes other bytes.
-    pub(crate) fn set_bytes(&mut self, bytes: Vec<u8>)
-        ensures { self.new ≡ record { there = self.old.there; bytes = bytes.items } }
+    /// Takes the bytes of another file, of which so many at the front are there. Copies the others.
+    #[tactic(auto, using(crate::proofs::Fronts::followed))]
+    pub(crate) fn follow(&mut self, other: &Stored, same: usize) -> Result<(), AllocError>
+        requires { SameFront same other.now.bytes self.old.bytes }
+        ensures ok { OnOk result (self.new ≡ record { there = self.old.there; bytes = other.now.bytes }) }
+        ensures err { OnErr result (self.new ≡ self.old) }
     {
-        self.bytes = bytes;
+        let bytes = other.bytes.as_slice();
+        put(&mut self.bytes, same, &bytes[same..])?;
+        self.bytes.truncate(bytes.len());
+        Ok(())
     }
 
     /// The file is there, with its bytes.
@@ -94,12 +101,12 @@ impl Stored {
         self.there = true;
     }
 
-    /// The file is gone, with its bytes.
-    pub(crate) fn vanish(&mut self)
+    /// The file is gone, with its bytes, whose room is given back.
+    pub(crate) fn vanish(&mut self, alloc: Global)
         ensures { self.new ≡ missing }
     {
         self.there = false;
-        self.bytes.clear();
+        self.bytes = Vec::new(alloc);
     }
 
     fn write(&mut self, at: usize, bytes: &[u8]) -> Result<(), AllocError>

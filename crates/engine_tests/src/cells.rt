@@ -1,6 +1,6 @@
-use dq_base::{Image, Name, NumberedPage, PageSet, apply_pages};
+use dq_base::{Image, ImageNumber, Name, NumberedPage, PageSet, apply_pages};
 use frame_commands::{can_split, split, write_command};
-use sql_engine::{CellEngine, Engine, EngineFault};
+use sql_engine::{CellEngine, Engine, EngineFault, ImageNumbers};
 use std::alloc::{AllocError, Global};
 use std::test::*;
 use wire_rows::Row;
@@ -8,6 +8,12 @@ use wire_words::{Value, WireBytes};
 
 /// The transaction of the tests: 2^32 + 3.
 const TX: u64 = 4_294_967_299;
+
+/// The numbers of the tests' images, which an engine of cells doesn't look at.
+const NUMBERS: ImageNumbers = ImageNumbers {
+    before: ImageNumber::Working(0),
+    after: 1,
+};
 
 /// The command that sets cell 3 of an empty database `d` to 9, up to its pages.
 const SET_3_9: [u8; 80] =
@@ -71,7 +77,7 @@ fn value_of(rows: &[Row]) -> Option<i64> {
 
 /// Runs a statement without parameters, and applies its pages to the image.
 fn answered(engine: &mut CellEngine, image: &mut Image, text: &str) -> Wanted {
-    let ran = engine.run(image, text, &[], TX)?;
+    let ran = engine.run(image, NUMBERS, text, &[], TX, None)?;
     let pages = ran.after.pages.as_slice();
     if !pages.is_empty() && apply_pages(image, pages).is_err() {
         return Err(EngineFault::NoMemory);
@@ -87,7 +93,7 @@ fn answered(engine: &mut CellEngine, image: &mut Image, text: &str) -> Wanted {
 fn set_command(alloc: Global) -> Result<Option<WireBytes>, EngineFault> {
     let mut engine = CellEngine::new(alloc);
     let image = Image::new(alloc);
-    let ran = engine.run(&image, "SET 3 9", &[], TX)?;
+    let ran = engine.run(&image, NUMBERS, "SET 3 9", &[], TX, None)?;
     Ok(written(alloc, &ran.after)?)
 }
 
@@ -135,7 +141,7 @@ const STATEMENTS: &[(&str, Wanted)] = &[
 fn statements_of_cells_run_in_turn(rt: HostRuntime) -> Result<(), Fail> {
     let mut engine = CellEngine::new(rt.alloc()).fork()?;
     let mut image = Image::new(rt.alloc());
-    engine.ready(&image);
+    engine.ready(&image, NUMBERS.before);
     for &(text, wanted) in STATEMENTS {
         assert_eq!(rt; answered(&mut engine, &mut image, text), wanted, "{text}");
     }
@@ -151,6 +157,10 @@ const FAULTS: &[(EngineFault, &str)] = &[
         "row 0, column 3 is a text that isn't UTF-8",
     ),
     (EngineFault::Unopened, "the files are not opened"),
+    (
+        EngineFault::Cut,
+        "the statement takes more steps than its limit",
+    ),
     (EngineFault::NoMemory, "out of memory"),
 ];
 

@@ -1,6 +1,6 @@
-use dq_base::{Image, apply_pages};
+use dq_base::{Image, ImageNumber, apply_pages};
 use engine_journal::{Journal, Noted, NotedEngine};
-use sql_engine::{CellEngine, Engine, EngineFault};
+use sql_engine::{CellEngine, Engine, EngineFault, ImageNumbers};
 use std::alloc::{AllocError, Global};
 use std::test::*;
 
@@ -17,7 +17,11 @@ fn item(journal: &Journal, number: usize) -> Option<Kept> {
 
 /// Runs a statement without parameters, and applies its pages to the image. No answer is want of memory.
 fn run(engine: &mut NotedEngine<CellEngine>, image: &mut Image, text: &str) {
-    let Ok(ran) = engine.run(image, text, &[], 1) else {
+    let numbers = ImageNumbers {
+        before: ImageNumber::Working(0),
+        after: 1,
+    };
+    let Ok(ran) = engine.run(image, numbers, text, &[], 1, None) else {
         return;
     };
     let pages = ran.after.pages.as_slice();

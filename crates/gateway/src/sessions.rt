@@ -76,8 +76,9 @@ impl Gateway {
     /// A refused request has changed nothing. `Err` is want of memory; then nothing has changed either but what the engine
     /// told.
     ///
-    /// Costs, besides the engine's, in the order of the request's bytes and of the pages that it changes, but for one copy of an
-    /// image: outside a transaction statements have the newest image copied once, and BEGIN copies it. In a transaction
+    /// Costs, besides the engine's, in the order of the request's bytes and of the pages that it changes, but where an image is
+    /// copied: outside a transaction a statement runs over the newest image as the machine lends it, which copies nothing where
+    /// the machine keeps that image whole; several of one text have it copied once, and BEGIN copies it. In a transaction
     /// statements work on its image in place: each copies the pages that it changes and no others, and of several these are
     /// compared at the end. COMMIT compares the pages that the statements of its transaction changed, and no others.
     pub fn on_request<E: Engine>(

@@ -1,8 +1,11 @@
 //! Entries of the log, applied one after another.
 
-ghost use Rattle.std.specs.Prelude.{◌≡◌, ◌≢◌, ◌++◌, ℕ, suc, true, List, [], ◌∷◌, map, Option, Some, IfOk, OnOk};
+ghost use Rattle.std.specs.Prelude.{◌≡◌, ◌≢◌, ◌++◌, ℕ, suc, true, List, [], ◌∷◌, map, Option, Some, IfOk, OnOk, OnErr};
 ghost use Rattle.client_connection.specs.Connection.{Conn};
 ghost use Rattle.frame_commands.specs.declared.command.Command.TheVariants.{Checkpoint};
+ghost use Rattle.frame_commands.specs.Numbers.{HasLowNumbers};
+ghost use Rattle.page_apply.specs.Databases as of_databases;
+ghost use Rattle.page_apply.specs.Pins.{Pinning, StillPinned};
 ghost use Rattle.session_rules.specs.Entries.{Content, Does};
 ghost use Rattle.session_rules.specs.Machine.{Machine as Databases, machine_of, done};
 ghost use Rattle.session_rules.specs.Seen.{entry_seen};
@@ -64,6 +67,30 @@ fn command_of(alloc: Global, entry: &Entry) -> Result<Option<Command>, AllocErro
     }
 }
 
+/// Has the machine keep the newest image of the database of a command whole, so that statements are lent it without a copy.
+fn keep_whole(machine: &mut Machine, command: &Command)
+    ensures { machine.new ≡ machine.old }
+{
+    match command {
+        Command::OpenDb { name } | Command::Frames { name, .. } => {
+            machine.keep_newest(name.as_str());
+        }
+        Command::Undo { .. } | Command::Checkpoint { .. } => {}
+    }
+}
+
+/// Does what a command says. `Err` is want of memory; the machine is then unchanged.
+fn act(machine: &mut Machine, command: &Command) -> Result<(), AllocError>
+    requires { HasLowNumbers command.now }
+    ensures done { OnOk result (machine.new ≡ of_databases.act machine.old command.now) }
+    ensures kept { OnErr result (machine.new ≡ machine.old) }
+    ensures shown { (pin : Pinning) → StillPinned machine.old machine.new pin }
+{
+    machine.act(command)?;
+    keep_whole(machine, command);
+    Ok(())
+}
+
 /// Does what a command says, if there is one.
 fn perform(machine: &mut Machine, command: &Option<Command>) -> Result<(), AllocError>
     requires { IsLow command.now }
@@ -75,7 +102,7 @@ fn perform(machine: &mut Machine, command: &Option<Command>) -> Result<(), Alloc
         return Ok(());
     };
     let _databases = machine.databases();
-    machine.act(command)
+    act(machine, command)
 }
 
 /// The index behind this one. There is no memory for so many entries that there is none.

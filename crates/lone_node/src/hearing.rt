@@ -102,7 +102,7 @@ impl Voter {
         ensures closes { OnOk result ((w : Lone) (stream : Conn) → Empties self.old w conn stream → Closes self.new w conn stream said.old.items said.new.items) }
         ensures sound { IsSound self.new }
     {
-        if let Some(reason) = self.clients.close(conn, &mut self.machine)? {
+        if let Some(reason) = self.clients.close(conn, &mut self.machine) {
             said.push(Say::Closed { conn, reason })?;
         }
         Ok(())

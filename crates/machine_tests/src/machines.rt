@@ -2,7 +2,7 @@
 
 ghost use Rattle.dq_base.specs.Names.{IsName};
 
-use dq_base::{Items, Name, NumberedPage, Page, PageSet};
+use dq_base::{ImageNumber, Items, Name, NumberedPage, Page, PageSet};
 use frame_commands::{Command, can_split, split};
 use page_apply::{Machine, PinFault};
 use std::alloc::{AllocError, Global};
@@ -152,5 +152,33 @@ pub(crate) fn pending_in(alloc: Global, machine: &mut Machine, name: &str) -> Re
     if let Some(first) = cut.first() {
         let _ = states(alloc, machine, &[first])?;
     }
+    Ok(())
+}
+
+/// How long the main file of the newest image is as a machine lends it.
+fn lent_length(machine: &Machine, name: &str) -> Result<Option<usize>, AllocError> {
+    Ok(
+        machine
+            .newest_shared(name)?
+            .map(|image| image.main.as_slice().len()),
+    )
+}
+
+#[test]
+fn newest_images_are_numbered_and_lent(rt: HostRuntime) -> Result<(), Fail> {
+    let mut machine = Machine::new(rt.alloc());
+    pending_in(rt.alloc(), &mut machine, "a")?;
+    let _ = states_of_a_split_set(rt.alloc(), &mut machine)?;
+    let numbers = [("a", 0, 0, 0), ("d", 1, 1, 262_144)];
+    for (name, place, commits, length) in numbers {
+        machine.keep_newest(name);
+        assert_eq!(rt;
+            machine.number(name),
+            Some(ImageNumber::Newest { place, commits })
+        );
+        assert_eq!(rt; lent_length(&machine, name)?, Some(length));
+    }
+    assert_eq!(rt; machine.number("b"), None);
+    assert_eq!(rt; lent_length(&machine, "b")?, None);
     Ok(())
 }

@@ -31,6 +31,16 @@ fn again(alloc: Global, machine: &Machine) -> Result<Machine, SnapFault> {
     Machine::from_snapshot(alloc, bytes.as_slice())
 }
 
+/// Whether a machine's snapshot behind two bytes is these and its snapshot.
+fn stands_behind(alloc: Global, machine: &Machine) -> Result<bool, AllocError> {
+    let bytes = [1, 2];
+    let mut out = Vec::from_slice(alloc, &bytes)?;
+    machine.snapshot_into(&mut out)?;
+    let snapshot = machine.snapshot()?;
+    let (front, back) = (out.get(..2), out.get(2..));
+    Ok(front == Some(bytes.as_slice()) && back == Some(snapshot.as_slice()))
+}
+
 /// Whether two machines have one snapshot.
 fn are_alike(first: &Machine, second: &Machine) -> Result<bool, AllocError> {
     Ok(first.snapshot()?.as_slice() == second.snapshot()?.as_slice())
@@ -49,6 +59,7 @@ fn a_snapshot_gives_the_machine_back(rt: HostRuntime) -> Result<(), Fail> {
     let machine = two_databases(rt.alloc())?;
     let restored = again(rt.alloc(), &machine).ok().ok_or("a machine")?;
     assert!(rt; are_alike(&machine, &restored)?);
+    assert!(rt; stands_behind(rt.alloc(), &machine)?);
     assert_eq!(rt; told(&machine, "d"), (Some(1), Some(65), None, Some(65)));
     assert_eq!(rt; told(&restored, "d"), (Some(0), Some(65), None, Some(0)));
     assert_eq!(rt; told(&restored, "a"), (Some(0), Some(1), Some(7), Some(0)));

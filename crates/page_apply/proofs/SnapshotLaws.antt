@@ -1,5 +1,5 @@
 -- A snapshot is read exactly where the bytes are one.
-use Rattle.std.proofs.Common.{◌≡◌, ◌≢◌, ℕ, zero, suc, ◌+◌, ◌<◌, ◌≤◌, ◌^◌, true, false, cond, eqb, leb, inl, inr, List, [], ◌∷◌, ◌++◌, length, Option, Some, None, Result, Ok, Err, refl, sym, ap, subst, ◌∙◌, append_assoc, append-nil, ◌&&◌, arith, Ordering, Less, Equal, Greater}
+use Rattle.std.proofs.Common.{◌≡◌, ◌≢◌, ℕ, zero, suc, ◌+◌, ◌<◌, ◌≤◌, ◌^◌, true, false, cond, eqb, leb, inl, inr, List, [], ◌∷◌, ◌++◌, length, Option, Some, None, Result, Ok, Err, OnOk, refl, sym, ap, subst, ◌∙◌, append_assoc, append-nil, ◌&&◌, arith, Ordering, Less, Equal, Greater}
 use Rattle.std.specs.List.{AllByRecursion}
 use Rattle.std.specs.Ordering.{match_ordering}
 use Rattle.std.specs.List.Sorted.{IsStrictlySortedBy}
@@ -370,6 +370,10 @@ machine_snapshot ds bytes m parts kept count = record {
   count = omega (arith, as_many ds, count);
   parts = parts;
 }
+
+pub snapshot_appended : {F : Type 0} (r : Result (Unit {0}) F) (ds : List Database) → IsMachine ds → OnOk r (AllByRecursion IsKept (contents_of ds)) → length ds < 2 ^ 64 → OnOk r (IsSnapshot (contents_of ds) (snapshot_text (contents_of ds)))
+snapshot_appended (Err fault) ds m kept count = tt
+snapshot_appended (Ok done) ds m kept count = machine_snapshot ds (snapshot_text (contents_of ds)) m refl kept count
 
 -- ---- what a call gives
 

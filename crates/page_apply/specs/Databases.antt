@@ -33,7 +33,7 @@ opened place name = record { name = name; place = place; store = fresh_store emp
 abbrev pub grown : ℕ → ℕ → ℕ
 grown count by = min (count + by) (2 ^ 64 - 1)
 
--- the pages are one more commit, where they can be applied; else the database stays
+-- the pages are one more commit, where they can be applied; else the database stays, and they count nowhere
 abbrev pub with_commit : List NumberedPage → Database → Database
 with_commit pages database =
     if is_none (page_fault pages)

@@ -82,8 +82,11 @@ pub fn images_are_their_pages()
 /// one place, and each place is below their number.
 pub fn numbers_stand_for_images()
     ensures act { (databases : List Database) (command : Command) → NumbersGoOn databases (act databases command) }
-    ensures pin { (databases : List Database) (name : List ℕ) (mark : ℕ) → NumbersGoOn databases (with_pin name mark databases) × NumbersStay databases (with_pin name mark databases) }
-    ensures release { (databases : List Database) (pin : Pinning) → NumbersGoOn databases (without_pin pin databases) × NumbersStay databases (without_pin pin databases) }
-    ensures apart { (databases : List Database) (a b : Database) → IsMachine databases → Contains databases a → Contains databases b → a.place ≡ b.place → a ≡ b }
+    ensures pin { (databases : List Database) (name : List ℕ) (mark : ℕ) →
+        NumbersGoOn databases (with_pin name mark databases) × NumbersStay databases (with_pin name mark databases) }
+    ensures release { (databases : List Database) (pin : Pinning) →
+        NumbersGoOn databases (without_pin pin databases) × NumbersStay databases (without_pin pin databases) }
+    ensures apart { (databases : List Database) (a b : Database) → IsMachine databases →
+        Contains databases a → Contains databases b → a.place ≡ b.place → a ≡ b }
     ensures below { (databases : List Database) (a : Database) → IsMachine databases → Contains databases a → a.place < length databases }
 {}

@@ -169,10 +169,14 @@ impl Machine {
     /// can be applied, and nothing is pending then. Undo drops what is pending for its transaction. Checkpoint moves the
     /// sets of its database up to the least live mark into the base, and changes no image.
     ///
+    /// A set that can't be applied counts nowhere: the image, the number of commits and the pages since the last checkpoint
+    /// stay as they were, and its pages are dropped.
+    ///
     /// No page of the command has a number above 4,294,967,295, as is so where `Command::numbers_fit`.
     ///
     /// Costs in the order of the command's pages, of the pending ones where a transaction ends, and of the names; a
-    /// checkpoint in the order of the frames that it moves. `Err` is want of memory; the machine is then unchanged.
+    /// checkpoint in the order of the frames that it moves. Where the newest image is kept whole, a commit changes it in
+    /// place, and copies it first where somebody else holds it. `Err` is want of memory; the machine is then unchanged.
     pub fn act(&mut self, command: &Command) -> Result<(), AllocError>
         requires { HasLowNumbers command.now }
         ensures done { OnOk result (self.new ≡ act self.old command.now) }
@@ -183,7 +187,8 @@ impl Machine {
         act_on(self.alloc, &mut self.databases, command)
     }
 
-    /// How many commits the database of a name had; `None` exactly where there is none. Takes no memory.
+    /// How many commits the database of a name had, those of sets that could be applied; `None` exactly where there is
+    /// none. Takes no memory.
     pub fn newest(&self, name: &str) -> Option<u64>
         ensures { result ≡ option_map (λ (database : Database). newest database.store) (named name.now self.now) }
     {
@@ -227,11 +232,12 @@ impl Machine {
         }
     }
 
-    /// The newest image of the database of a name, shared; `None` exactly where there is none. Where the machine keeps it
-    /// whole this copies nothing, and else it copies the image. Whoever holds it keeps that image, whatever the machine does
-    /// later. `Err` is want of memory.
+    /// The newest image of the database of a name, shared; `None` exactly where there is none. Copies nothing where the
+    /// machine keeps it whole, and else the image. Whoever holds it keeps that image, whatever the machine does later.
+    /// `Err` is want of memory.
     pub fn newest_shared(&self, name: &str) -> Result<Option<Arc<Image, Global>>, AllocError>
-        ensures { IfOk result (λ shared. option_map arc_value shared ≡ option_map (λ (database : Database). newest_image database.store) (named name.now self.now)) }
+        ensures { IfOk result (λ shared. option_map arc_value shared
+            ≡ option_map (λ (database : Database). newest_image database.store) (named name.now self.now)) }
     {
         match named(self.databases.as_slice(), name) {
             Some(database) => Ok(Some(database.store.newest_shared()?)),
@@ -239,8 +245,8 @@ impl Machine {
         }
     }
 
-    /// Keeps the newest image of the database of a name whole from here on, where there is one and there is the memory. Each
-    /// commit brings it along, and no command fails for it. Copies the image at the first time, and after it was let go.
+    /// Keeps the newest image of the database of a name whole from here on, where there is one, and the memory for it. Each
+    /// commit brings it along, and no command fails for it. Copies the image at the first time and after it was let go.
     pub fn keep_newest(&mut self, name: &str)
         ensures { self.new ≡ self.old }
     {

@@ -117,31 +117,39 @@ fn put_databases(alloc: Global, out: &mut Vec<u8>, databases: &[Database]) -> Re
     Ok(())
 }
 
-/// The snapshot of databases.
-fn snapshot(alloc: Global, databases: &[Database]) -> Result<Vec<u8>, AllocError>
+/// Appends the snapshot of databases.
+fn put_snapshot(alloc: Global, out: &mut Vec<u8>, databases: &[Database]) -> Result<(), AllocError>
     requires short { AllShort databases.now }
     requires numbers { AllPendingLow databases.now }
-    ensures bytes { IfOk result (λ out. out.items ≡ snapshot_text (contents_of databases.now)) }
+    ensures bytes { OnOk result (out.new.items ≡ out.old.items ++ snapshot_text (contents_of databases.now)) }
     ensures kept { OnOk result (AllByRecursion IsKept (contents_of databases.now)) }
     ensures count { length databases.now < 2 ^ 64 }
 {
-    let mut out = Vec::new(alloc);
-    put_word(&mut out, 1)?;
-    put_word(&mut out, databases.len() as u64)?;
-    put_databases(alloc, &mut out, databases)?;
-    Ok(out)
+    put_word(out, 1)?;
+    put_word(out, databases.len() as u64)?;
+    put_databases(alloc, out, databases)
 }
 
 impl Machine {
-    /// The machine as bytes: its databases by their names, each with its newest image and what is pending. Read marks, the
-    /// counts of commits and of pages since a checkpoint are no part of it.
+    /// Appends the machine as bytes: its databases by their names, each with its newest image and what is pending. Read
+    /// marks, the counts of commits and of pages since a checkpoint are no part of it.
     ///
-    /// Each page is looked up once and copied once. `Err` is want of memory.
+    /// Costs one buffer, which is the caller's: each page is looked up once and copied into it once, and no image is made
+    /// in between. `Err` is want of memory; what the buffer holds then isn't told.
+    pub fn snapshot_into(&self, out: &mut Vec<u8>) -> Result<(), AllocError>
+        ensures text { OnOk result (out.new.items ≡ out.old.items ++ snapshot_text (contents_of self.now)) }
+        ensures spelled { OnOk result (IsSnapshot (contents_of self.now) (snapshot_text (contents_of self.now))) }
+    {
+        put_snapshot(self.alloc, out, self.databases.as_slice())
+    }
+
+    /// The machine as bytes of their own, as `snapshot_into` appends them. `Err` is want of memory.
     pub fn snapshot(&self) -> Result<WireBytes, AllocError>
         ensures text { IfOk result (λ bytes. bytes ≡ snapshot_text (contents_of self.now)) }
         ensures spelled { IfOk result (λ bytes. IsSnapshot (contents_of self.now) bytes) }
     {
-        let bytes = snapshot(self.alloc, self.databases.as_slice())?;
-        Ok(WireBytes::new(bytes))
+        let mut out = Vec::new(self.alloc);
+        self.snapshot_into(&mut out)?;
+        Ok(WireBytes::new(out))
     }
 }

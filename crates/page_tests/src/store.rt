@@ -89,3 +89,36 @@ fn the_65th_live_pin_is_full(rt: HostRuntime) {
     assert!(rt; store.pin().is_ok());
     assert_eq!(rt; store.pin().err(), Some(MarkFault::Full(64)));
 }
+
+/// The first byte of the newest image as it is lent.
+fn lent_byte(store: &PageStore) -> Option<u8> {
+    match store.newest_shared() {
+        Ok(image) => image.main.as_slice().first().copied(),
+        Err(_) => None,
+    }
+}
+
+/// The bytes that a lent image and the newest one begin with, after a commit while the former is held.
+fn after_a_commit(store: &mut PageStore, set: &PageSet) -> (Option<u8>, Option<u8>) {
+    let Ok(held) = store.newest_shared() else {
+        return (None, None);
+    };
+    let _ = store.commit(set);
+    (held.main.as_slice().first().copied(), lent_byte(store))
+}
+
+#[test]
+fn a_lent_image_stays_and_the_next_one_is_newer(rt: HostRuntime) -> Result<(), Fail> {
+    let alloc = rt.alloc();
+    let mut store = PageStore::from_image(alloc, Image::new(alloc));
+    assert_eq!(rt; store.commit(&set_of(alloc, 7)?).ok(), Some(1));
+    store.keep_newest();
+    assert_eq!(rt;
+        after_a_commit(&mut store, &set_of(alloc, 8)?),
+        (Some(7), Some(8))
+    );
+    assert_eq!(rt; store.commit(&set_of(alloc, 9)?).ok(), Some(3));
+    assert_eq!(rt; store.checkpoint(), 9);
+    assert_eq!(rt; lent_byte(&store), Some(9));
+    Ok(())
+}

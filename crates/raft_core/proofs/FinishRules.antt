@@ -25,7 +25,7 @@ use Rattle.raft_core.specs.declared.effects.LogChange.TheVariants as changes
 use Rattle.raft_core.specs.declared.effects.Effects.{Effects}
 use Rattle.raft_core.specs.Effects.{message_in, said_in, said, recipients_value, outcome_of}
 use Rattle.raft_core.specs.declared.sending.Sending.{Sending}
-use Rattle.raft_core.specs.Messages.{sendings_value}
+use Rattle.raft_core.specs.Messages.{sents_value}
 use Rattle.raft_core.specs.Nodes.{IsLog, told}
 use Rattle.raft_core.specs.Steps.{compact_outcome}
 use Rattle.raft_core.proofs.WholeLogs.{log_with, log_same, shape_of}
@@ -165,10 +165,10 @@ leader_out h now e first out moved to l is begin m t o =
     ∙ ap (λ (d : Outcome). map compact_message d.out) (sym (ends_sending h e l))
 
 -- so of what the code sends
-pub leader_sends : (h now : NodeValue) (e : Effects) (olds news : List Sending) (moved : Bool) (to : Recipients) → is_leader h.role ≡ true → now ≡ advanced h → sendings_value h.id olds ≡ said h e.say → moved ≡ nat_lt h.commit now.commit → to ≡ cond moved Everyone (recipients_value e.recipients) → sendings_value now.id news ≡ sendings_value now.id olds ++ map (λ p. compact_message (message_to now.id (node_of now) p)) (receivers now.id (node_of now) to) → sendings_value h.id news ≡ (compact_outcome (finish (told h) h.id (outcome_of h e))).out
+pub leader_sends : (h now : NodeValue) (e : Effects) (olds news : List Sending) (moved : Bool) (to : Recipients) → is_leader h.role ≡ true → now ≡ advanced h → sents_value h.id olds ≡ said h e.say → moved ≡ nat_lt h.commit now.commit → to ≡ cond moved Everyone (recipients_value e.recipients) → sents_value now.id news ≡ sents_value now.id olds ++ map (λ p. compact_message (message_to now.id (node_of now) p)) (receivers now.id (node_of now) to) → sents_value h.id news ≡ (compact_outcome (finish (told h) h.id (outcome_of h e))).out
 leader_sends h now e olds news moved to l is begin m t o =
     let same : now.id ≡ h.id = ap (λ (n : NodeValue). n.id) is in
-    ap (λ n. sendings_value n news) (sym same) ∙ leader_out h now e (sendings_value now.id olds) (sendings_value now.id news) moved to l is (ap (λ n. sendings_value n olds) same ∙ begin) m t o
+    ap (λ n. sents_value n news) (sym same) ∙ leader_out h now e (sents_value now.id olds) (sents_value now.id news) moved to l is (ap (λ n. sents_value n olds) same ∙ begin) m t o
 
 -- ---- asking voters
 

@@ -109,9 +109,9 @@ propose_none h es e none = record {
   log = (refl, refl);
 }
 
-pub propose_some : (h now : NodeValue) (es : List Entry) (first : ℕ) → is_leader h.role ≡ true → 0 < length es → first ≡ suc (length (node_of h).log) → now ≡ record h { entries = h.entries ++ with_term h.term es } → Does h (on_propose (node_of h) es) now (record { say = say.Nothing; recipients = sent.Everyone; change = changes.From first })
+pub propose_some : (h now : NodeValue) (es : List Entry) (first : ℕ) → is_leader h.role ≡ true → 0 < length es → first ≡ suc (length (node_of h).log) → h.commit < first → now ≡ record h { entries = h.entries ++ with_term h.term es } → Does h (on_propose (node_of h) es) now (record { say = say.Nothing; recipients = sent.Everyone; change = changes.From first })
 unfolding on_propose
-propose_some h now es first e some at is =
+propose_some h now es first e some at past is =
     let n = whole_length h in
     let size : length (with_term h.term es) ≡ length es = length-map es (λ (x : Entry). record { term = h.term; kind = x.kind; bytes = x.bytes }) in
     let join = append_assoc (compacted h.snapshot h.base) h.entries (with_term h.term es) in
@@ -119,7 +119,7 @@ propose_some h now es first e some at is =
       id = refl;
       servers = refl;
       outcome = cond-true (is_leader h.role) _ _ e ∙ ap (λ l. sends_to (with_log (node_of h) l h.commit) Everyone) join;
-      log = (refl, omega arith, appended (node_of h).log (with_term h.term es) (node_of (record h { entries = h.entries ++ with_term h.term es })).log first (sym join) (omega arith) at);
+      log = (refl, omega arith, appended h.commit (node_of h).log (with_term h.term es) (node_of (record h { entries = h.entries ++ with_term h.term es })).log first (sym join) (omega arith) at past);
     })
 
 pub beat_sends : (h : NodeValue) → is_leader h.role ≡ true → Does h (on_beat (node_of h)) h (only_sends sent.Everyone)

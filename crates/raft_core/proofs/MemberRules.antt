@@ -15,7 +15,7 @@ use Rattle.raft_rules.specs.NodeValues.{NodeValue, node_of}
 use Rattle.raft_rules.proofs.NodeValues.{compact_node}
 use Rattle.raft_rules.proofs.ProgressPeers.{next_rows_for, match_rows_for, match_none}
 use Rattle.raft_core.specs.declared.sending.Sending.{Sending}
-use Rattle.raft_core.specs.Messages.{sendings_value}
+use Rattle.raft_core.specs.Messages.{sents_value}
 use Rattle.raft_core.specs.Steps.{compact_outcome}
 use Rattle.raft_core.proofs.PeerLists.{peers_again}
 use Rattle.raft_core.proofs.FinishRules.{sent_compact}
@@ -100,12 +100,12 @@ serve_out_quiet h servers l = ap (λ (d : Outcome). map compact_message d.out) (
 pub serve_node_leads : (h now : NodeValue) (servers : List Server) → is_leader h.role ≡ true → ids_in h.rows ≡ peers h.servers h.id → now ≡ holds_servers h servers → node_of now ≡ (compact_outcome (serve h.id (on_servers h.id (node_of h) servers))).node
 serve_node_leads h now servers l ids is = node_told h now servers ids is ∙ ap (λ (d : Outcome). compact d.node) (sym (served_sends h.id (node_of h) servers l))
 
-pub serve_out_leads : (h now : NodeValue) (servers : List Server) (olds news : List Sending) (to : List ℕ) → is_leader h.role ≡ true → ids_in h.rows ≡ peers h.servers h.id → now ≡ holds_servers h servers → olds ≡ [] → to ≡ gained (peers h.servers h.id) (peers servers h.id) → sendings_value now.id news ≡ sendings_value now.id olds ++ map (λ p. compact_message (message_to now.id (node_of now) p)) to → sendings_value h.id news ≡ (compact_outcome (serve h.id (on_servers h.id (node_of h) servers))).out
+pub serve_out_leads : (h now : NodeValue) (servers : List Server) (olds news : List Sending) (to : List ℕ) → is_leader h.role ≡ true → ids_in h.rows ≡ peers h.servers h.id → now ≡ holds_servers h servers → olds ≡ [] → to ≡ gained (peers h.servers h.id) (peers servers h.id) → sents_value now.id news ≡ sents_value now.id olds ++ map (λ p. compact_message (message_to now.id (node_of now) p)) to → sents_value h.id news ≡ (compact_outcome (serve h.id (on_servers h.id (node_of h) servers))).out
 serve_out_leads h now servers olds news to l ids is none who o =
     let same : now.id ≡ h.id = ap (λ (n : NodeValue). n.id) is in
     let ps = gained (peers h.servers h.id) (peers servers h.id) in
-    ap (λ n. sendings_value n news) (sym same) ∙ o
-    ∙ ap (λ x. sendings_value now.id x ++ map (λ p. compact_message (message_to now.id (node_of now) p)) to) none
+    ap (λ n. sents_value n news) (sym same) ∙ o
+    ∙ ap (λ x. sents_value now.id x ++ map (λ p. compact_message (message_to now.id (node_of now) p)) to) none
     ∙ ap (λ t. map (λ p. compact_message (message_to now.id (node_of now) p)) t) who
     ∙ ap (λ (n : NodeValue). map (λ p. compact_message (message_to n.id (node_of n) p)) ps) is
     ∙ ap (λ s. map (λ p. compact_message (message_to h.id s p)) ps) (told_node h servers ids)

@@ -1,42 +1,37 @@
 -- A node's log that has taken entries.
-use Rattle.std.proofs.Common.{◌≡◌, ℕ, suc, ◌+◌, ◌-◌, ◌<◌, ◌≤◌, List, ◌++◌, length, take, drop, refl, sym, ap, subst, ◌∙◌, ⊎_elim, arith, append_assoc, length-append, length-drop}
+use Rattle.std.proofs.Common.{◌≡◌, ◌≢◌, ◌⊎◌, inl, inr, ℕ, suc, ◌+◌, ◌-◌, ◌<◌, ◌≤◌, List, ◌++◌, length, take, drop, refl, sym, ap, subst, ◌∙◌, ⊎_elim, arith, append_assoc, length-append, length-drop}
 use Rattle.std.specs.Prelude.{Bool, true, false, cond, ◌&&◌, ◌||◌, ◌==◌, nat_lt, nat_le, max, Option, Some, None, option_map}
 use Rattle.std.proofs.lemmas.Bool.{cond-false, cases_lt, and_cases, ltb-false, leb-true, leb-false, le-leb, ne_eqb}
 use Rattle.std.proofs.lemmas.List.{take_all, drop_at, length-take-le}
 use Rattle.std.proofs.Math.Seq.{take-append-add, drop-append-add}
-use Rattle.raft_rules.specs.Log.{Entry, LogEnd, term_at, matches, conflict_place, first_replaced}
+use Rattle.raft_rules.specs.Log.{Entry, LogEnd, nth_term, term_at, matches, conflict_place, first_replaced}
+use Rattle.raft_rules.specs.Todo.{Begins}
 use Rattle.raft_rules.specs.Node.{Node}
 use Rattle.raft_rules.specs.Outcomes.{with_log}
 use Rattle.raft_rules.specs.Replication.{agrees}
 use Rattle.raft_rules.specs.Compaction.{CutLog, compacted, whole_log, meets}
 use Rattle.raft_rules.specs.NodeValues.{NodeValue, node_of}
-use Rattle.raft_rules.proofs.AcceptPlaces.{accept_past_cut}
+use Rattle.raft_rules.proofs.AcceptPlaces.{accept_past_cut, starts, nth_dropped, nth_next}
 use Rattle.raft_rules.proofs.NodeValues.{compacted_length, whole_length}
-use Rattle.raft_log.specs.Agreeing.{TakesIn, TakesAfter}
-use Rattle.raft_log.proofs.Agreeing.{front_short, front_conflict}
+use Rattle.raft_log.specs.Agreeing.{agreeing_front, TakesIn, TakesAfter}
+use Rattle.raft_log.proofs.Agreeing.{front_short, front_stops, front_conflict}
 use Rattle.raft_log.proofs.Taking.{entries_taken}
 use Rattle.raft_world.proofs.Alikes.{same_term, same_drop}
 use Rattle.raft_vote.proofs.Grants.{or_cases}
 use Rattle.raft_world.proofs.AlikeRules.{Shape}
-use Rattle.raft_core.specs.Effects.{Replaced, ChangesLog, Takes, change_from}
+use Rattle.raft_core.specs.Effects.{ChangesLog, Takes, change_from}
 use Rattle.raft_core.specs.Nodes.{IsLog}
 use Rattle.raft_core.proofs.WholeLogs.{log_with, log_same}
 
--- the first m entries stay, and others stand behind them
-pub replaced_from : (old rest new : List Entry) (m k : ℕ) → new ≡ take m old ++ rest → m ≤ length old → 0 < length rest → k ≡ suc m → Replaced old new k
-replaced_from old rest new m k is le some at =
-    let front = length-take-le m old le in
-    let size = ap length is ∙ length-append (take m old) rest in
-    let less : k - 1 ≡ m = omega arith in record {
-      some = omega arith;
-      next = omega arith;
-      within = omega arith;
-      is = is ∙ ap (λ l. l ++ rest) (ap (λ n. take n old) (sym less)) ∙ ap (λ l. take (k - 1) old ++ l) (sym (ap (λ n. drop n new) less ∙ ap (drop m) is ∙ drop_at (take m old) rest m front));
-    }
+-- the first m entries stay, and others stand behind them from the first that differs on
+pub begins_from : (commit : ℕ) (old rest new : List Entry) (m k : ℕ) → new ≡ take m old ++ rest → m ≤ length old → 0 < length rest → k ≡ suc m → commit < k → (m ≡ length old) ⊎ (nth_term old m ≢ nth_term rest 0) → Begins commit old new k
+begins_from commit old rest new m k is le some at past x =
+    let s = starts m old rest new le some is x in
+    subst (Begins commit old new) (sym at) (record { past = omega arith; next = omega arith; within = s.1; same = s.2; differs = s.3 })
 
 -- entries are added
-pub appended : (old more new : List Entry) (k : ℕ) → new ≡ old ++ more → 0 < length more → k ≡ suc (length old) → Replaced old new k
-appended old more new k is some at = replaced_from old more new (length old) k (is ∙ ap (λ l. l ++ more) (sym (take_all (length old) old (omega arith)))) (omega arith) some at
+pub appended : (commit : ℕ) (old more new : List Entry) (k : ℕ) → new ≡ old ++ more → 0 < length more → k ≡ suc (length old) → commit < k → Begins commit old new k
+appended commit old more new k is some at past = begins_from commit old more new (length old) k (is ∙ ap (λ l. l ++ more) (sym (take_all (length old) old (omega arith)))) (omega arith) some at past (inl refl)
 
 -- the log past the cut
 pub rest_of : (h : NodeValue) (place : ℕ) → h.base ≤ place → drop place (node_of h).log ≡ drop (place - h.base) h.entries
@@ -55,9 +50,43 @@ front_of h place le =
 abbrev pub with_entries : NodeValue → List Entry → ℕ → NodeValue
 with_entries h es commit = record h { entries = es; commit = commit }
 
-changed : (h : NodeValue) (es coming : List Entry) (place commit : ℕ) (agreeing : Option ℕ) → h.base ≤ place → place ≤ length (node_of h).log → TakesIn h.entries es (place - h.base) coming agreeing → ChangesLog (node_of h) (node_of (with_entries h es commit)) (change_from (option_map (λ n. suc (place + n)) agreeing))
-changed h es coming place commit None low high t = (refl, ap (λ l. compacted h.snapshot h.base ++ l) t.1)
-changed h es coming place commit (Some n) low high t =
+-- the first that doesn't agree is past the commit index, where no committed entry is replaced
+late_at : (h : NodeValue) (coming : List Entry) (place n : ℕ) → h.base ≤ place → place ≤ length (node_of h).log → h.commit ≤ length (node_of h).log → (nat_lt 0 (first_replaced (node_of h).log place coming) && nat_le (first_replaced (node_of h).log place coming) h.commit) ≡ false → agreeing_front (drop (place - h.base) h.entries) coming ≡ n → n < length coming → h.commit < suc (place + n)
+unfolding first_replaced
+late_at h coming place n low high in_log keeps front lt =
+    let all = whole_length h in
+    let p = place - h.base in
+    let rest = drop p h.entries in
+    let short = front_short rest coming in
+    let left = length-drop p h.entries in
+    ⊎_elim
+    (λ (l : n < length rest).
+    let c : conflict_place (drop place (node_of h).log) coming ≡ suc n = ap (λ l. conflict_place l coming) (rest_of h place low) ∙ front_conflict rest coming n (sym front) lt l in
+    let f : first_replaced (node_of h).log place coming ≡ place + suc n = cond-false (conflict_place (drop place (node_of h).log) coming == 0) 0 (place + conflict_place (drop place (node_of h).log) coming) (ne_eqb _ _ (λ z. omega arith)) ∙ ap (λ k. place + k) c in
+    let late : h.commit < place + suc n = past (first_replaced (node_of h).log place coming) f keeps in
+    omega arith)
+    (λ (l : length rest ≤ n). omega arith)
+    (cases_lt n (length rest))
+  where
+    past : (f : ℕ) → f ≡ place + suc n → (nat_lt 0 f && nat_le f h.commit) ≡ false → h.commit < place + suc n
+    past f e k =
+        ⊎_elim (λ (x : nat_lt 0 f ≡ false). let z : f ≤ 0 = ltb-false 0 f x in absurd (omega arith)) (λ (x : nat_le f h.commit ≡ false). let z : h.commit < f = leb-false f h.commit x in omega arith) (and_cases (nat_lt 0 f) (nat_le f h.commit) k)
+
+-- it is the first at which the logs differ
+differs_at : (h : NodeValue) (coming : List Entry) (place n : ℕ) → h.base ≤ place → place ≤ length (node_of h).log → agreeing_front (drop (place - h.base) h.entries) coming ≡ n → n < length coming → (place + n ≡ length (node_of h).log) ⊎ (nth_term (node_of h).log (place + n) ≢ nth_term (drop n coming) 0)
+differs_at h coming place n low high front lt =
+    let all = whole_length h in
+    let rest = drop (place - h.base) h.entries in
+    let left = length-drop (place - h.base) h.entries in
+    let stops : (n ≡ length rest) ⊎ (nth_term rest n ≢ nth_term coming n) = subst (λ m. m < length coming → (m ≡ length rest) ⊎ (nth_term rest m ≢ nth_term coming m)) front (front_stops rest coming) lt in
+    ⊎_elim
+    (λ (e : n ≡ length rest). inl (omega arith))
+    (λ (d : nth_term rest n ≢ nth_term coming n). inr (λ z. d (ap (λ l. nth_term l n) (sym (rest_of h place low)) ∙ nth_dropped place (node_of h).log n ∙ z ∙ nth_next n coming)))
+    stops
+
+changed : (h : NodeValue) (es coming : List Entry) (place commit : ℕ) (agreeing : Option ℕ) → h.base ≤ place → place ≤ length (node_of h).log → h.commit ≤ length (node_of h).log → (nat_lt 0 (first_replaced (node_of h).log place coming) && nat_le (first_replaced (node_of h).log place coming) h.commit) ≡ false → TakesIn h.entries es (place - h.base) coming agreeing → ChangesLog (node_of h) (node_of (with_entries h es commit)) (change_from (option_map (λ n. suc (place + n)) agreeing))
+changed h es coming place commit None low high in_log keeps t = (refl, ap (λ l. compacted h.snapshot h.base ++ l) t.1)
+changed h es coming place commit (Some n) low high in_log keeps t =
     let all = whole_length h in
     let short = front_short (drop (place - h.base) h.entries) coming in
     let left = length-drop (place - h.base) h.entries in
@@ -67,26 +96,28 @@ changed h es coming place commit (Some n) low high t =
     let less : place + n - h.base ≡ place - h.base + n = omega arith in (
       refl,
       omega arith,
-      replaced_from (node_of h).log (drop n coming) (node_of (with_entries h es commit)).log (place + n) (suc (place + n))
+      begins_from h.commit (node_of h).log (drop n coming) (node_of (with_entries h es commit)).log (place + n) (suc (place + n))
           (ap (λ l. compacted h.snapshot h.base ++ l) t.2 ∙ sym (append_assoc (compacted h.snapshot h.base) (take (place - h.base + n) h.entries) (drop n coming)) ∙ ap (λ l. l ++ drop n coming) (sym (front_of h (place + n) (omega arith) ∙ ap (λ k. compacted h.snapshot h.base ++ take k h.entries) less)))
-          (omega arith) (omega arith) refl,
+          (omega arith) (omega arith) refl (late_at h coming place n low high in_log keeps front lt) (differs_at h coming place n low high front lt),
     )
 
-pub takes : (first : LogEnd) (h : NodeValue) (new : CutLog) (place : ℕ) (coming : List Entry) (commit : ℕ) (from : Option ℕ) → first.index ≡ h.base → h.base ≤ h.snapshot.index → h.snapshot.index ≤ place → place ≤ length (node_of h).log → TakesAfter (log_with first h) new place coming from → Takes h (with_entries h new.entries (max h.commit commit)) place coming commit (change_from from)
-takes first h new place coming commit from at below low high t =
+pub takes : (first : LogEnd) (h : NodeValue) (new : CutLog) (place : ℕ) (coming : List Entry) (commit : ℕ) (from : Option ℕ) → first.index ≡ h.base → IsLog (log_with first h) h.commit h.snapshot → h.snapshot.index ≤ place → place ≤ length (node_of h).log → (nat_lt 0 (first_replaced (node_of h).log place coming) && nat_le (first_replaced (node_of h).log place coming) h.commit) ≡ false → TakesAfter (log_with first h) new place coming from → Takes h (with_entries h new.entries (max h.commit commit)) place coming commit (change_from from)
+takes first h new place coming commit from at ok low high keeps t =
+    let below = ok.low in
+    let within = ok.within in
+    let all = whole_length h in
     let taken : TakesIn h.entries new.entries (place - h.base) coming t.0 = subst (λ n. TakesIn h.entries new.entries (place - n) coming t.0) at t.2 in
     let es = entries_taken h.entries new.entries coming (place - h.base) t.0 taken in
     record {
       id = refl;
       servers = refl;
       node = ap (λ l. with_log (node_of h) (compacted h.snapshot h.base ++ l) (max h.commit commit)) es ∙ ap (λ l. with_log (node_of h) l (max h.commit commit)) (sym (accept_past_cut h.snapshot h.base h.entries coming place (omega arith)));
-      log = subst (λ f. ChangesLog (node_of h) (node_of (with_entries h new.entries (max h.commit commit))) (change_from f)) (sym t.1) (changed h new.entries coming place (max h.commit commit) t.0 (omega arith) high taken);
+      log = subst (λ f. ChangesLog (node_of h) (node_of (with_entries h new.entries (max h.commit commit))) (change_from f)) (sym t.1) (changed h new.entries coming place (max h.commit commit) t.0 (omega arith) high (omega arith) keeps taken);
     }
 
 -- ---- how long it is then
 
 long_at : (h : NodeValue) (es coming : List Entry) (place : ℕ) (agreeing : Option ℕ) → h.base ≤ place → place ≤ length (node_of h).log → h.commit ≤ length (node_of h).log → (nat_lt 0 (first_replaced (node_of h).log place coming) && nat_le (first_replaced (node_of h).log place coming) h.commit) ≡ false → TakesIn h.entries es (place - h.base) coming agreeing → (place + length coming ≤ h.base + length es) × (h.commit ≤ h.base + length es)
-unfolding first_replaced
 long_at h es coming place None low high in_log keeps t =
     let all = whole_length h in
     let short = front_short (drop (place - h.base) h.entries) coming in
@@ -105,18 +136,8 @@ long_at h es coming place (Some n) low high in_log keeps t =
     let cut = length-take-le (p + n) h.entries (omega arith) in
     let more = length-drop n coming in
     let size = ap length t.2 ∙ length-append (take (p + n) h.entries) (drop n coming) in
-    ⊎_elim
-    (λ (l : n < length rest).
-    let c : conflict_place (drop place (node_of h).log) coming ≡ suc n = ap (λ l. conflict_place l coming) (rest_of h place low) ∙ front_conflict rest coming n (sym front) lt l in
-    let f : first_replaced (node_of h).log place coming ≡ place + suc n = cond-false (conflict_place (drop place (node_of h).log) coming == 0) 0 (place + conflict_place (drop place (node_of h).log) coming) (ne_eqb _ _ (λ z. omega arith)) ∙ ap (λ k. place + k) c in
-    let late : h.commit < place + suc n = past (first_replaced (node_of h).log place coming) f keeps in
-    (omega arith, omega arith))
-    (λ (l : length rest ≤ n). (omega arith, omega arith))
-    (cases_lt n (length rest))
-  where
-    past : (f : ℕ) → f ≡ place + suc n → (nat_lt 0 f && nat_le f h.commit) ≡ false → h.commit < place + suc n
-    past f e k =
-        ⊎_elim (λ (x : nat_lt 0 f ≡ false). let z : f ≤ 0 = ltb-false 0 f x in absurd (omega arith)) (λ (x : nat_le f h.commit ≡ false). let z : h.commit < f = leb-false f h.commit x in omega arith) (and_cases (nat_lt 0 f) (nat_le f h.commit) k)
+    let late = late_at h coming place n low high in_log keeps front lt in
+    (omega arith, omega arith)
 
 -- what is known of a log still holds, with the commit index that came
 pub taken_log : (l new : CutLog) (h : NodeValue) (place : ℕ) (coming : List Entry) (commit : ℕ) (from : Option ℕ) → l ≡ log_with l.first h → l.first.index ≡ h.base → IsLog l h.commit h.snapshot → h.snapshot.index ≤ place → place ≤ length (node_of h).log → (nat_lt 0 (first_replaced (node_of h).log place coming) && nat_le (first_replaced (node_of h).log place coming) h.commit) ≡ false → commit ≤ place + length coming → new.first ≡ l.first → TakesAfter l new place coming from → IsLog new (max h.commit commit) h.snapshot

@@ -53,14 +53,14 @@ led_node h next at = λ k. record (node_of (led h next)) { log = (append_assoc (
     match_is : (p : ℕ) → match_in (rows_for (peers h.servers h.id) next []) p ≡ 0
     match_is p = match_rows_for (peers h.servers h.id) next [] p ∙ same (among (peers h.servers h.id) p) 0
 
-pub does_lead : (h : NodeValue) (next : ℕ) (say : Say) → majority (voters h.servers) (among h.grants) ≡ true → next ≡ suc (length (node_of h).log) → Does h (on_grants (told h) h.id (node_of h) (said h say)) (led h next) (record { say = say; recipients = sent.Everyone; change = changes.From next })
+pub does_lead : (h : NodeValue) (next : ℕ) (say : Say) → majority (voters h.servers) (among h.grants) ≡ true → next ≡ suc (length (node_of h).log) → h.commit < next → Does h (on_grants (told h) h.id (node_of h) (said h say)) (led h next) (record { say = say; recipients = sent.Everyone; change = changes.From next })
 unfolding on_grants
-does_lead h next say won at =
+does_lead h next say won at past =
     let n = whole_length h in record {
       id = refl;
       servers = refl;
       outcome = cond-true (majority (voters h.servers) (among h.grants)) _ _ won ∙ (λ k. record { node = (led_node h next at) k; out = said h say; recipients = Everyone });
-      log = (refl, omega arith, appended (node_of h).log (barrier h.term ∷ []) (node_of (led h next)).log next (sym (append_assoc (compacted h.snapshot h.base) h.entries (barrier h.term ∷ []))) (omega arith) at);
+      log = (refl, omega arith, appended h.commit (node_of h).log (barrier h.term ∷ []) (node_of (led h next)).log next (sym (append_assoc (compacted h.snapshot h.base) h.entries (barrier h.term ∷ []))) (omega arith) at past);
     }
 
 pub does_wait : (h : NodeValue) (say : Say) → majority (voters h.servers) (among h.grants) ≡ false → Does h (on_grants (told h) h.id (node_of h) (said h say)) h (only_says say)

@@ -1,9 +1,10 @@
 -- What a rule has made beside the node after it: what is said, to whom the log is sent, where the log has changed.
-use Rattle.std.specs.Prelude.{◌≡◌, ℕ, suc, ◌-◌, ◌<◌, ◌≤◌, max, Option, Some, None, List, [], ◌∷◌, ◌++◌, length, take, drop, map}
+use Rattle.std.specs.Prelude.{◌≡◌, ℕ, ◌<◌, max, Option, Some, None, List, [], ◌∷◌, map}
 use Rattle.raft_rules.specs.Log.{Entry, accept}
 use Rattle.raft_rules.specs.Node as rules
 use Rattle.raft_rules.specs.NodeValues.{NodeValue, node_of}
 use Rattle.raft_rules.specs.Outcomes.{with_log}
+use Rattle.raft_rules.specs.Todo.{Begins}
 use Rattle.raft_core.specs.declared.effects.Say.{Say}
 use Rattle.raft_core.specs.declared.effects.Say.TheVariants as says
 use Rattle.raft_core.specs.declared.effects.Recipients.{Recipients}
@@ -37,17 +38,10 @@ recipients_value (sent.Only peer) = rules.Only (peer ∷ [])
 abbrev pub outcome_of : NodeValue → Effects → rules.Outcome
 outcome_of h e = record { node = node_of h; out = said h e.say; recipients = recipients_value e.recipients }
 
--- from the index k on the new log has other entries
-pub record Replaced (old new : List Entry) (k : ℕ) : Type 0 where
-  pub some : 0 < k
-  pub next : k ≤ suc (length old)
-  pub within : k ≤ length new
-  pub is : new ≡ take (k - 1) old ++ drop (k - 1) new
-
--- where the log of a node has changed in a step: nowhere, from an index past the cut on, or a snapshot stands in its place
+-- where the log of a node has changed in a step: nowhere, from the first index on at which it is another one, past the cut, or a snapshot stands in its place
 abbrev pub ChangesLog : rules.Node → rules.Node → LogChange → Type 0
 ChangesLog s t changes.Nothing = (t.snapshot ≡ s.snapshot) × (t.log ≡ s.log)
-ChangesLog s t (changes.From k) = (t.snapshot ≡ s.snapshot) × (t.base < k) × Replaced s.log t.log k
+ChangesLog s t (changes.From k) = (t.snapshot ≡ s.snapshot) × (t.base < k) × Begins s.commit s.log t.log k
 ChangesLog s t (changes.Installed last) = (s.commit < t.snapshot.index) × (last ≡ t.snapshot)
 
 -- a rule at a node has this outcome, and the code's node is then this one

@@ -1,6 +1,5 @@
 -- Events, and what a step hands to the node's owner.
-use Rattle.std.specs.Prelude.{◌≡◌, ◌≢◌, ◌⊎◌, ℕ, ◌-◌, ◌<◌, ◌≤◌, Option, Some, None, option_map, List, length, drop}
-use Rattle.raft_rules.specs.Log.{Entry, LogEnd}
+use Rattle.std.specs.Prelude.{◌≡◌, ◌≢◌, ◌⊎◌, ℕ, Option, Some, None, option_map}
 use Rattle.raft_rules.specs.Node as rules
 use Rattle.raft_rules.specs.Outcomes.{quiet}
 use Rattle.raft_rules.specs.Elections.{start_election}
@@ -8,8 +7,11 @@ use Rattle.raft_rules.specs.Replication.{on_propose, on_beat, on_transfer}
 use Rattle.raft_rules.specs.Snapshots.{on_snapped}
 use Rattle.raft_rules.specs.Receiving.{on_message}
 use Rattle.raft_rules.specs.NodeValues.{NodeValue, node_of}
-use Rattle.raft_rules.specs.Todo.{Batch, IsLogWrite}
-use Rattle.raft_vote.specs.Messages.{message_value}
+use Rattle.raft_rules.specs.Todo.{IsLogWrite}
+use Rattle.raft_vote.specs.declared.message.Snapshot.{Snapshot}
+use Rattle.raft_vote.specs.declared.message.What.{What}
+use Rattle.raft_vote.specs.declared.message.What.TheVariants as whats
+use Rattle.raft_vote.specs.Messages.{snapshot_end, message_value}
 use Rattle.raft_vote.specs.Servers.{IsConfiguration}
 use Rattle.raft_core.specs.declared.event.RaftEvent.{RaftEvent}
 use Rattle.raft_core.specs.declared.event.RaftEvent.TheVariants as events
@@ -60,29 +62,43 @@ abbrev pub IsMeta : ℕ → ℕ → NodeValue → Option (ℕ × ℕ) → Type 0
 IsMeta term vote now None = (now.term ≡ term) × (now.vote ≡ vote)
 IsMeta term vote now (Some meta) = ((now.term ≢ term) ⊎ (now.vote ≢ vote)) × (meta.0 ≡ now.term) × (meta.1 ≡ now.vote)
 
--- the entries of a change stand in the log, past the cut
-abbrev pub StandsAt : NodeValue → LogChange → Type 0
-StandsAt now changes.Nothing = Unit {0}
-StandsAt now (changes.From k) = (now.base < k) × (k ≤ length (node_of now).log)
-StandsAt now (changes.Installed last) = Unit {0}
+-- from where on entries are to be kept
+abbrev pub first_at : LogChange → Option ℕ
+first_at changes.Nothing = None
+first_at (changes.From k) = Some k
+first_at (changes.Installed last) = None
 
--- a batch has all entries from there on
-abbrev pub BatchAt : NodeValue → LogChange → Option (ℕ × List Entry) → Type 0
-BatchAt now changes.Nothing batch = batch ≡ None
-BatchAt now (changes.From k) batch = batch ≡ Some (k, drop (k - 1) (node_of now).log)
-BatchAt now (changes.Installed last) batch = batch ≡ None
+-- the snapshot that a message brings
+abbrev pub brought : What → Option Snapshot
+brought (whats.Install snapshot) = Some snapshot
+brought (whats.AskVote last) = None
+brought (whats.Vote granted) = None
+brought (whats.Append prev commit entries) = None
+brought (whats.Ack good index) = None
+brought whats.TimeoutNow = None
 
--- the end of the snapshot that has come
-abbrev pub install_at : LogChange → Option LogEnd
-install_at changes.Nothing = None
-install_at (changes.From k) = None
-install_at (changes.Installed last) = Some last
+-- the snapshot that an event brings
+abbrev pub offered : RaftEvent → Option Snapshot
+offered (events.Message message) = brought message.what
+offered events.Timeout = None
+offered events.Beat = None
+offered (events.Propose entries) = None
+offered (events.Transfer to) = None
+offered (events.Snapped end) = None
+offered (events.Servers servers) = None
 
--- the rules' batch
-abbrev pub batch_value : Option (ℕ × List Entry) → Option Batch
-batch_value batch = option_map (λ (b : ℕ × List Entry). record { first = b.0; entries = b.1 }) batch
+-- of that one what is to be kept, where it has come in the log's place
+abbrev pub kept_at : LogChange → Option Snapshot → Option Snapshot
+kept_at changes.Nothing came = None
+kept_at (changes.From k) came = None
+kept_at (changes.Installed last) came = came
+
+-- a snapshot that is to be kept is the very one that the event brings
+abbrev pub IsOffered : RaftEvent → Option Snapshot → Type 0
+IsOffered event None = Unit {0}
+IsOffered event (Some snapshot) = offered event ≡ Some snapshot
 
 -- A snapshot or a batch that makes the log of the new node; none where the owner has kept its own snapshot.
-abbrev pub WritesLog : RaftEvent → rules.Node → rules.Node → Option LogEnd → Option (ℕ × List Entry) → Type 0
+abbrev pub WritesLog : RaftEvent → rules.Node → rules.Node → Option Snapshot → Option ℕ → Type 0
 WritesLog (events.Snapped end) s t install batch = (install ≡ None) × (batch ≡ None)
-WritesLog event s t install batch = IsLogWrite s t install (batch_value batch)
+WritesLog event s t install batch = IsLogWrite s t (option_map snapshot_end install) batch

@@ -22,7 +22,7 @@ fn change_of(from: Option<u64>) -> LogChange
     }
 }
 
-// A copy of entries.
+// Entries for one more owner: each shares its bytes.
 fn copies(alloc: Global, entries: &[Entry]) -> Result<Vec<Entry>, AllocError>
     ensures { IfOk result (λ copies. copies.items ≡ entries.now) }
 {
@@ -33,7 +33,7 @@ fn copies(alloc: Global, entries: &[Entry]) -> Result<Vec<Entry>, AllocError>
     Ok(copies)
 }
 
-// A copy of an entry, in this term.
+// An entry for one more owner, in this term.
 fn copy_in(entry: &Entry, term: u64) -> Result<Entry, AllocError>
     ensures { IfOk result (λ copy. copy ≡ record entry.now { term = term }) }
 {
@@ -65,7 +65,7 @@ impl RaftNode {
     }
 
     // Adds a leader's entries, in its term.
-    pub(crate) fn append(&mut self, alloc: Global, entries: &[Entry]) -> Result<(), AllocError>
+    pub(crate) fn append(&mut self, entries: &[Entry]) -> Result<(), AllocError>
         ensures { IfOk result (λ done. self.new ≡ record self.old { entries = self.old.entries ++ with_term self.old.term entries.now }) }
     {
         let term = self.term();

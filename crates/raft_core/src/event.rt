@@ -1,6 +1,8 @@
+//! What a node takes in, what it tells, and what a step of it leaves to its owner.
+
 use crate::role::RaftRole;
 use crate::sending::Sendings;
-use raft_vote::{Entries, LogEnd, RaftMessage, Servers};
+use raft_vote::{Entries, LogEnd, RaftMessage, Servers, Snapshot};
 
 /// What a node takes in, one at a time.
 #[derive(Debug, Drop)]
@@ -57,10 +59,11 @@ pub struct RaftView {
 pub struct Todo {
     /// Term and vote, where one of them is new.
     pub meta: Option<(u64, u64)>,
-    /// Entries that stand from an index on, in place of all from there.
-    pub batch: Option<(u64, Entries)>,
-    /// The end of the snapshot that came, where it is to be kept. Its bytes are those of the message that was taken.
-    pub install: Option<LogEnd>,
+    /// The first index at which the log is another one now: the entries from there on (`RaftNode::tail`) are to be kept, in
+    /// place of all from there.
+    pub batch: Option<u64>,
+    /// The snapshot that came, where it is to be kept in place of all entries up to its end.
+    pub install: Option<Snapshot>,
     /// What is to be sent, in order.
     pub sends: Sendings,
     /// Up to which index entries are committed.

@@ -8,9 +8,8 @@ ghost use Rattle.raft_rules.specs.Node as rules;
 ghost use Rattle.raft_rules.specs.NodeValues.{node_of};
 ghost use Rattle.raft_rules.specs.Snapshots.{needs_snapshot};
 ghost use Rattle.raft_rules.specs.Steps.{message_to, receivers, finish};
-ghost use Rattle.raft_vote.specs.Messages.{message_value, what_value};
 ghost use Rattle.raft_core.specs.Effects.{said, message_in, recipients_value, outcome_of};
-ghost use Rattle.raft_core.specs.Messages.{sending_value, sendings_value};
+ghost use Rattle.raft_core.specs.Messages.{sent_message, sent_value, sent_what, sents_value};
 ghost use Rattle.raft_core.specs.Nodes.{told};
 ghost use Rattle.raft_core.specs.Steps.{compact_outcome};
 
@@ -49,7 +48,7 @@ impl RaftNode {
 
     // A message of the node.
     fn message(&self, to: u64, what: What) -> Sending
-        ensures { sending_value self.now.id result ≡ message_in self.now.id self.now.term to (what_value what) }
+        ensures { sent_value self.now.id result ≡ message_in self.now.id self.now.term to (sent_what what) }
     {
         Sending::Message(RaftMessage {
             from: self.id(),
@@ -62,7 +61,7 @@ impl RaftNode {
     // Asks a voter for its vote, if it is another one.
     #[tactic(auto, unfolding(raft_rules::specs::Node::others))]
     fn ask_voter(&self, out: &mut Vec<Sending>, voter: u64, last: LogEnd) -> Result<(), AllocError>
-        ensures { IfOk result (λ done. sendings_value self.now.id out.new.items ≡ sendings_value self.now.id out.old.items ++ map (λ to. message_in self.now.id self.now.term to (rules.AskVote last)) (others (voter ∷ []) self.now.id)) }
+        ensures { IfOk result (λ done. sents_value self.now.id out.new.items ≡ sents_value self.now.id out.old.items ++ map (λ to. message_in self.now.id self.now.term to (rules.AskVote last)) (others (voter ∷ []) self.now.id)) }
     {
         if voter == self.id() {
             return Ok(());
@@ -73,7 +72,7 @@ impl RaftNode {
 
     // Asks every other voter for its vote.
     fn ask_voters(&self, out: &mut Vec<Sending>, last: LogEnd) -> Result<(), AllocError>
-        ensures { IfOk result (λ done. sendings_value self.now.id out.new.items ≡ sendings_value self.now.id out.old.items ++ map (λ to. message_in self.now.id self.now.term to (rules.AskVote last)) (others (voters self.now.servers) self.now.id)) }
+        ensures { IfOk result (λ done. sents_value self.now.id out.new.items ≡ sents_value self.now.id out.old.items ++ map (λ to. message_in self.now.id self.now.term to (rules.AskVote last)) (others (voters self.now.servers) self.now.id)) }
     {
         let voters = self.voters();
         for voter in voters {
@@ -84,7 +83,7 @@ impl RaftNode {
 
     // What the node says by itself.
     fn said(&self, alloc: Global, say: Say) -> Result<Vec<Sending>, AllocError>
-        ensures { IfOk result (λ out. sendings_value self.now.id out.items ≡ said self.now say) }
+        ensures { IfOk result (λ out. sents_value self.now.id out.items ≡ said self.now say) }
     {
         let mut out = Vec::new(alloc);
         match say {
@@ -108,7 +107,7 @@ impl RaftNode {
     // The Append for a peer, by its next entry.
     fn append_for(&self, alloc: Global, peer: u64, next: u64) -> Result<RaftMessage, AllocError>
         requires { needs_snapshot (node_of self.now) next ≡ false }
-        ensures { IfOk result (λ message. message_value message ≡ message_in self.now.id self.now.term peer (rules.Append (record { index = next - 1; term = term_at (node_of self.now).log (next - 1) }) self.now.commit (take 16 (drop (next - 1) (node_of self.now).log)))) }
+        ensures { IfOk result (λ message. sent_message message ≡ message_in self.now.id self.now.term peer (rules.Append (record { index = next - 1; term = term_at (node_of self.now).log (next - 1) }) self.now.commit (take 16 (drop (next - 1) (node_of self.now).log)))) }
     {
         let index = next.saturating_sub(1);
         let entries = self.log.copied(alloc, index, MOST_ENTRIES)?;
@@ -129,7 +128,7 @@ impl RaftNode {
 
     // The one message for a peer: the snapshot where it needs that, else entries.
     fn message_to(&self, alloc: Global, peer: u64) -> Result<Sending, AllocError>
-        ensures { IfOk result (λ sending. sending_value self.now.id sending ≡ compact_message (message_to self.now.id (node_of self.now) peer)) }
+        ensures { IfOk result (λ sending. sent_value self.now.id sending ≡ compact_message (message_to self.now.id (node_of self.now) peer)) }
     {
         let next = self.next_of(peer);
         let first = self.first_index()?;
@@ -150,7 +149,7 @@ impl RaftNode {
         out: &mut Vec<Sending>,
         peers: &[u64],
     ) -> Result<(), AllocError>
-        ensures { IfOk result (λ done. sendings_value self.now.id out.new.items ≡ sendings_value self.now.id out.old.items ++ map (λ peer. compact_message (message_to self.now.id (node_of self.now) peer)) peers.now) }
+        ensures { IfOk result (λ done. sents_value self.now.id out.new.items ≡ sents_value self.now.id out.old.items ++ map (λ peer. compact_message (message_to self.now.id (node_of self.now) peer)) peers.now) }
     {
         for peer in peers {
             out.push(self.message_to(alloc, *peer)?)?;
@@ -165,7 +164,7 @@ impl RaftNode {
         out: &mut Vec<Sending>,
         recipients: Recipients,
     ) -> Result<(), AllocError>
-        ensures { IfOk result (λ done. sendings_value self.now.id out.new.items ≡ sendings_value self.now.id out.old.items ++ map (λ peer. compact_message (message_to self.now.id (node_of self.now) peer)) (receivers self.now.id (node_of self.now) (recipients_value recipients))) }
+        ensures { IfOk result (λ done. sents_value self.now.id out.new.items ≡ sents_value self.now.id out.old.items ++ map (λ peer. compact_message (message_to self.now.id (node_of self.now) peer)) (receivers self.now.id (node_of self.now) (recipients_value recipients))) }
     {
         match recipients {
             Recipients::Nobody => Ok(()),
@@ -182,7 +181,7 @@ impl RaftNode {
         recipients: Recipients,
     ) -> Result<Vec<Sending>, AllocError>
         ensures node { IfOk result (λ out. node_of self.new ≡ (compact_outcome (finish (told self.old) self.old.id (outcome_of self.old (record { say = say; recipients = recipients; change = LogChange.Nothing })))).node) }
-        ensures sends { IfOk result (λ out. sendings_value self.old.id out.items ≡ (compact_outcome (finish (told self.old) self.old.id (outcome_of self.old (record { say = say; recipients = recipients; change = LogChange.Nothing })))).out) }
+        ensures sends { IfOk result (λ out. sents_value self.old.id out.items ≡ (compact_outcome (finish (told self.old) self.old.id (outcome_of self.old (record { say = say; recipients = recipients; change = LogChange.Nothing })))).out) }
         ensures rest { self.new ≡ record self.old { commit = self.new.commit } }
     {
         let mut out = self.said(alloc, say)?;

@@ -6,7 +6,7 @@ ghost use Rattle.raft_rules.specs.NodeValues.{node_of};
 ghost use Rattle.raft_rules.specs.Progress.{ids_in, rows_for};
 ghost use Rattle.raft_rules.specs.Steps.{serve};
 ghost use Rattle.raft_vote.specs.Servers.{IsConfiguration};
-ghost use Rattle.raft_core.specs.Messages.{sendings_value};
+ghost use Rattle.raft_core.specs.Messages.{sents_value};
 ghost use Rattle.raft_core.specs.Steps.{compact_outcome};
 
 use crate::node::{RaftNode, contains};
@@ -121,7 +121,7 @@ impl RaftNode {
         requires config { IsConfiguration servers.now }
         requires same { self.old.role ≡ Candidate → voters servers.now ≡ voters self.old.servers }
         ensures node { IfOk result (λ out. node_of self.new ≡ (compact_outcome (serve self.old.id (on_servers self.old.id (node_of self.old) servers.now))).node) }
-        ensures sends { IfOk result (λ out. sendings_value self.old.id out.items ≡ (compact_outcome (serve self.old.id (on_servers self.old.id (node_of self.old) servers.now))).out) }
+        ensures sends { IfOk result (λ out. sents_value self.old.id out.items ≡ (compact_outcome (serve self.old.id (on_servers self.old.id (node_of self.old) servers.now))).out) }
         ensures rest { IfOk result (λ out. self.new ≡ record self.old { servers = servers.now; rows = self.new.rows }) }
     {
         let gained = self.tell(alloc, servers)?;

@@ -1,7 +1,7 @@
-ghost use Rattle.std.specs.Prelude.{◌≡◌, ◌⊎◌, ◌≤◌, suc, IfOk, length};
+ghost use Rattle.std.specs.Prelude.{◌≡◌, ◌⊎◌, ◌<◌, ◌≤◌, suc, IfOk, length};
 ghost use Rattle.raft_rules.specs.Log.{log_end, term_at};
 ghost use Rattle.raft_rules.specs.Node.{among, is_leader, is_candidate, voters, peers};
-ghost use Rattle.raft_rules.specs.NodeValues.{node_of};
+ghost use Rattle.raft_rules.specs.NodeValues.{IsCoherent, node_of};
 ghost use Rattle.raft_rules.specs.Progress.{next_in};
 ghost use Rattle.raft_core.specs.Roles.{role_value};
 
@@ -137,10 +137,21 @@ impl RaftNode {
         self.log.end()
     }
 
-    // The index after the last one. One that is too great is want of memory.
-    pub(crate) fn next_index(&self) -> Result<u64, AllocError>
-        ensures { IfOk result (λ next. next ≡ suc (length (node_of self.now).log)) }
+    // What holds of every node, for the prover alone: a look at a part tells it what holds of all parts.
+    pub(crate) fn coherent(&self)
+        ensures { IsCoherent self.now }
     {
+        let _ = &self.votes;
+    }
+
+    // The index after the last one. One that is too great is want of memory.
+    #[tactic(auto, using(raft_rules::proofs::NodeValues::whole_length))]
+    pub(crate) fn next_index(&self) -> Result<u64, AllocError>
+        ensures next { IfOk result (λ next. next ≡ suc (length (node_of self.now).log)) }
+        ensures past { IfOk result (λ next. self.now.commit < next) }
+    {
+        // It tells the prover that what is committed stands in the log.
+        self.coherent();
         match self.last_index().checked_add(1) {
             Some(next) => Ok(next),
             None => Err(AllocError),

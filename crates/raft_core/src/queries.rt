@@ -1,14 +1,16 @@
-// What a node tells of itself. No call takes memory.
-ghost use Rattle.std.specs.Prelude.{◌≡◌, ◌<◌, ◌≤◌, ◌-◌, ◌&&◌, ◌==◌, ◌↔◌, IsSome, IfSome, length, slice_index_or};
+//! What a node tells of itself. No call takes memory.
+ghost use Rattle.std.specs.Prelude.{◌≡◌, ◌<◌, ◌≤◌, ◌-◌, ◌&&◌, ◌==◌, ◌↔◌, IsSome, IfSome, drop, length, max, slice_index_or, suc};
 ghost use Rattle.raft_rules.specs.Log.{log_end};
 ghost use Rattle.raft_rules.specs.Node.{is_leader};
 ghost use Rattle.raft_rules.specs.NodeValues.{node_of};
 ghost use Rattle.raft_rules.specs.Progress.{match_in};
 ghost use Rattle.raft_core.specs.Queries.{forgets_at, known_at, leader_at};
 ghost use Rattle.raft_core.specs.Roles.{role_value};
+ghost use Rattle.raft_snapshot.specs.Compacting.{is_due};
 
 use crate::event::RaftView;
 use crate::node::RaftNode;
+use raft_snapshot::Compact;
 use raft_vote::Entry;
 
 // A node, if it is one.
@@ -45,6 +47,42 @@ impl RaftNode {
         ensures entry { IfSome result (λ e. e.now ≡ slice_index_or self.now.entries (index - self.now.base - 1) e.now) }
     {
         self.log.entry(index)
+    }
+
+    /// The entries of the log from an index on that isn't cut off, lent, as a batch of a step has them; none past the last
+    /// index. Takes constant time.
+    pub fn tail(&self, first: u64) -> &[Entry]
+        requires { self.now.base < first }
+        ensures { result.now ≡ drop (first - 1) (node_of self.now).log }
+    {
+        self.log.tail(first - 1)
+    }
+
+    /// The first index of the log that stays, where its owner keeps a snapshot at an index past the last one's: 16 entries up
+    /// to there stay, as far as the log has them.
+    pub fn kept_from(&self, index: u64) -> u64
+        requires { self.now.snapshot.index < index }
+        ensures { result ≡ suc (max self.now.base (index - 16)) }
+    {
+        // It tells the prover that the cut isn't past the snapshot.
+        self.coherent();
+        let first = Compact::new(self.snapshot()).keep_from(index);
+        self.cut_index().max(first - 1) + 1
+    }
+
+    /// Whether another snapshot is due with so much applied: the index is 64 or more past the last one's.
+    pub fn is_due(&self, applied: u64) -> bool
+        ensures { result ≡ is_due self.now.snapshot applied }
+    {
+        let last = self.snapshot();
+        Compact::new(last).due(applied)
+    }
+
+    /// The term, and to whom the node gave its vote in it; 0 for nobody.
+    pub fn meta(&self) -> (u64, u64)
+        ensures { result ≡ (self.now.term, self.now.vote) }
+    {
+        (self.term(), self.vote())
     }
 
     /// The term at an index of the log, where it is known: of an entry that isn't cut off, at the end of the snapshot, and

@@ -156,11 +156,7 @@ impl RaftNode {
     }
 
     // A leader appends entries.
-    pub(crate) fn propose(
-        &mut self,
-        alloc: Global,
-        entries: &[Entry],
-    ) -> Result<Effects, AllocError>
+    pub(crate) fn propose(&mut self, entries: &[Entry]) -> Result<Effects, AllocError>
         ensures { IfOk result (λ effects. Does self.old (on_propose (node_of self.old) entries.now) self.new effects) }
     {
         if !self.leads() {
@@ -170,7 +166,7 @@ impl RaftNode {
             return Ok(Effects::sends(Recipients::Everyone));
         }
         let first = self.next_index()?;
-        self.append(alloc, entries)?;
+        self.append(entries)?;
         Ok(Effects {
             say: Say::Nothing,
             recipients: Recipients::Everyone,

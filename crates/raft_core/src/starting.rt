@@ -1,8 +1,9 @@
-// A node that starts with what its owner has kept.
+//! A node that starts with what its owner has kept.
 ghost use Rattle.std.specs.Prelude.{◌≡◌, ◌<◌, ◌≤◌, ◌+◌, ◌-◌, [], true, suc, IfOk, length};
 ghost use Rattle.raft_rules.specs.Account.{loaded};
 ghost use Rattle.raft_rules.specs.Node.{others};
-ghost use Rattle.raft_rules.specs.NodeValues.{node_of};
+ghost use Rattle.raft_rules.specs.NodeValues.{IsCoherent, node_of};
+ghost use Rattle.raft_rules.specs.Laws.{HasShortTerm};
 ghost use Rattle.raft_rules.specs.Progress.{rows_for};
 ghost use Rattle.raft_vote.specs.Servers.{IsConfiguration};
 ghost use Rattle.raft_core.specs.Starting.{snapshot_in, stored_in};
@@ -36,14 +37,12 @@ fn cut_before(first: u64, snapshot: LogEnd) -> LogEnd
     }
 }
 
-// A log of copies of these entries, cut off at a place.
-fn log_of(alloc: Global, cut: LogEnd, entries: &[Entry]) -> Result<Log, AllocError>
-    ensures { IfOk result (λ log. log ≡ record { first = cut; entries = entries.now }) }
+// A log of these entries, cut off at a place.
+fn log_of(alloc: Global, cut: LogEnd, entries: Vec<Entry>) -> Result<Log, AllocError>
+    ensures { IfOk result (λ log. log ≡ record { first = cut; entries = entries.items }) }
 {
     let mut log = Log::new(alloc, cut);
-    for entry in entries {
-        log.push(entry.copied()?)?;
-    }
+    log.append(entries)?;
     Ok(log)
 }
 
@@ -60,7 +59,7 @@ fn progress_of(own: u64, voters: &[u64], peers: &[u64]) -> Progress
 
 impl RaftNode {
     /// The node of this id that starts with what its owner has kept: a follower that has applied its snapshot alone, with
-    /// these servers. It copies the kept entries once. Fails only where memory runs out.
+    /// these servers. The kept entries are moved into it. `Err` is want of memory.
     ///
     /// Conditions: the servers may stand together; the log begins at 1 or later, at most one past the snapshot's end, and
     /// reaches at least that far.
@@ -68,28 +67,30 @@ impl RaftNode {
         alloc: Global,
         id: u64,
         servers: &[Server],
-        kept: &Kept2,
+        kept: Kept2,
     ) -> Result<RaftNode, AllocError>
         requires config { IsConfiguration servers.now }
-        requires first { 0 < kept.now.first }
-        requires low { kept.now.first ≤ suc (snapshot_in kept.now.snapshot).index }
-        requires within { (snapshot_in kept.now.snapshot).index < kept.now.first + length kept.now.entries }
+        requires first { 0 < kept.first }
+        requires low { kept.first ≤ suc (snapshot_in kept.snapshot).index }
+        requires within { (snapshot_in kept.snapshot).index < kept.first + length kept.entries }
         ensures id { IfOk result (λ node. node.id ≡ id) }
-        ensures node { IfOk result (λ node. node_of node ≡ loaded true servers.now (stored_in kept.now)) }
+        ensures coherent { IfOk result (λ node. IsCoherent node) }
+        ensures short { IfOk result (λ node. HasShortTerm (node_of node)) }
+        ensures node { IfOk result (λ node. node_of node ≡ loaded true servers.now (stored_in kept)) }
     {
         let snapshot = end_of(kept.snapshot);
         let commit = snapshot.index;
         let log = log_of(
             alloc,
             cut_before(kept.first, snapshot),
-            kept.entries.as_slice(),
+            kept.entries.into_vec(),
         )?;
         let voters = voter_ids(alloc, servers)?;
         let peers = peer_ids(alloc, servers, id)?;
         let servers = Servers::new(copied(alloc, servers)?);
         let progress = progress_of(id, voters.as_slice(), peers.as_slice());
         let votes = VoteCore::new(id, kept.term, kept.vote);
-        Ok(RaftNode {
+        let node = RaftNode {
             votes,
             log,
             role: RaftRole::Follower,
@@ -100,6 +101,9 @@ impl RaftNode {
             peers,
             progress,
             snapshot,
-        })
+        };
+        // It tells the prover what holds of the node.
+        node.coherent();
+        Ok(node)
     }
 }

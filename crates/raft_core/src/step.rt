@@ -1,11 +1,13 @@
-// One step of a node, and what it leaves to the node's owner.
-ghost use Rattle.std.specs.Prelude.{◌≡◌, ◌<◌, ◌≤◌, ◌-◌, IfOk, MatchOption, length, drop};
+//! One step of a node, and what it leaves to the node's owner.
+ghost use Rattle.std.specs.Prelude.{◌≡◌, MatchOption, IfOk};
+ghost use Rattle.std.specs.List.{AllByRecursion};
 ghost use Rattle.raft_rules.specs.Compaction.{compacted_step};
-ghost use Rattle.raft_rules.specs.NodeValues.{node_of};
+ghost use Rattle.raft_rules.specs.Laws.{HasShortTerm};
+ghost use Rattle.raft_rules.specs.NodeValues.{IsCoherent, node_of};
 ghost use Rattle.raft_rules.specs.Steps.{finish};
 ghost use Rattle.raft_core.specs.Effects.{outcome_of};
-ghost use Rattle.raft_core.specs.Events.{input_of, EventFits, rule_at, IsRuled, ChangesAt, IsMeta, StandsAt, BatchAt, install_at, WritesLog};
-ghost use Rattle.raft_core.specs.Messages.{sendings_value};
+ghost use Rattle.raft_core.specs.Events.{input_of, EventFits, rule_at, IsRuled, ChangesAt, IsMeta, IsOffered, WritesLog, brought, first_at, kept_at, offered};
+ghost use Rattle.raft_core.specs.Messages.{IsBare, sendings_value, sents_value};
 ghost use Rattle.raft_core.specs.Nodes.{told};
 ghost use Rattle.raft_core.specs.Steps.{compact_outcome, Ends};
 
@@ -13,7 +15,7 @@ use crate::effects::{Effects, LogChange, Recipients, Say};
 use crate::event::{RaftEvent, Todo};
 use crate::node::RaftNode;
 use crate::sending::{Sending, Sendings};
-use raft_vote::{Entries, LogEnd, Servers};
+use raft_vote::{Servers, Snapshot, What};
 use std::alloc::{AllocError, Global};
 
 // The servers that an event tells.
@@ -31,6 +33,35 @@ fn told_servers(event: &RaftEvent) -> Option<&Servers>
     }
 }
 
+// The snapshot that a message brings, for one more owner.
+fn brought(what: &What) -> Result<Option<Snapshot>, AllocError>
+    ensures { IfOk result (λ snapshot. snapshot ≡ brought what.now) }
+{
+    match what {
+        What::Install { snapshot } => Ok(Some(snapshot.share()?)),
+        What::AskVote { .. }
+        | What::Vote { .. }
+        | What::Append { .. }
+        | What::Ack { .. }
+        | What::TimeoutNow => Ok(None),
+    }
+}
+
+// The snapshot that an event brings, for one more owner.
+fn offered(event: &RaftEvent) -> Result<Option<Snapshot>, AllocError>
+    ensures { IfOk result (λ snapshot. snapshot ≡ offered event.now) }
+{
+    match event {
+        RaftEvent::Message(message) => brought(&message.what),
+        RaftEvent::Timeout
+        | RaftEvent::Beat
+        | RaftEvent::Propose(_)
+        | RaftEvent::Transfer(_)
+        | RaftEvent::Snapped { .. }
+        | RaftEvent::Servers(_) => Ok(None),
+    }
+}
+
 impl RaftNode {
     // The rule of an event, but for other servers.
     fn apply(&mut self, alloc: Global, event: &RaftEvent) -> Result<Effects, AllocError>
@@ -42,7 +73,7 @@ impl RaftNode {
             RaftEvent::Timeout => self.start_election(alloc),
             RaftEvent::Beat => Ok(self.beat()),
             RaftEvent::Message(message) => self.on_message(alloc, message),
-            RaftEvent::Propose(entries) => self.propose(alloc, entries.as_slice()),
+            RaftEvent::Propose(entries) => self.propose(entries.as_slice()),
             RaftEvent::Transfer(to) => Ok(self.transfer(*to)),
             RaftEvent::Snapped { at } => Ok(self.snapped(at.index)),
             RaftEvent::Servers(_) => Ok(Effects::says(Say::Nothing)),
@@ -60,33 +91,22 @@ impl RaftNode {
         Some(now)
     }
 
-    // A copy of all entries from an index on.
-    fn batch(&self, alloc: Global, first: u64) -> Result<Entries, AllocError>
-        requires past { self.now.base < first }
-        requires within { first ≤ length (node_of self.now).log }
-        ensures { IfOk result (λ entries. entries ≡ drop (first - 1) (node_of self.now).log) }
-    {
-        let count = self.last_index() - (first - 1);
-        self.log.copied(alloc, first - 1, count as usize)
-    }
-
-    // What a step leaves to the node's owner, by its parts, with the term and the vote before it.
+    // What a step leaves to the node's owner, by its parts, with term and vote before it.
     fn todo_of(
         &self,
-        term: u64,
-        vote: u64,
-        batch: Option<(u64, Entries)>,
-        install: Option<LogEnd>,
+        was: (u64, u64),
+        batch: Option<u64>,
+        install: Option<Snapshot>,
         sends: Vec<Sending>,
     ) -> Todo
-        ensures meta { IsMeta term vote self.now result.meta }
+        ensures meta { IsMeta was.0 was.1 self.now result.meta }
         ensures batch { result.batch ≡ batch }
         ensures install { result.install ≡ install }
         ensures sends { result.sends ≡ sends.items }
         ensures commit { result.commit ≡ self.now.commit }
     {
         Todo {
-            meta: self.changed_meta(term, vote),
+            meta: self.changed_meta(was.0, was.1),
             batch,
             install,
             sends: Sendings::new(sends),
@@ -94,89 +114,94 @@ impl RaftNode {
         }
     }
 
-    // The same, where the log has changed so.
+    // The same, where the log has changed so and this snapshot came with the event.
     fn todo(
         &self,
-        alloc: Global,
-        term: u64,
-        vote: u64,
+        was: (u64, u64),
         change: LogChange,
+        came: Option<Snapshot>,
         sends: Vec<Sending>,
-    ) -> Result<Todo, AllocError>
-        requires { StandsAt self.now change }
-        ensures meta { IfOk result (λ todo. IsMeta term vote self.now todo.meta) }
-        ensures batch { IfOk result (λ todo. BatchAt self.now change todo.batch) }
-        ensures install { IfOk result (λ todo. todo.install ≡ install_at change) }
-        ensures sends { IfOk result (λ todo. todo.sends ≡ sends.items) }
-        ensures commit { IfOk result (λ todo. todo.commit ≡ self.now.commit) }
+    ) -> Todo
+        ensures meta { IsMeta was.0 was.1 self.now result.meta }
+        ensures batch { result.batch ≡ first_at change }
+        ensures install { result.install ≡ kept_at change came }
+        ensures sends { result.sends ≡ sends.items }
+        ensures commit { result.commit ≡ self.now.commit }
     {
         match change {
-            LogChange::Nothing => Ok(self.todo_of(term, vote, None, None, sends)),
-            LogChange::From(first) => {
-                let entries = self.batch(alloc, first)?;
-                Ok(self.todo_of(term, vote, Some((first, entries)), None, sends))
-            }
-            LogChange::Installed(last) => Ok(self.todo_of(term, vote, None, Some(last), sends)),
+            LogChange::Nothing => self.todo_of(was, None, None, sends),
+            LogChange::From(first) => self.todo_of(was, Some(first), None, sends),
+            LogChange::Installed(_) => self.todo_of(was, None, came, sends),
         }
     }
 
-    // The end of a step with these effects, with the term and the vote before it.
+    // The end of a step with these effects, with term and vote before it.
     fn end_step(
         &mut self,
         alloc: Global,
-        term: u64,
-        vote: u64,
+        was: (u64, u64),
         say: Say,
         recipients: Recipients,
         change: LogChange,
+        came: Option<Snapshot>,
     ) -> Result<Todo, AllocError>
-        requires { StandsAt self.old change }
         ensures node { IfOk result (λ todo. node_of self.new ≡ (compact_outcome (finish (told self.old) self.old.id (outcome_of self.old (record { say = say; recipients = recipients; change = change })))).node) }
-        ensures sends { IfOk result (λ todo. sendings_value self.old.id todo.sends ≡ (compact_outcome (finish (told self.old) self.old.id (outcome_of self.old (record { say = say; recipients = recipients; change = change })))).out) }
+        ensures sends { IfOk result (λ todo. sents_value self.old.id todo.sends ≡ (compact_outcome (finish (told self.old) self.old.id (outcome_of self.old (record { say = say; recipients = recipients; change = change })))).out) }
         ensures rest { IfOk result (λ todo. self.new ≡ record self.old { commit = self.new.commit }) }
-        ensures meta { IfOk result (λ todo. IsMeta term vote self.new todo.meta) }
-        ensures batch { IfOk result (λ todo. BatchAt self.new change todo.batch) }
-        ensures install { IfOk result (λ todo. todo.install ≡ install_at change) }
+        ensures meta { IfOk result (λ todo. IsMeta was.0 was.1 self.new todo.meta) }
+        ensures batch { IfOk result (λ todo. todo.batch ≡ first_at change) }
+        ensures install { IfOk result (λ todo. todo.install ≡ kept_at change came) }
         ensures commit { IfOk result (λ todo. todo.commit ≡ self.new.commit) }
     {
         let sends = self.finish(alloc, say, recipients)?;
-        self.todo(alloc, term, vote, change, sends)
+        Ok(self.todo(was, change, came, sends))
     }
 
     // The step of an event but that of other servers.
     fn step_rule(&mut self, alloc: Global, event: &RaftEvent) -> Result<Todo, AllocError>
         requires { IsRuled event.now }
         ensures id { IfOk result (λ todo. self.new.id ≡ self.old.id) }
+        ensures coherent { IfOk result (λ todo. IsCoherent self.new) }
         ensures node { IfOk result (λ todo. node_of self.new ≡ (compacted_step self.old.id (node_of self.old) (input_of event.now)).node) }
         ensures meta { IfOk result (λ todo. IsMeta self.old.term self.old.vote self.new todo.meta) }
         ensures log { IfOk result (λ todo. WritesLog event.now (node_of self.old) (node_of self.new) todo.install todo.batch) }
-        ensures sends { IfOk result (λ todo. sendings_value self.old.id todo.sends ≡ (compacted_step self.old.id (node_of self.old) (input_of event.now)).out) }
+        ensures install { IfOk result (λ todo. IsOffered event.now todo.install) }
+        ensures sends { IfOk result (λ todo. sents_value self.old.id todo.sends ≡ (compacted_step self.old.id (node_of self.old) (input_of event.now)).out) }
         ensures commit { IfOk result (λ todo. todo.commit ≡ self.new.commit) }
     {
-        let term = self.term();
-        let vote = self.vote();
+        // It tells the prover that the snapshot is applied before the step.
+        self.coherent();
+        let was = self.meta();
+        let came = offered(event)?;
         let effects = self.apply(alloc, event)?;
-        self.end_step(
+        let todo = self.end_step(
             alloc,
-            term,
-            vote,
+            was,
             effects.say,
             effects.recipients,
             effects.change,
-        )
+            came,
+        )?;
+        // And what holds of the node after it.
+        self.coherent();
+        Ok(todo)
     }
 
     // The step in which the node is told its servers.
     fn step_servers(&mut self, alloc: Global, servers: &Servers) -> Result<Todo, AllocError>
         requires { EventFits self.old (RaftEvent.Servers servers.now) }
         ensures id { IfOk result (λ todo. self.new.id ≡ self.old.id) }
+        ensures coherent { IfOk result (λ todo. IsCoherent self.new) }
         ensures node { IfOk result (λ todo. node_of self.new ≡ (compacted_step self.old.id (node_of self.old) (input_of (RaftEvent.Servers servers.now))).node) }
         ensures meta { IfOk result (λ todo. IsMeta self.old.term self.old.vote self.new todo.meta) }
         ensures log { IfOk result (λ todo. WritesLog (RaftEvent.Servers servers.now) (node_of self.old) (node_of self.new) todo.install todo.batch) }
-        ensures sends { IfOk result (λ todo. sendings_value self.old.id todo.sends ≡ (compacted_step self.old.id (node_of self.old) (input_of (RaftEvent.Servers servers.now))).out) }
+        ensures install { IfOk result (λ todo. IsOffered (RaftEvent.Servers servers.now) todo.install) }
+        ensures sends { IfOk result (λ todo. sents_value self.old.id todo.sends ≡ (compacted_step self.old.id (node_of self.old) (input_of (RaftEvent.Servers servers.now))).out) }
         ensures commit { IfOk result (λ todo. todo.commit ≡ self.new.commit) }
     {
         let sends = self.use_servers(alloc, servers.as_slice())?;
+        // It tells the prover what holds of the node then.
+        self.coherent();
         Ok(Todo {
             meta: None,
             batch: None,
@@ -186,23 +211,46 @@ impl RaftNode {
         })
     }
 
-    /// One step of the node: the rules' step of the node that it stands for. Answers what is to be kept, then sent, and
-    /// up to which index to apply. Fails only where memory runs out, or an index past 64 bits would be needed; then
-    /// nothing of the step is to be kept or sent, and the node is to be made anew from what its owner has kept.
-    ///
-    /// A condition on `Servers`: they may stand together, and a candidate is told the voters that it has.
-    pub fn step(&mut self, alloc: Global, event: &RaftEvent) -> Result<Todo, AllocError>
+    // The step of an event that is lent.
+    fn step_by(&mut self, alloc: Global, event: &RaftEvent) -> Result<Todo, AllocError>
         requires { EventFits self.old event.now }
         ensures id { IfOk result (λ todo. self.new.id ≡ self.old.id) }
+        ensures coherent { IfOk result (λ todo. IsCoherent self.new) }
         ensures node { IfOk result (λ todo. node_of self.new ≡ (compacted_step self.old.id (node_of self.old) (input_of event.now)).node) }
         ensures meta { IfOk result (λ todo. IsMeta self.old.term self.old.vote self.new todo.meta) }
         ensures log { IfOk result (λ todo. WritesLog event.now (node_of self.old) (node_of self.new) todo.install todo.batch) }
-        ensures sends { IfOk result (λ todo. sendings_value self.old.id todo.sends ≡ (compacted_step self.old.id (node_of self.old) (input_of event.now)).out) }
+        ensures install { IfOk result (λ todo. IsOffered event.now todo.install) }
+        ensures sends { IfOk result (λ todo. sents_value self.old.id todo.sends ≡ (compacted_step self.old.id (node_of self.old) (input_of event.now)).out) }
         ensures commit { IfOk result (λ todo. todo.commit ≡ self.new.commit) }
     {
         match told_servers(event) {
             Some(servers) => self.step_servers(alloc, servers),
             None => self.step_rule(alloc, event),
         }
+    }
+
+    /// One step of the node: the rules' step of the node that it stands for. Answers what is to be kept, then sent, and
+    /// up to which index to apply. It takes the event, and copies no bytes of an entry or a snapshot. `Err` is want of
+    /// memory, or an index past 64 bits would be needed; then nothing of the step is to be kept or sent, and the node is
+    /// to be made anew from what its owner has kept.
+    ///
+    /// A condition on `Servers`: they may stand together, and a candidate is told the voters that it has.
+    pub fn step(&mut self, alloc: Global, event: RaftEvent) -> Result<Todo, AllocError>
+        requires { EventFits self.old event }
+        ensures id { IfOk result (λ todo. self.new.id ≡ self.old.id) }
+        ensures coherent { IfOk result (λ todo. IsCoherent self.new) }
+        // Who leads or stands for election has a term of 32 bits, where it had.
+        ensures short { HasShortTerm (node_of self.old) → IfOk result (λ todo. HasShortTerm (node_of self.new)) }
+        ensures node { IfOk result (λ todo. node_of self.new ≡ (compacted_step self.old.id (node_of self.old) (input_of event)).node) }
+        ensures meta { IfOk result (λ todo. IsMeta self.old.term self.old.vote self.new todo.meta) }
+        ensures log { IfOk result (λ todo. WritesLog event (node_of self.old) (node_of self.new) todo.install todo.batch) }
+        // A snapshot that is to be kept is the very one that the event brings.
+        ensures install { IfOk result (λ todo. IsOffered event todo.install) }
+        ensures sends { IfOk result (λ todo. sendings_value self.old.id todo.sends ≡ (compacted_step self.old.id (node_of self.old) (input_of event)).out) }
+        // An Install is sent by its end alone: its bytes are the kept snapshot's.
+        ensures installs { IfOk result (λ todo. AllByRecursion IsBare todo.sends) }
+        ensures commit { IfOk result (λ todo. todo.commit ≡ self.new.commit) }
+    {
+        self.step_by(alloc, &event)
     }
 }

@@ -8,7 +8,6 @@ ghost use Rattle.raft_log.specs.Answers.{Answers};
 use crate::queue::{conflict, copied, drop_front, index_after, take_in, term_of};
 use raft_vote::{Entries, Entry, LogEnd};
 use std::alloc::{AllocError, Global};
-use std::collections::VecDeque;
 use std::marker::Model;
 
 /// The answer of a log to the entries of an Append.
@@ -28,12 +27,13 @@ pub enum Accepted {
 /// The log of one node, cut off at its front: of the entries up to `first` it knows the place alone. Clauses see it as
 /// the rules' log that is cut off. Indexes are counted from 1.
 ///
-/// The entries stand in a ring. So cutting off its front gives each entry back once and moves none of the rest: the
-/// cost of an entry's whole stay is constant but for its bytes. Adding an entry is constant on average.
+/// The entries stand in one piece, so that all from an index on can be lent. Cutting off the front moves the heads of those
+/// that stay, and none of their bytes: where a log is cut only behind a snapshot, and no more entries stay than go, that
+/// is constant for an entry's whole stay on average. Adding an entry is constant on average.
 #[derive(Drop)]
 pub struct Log {
     first: LogEnd,
-    entries: VecDeque<Entry>,
+    entries: Vec<Entry>,
 }
 
 impl Model for Log {
@@ -65,7 +65,7 @@ impl Log {
     {
         Log {
             first,
-            entries: VecDeque::new(alloc),
+            entries: Vec::new(alloc),
         }
     }
 
@@ -170,7 +170,7 @@ impl Log {
         ensures { self.new ≡ (if is_ok result then record self.old { entries = self.old.entries ++ entry ∷ [] } else self.old) }
     {
         index_after(self.last_index(), 1)?;
-        self.entries.push_back(entry)?;
+        self.entries.push(entry)?;
         Ok(())
     }
 
@@ -230,8 +230,29 @@ impl Log {
         }
     }
 
-    /// A copy of the entries that stand past an index, the cut or a later one, and no more than so many of them. Fails
-    /// where memory runs out. The cost is in the order of what is copied.
+    /// Adds entries at the end, which are moved: the cost is in their order, on average. Where memory runs out, or the
+    /// last index would be past 64 bits, the log stays.
+    pub fn append(&mut self, entries: Vec<Entry>) -> Result<(), AllocError>
+        ensures { self.new ≡ (if is_ok result then record self.old { entries = self.old.entries ++ entries.items } else self.old) }
+    {
+        let mut entries = entries;
+        index_after(self.last_index(), entries.len())?;
+        self.entries.append(&mut entries)?;
+        Ok(())
+    }
+
+    /// The entries that stand past an index, the cut or a later one, lent; none past the last index. Takes no memory and
+    /// constant time.
+    pub fn tail(&self, after: u64) -> &[Entry]
+        ensures { result.now ≡ drop (after - self.now.first.index) self.now.entries }
+    {
+        let count = self.entries.len();
+        let from = after.saturating_sub(self.first.index).min(count as u64);
+        &self.entries[from as usize..]
+    }
+
+    /// The entries that stand past an index, the cut or a later one, and no more than so many of them, for one more
+    /// owner. `Err` is want of memory. The cost is in the order of how many they are; none of their bytes is copied.
     pub fn copied(&self, alloc: Global, after: u64, most: usize) -> Result<Entries, AllocError>
         ensures { IfOk result (λ copy. copy ≡ take most (drop (after - self.now.first.index) self.now.entries)) }
     {
@@ -240,8 +261,8 @@ impl Log {
         copied(alloc, &self.entries, from, from + most.min(count - from))
     }
 
-    /// Cuts off the entries up to an index: each is given back, and the rest isn't moved. At or below the cut nothing
-    /// changes; past the last index all go, and the log is cut off there. Takes no memory.
+    /// Cuts off the entries up to an index. At or below the cut nothing changes; past the last index all go, and the log is
+    /// cut off there. Takes no memory. The cost is in the order of the entries, those that stay too.
     pub fn cut_to(&mut self, index: u64)
         ensures { self.new ≡ cut_at self.old index }
     {

@@ -7,6 +7,7 @@ ghost use Rattle.raft_rules.specs.Progress.{next_in, match_in, rows_for, progres
 
 use crate::log::Log;
 use crate::rows::{PeerRows, rows_of, rows_of_both};
+use arrayvec::ArrayVec;
 use std::marker::Model;
 
 /// The most voters of a cluster.
@@ -18,30 +19,26 @@ pub const MOST_VOTERS: usize = 7;
 #[derive(Drop)]
 pub struct Progress {
     own: u64,
-    voters: [u64; MOST_VOTERS],
-    count: usize,
+    voters: ArrayVec<u64, MOST_VOTERS>,
     rows: PeerRows,
 }
 
 impl Model for Progress {
-    ghost use Rattle.std.specs.Prelude.{◌≤◌, take};
     ghost use Rattle.raft_rules.specs.Progress.{LeaderProgress};
 
     ghost Value = { LeaderProgress };
 
-    ghost view = { λ p. record { own = p.own; voters = take p.count p.voters; rows = p.rows } };
-
-    ghost invariant = { λ p. p.count ≤ 7 };
+    ghost view = { λ p. record { own = p.own; voters = p.voters.items; rows = p.rows } };
 }
 
-// These ids at the front of a table.
-fn table_of(ids: &[u64]) -> [u64; MOST_VOTERS]
+// These ids in a table.
+fn table_of(ids: &[u64]) -> ArrayVec<u64, MOST_VOTERS>
     requires { length ids.now ≤ 7 }
-    ensures { take (length ids.now) result ≡ ids.now }
+    ensures { result.items ≡ ids.now }
 {
-    let mut table = [0; MOST_VOTERS];
-    for i in 0..ids.len() {
-        table[i] = ids[i];
+    let mut table = ArrayVec::new();
+    for id in ids {
+        table.push(*id);
     }
     table
 }
@@ -55,8 +52,7 @@ impl Progress {
     {
         let mut progress = Progress {
             own,
-            voters: [0; MOST_VOTERS],
-            count: 0,
+            voters: ArrayVec::new(),
             rows: PeerRows::new(),
         };
         progress.set_peers(voters, voters, next);
@@ -91,7 +87,6 @@ impl Progress {
     {
         self.rows = rows;
         self.voters = table_of(voters);
-        self.count = voters.len();
     }
 
     /// The index of the next entry to send to a node.
@@ -134,7 +129,8 @@ impl Progress {
     fn majority_has(&self, last: u64, index: u64) -> bool
         ensures { result ≡ majority self.now.voters (λ p. nat_le index (has_in self.now last p)) }
     {
-        self.count < 2 * self.having(&self.voters[..self.count], last, index)
+        let voters = self.voters.as_slice();
+        voters.len() < 2 * self.having(voters, last, index)
     }
 
     // How many of these voters have the index.

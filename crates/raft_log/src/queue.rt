@@ -1,11 +1,10 @@
-// The entries of a log as a queue, whose front goes without a move of the rest.
+//! The entries of a log past its cut: how they agree with those that come, and how their front goes.
 ghost use Rattle.std.specs.Prelude.{◌≡◌, ◌<◌, ◌≤◌, ◌+◌, ◌-◌, ◌++◌, suc, MatchOption, OnOk, OnErr, IfOk, length, take, drop};
 ghost use Rattle.raft_rules.specs.Log.{nth_term, conflict_place};
 ghost use Rattle.raft_log.specs.Agreeing.{has_term, agreeing_front, TakesIn};
 
 use raft_vote::{Entries, Entry};
 use std::alloc::{AllocError, Global};
-use std::collections::VecDeque;
 
 /// The index that so many entries after an index have the last of. An index that is too great is want of memory.
 pub fn index_after(index: u64, count: usize) -> Result<u64, AllocError>
@@ -18,29 +17,27 @@ pub fn index_after(index: u64, count: usize) -> Result<u64, AllocError>
     }
 }
 
-/// The first entries go, so many.
-pub fn drop_front(queue: &mut VecDeque<Entry>, count: usize)
+/// The first entries go, so many. The cost is in the order of the entries; none of their bytes is moved.
+pub fn drop_front(queue: &mut Vec<Entry>, count: usize)
     requires { count ≤ length queue.old.items }
     ensures { queue.new.items ≡ drop count queue.old.items }
 {
-    for _gone in 0..count {
-        let _ = queue.pop_front();
-    }
+    drop(queue.drain(..count));
 }
 
 /// The term of the entry at a place.
-pub fn term_of(queue: &VecDeque<Entry>, place: usize) -> u64
-    requires { place < length queue.now.items }
-    ensures { result ≡ nth_term queue.now.items place }
+pub fn term_of(queue: &[Entry], place: usize) -> u64
+    requires { place < length queue.now }
+    ensures { result ≡ nth_term queue.now place }
 {
     let entry = &queue[place];
     entry.term
 }
 
 /// Whether there is an entry of this term so many behind a place.
-fn is_of_term(queue: &VecDeque<Entry>, place: usize, n: usize, term: u64) -> bool
-    requires { place ≤ length queue.now.items }
-    ensures { result ≡ has_term (drop place queue.now.items) n term }
+fn is_of_term(queue: &[Entry], place: usize, n: usize, term: u64) -> bool
+    requires { place ≤ length queue.now }
+    ensures { result ≡ has_term (drop place queue.now) n term }
 {
     if queue.len() - place <= n {
         return false;
@@ -49,10 +46,10 @@ fn is_of_term(queue: &VecDeque<Entry>, place: usize, n: usize, term: u64) -> boo
 }
 
 /// How many of the entries that come, from the first on, have the terms of those that stand from the place on.
-fn agreeing(queue: &VecDeque<Entry>, place: usize, coming: &[Entry]) -> usize
-    requires { place ≤ length queue.now.items }
-    ensures front { result ≡ agreeing_front (drop place queue.now.items) coming.now }
-    ensures short { place + result ≤ length queue.now.items }
+fn agreeing(queue: &[Entry], place: usize, coming: &[Entry]) -> usize
+    requires { place ≤ length queue.now }
+    ensures front { result ≡ agreeing_front (drop place queue.now) coming.now }
+    ensures short { place + result ≤ length queue.now }
     ensures within { result ≤ length coming.now }
 {
     for n in 0..coming.len() {
@@ -67,7 +64,7 @@ fn agreeing(queue: &VecDeque<Entry>, place: usize, coming: &[Entry]) -> usize
 /// So many first entries stay, and the ones that come, without so many first ones, take the place of the others. Where
 /// memory runs out all stays.
 fn replace_rest(
-    queue: &mut VecDeque<Entry>,
+    queue: &mut Vec<Entry>,
     kept: usize,
     coming: Vec<Entry>,
     same: usize,
@@ -76,17 +73,18 @@ fn replace_rest(
     ensures ok { OnOk result (queue.new.items ≡ take kept queue.old.items ++ drop same coming.items) }
     ensures err { OnErr result (queue.new.items ≡ queue.old.items) }
 {
-    let mut rest = VecDeque::from_vec(coming);
+    let mut rest = coming;
     drop_front(&mut rest, same);
     queue.reserve(rest.len())?;
     queue.truncate(kept);
-    queue.append(&mut rest)
+    queue.append(&mut rest)?;
+    Ok(())
 }
 
 /// Takes entries that come into the ones from a place on: up to the first that differs what stands stays, and from there
 /// on the ones that come stand alone. Answers how many agree, or nothing where all do. Where memory runs out all stays.
 pub fn take_in(
-    queue: &mut VecDeque<Entry>,
+    queue: &mut Vec<Entry>,
     place: usize,
     coming: Vec<Entry>,
 ) -> Result<Option<usize>, AllocError>
@@ -104,10 +102,10 @@ pub fn take_in(
 
 /// How many of the entries that come agree with those that stand from a place on, before the first that one of these
 /// conflicts with; nothing where none does.
-pub fn conflict(queue: &VecDeque<Entry>, place: usize, coming: &[Entry]) -> Option<usize>
-    requires { place ≤ length queue.now.items }
-    ensures place { MatchOption result (conflict_place (drop place queue.now.items) coming.now ≡ 0) (λ n. conflict_place (drop place queue.now.items) coming.now ≡ suc n) }
-    ensures within { MatchOption result (Unit {0}) (λ n. place + n < length queue.now.items) }
+pub fn conflict(queue: &[Entry], place: usize, coming: &[Entry]) -> Option<usize>
+    requires { place ≤ length queue.now }
+    ensures place { MatchOption result (conflict_place (drop place queue.now) coming.now ≡ 0) (λ n. conflict_place (drop place queue.now) coming.now ≡ suc n) }
+    ensures within { MatchOption result (Unit {0}) (λ n. place + n < length queue.now) }
 {
     let same = agreeing(queue, place, coming);
     if coming.len() == same {
@@ -119,16 +117,11 @@ pub fn conflict(queue: &VecDeque<Entry>, place: usize, coming: &[Entry]) -> Opti
     Some(same)
 }
 
-/// A copy of the entries from one place up to another.
-pub fn copied(
-    alloc: Global,
-    queue: &VecDeque<Entry>,
-    from: usize,
-    to: usize,
-) -> Result<Entries, AllocError>
+/// The entries from one place up to another, for one more owner: each shares its bytes.
+pub fn copied(alloc: Global, queue: &[Entry], from: usize, to: usize) -> Result<Entries, AllocError>
     requires order { from ≤ to }
-    requires within { to ≤ length queue.now.items }
-    ensures { IfOk result (λ copy. copy ≡ take (to - from) (drop from queue.now.items)) }
+    requires within { to ≤ length queue.now }
+    ensures { IfOk result (λ copy. copy ≡ take (to - from) (drop from queue.now)) }
 {
     let mut copies = Vec::with_capacity(alloc, to - from)?;
     for place in from..to {

@@ -1,9 +1,10 @@
-// What a leader knows of its peers, as a table of fixed size.
+//! What a leader knows of its peers, as a table of fixed size.
 ghost use Rattle.std.specs.Prelude.{◌≡◌, ◌<◌, ◌≤◌, ◌+◌, ◌-◌, ◌++◌, [], ◌∷◌, suc, max, min, cond, MatchOption, length, false};
 ghost use Rattle.raft_rules.specs.Node.{among, others};
 ghost use Rattle.raft_rules.specs.Progress.{next_in, match_in, ids_in, rows_for, progress_of, after_ack};
 ghost use Rattle.raft_log.specs.Rows.{IsFirstRow, row_for};
 
+use arrayvec::ArrayVec;
 use std::marker::Model;
 
 /// The most peers of a leader.
@@ -11,7 +12,7 @@ pub const MOST_PEERS: usize = 9;
 
 // One peer: the index of the next entry to send to it, and up to where its log is known to agree. The latter came in a
 // message, so it has 32 bits.
-#[derive(Clone, Copy, PartialEq, Eq)]
+#[derive(Clone, Copy, Default, PartialEq, Eq)]
 pub struct PeerRow {
     pub id: u64,
     pub next: u64,
@@ -120,19 +121,16 @@ fn ack_among(rows: &mut [PeerRow], from: u64, good: bool, index: u64)
 // The rows of all peers.
 #[derive(Drop)]
 pub struct PeerRows {
-    rows: [PeerRow; MOST_PEERS],
-    count: usize,
+    rows: ArrayVec<PeerRow, MOST_PEERS>,
 }
 
 impl Model for PeerRows {
-    ghost use Rattle.std.specs.Prelude.{List, ◌≤◌, take};
+    ghost use Rattle.std.specs.Prelude.{List};
     ghost use Rattle.raft_rules.specs.Progress.{PeerProgress};
 
     ghost Value = { List PeerProgress };
 
-    ghost view = { λ r. take r.count r.rows };
-
-    ghost invariant = { λ r. r.count ≤ 9 };
+    ghost view = { λ r. r.rows.items };
 }
 
 impl PeerRows {
@@ -140,32 +138,24 @@ impl PeerRows {
     pub fn new() -> PeerRows
         ensures { result ≡ [] }
     {
-        let none = PeerRow {
-            id: 0,
-            next: 1,
-            matched: 0,
-        };
         PeerRows {
-            rows: [none; MOST_PEERS],
-            count: 0,
+            rows: ArrayVec::new(),
         }
     }
 
     // One peer more.
-    #[tactic(auto, using(std::proofs::lemmas::List::take_more_set))]
     fn push(&mut self, row: PeerRow)
         requires { length self.old < 9 }
         ensures { self.new ≡ self.old ++ row ∷ [] }
     {
-        self.rows[self.count] = row;
-        self.count += 1;
+        self.rows.push(row);
     }
 
     // The rows.
     fn as_slice(&self) -> &[PeerRow]
         ensures { result.now ≡ self.now }
     {
-        &self.rows[..self.count]
+        self.rows.as_slice()
     }
 
     // The next of a peer; 1 of a node that has no row.
@@ -211,8 +201,7 @@ impl PeerRows {
         requires { index ≤ 4294967295 }
         ensures { progress_of self.new ≡ after_ack (progress_of self.old) from good index }
     {
-        let count = self.count;
-        ack_among(&mut self.rows[..count], from, good, index);
+        ack_among(self.rows.as_mut_slice(), from, good, index);
     }
 }
 

@@ -24,7 +24,7 @@ nth_dropped (suc p) [] k = refl
 nth_dropped (suc p) (x ∷ xs) k = let e : suc (p + k) ≡ suc p + k = omega arith in nth_dropped p xs k ∙ ap (nth_term (x ∷ xs)) e
 
 -- the new log, where it is the first p entries of the old one and then others
-starts : (p : ℕ) (log more new : List Entry) → p ≤ length log → 0 < length more → new ≡ take p log ++ more → (p ≡ length log) ⊎ (nth_term log p ≢ nth_term more 0) → StartsAt log new (Some (suc p))
+pub starts : (p : ℕ) (log more new : List Entry) → p ≤ length log → 0 < length more → new ≡ take p log ++ more → (p ≡ length log) ⊎ (nth_term log p ≢ nth_term more 0) → StartsAt log new (Some (suc p))
 unfolding term_at
 starts p log more new le pos is x =
     let size : length (take p log) ≡ p = length-take-le p log le in
@@ -38,7 +38,7 @@ starts p log more new le pos is x =
       ⊎_elim (λ (e : p ≡ length log). inl (ap suc e)) (λ (d : nth_term log p ≢ nth_term more 0). inr (λ z. d (z ∙ next))) x,
     )
 
-nth_next : (n : ℕ) (es : List Entry) → nth_term (drop n es) 0 ≡ nth_term es n
+pub nth_next : (n : ℕ) (es : List Entry) → nth_term (drop n es) 0 ≡ nth_term es n
 nth_next n es = nth_dropped n es 0 ∙ ap (nth_term es) (let e : n + 0 ≡ n = omega arith in e)
 
 -- so that is where it begins to be another one

@@ -5,3 +5,5 @@ pub mod NodeValues
 pub mod AcceptPlaces
 pub mod ProgressPeers
 pub mod Meanings
+pub mod Terms
+pub mod SnapshotEnds

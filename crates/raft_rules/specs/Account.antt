@@ -1,5 +1,5 @@
 -- What a node keeps on its disk, and the account of its steps: what is kept, then applied, then sent, in this order.
-use Rattle.std.specs.Prelude.{ℕ, zero, suc, ◌-◌, Bool, true, cond, nat_lt, min, List, [], ◌∷◌, ◌++◌, map}
+use Rattle.std.specs.Prelude.{ℕ, zero, suc, ◌-◌, Bool, true, cond, nat_lt, min, List, [], ◌∷◌, ◌++◌}
 use Rattle.raft_rules.specs.Log.{Entry, LogEnd}
 use Rattle.raft_rules.specs.Node.{Message, Follower, Node, Server, Input, Outcome}
 
@@ -69,10 +69,6 @@ said step s (i ∷ is) = (step s i).out ++ said step (step s i).node is
 abbrev pub account : (Node → Input → Outcome) → Node → List Input → List Act
 account step s [] = []
 account step s (i ∷ is) = step_acts s (step s i).node ++ account step (step s i).node is
-
--- The account of an event that ends well: every message is sent after all that the event keeps is kept.
-abbrev pub whole_account : (Node → Input → Outcome) → Node → List Input → List Message → List Act
-whole_account step s is out = account step s is ++ map Send out
 
 -- The node that has stored this, down or started again with these servers: a follower that has applied its snapshot alone.
 abbrev pub loaded : Bool → List Server → Stored → Node

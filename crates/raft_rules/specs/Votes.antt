@@ -1,7 +1,7 @@
 -- The votes of one node: term, vote and grants alone, and what each call of its vote keeper makes of them.
 use Rattle.std.specs.Prelude.{ℕ, suc, Bool, cond, not, ◌&&◌, nat_lt, List, [], ◌∷◌}
 use Rattle.raft_rules.specs.Log.{LogEnd}
-use Rattle.raft_rules.specs.Node.{Node, among, majority}
+use Rattle.raft_rules.specs.Node.{among, majority}
 use Rattle.raft_rules.specs.Elections.{may_grant, grants_with}
 
 -- A node's id, its term, to whom it gave its vote in that term (0 for nobody), and whose votes it got.
@@ -10,10 +10,6 @@ pub record Votes : Type 0 where
   pub term : ℕ
   pub vote : ℕ
   pub grants : List ℕ
-
--- The votes of a node of the rules.
-abbrev pub votes_of : ℕ → Node → Votes
-votes_of me s = record { id = me; term = s.term; vote = s.vote; grants = s.grants }
 
 -- Who hears of a greater term takes it, with no vote.
 abbrev pub after_term : Votes → ℕ → Votes

@@ -83,7 +83,7 @@ fn sent(mail: &mut Vec<RaftMessage>, todo: Todo) -> Result<(), AllocError> {
 }
 
 impl Cluster {
-    fn happens(&mut self, alloc: Global, id: u64, event: &RaftEvent) -> Result<(), Fail> {
+    fn happens(&mut self, alloc: Global, id: u64, event: RaftEvent) -> Result<(), Fail> {
         if let Some(node) = self.nodes.get_mut(id.saturating_sub(1) as usize) {
             sent(&mut self.mail, step(alloc, node, event)?)?;
         }
@@ -92,17 +92,17 @@ impl Cluster {
 
     fn comes(&mut self, alloc: Global, from: u64, to: u64) -> Result<(), Fail> {
         for message in between(alloc, &mut self.mail, from, to)? {
-            self.happens(alloc, to, &RaftEvent::Message(message))?;
+            self.happens(alloc, to, RaftEvent::Message(message))?;
         }
         Ok(())
     }
 
     fn moves(&mut self, alloc: Global, it: Move) -> Result<(), Fail> {
         match it {
-            Move::Timeout(id) => self.happens(alloc, id, &RaftEvent::Timeout),
+            Move::Timeout(id) => self.happens(alloc, id, RaftEvent::Timeout),
             Move::Propose(id, terms) => {
                 let event = RaftEvent::Propose(entries(alloc, terms)?);
-                self.happens(alloc, id, &event)
+                self.happens(alloc, id, event)
             }
             Move::Comes(from, to) => self.comes(alloc, from, to),
             Move::Lost => {

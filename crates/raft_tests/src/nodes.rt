@@ -49,12 +49,12 @@ pub fn fresh(alloc: Global, id: u64, roles: &[u64]) -> Result<RaftNode, Fail> {
         first: 1,
         entries: entries(alloc, &[])?,
     };
-    Ok(RaftNode::new(alloc, id, servers.as_slice(), &kept)?)
+    Ok(RaftNode::new(alloc, id, servers.as_slice(), kept)?)
 }
 
 // A step of a node, of an event that doesn't tell it servers.
-pub fn step(alloc: Global, node: &mut RaftNode, event: &RaftEvent) -> Result<Todo, Fail> {
-    if let RaftEvent::Servers(_) = event {
+pub fn step(alloc: Global, node: &mut RaftNode, event: RaftEvent) -> Result<Todo, Fail> {
+    if let RaftEvent::Servers(_) = &event {
         return Err(Fail::from("servers"));
     }
     Ok(node.step(alloc, event)?)

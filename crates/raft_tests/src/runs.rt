@@ -1,9 +1,11 @@
 use crate::nodes::{FIVE, configuration, fresh, step};
 use raft_core::{Kept2, RaftEvent, RaftNode, RaftRole, Sending, Todo};
-use raft_vote::{Entries, Entry, EntryKind, RaftMessage, SharedBytes, read_servers};
+use raft_vote::{
+    Entries, Entry, EntryKind, RaftMessage, SharedBytes, read_message, read_servers, write_message,
+};
 use std::alloc::{AllocError, Global};
 use std::test::*;
-use wire_words::WireBytes;
+use wire_words::{Message, WireBytes};
 
 // What a node has kept: its term, its vote, and its log.
 #[derive(Drop)]
@@ -14,20 +16,24 @@ struct Disk {
 }
 
 impl Disk {
-    // Keeps what a step leaves to be kept.
-    fn keep(
-        &mut self,
-        meta: Option<(u64, u64)>,
-        batch: Option<(u64, Entries)>,
-    ) -> Result<(), AllocError> {
+    // Keeps term and vote.
+    fn keep_meta(&mut self, meta: Option<(u64, u64)>) {
         if let Some((term, vote)) = meta {
             self.term = term;
             self.vote = vote;
         }
-        if let Some((first, entries)) = batch {
-            let mut entries = entries.into_vec();
-            self.log.truncate(first.saturating_sub(1) as usize);
-            self.log.append(&mut entries)?;
+    }
+
+    // Keeps the node's entries from an index on, in place of all from there.
+    fn keep_batch(&mut self, node: &RaftNode, batch: Option<u64>) -> Result<(), AllocError> {
+        let Some(first) = batch else {
+            return Ok(());
+        };
+        self.log.truncate(first.saturating_sub(1) as usize);
+        for index in first..=node.view().last.index {
+            if let Some(entry) = node.entry(index) {
+                self.log.push(entry.copied()?)?;
+            }
         }
         Ok(())
     }
@@ -68,7 +74,7 @@ impl Picks {
 fn happens(
     alloc: Global,
     member: &mut Member,
-    event: &RaftEvent,
+    event: RaftEvent,
     mail: &mut Vec<RaftMessage>,
 ) -> Result<(), Fail> {
     let todo = step(alloc, &mut member.node, event)?;
@@ -79,7 +85,8 @@ fn happens(
         sends,
         commit: _,
     } = todo;
-    member.disk.keep(meta, batch)?;
+    member.disk.keep_meta(meta);
+    member.disk.keep_batch(&member.node, batch)?;
     for sending in sends.into_vec() {
         if let Sending::Message(message) = sending {
             mail.push(message)?;
@@ -99,8 +106,21 @@ fn restarts(alloc: Global, member: &mut Member, id: u64) -> Result<(), Fail> {
         first: 1,
         entries: member.disk.copied(alloc)?,
     };
-    member.node = RaftNode::new(alloc, id, servers.as_slice(), &kept)?;
+    member.node = RaftNode::new(alloc, id, servers.as_slice(), kept)?;
     Ok(())
+}
+
+// The same message once more, as its bytes are read again.
+fn again(alloc: Global, message: &RaftMessage) -> Result<RaftMessage, Fail> {
+    let bytes = write_message(alloc, message)?;
+    let kind = bytes.as_slice().get(4).copied().unwrap_or(0);
+    let body = Vec::from_slice(alloc, bytes.as_slice().get(8..).unwrap_or(&[]))?;
+    let whole = Message {
+        kind,
+        schema: 0,
+        body: WireBytes::new(body),
+    };
+    Ok(read_message(alloc, &whole, message.to)?)
 }
 
 // A message that is under way is lost, or comes; of those that come some come again later.
@@ -118,13 +138,12 @@ fn arrives(
     if fate == 0 {
         return Ok(());
     }
-    let at = message.to.saturating_sub(1) as usize;
-    let event = RaftEvent::Message(message);
-    if let Some(member) = members.get_mut(at) {
-        happens(alloc, member, &event, mail)?;
+    if fate == 1 {
+        mail.push(again(alloc, &message)?)?;
     }
-    if let (1, RaftEvent::Message(message)) = (fate, event) {
-        mail.push(message)?;
+    let at = message.to.saturating_sub(1) as usize;
+    if let Some(member) = members.get_mut(at) {
+        happens(alloc, member, RaftEvent::Message(message), mail)?;
     }
     Ok(())
 }
@@ -171,7 +190,7 @@ fn goes_on(
         return restarts(alloc, member, at + 1);
     }
     let event = local_event(alloc, kind, byte)?;
-    happens(alloc, member, &event, mail)
+    happens(alloc, member, event, mail)
 }
 
 // All that is under way comes, in order, and nothing is lost.
@@ -207,7 +226,7 @@ fn at_member(
         RaftEvent::Beat
     };
     match members.get_mut(at) {
-        Some(member) => happens(alloc, member, &event, mail),
+        Some(member) => happens(alloc, member, event, mail),
         None => Ok(()),
     }
 }

@@ -107,7 +107,7 @@ fn seen(node: &RaftNode, todo: &Todo) -> Seen {
 }
 
 // A step of the node.
-fn after(alloc: Global, node: &mut RaftNode, event: &RaftEvent) -> Result<Seen, Fail> {
+fn after(alloc: Global, node: &mut RaftNode, event: RaftEvent) -> Result<Seen, Fail> {
     let todo = step(alloc, node, event)?;
     Ok(seen(node, &todo))
 }
@@ -118,7 +118,7 @@ fn taken(alloc: Global, node: &mut RaftNode, row: Row) -> Result<Seen, Fail> {
         *node = fresh(alloc, id, roles)?;
     }
     let event = event_of(alloc, row)?;
-    after(alloc, node, &event)
+    after(alloc, node, event)
 }
 
 const NONE: (u64, u8, bool, u64) = (0, 0, false, 0);
@@ -214,7 +214,7 @@ fn tell_of_fourth(alloc: Global, node: &mut RaftNode) -> Result<Seen, Fail> {
     if node.view().role == RaftRole::Candidate {
         return Err(Fail::from("a candidate"));
     }
-    let todo = node.step(alloc, &RaftEvent::Servers(servers))?;
+    let todo = node.step(alloc, RaftEvent::Servers(servers))?;
     Ok(seen(node, &todo))
 }
 

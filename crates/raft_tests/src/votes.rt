@@ -55,6 +55,31 @@ fn messages_both_ways(rt: HostRuntime) -> Result<(), Fail> {
     Ok(())
 }
 
+// Whether a message of this type is refused wherever its body is cut.
+fn is_refused_cut(alloc: Global, kind: u8, words: &[u64]) -> Result<bool, Fail> {
+    let whole = bytes(alloc, words)?;
+    for end in 0..whole.len() {
+        let body = WireBytes::new(Vec::from_slice(alloc, &whole[..end])?);
+        let cut = Message {
+            kind,
+            schema: 0,
+            body,
+        };
+        if read_message(alloc, &cut, 2).is_ok() {
+            return Ok(false);
+        }
+    }
+    Ok(true)
+}
+
+#[test]
+fn messages_cut_at_every_byte(rt: HostRuntime) -> Result<(), Fail> {
+    for &(kind, _, body) in MESSAGES {
+        assert!(rt; is_refused_cut(rt.alloc(), kind, body)?);
+    }
+    Ok(())
+}
+
 fn fault(
     alloc: Global,
     kind: u8,

@@ -1,5 +1,5 @@
 -- One step of a node, and the acts of its account: whatever front of them stands is fit.
-use Rattle.std.proofs.Common.{append_assoc, ◌≡◌, ℕ, zero, suc, ◌+◌, ◌-◌, ◌<◌, ◌≤◌, true, List, [], ◌∷◌, ◌++◌, length, take, refl, sym, ap, ◌∙◌, subst, ⊎_elim, inl, arith}
+use Rattle.std.proofs.Common.{append_assoc, ◌≡◌, ℕ, zero, suc, ◌+◌, ◌-◌, ◌<◌, ◌≤◌, true, List, [], ◌∷◌, ◌++◌, length, length-append, take, refl, sym, ap, ◌∙◌, subst, ⊎_elim, inl, arith}
 use Rattle.std.specs.Prelude.{nat_lt}
 use Rattle.std.proofs.lemmas.Bool.{cond_both, cases_lt, ltb-true, ltb-false}
 use Rattle.std.proofs.lemmas.List.{take-append-le}
@@ -11,7 +11,7 @@ use Rattle.raft_rules.specs.Account.{Stored, stored_of, Act, Restore, enact, ena
 use Rattle.raft_world.specs.Members.{Setup, voters_after, may_take, member_step}
 use Rattle.raft_world.specs.Stages.{past, between, WholeAccount, StopsBefore, StopsAtMeta, StopsAtLog}
 use Rattle.raft_world.proofs.History.{Hist, HistOk, NodeOk, WhatOk, MessageOk}
-use Rattle.raft_world.proofs.Growth.{Later, Grows, grows_refl, grows_trans, what_later}
+use Rattle.raft_world.proofs.Growth.{Later, later_refl, Grows, grows_refl, grows_trans, what_later}
 use Rattle.raft_world.proofs.Casts.{cast, CastOk, cast_grows, cast_ok}
 use Rattle.raft_world.proofs.Bases.{BaseOk, base, base_term, base_cast, base_commit, committed_down}
 use Rattle.raft_world.proofs.Reaches.{all_append, all_later, Reach, still, in_term_ok, StoredOk, stored_ok}
@@ -257,6 +257,66 @@ steps_fine {vs} n (i ∷ is) h s ok a w =
       hist = rest.hist;
       node = rest.node;
       sent = all_append vs rest.to d.out _ (all_later vs d.out rest.grows.later f.sent) rest.sent;
+    }
+
+-- several steps, with the history between the first k and the rest
+pub record Split (vs : Setup) (h : Hist) (n : ℕ) (s : Node) (is : List Input) (k : ℕ) : Type 0 where
+  pub mid : Reach vs h n (steps (member_step vs n) s (take k is)) []
+  pub whole : Reach vs h n (steps (member_step vs n) s is) (said (member_step vs n) s is)
+  pub later : Later mid.to whole.to
+
+pub split_fine : {vs : Setup} (n : ℕ) (is : List Input) (k : ℕ) (h : Hist) (s : Node) → HistOk vs h → NodeOk vs h n s → InputsOk vs h n is → Split vs h n s is k
+split_fine n is zero h s ok a w =
+    let r = steps_fine n is h s ok a w in
+    record { mid = record { to = h; grows = grows_refl n h; hist = ok; node = a; sent = tt }; whole = r; later = r.grows.later }
+split_fine n [] (suc k) h s ok a w = record {
+  mid = record { to = h; grows = grows_refl n h; hist = ok; node = a; sent = tt };
+  whole = record { to = h; grows = grows_refl n h; hist = ok; node = a; sent = tt };
+  later = later_refl h;
+}
+split_fine {vs} n (i ∷ is) (suc k) h s ok a w =
+    let d = member_step vs n s i in
+    let f = step_fine n s i ok a w.0 in
+    let x = split_fine n is k f.to d.node f.hist f.node (inputs_later vs n is f.grows.later w.1) in
+    record {
+      mid = record { to = x.mid.to; grows = grows_trans n h f.to x.mid.to f.grows x.mid.grows; hist = x.mid.hist; node = x.mid.node; sent = tt };
+      whole = record {
+        to = x.whole.to;
+        grows = grows_trans n h f.to x.whole.to f.grows x.whole.grows;
+        hist = x.whole.hist;
+        node = x.whole.node;
+        sent = all_append vs x.whole.to d.out _ (all_later vs d.out x.whole.grows.later f.sent) x.whole.sent;
+      };
+      later = x.later;
+    }
+
+-- so of a front of their account that has all acts of the first k
+pub record StopSplit (vs : Setup) (h : Hist) (n : ℕ) (s : Node) (is : List Input) (k acts : ℕ) : Type 0 where
+  pub mid : Reach vs h n (steps (member_step vs n) s (take k is)) []
+  pub stands : Stands vs h n (enacted (stored_of s) (take acts (account (member_step vs n) s is)))
+  pub later : Later mid.to stands.to
+
+pub stop_split : {vs : Setup} (n : ℕ) (is : List Input) (k acts : ℕ) (h : Hist) (s : Node) → length (account (member_step vs n) s (take k is)) ≤ acts → HistOk vs h → NodeOk vs h n s → InputsOk vs h n is → StopSplit vs h n s is k acts
+stop_split n is zero acts h s le ok a w =
+    let x = account_front n is h s acts ok a w in
+    record { mid = record { to = h; grows = grows_refl n h; hist = ok; node = a; sent = tt }; stands = x; later = x.grows.later }
+stop_split n [] (suc k) acts h s le ok a w =
+    let x = account_front n [] h s acts ok a w in
+    record { mid = record { to = h; grows = grows_refl n h; hist = ok; node = a; sent = tt }; stands = x; later = x.grows.later }
+stop_split {vs} n (i ∷ is) (suc k) all h s le ok a w =
+    let d = member_step vs n s i in
+    let f = step_fine n s i ok a w.0 in
+    let acts = step_acts s d.node in
+    let rest = account (member_step vs n) d.node is in
+    let first = account (member_step vs n) d.node (take k is) in
+    let size = length-append acts first in
+    let x = stop_split n is k (all - length acts) f.to d.node (omega arith) f.hist f.node (inputs_later vs n is f.grows.later w.1) in
+    let e : enacted (stored_of s) (take all (acts ++ rest)) ≡ enacted (stored_of d.node) (take (all - length acts) rest) =
+    ap (enacted (stored_of s)) (take_past acts rest all (omega arith)) ∙ enacted-append acts (take (all - length acts) rest) (stored_of s) ∙ ap (λ x. enacted x (take (all - length acts) rest)) (step_all s d.node (member_plain vs n s i).up) in
+    record {
+      mid = record { to = x.mid.to; grows = grows_trans n h f.to x.mid.to f.grows x.mid.grows; hist = x.mid.hist; node = x.mid.node; sent = tt };
+      stands = record { to = x.stands.to; grows = grows_trans n h f.to x.stands.to f.grows x.stands.grows; hist = x.stands.hist; fit = subst (StoredOk vs x.stands.to n) (sym e) x.stands.fit };
+      later = x.later;
     }
 
 pub whole_account_holds : WholeAccount

@@ -34,18 +34,16 @@ stays_so {vs} {h} w n a = record { to = h; later = later_refl h; world = a; done
 its_own : {vs : Setup} {h : Hist} {w : World} {n : ℕ} {x : Stored} → Turned vs h w n x → Turned vs h w n (stored_of (w.nodes n))
 its_own {vs} {h} {w} {n} {x} t = record { to = t.to; later = t.later; world = t.world; done = stored_ok (w.nodes n) (t.world.nodes n) }
 
-put_fine : {vs : Setup} {h : Hist} (w : World) (n : ℕ) (s : Node) (out : List Message) (x : Stored) → WorldOk vs h w → (r : Reach vs h n s out) → StoredOk vs r.to n x → Turned vs h (put w n s out) n x
+pub put_world : {vs : Setup} {h : Hist} (w : World) (n : ℕ) (s : Node) (out : List Message) → WorldOk vs h w → (r : Reach vs h n s out) → WorldOk vs r.to (put w n s out)
 unfolding put
-put_fine {vs} {h} w n s out x a r fit = record {
-  to = r.to;
-  later = r.grows.later;
-  world = record {
-    hist = r.hist;
-    nodes = λ k. cond_both (k == n) s (w.nodes k) (NodeOk vs r.to k) (λ e. subst (λ k. NodeOk vs r.to k s) (sym (eqb-true _ _ e)) r.node) (λ e. node_later vs n k (w.nodes k) (eqb-false _ _ e) a.hist r.grows (a.nodes k));
-    messages = all_append vs r.to w.messages out (all_later vs w.messages r.grows.later a.messages) r.sent;
-  };
-  done = fit;
+put_world {vs} {h} w n s out a r = record {
+  hist = r.hist;
+  nodes = λ k. cond_both (k == n) s (w.nodes k) (NodeOk vs r.to k) (λ e. subst (λ k. NodeOk vs r.to k s) (sym (eqb-true _ _ e)) r.node) (λ e. node_later vs n k (w.nodes k) (eqb-false _ _ e) a.hist r.grows (a.nodes k));
+  messages = all_append vs r.to w.messages out (all_later vs w.messages r.grows.later a.messages) r.sent;
 }
+
+put_fine : {vs : Setup} {h : Hist} (w : World) (n : ℕ) (s : Node) (out : List Message) (x : Stored) → WorldOk vs h w → (r : Reach vs h n s out) → StoredOk vs r.to n x → Turned vs h (put w n s out) n x
+put_fine {vs} {h} w n s out x a r fit = record { to = r.to; later = r.grows.later; world = put_world w n s out a r; done = fit }
 
 pub at_number : (vs : Setup) (h : Hist) (ms : List Message) (k : ℕ) (m : Message) → AllOk vs h ms → slice_get ms k ≡ Some m → MessageOk vs h m
 at_number vs h [] k m a e = absurd (cc)

@@ -19,11 +19,11 @@ use Rattle.store_laws.proofs.Seen.{seen_holds}
 use Rattle.store_laws.proofs.Written.{batch_written}
 use Rattle.store_laws.proofs.Answers.{meta_same}
 use Rattle.store_format.specs.Words.{format_in}
-use Rattle.store_batches.specs.Batches.{batch_bytes}
-use Rattle.store_batches.specs.Written.{segment_word, Fits}
-use Rattle.store_batches.specs.Files.{node_format}
-use Rattle.store_batches.proofs.Lawfully.{is_lawful}
-use Rattle.store_batches.proofs.Written.{batches_read_back}
+use Rattle.store_format.specs.Batches.{batch_bytes}
+use Rattle.store_format.specs.BatchesWritten.{segment_word, Fits}
+use Rattle.store_format.specs.NodeFormat.{node_format}
+use Rattle.store_format.proofs.BatchesLawful.{is_lawful}
+use Rattle.store_format.proofs.BatchesWritten.{batches_read_back}
 use Rattle.segment_store.specs.FileNames.{file_name}
 use Rattle.segment_store.specs.Open.{Open, HasSize, IsOpen, segment_numbers, HasSnapshots}
 use Rattle.segment_store.specs.Grow.{grow_calls, begin_calls}

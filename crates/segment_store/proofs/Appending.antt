@@ -13,9 +13,9 @@ use Rattle.store_laws.proofs.Answers.{settled_images}
 use Rattle.store_laws.proofs.Rooms.{more_room_holds}
 use Rattle.store_laws.proofs.Seen.{all_seen}
 use Rattle.raft_vote.specs.Entries.{HaveHeads}
-use Rattle.store_batches.specs.Files.{node_format}
-use Rattle.store_batches.specs.Batches.{batch_bytes}
-use Rattle.store_batches.specs.Written.{segment_word, Fits}
+use Rattle.store_format.specs.NodeFormat.{node_format}
+use Rattle.store_format.specs.Batches.{batch_bytes}
+use Rattle.store_format.specs.BatchesWritten.{segment_word, Fits}
 use Rattle.segment_store.specs.FileNames.{file_name}
 use Rattle.segment_store.specs.Open.{Open, Grows, MayGrow, IsOpen}
 use Rattle.segment_store.specs.Grow.{grow_calls, begin_calls, IsFree, room_in, appended_to, with_appended}

@@ -10,7 +10,7 @@ use Rattle.store_laws.specs.Store.{Kept}
 use Rattle.store_laws.specs.Meta.{file_of}
 use Rattle.store_format.specs.declared.metadata.Metadata.{Metadata}
 use Rattle.store_format.specs.Metadata.{block_bytes}
-use Rattle.store_batches.specs.Written.{segment_word}
+use Rattle.store_format.specs.BatchesWritten.{segment_word}
 use Rattle.segment_store.specs.FileNames.{file_name}
 use Rattle.segment_store.specs.Open.{Open, IsOpen, size_for}
 use Rattle.segment_store.specs.Keeps.{folder, Went, block_calls}

@@ -8,7 +8,7 @@ use Rattle.disk_model.specs.Writing.{replace_calls}
 use Rattle.disk_model.specs.declared.faults.DiskFault.{DiskFault}
 use Rattle.disk_model.proofs.Elsewhere.{Elsewhere, else_same, else_on, else_names}
 use Rattle.disk_model.proofs.Runs.{ran_stops, ran_then, ran_last, known_steps, known_ran, known_map}
-use Rattle.store_batches.specs.Written.{segment_word}
+use Rattle.store_format.specs.BatchesWritten.{segment_word}
 use Rattle.segment_store.specs.declared.keep_plan.KeepPlan.{KeepPlan}
 use Rattle.segment_store.specs.Grow.{begin_calls, IsFree}
 use Rattle.segment_store.specs.Keeping.{file_calls, removal_calls, loose_removal_calls}

@@ -9,8 +9,8 @@ use Rattle.store_laws.specs.Names.{Segment, Snapshot}
 use Rattle.store_laws.specs.Store.{Snap, Log, Kept}
 use Rattle.store_laws.specs.Snapshots.{AllBelow}
 use Rattle.store_format.specs.Snapshots.{snapshot_bytes}
-use Rattle.store_batches.specs.Batches.{batch_bytes}
-use Rattle.store_batches.specs.Written.{segment_word}
+use Rattle.store_format.specs.Batches.{batch_bytes}
+use Rattle.store_format.specs.BatchesWritten.{segment_word}
 use Rattle.segment_store.specs.declared.keep_plan.KeepPlan.{KeepPlan}
 use Rattle.segment_store.specs.Open.{Open, HaveDigits, IsOpen}
 use Rattle.segment_store.specs.Keeps.{folder, Went}

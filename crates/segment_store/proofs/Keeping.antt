@@ -14,7 +14,7 @@ use Rattle.store_laws.proofs.Answers.{settled_images}
 use Rattle.store_laws.proofs.Seen.{all_seen}
 use Rattle.store_format.specs.declared.metadata.Metadata.{Metadata}
 use Rattle.store_format.specs.Metadata.{block_bytes}
-use Rattle.store_batches.specs.Files.{node_format}
+use Rattle.store_format.specs.NodeFormat.{node_format}
 use Rattle.segment_store.specs.declared.fault.StoreFault.TheVariants.{NoMemory}
 use Rattle.segment_store.specs.FileNames.{file_name}
 use Rattle.segment_store.specs.Faults.{of_disk, DiskCause}

@@ -7,7 +7,7 @@ use Rattle.store_laws.specs.Names.{Segment, Snapshot, NodeFiles, NodeCall}
 use Rattle.store_laws.specs.Append.{append_calls}
 use Rattle.store_laws.specs.Load.{remove_from}
 use Rattle.store_laws.specs.Snapshots.{snapshot_calls, remove_snapshots, keep_calls}
-use Rattle.store_batches.specs.Written.{segment_word}
+use Rattle.store_format.specs.BatchesWritten.{segment_word}
 use Rattle.segment_store.specs.FileNames.{file_name}
 use Rattle.segment_store.specs.Open.{Open, segment_numbers, is_listed}
 use Rattle.segment_store.specs.Grow.{begin_calls}

@@ -9,7 +9,7 @@ use Rattle.disk_model.specs.SyncAll.{sync_all}
 use Rattle.disk_model.specs.Trait.{Text, Steps}
 use Rattle.disk_model.specs.declared.faults.DiskFault.{DiskFault}
 use Rattle.store_laws.specs.Names.{Segment, NodeCall}
-use Rattle.store_reading.specs.declared.segment_log.LastSegment.{LastSegment}
+use Rattle.store_format.specs.declared.segment_log.LastSegment.{LastSegment}
 use Rattle.segment_store.specs.declared.names.File.{File}
 use Rattle.segment_store.specs.FileNames.{file_name, name_of}
 use Rattle.segment_store.specs.Keeps.{Went}

@@ -4,11 +4,11 @@ use Rattle.disk_model.specs.Disk.{Disk}
 use Rattle.disk_model.specs.Trait.{Text}
 use Rattle.store_laws.specs.Names.{NodeDisk}
 use Rattle.store_laws.specs.Store.{Kept, Loaded}
-use Rattle.store_reading.specs.declared.fault.FilesFault.{FilesFault}
-use Rattle.store_reading.specs.declared.fault.FilesFault.TheVariants as files
-use Rattle.store_reading.specs.declared.segment_log.Damage.{Damage}
-use Rattle.store_reading.specs.FilesRead.{FilesRead, kept_by, Judges}
-use Rattle.store_reading.specs.SegmentLog.{place_of}
+use Rattle.store_format.specs.declared.fault.FilesFault.{FilesFault}
+use Rattle.store_format.specs.declared.fault.FilesFault.TheVariants as files
+use Rattle.store_format.specs.declared.segment_log.Damage.{Damage}
+use Rattle.store_format.specs.FilesRead.{FilesRead, kept_by, Judges}
+use Rattle.store_format.specs.SegmentLog.{place_of}
 use Rattle.segment_store.specs.declared.fault.StoreFault.{StoreFault}
 use Rattle.segment_store.specs.declared.fault.StoreFault.TheVariants as store
 use Rattle.segment_store.specs.Faults.{DiskCause}

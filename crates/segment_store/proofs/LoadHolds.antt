@@ -19,12 +19,12 @@ use Rattle.store_laws.proofs.Tells.{tell}
 use Rattle.store_laws.proofs.Loads.{load_holds}
 use Rattle.store_laws.proofs.WholeLoads.{whole_load_holds, whole_load_seen}
 use Rattle.store_laws.proofs.Answers.{settled_images}
-use Rattle.store_batches.specs.Batches.{batch_bytes}
-use Rattle.store_batches.specs.Written.{segment_word}
-use Rattle.store_batches.specs.Files.{node_format}
-use Rattle.store_batches.proofs.Lawfully.{is_lawful}
-use Rattle.store_batches.proofs.Written.{batches_read_back}
-use Rattle.store_reading.proofs.Positive.{log_begins}
+use Rattle.store_format.specs.Batches.{batch_bytes}
+use Rattle.store_format.specs.BatchesWritten.{segment_word}
+use Rattle.store_format.specs.NodeFormat.{node_format}
+use Rattle.store_format.proofs.BatchesLawful.{is_lawful}
+use Rattle.store_format.proofs.BatchesWritten.{batches_read_back}
+use Rattle.store_format.proofs.Positive.{log_begins}
 use Rattle.segment_store.specs.Loading.{kept_in, IsSeen, StaysSeen}
 use Rattle.segment_store.proofs.LoadRooms.{segments_up, kept_of, log_up}
 

@@ -11,11 +11,11 @@ use Rattle.store_laws.specs.Settled.{file_log}
 use Rattle.store_laws.specs.Damage.{good_end}
 use Rattle.store_laws.specs.Load.{repair_calls}
 use Rattle.store_laws.proofs.Fronts.{stop_torn, go_torn}
-use Rattle.store_batches.specs.Files.{node_format}
-use Rattle.store_batches.proofs.Lawfully.{is_lawful}
-use Rattle.store_reading.specs.declared.segment_log.Damage.{Damage}
-use Rattle.store_reading.specs.declared.segment_log.LastSegment.{LastSegment}
-use Rattle.store_reading.specs.FilesRead.{FilesRead, lacks, judged, kept_by}
+use Rattle.store_format.specs.NodeFormat.{node_format}
+use Rattle.store_format.proofs.BatchesLawful.{is_lawful}
+use Rattle.store_format.specs.declared.segment_log.Damage.{Damage}
+use Rattle.store_format.specs.declared.segment_log.LastSegment.{LastSegment}
+use Rattle.store_format.specs.FilesRead.{FilesRead, lacks, judged, kept_by}
 use Rattle.segment_store.specs.Listed.{FolderList, IsListed}
 use Rattle.segment_store.specs.Loading.{kept_in}
 use Rattle.segment_store.specs.Open.{segment_numbers}

@@ -9,7 +9,7 @@ use Rattle.store_laws.specs.Names.{Name, Segment, NodeDisk, NodeFiles, NodeCall}
 use Rattle.store_laws.specs.Store.{opens, is_whole}
 use Rattle.store_laws.specs.Load.{repair_calls}
 use Rattle.store_laws.specs.Append.{append_calls}
-use Rattle.store_batches.specs.Files.{node_format}
+use Rattle.store_format.specs.NodeFormat.{node_format}
 use Rattle.segment_store.specs.Open.{segment_numbers}
 use Rattle.segment_store.proofs.Listing.{same_numbers}
 use Rattle.segment_store.proofs.LoadHolds.{spared, spares_sync, spares_repair, spares_append}

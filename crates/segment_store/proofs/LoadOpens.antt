@@ -7,8 +7,8 @@ use Rattle.disk_model.specs.Trait.{Text, Known, told}
 use Rattle.store_laws.specs.Names.{Segment}
 use Rattle.store_laws.specs.Meta.{next_stamp}
 use Rattle.store_laws.specs.WholeLoad.{is_stale}
-use Rattle.store_reading.specs.declared.segment_log.LastSegment.{LastSegment}
-use Rattle.store_reading.specs.FilesRead.{FilesRead, kept_by}
+use Rattle.store_format.specs.declared.segment_log.LastSegment.{LastSegment}
+use Rattle.store_format.specs.FilesRead.{FilesRead, kept_by}
 use Rattle.segment_store.specs.declared.fault.StoreFault.{StoreFault}
 use Rattle.segment_store.specs.FileNames.{file_name}
 use Rattle.segment_store.specs.Grow.{IsFree}

@@ -7,11 +7,11 @@ use Rattle.store_laws.specs.Names.{First, Second, Snapshot, NodeDisk}
 use Rattle.store_laws.specs.Store.{no_meta, no_snap, newest}
 use Rattle.store_laws.specs.Damage.{numbered}
 use Rattle.store_format.specs.Metadata.{meta_in}
-use Rattle.store_batches.specs.Files.{node_format}
-use Rattle.store_batches.proofs.Lawfully.{is_lawful}
-use Rattle.store_reading.specs.SegmentLog.{none_read, all_read, IsRead}
-use Rattle.store_reading.specs.FilesRead.{FilesRead, nothing_read}
-use Rattle.store_reading.proofs.Segments.{is_read}
+use Rattle.store_format.specs.NodeFormat.{node_format}
+use Rattle.store_format.proofs.BatchesLawful.{is_lawful}
+use Rattle.store_format.specs.SegmentLog.{none_read, all_read, IsRead}
+use Rattle.store_format.specs.FilesRead.{FilesRead, nothing_read}
+use Rattle.store_format.proofs.Segments.{is_read}
 use Rattle.segment_store.specs.declared.fault.StoreFault.{StoreFault}
 use Rattle.segment_store.specs.Keeps.{folder}
 use Rattle.segment_store.specs.Listed.{FolderList, IsListed}

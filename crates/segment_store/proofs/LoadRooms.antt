@@ -8,8 +8,8 @@ use Rattle.store_laws.specs.Store.{Format, kept, answer, meta_of, snap_in, segme
 use Rattle.store_laws.specs.Settled.{file_log}
 use Rattle.store_laws.specs.Damage.{Numbered, numbered, good_end}
 use Rattle.store_laws.proofs.Folders.{segments_suc}
-use Rattle.store_reading.specs.declared.segment_log.LastSegment.{LastSegment}
-use Rattle.store_reading.specs.SegmentLog.{last_of, last_in}
+use Rattle.store_format.specs.declared.segment_log.LastSegment.{LastSegment}
+use Rattle.store_format.specs.SegmentLog.{last_of, last_in}
 use Rattle.segment_store.specs.Open.{segment_numbers}
 use Rattle.segment_store.specs.Reads.{at}
 use Rattle.segment_store.proofs.Listing.{numbers_same}

@@ -11,9 +11,9 @@ use Rattle.disk_model.specs.Trait.{Text, Steps}
 use Rattle.disk_model.specs.declared.faults.DiskFault.{DiskFault}
 use Rattle.store_laws.specs.Names.{Segment}
 use Rattle.store_laws.specs.Damage.{Numbered}
-use Rattle.store_batches.specs.Files.{node_format}
-use Rattle.store_reading.specs.SegmentLog.{SegmentsRead, with_segment, all_read}
-use Rattle.store_reading.specs.FilesRead.{FilesRead, with_snap, with_segment_read}
+use Rattle.store_format.specs.NodeFormat.{node_format}
+use Rattle.store_format.specs.SegmentLog.{SegmentsRead, with_segment, all_read}
+use Rattle.store_format.specs.FilesRead.{FilesRead, with_snap, with_segment_read}
 use Rattle.segment_store.specs.declared.names.File.{File}
 use Rattle.segment_store.specs.declared.fault.StoreFault.{StoreFault}
 use Rattle.segment_store.specs.FileNames.{file_name, name_of}
@@ -21,7 +21,7 @@ use Rattle.segment_store.specs.Keeps.{folder, Went}
 use Rattle.segment_store.specs.Listed.{FolderList, named, Below}
 use Rattle.segment_store.specs.Repairs.{repairs_of}
 use Rattle.segment_store.specs.Settling.{front_calls}
-use Rattle.store_reading.specs.declared.segment_log.LastSegment.{LastSegment}
+use Rattle.store_format.specs.declared.segment_log.LastSegment.{LastSegment}
 use Rattle.segment_store.specs.Loading.{Sees}
 use Rattle.segment_store.specs.Reads.{snap_at, at, IsNewest, ReadsSnaps, ReadsSegments}
 use Rattle.segment_store.proofs.LoadCalls.{syncs, syncs_push, sync_all_is, went_done, went_both, went_front, went_last, went_stops, spelled_both}

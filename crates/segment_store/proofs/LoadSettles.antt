@@ -15,10 +15,10 @@ use Rattle.store_laws.specs.Laws.{Comes}
 use Rattle.store_laws.specs.Settled.{file_log}
 use Rattle.store_laws.specs.WholeLoad.{is_stale}
 use Rattle.store_laws.proofs.Answers.{meta_same}
-use Rattle.store_batches.specs.Batches.{batch_bytes}
-use Rattle.store_batches.specs.Written.{segment_word}
-use Rattle.store_batches.specs.Files.{node_format}
-use Rattle.store_reading.specs.FilesRead.{FilesRead, judged, kept_by}
+use Rattle.store_format.specs.Batches.{batch_bytes}
+use Rattle.store_format.specs.BatchesWritten.{segment_word}
+use Rattle.store_format.specs.NodeFormat.{node_format}
+use Rattle.store_format.specs.FilesRead.{FilesRead, judged, kept_by}
 use Rattle.segment_store.specs.FileNames.{file_name}
 use Rattle.segment_store.specs.Grow.{IsFree}
 use Rattle.segment_store.specs.Keeps.{folder, HasNew}

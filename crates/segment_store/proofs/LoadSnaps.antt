@@ -7,11 +7,11 @@ use Rattle.store_laws.specs.Store.{Meta, Snap, no_meta, no_snap, newest, newest_
 use Rattle.store_laws.proofs.Newest.{newest_left, newest_right}
 use Rattle.store_format.specs.Metadata.{meta_in}
 use Rattle.store_format.specs.Snapshots.{snap_of}
-use Rattle.store_batches.specs.Files.{node_format}
-use Rattle.store_batches.proofs.Lawfully.{is_lawful}
+use Rattle.store_format.specs.NodeFormat.{node_format}
+use Rattle.store_format.proofs.BatchesLawful.{is_lawful}
 use Rattle.store_laws.specs.Meta.{file_of}
-use Rattle.store_reading.specs.FilesRead.{FilesRead, newer_snap, with_snap}
-use Rattle.store_reading.proofs.Newer.{newer, not_newer}
+use Rattle.store_format.specs.FilesRead.{FilesRead, newer_snap, with_snap}
+use Rattle.store_format.proofs.Newer.{newer, not_newer}
 use Rattle.segment_store.specs.Open.{is_listed, HasSnapshots}
 use Rattle.segment_store.specs.Loading.{IsPlain}
 use Rattle.segment_store.specs.Reads.{snap_at, IsNewest, ReadsMeta}

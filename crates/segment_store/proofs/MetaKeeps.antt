@@ -23,8 +23,8 @@ use Rattle.store_format.specs.declared.metadata.Metadata.{Metadata}
 use Rattle.store_format.specs.Metadata.{fits_side, block_bytes}
 use Rattle.store_format.proofs.Written.{metadata_reads_back}
 use Rattle.store_format.specs.Words.{format_in}
-use Rattle.store_batches.specs.Files.{node_format}
-use Rattle.store_batches.proofs.Lawfully.{is_lawful}
+use Rattle.store_format.specs.NodeFormat.{node_format}
+use Rattle.store_format.proofs.BatchesLawful.{is_lawful}
 use Rattle.segment_store.specs.FileNames.{file_name}
 use Rattle.segment_store.specs.Open.{Open, HasSize, MayGrow, IsOpen, with_version, size_for}
 use Rattle.segment_store.specs.Keeps.{folder, OldOrNew, HasNew, block_calls}

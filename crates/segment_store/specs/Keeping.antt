@@ -10,8 +10,8 @@ use Rattle.store_laws.specs.Names.{Segment, Snapshot, NodeFiles, NodeDisk}
 use Rattle.store_laws.specs.Store.{Snap, Log, Kept}
 use Rattle.store_laws.specs.Chance.{NoChance}
 use Rattle.store_laws.specs.Snapshots.{Stays, with_snapshot, BeforeOrLonger}
-use Rattle.store_batches.specs.Written.{segment_word}
-use Rattle.store_batches.specs.Files.{node_format}
+use Rattle.store_format.specs.BatchesWritten.{segment_word}
+use Rattle.store_format.specs.NodeFormat.{node_format}
 use Rattle.segment_store.specs.FileNames.{file_name}
 use Rattle.segment_store.specs.Open.{Open, IsOpen, is_listed}
 use Rattle.segment_store.specs.Keeps.{folder, HasNew}

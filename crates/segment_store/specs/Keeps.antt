@@ -9,7 +9,7 @@ use Rattle.store_laws.specs.Names.{NodeFiles, NodeDisk}
 use Rattle.store_laws.specs.Store.{Kept, Loaded, kept}
 use Rattle.store_laws.specs.Chance.{NoChance}
 use Rattle.store_laws.specs.Laws.{OneOf}
-use Rattle.store_batches.specs.Files.{node_format}
+use Rattle.store_format.specs.NodeFormat.{node_format}
 use Rattle.segment_store.specs.FileNames.{file_name}
 use Rattle.segment_store.specs.Open.{Open, IsOpen}
 

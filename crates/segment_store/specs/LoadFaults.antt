@@ -1,6 +1,6 @@
 -- The faults of a load by those that it comes from.
-use Rattle.store_reading.specs.declared.fault.FilesFault.{FilesFault}
-use Rattle.store_reading.specs.declared.fault.FilesFault.TheVariants as files
+use Rattle.store_format.specs.declared.fault.FilesFault.{FilesFault}
+use Rattle.store_format.specs.declared.fault.FilesFault.TheVariants as files
 use Rattle.segment_store.specs.declared.fault.StoreFault.{StoreFault}
 use Rattle.segment_store.specs.declared.fault.StoreFault.TheVariants as store
 use Rattle.segment_store.specs.declared.load_fault.LoadFault.{LoadFault}

@@ -7,7 +7,7 @@ use Rattle.store_laws.specs.Names.{NodeFiles, NodeDisk, Name}
 use Rattle.store_laws.specs.Store.{Outcome, Kept, Loaded, Damaged, NoMeta, Gap, kept}
 use Rattle.store_laws.specs.Chance.{NoChance}
 use Rattle.store_laws.specs.Damage.{damage}
-use Rattle.store_batches.specs.Files.{node_format}
+use Rattle.store_format.specs.NodeFormat.{node_format}
 use Rattle.segment_store.specs.declared.load_fault.LoadFault.{LoadFault}
 use Rattle.segment_store.specs.declared.load_fault.LoadFault.TheVariants as fault
 use Rattle.segment_store.specs.Open.{Open}

@@ -8,7 +8,7 @@ use Rattle.store_laws.specs.Meta.{next_stamp}
 use Rattle.store_laws.specs.Settled.{Settled}
 use Rattle.store_laws.specs.Snapshots.{AllBelow}
 use Rattle.store_format.specs.Words.{format_in}
-use Rattle.store_batches.specs.Files.{node_format}
+use Rattle.store_format.specs.NodeFormat.{node_format}
 
 -- The newest version of the metadata, 0 for none; how long each of its two files is, where it is there; the number of the
 -- next new segment; how long the one before it is, where batches may still be added to it; the numbers of the segments

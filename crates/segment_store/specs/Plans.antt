@@ -7,8 +7,8 @@ use Rattle.disk_model.specs.Trait.{Text}
 use Rattle.store_laws.specs.Names.{Segment, Snapshot}
 use Rattle.store_laws.specs.Store.{Snap, Log}
 use Rattle.store_format.specs.Snapshots.{snapshot_bytes}
-use Rattle.store_batches.specs.Batches.{batch_bytes}
-use Rattle.store_batches.specs.Written.{segment_word}
+use Rattle.store_format.specs.Batches.{batch_bytes}
+use Rattle.store_format.specs.BatchesWritten.{segment_word}
 use Rattle.segment_store.specs.declared.keep_plan.NewSnapshot.{NewSnapshot}
 use Rattle.segment_store.specs.declared.keep_plan.NewSegment.{NewSegment}
 use Rattle.segment_store.specs.declared.keep_plan.OldFiles.{OldFiles}

@@ -6,9 +6,9 @@ use Rattle.store_laws.specs.Meta.{file_of}
 use Rattle.store_laws.specs.Damage.{Numbered}
 use Rattle.store_format.specs.Metadata.{meta_in}
 use Rattle.store_format.specs.Snapshots.{snap_of}
-use Rattle.store_batches.specs.Files.{node_format}
-use Rattle.store_reading.specs.SegmentLog.{all_read, IsRead}
-use Rattle.store_reading.specs.FilesRead.{FilesRead, with_meta}
+use Rattle.store_format.specs.NodeFormat.{node_format}
+use Rattle.store_format.specs.SegmentLog.{all_read, IsRead}
+use Rattle.store_format.specs.FilesRead.{FilesRead, with_meta}
 use Rattle.segment_store.specs.Open.{HasSize, is_listed}
 
 -- more bytes of a file were read behind a front of it, or there are no more

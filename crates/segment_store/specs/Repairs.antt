@@ -2,7 +2,7 @@
 use Rattle.std.specs.Prelude.{ℕ, ◌==◌, cond, List, [], ◌∷◌, Option, Some, None}
 use Rattle.disk_model.specs.Calls.{CutTo, Sync, Remove, SyncNames}
 use Rattle.store_laws.specs.Names.{Segment, NodeCall}
-use Rattle.store_reading.specs.declared.segment_log.LastSegment.{LastSegment}
+use Rattle.store_format.specs.declared.segment_log.LastSegment.{LastSegment}
 
 -- one without its first word goes; one that is whole stays; a torn tail is cut off
 abbrev pub repairs : LastSegment → List NodeCall

@@ -6,10 +6,10 @@ use Rattle.disk_model.specs.SyncAll.{sync_all}
 use Rattle.disk_model.specs.Trait.{Text, Known}
 use Rattle.store_laws.specs.Names.{Segment, NodeCall}
 use Rattle.store_laws.specs.Store.{Loaded}
-use Rattle.store_batches.specs.Batches.{batch_bytes}
-use Rattle.store_batches.specs.Written.{segment_word}
-use Rattle.store_reading.specs.declared.segment_log.LastSegment.{LastSegment}
-use Rattle.store_reading.specs.FilesRead.{FilesRead, judged, kept_by}
+use Rattle.store_format.specs.Batches.{batch_bytes}
+use Rattle.store_format.specs.BatchesWritten.{segment_word}
+use Rattle.store_format.specs.declared.segment_log.LastSegment.{LastSegment}
+use Rattle.store_format.specs.FilesRead.{FilesRead, judged, kept_by}
 use Rattle.segment_store.specs.FileNames.{file_name}
 use Rattle.segment_store.specs.Grow.{begin_calls, IsFree}
 use Rattle.segment_store.specs.Keeps.{folder, HasNew}

@@ -3,7 +3,7 @@ ghost use Rattle.raft_vote.specs.Entries.{HaveHeads};
 ghost use Rattle.store_laws.specs.Names.{Segment, Snapshot};
 ghost use Rattle.store_laws.specs.Snapshots.{AllBelow};
 ghost use Rattle.store_format.specs.Snapshots.{snapshot_bytes};
-ghost use Rattle.store_batches.specs.Batches.{batch_bytes};
+ghost use Rattle.store_format.specs.Batches.{batch_bytes};
 ghost use Rattle.segment_store.specs.FileNames.{file_name};
 ghost use Rattle.segment_store.specs.Keeping.{segment_names, snapshot_names, older_than, later_than};
 
@@ -11,7 +11,7 @@ use crate::names::{File, file_name};
 use dq_base::Name;
 use raft_vote::Entry;
 use std::alloc::{AllocError, Global};
-use store_batches::batch_bytes;
+use store_format::batch_bytes;
 use store_format::snapshot_bytes;
 
 /// The file of a snapshot.

@@ -2,7 +2,7 @@ ghost use Rattle.std.specs.Prelude.{◌≡◌};
 ghost use Rattle.segment_store.specs.LoadFaults.{of_store, of_files};
 
 use crate::fault::StoreFault;
-use store_reading::FilesFault;
+use store_format::FilesFault;
 use thiserror::Error;
 
 /// Why a load answered no store, or a look no state. Of the first three the first that holds is answered; with them

@@ -3,8 +3,8 @@ ghost use Rattle.std.specs.Prelude.{◌≡◌, ◌≤◌, ◌<◌, ◌++◌, ◌
 ghost use Rattle.disk_model.specs.Spelled.{all_spelled};
 ghost use Rattle.disk_model.specs.Trait.{Known};
 ghost use Rattle.store_laws.specs.Names.{Segment};
-ghost use Rattle.store_reading.specs.FilesRead.{nothing_read};
-ghost use Rattle.store_reading.specs.SegmentLog.{FitsNumber};
+ghost use Rattle.store_format.specs.FilesRead.{nothing_read};
+ghost use Rattle.store_format.specs.SegmentLog.{FitsNumber};
 ghost use Rattle.segment_store.specs.FileNames.{file_name};
 ghost use Rattle.segment_store.specs.Faults.{DiskCause};
 ghost use Rattle.segment_store.specs.Grow.{IsFree};
@@ -24,8 +24,8 @@ use crate::names::NUMBERS;
 use crate::store::{Store, begin_batch};
 use disk_model::Disk;
 use std::alloc::{AllocError, Global};
-use store_batches::batch_bytes;
-use store_reading::{FilesRead, Kept, LastSegment};
+use store_format::batch_bytes;
+use store_format::{FilesRead, Kept, LastSegment};
 
 // Lists the files and reads them.
 fn read_folder<D: Disk>(

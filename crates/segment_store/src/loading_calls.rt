@@ -10,13 +10,13 @@ ghost use Rattle.segment_store.specs.Faults.{DiskCause};
 ghost use Rattle.segment_store.specs.Keeps.{Went};
 ghost use Rattle.segment_store.specs.Listed.{FilesBelow, named};
 ghost use Rattle.segment_store.specs.Repairs.{repairs, repairs_of};
-ghost use Rattle.store_reading.specs.SegmentLog.{FitsNumber};
+ghost use Rattle.store_format.specs.SegmentLog.{FitsNumber};
 
 use crate::fault::StoreFault;
 use crate::names::{File, file_name};
 use disk_model::Disk;
 use std::alloc::Global;
-use store_reading::LastSegment;
+use store_format::LastSegment;
 
 fn sync_file<D: Disk>(alloc: Global, disk: &mut D, file: File) -> Result<(), StoreFault>
     requires { number_of file < 10000000000000000 }

@@ -8,14 +8,14 @@ ghost use Rattle.segment_store.specs.Keeps.{folder};
 ghost use Rattle.segment_store.specs.Listed.{Below, IsListed};
 ghost use Rattle.segment_store.specs.Loading.{Sees, IsPlain};
 ghost use Rattle.segment_store.specs.Reads.{ReadsOn, ReadsMeta, ReadsSnaps, ReadsSegments, ReadsAll, snap_at};
-ghost use Rattle.store_reading.specs.FilesRead.{with_snap, nothing_read};
+ghost use Rattle.store_format.specs.FilesRead.{with_snap, nothing_read};
 
 use crate::fault::StoreFault;
 use crate::loading_list::FolderList;
 use crate::names::{File, file_name};
 use disk_model::Disk;
 use std::alloc::{AllocError, Global};
-use store_reading::FilesRead;
+use store_format::FilesRead;
 
 /// How many bytes are read by one call.
 const CHUNK: usize = 65_536;

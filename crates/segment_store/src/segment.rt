@@ -1,7 +1,7 @@
 ghost use Rattle.dq_base.specs.Names.{IsName};
 ghost use Rattle.disk_model.specs.Calls.{MayWrite};
 ghost use Rattle.disk_model.specs.Trait.{Known, Ran, HasCause, HasWant};
-ghost use Rattle.store_batches.specs.Written.{segment_word};
+ghost use Rattle.store_format.specs.BatchesWritten.{segment_word};
 ghost use Rattle.segment_store.specs.Grow.{grow_calls, begin_calls, IsFree};
 
 use disk_model::{Disk, DiskFault, replace};

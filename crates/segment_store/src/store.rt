@@ -7,8 +7,8 @@ ghost use Rattle.store_laws.specs.Append.{with_batch, CanAppend};
 ghost use Rattle.store_laws.specs.Meta.{file_of, with_vote};
 ghost use Rattle.store_format.specs.Metadata.{block_bytes};
 ghost use Rattle.store_format.specs.Snapshots.{snapshot_bytes};
-ghost use Rattle.store_batches.specs.Batches.{batch_bytes};
-ghost use Rattle.store_batches.specs.Written.{segment_word, Fits};
+ghost use Rattle.store_format.specs.Batches.{batch_bytes};
+ghost use Rattle.store_format.specs.BatchesWritten.{segment_word, Fits};
 ghost use Rattle.segment_store.specs.FileNames.{file_name};
 ghost use Rattle.segment_store.specs.Grow.{grow_calls, begin_calls, IsFree, room_in, appended_to, with_appended};
 ghost use Rattle.segment_store.specs.Faults.{DiskCause, StaysUnlessFailed};
@@ -28,7 +28,7 @@ use disk_model::Disk;
 use raft_vote::{Entry, Snapshot};
 use std::alloc::{AllocError, Global};
 use std::marker::Model;
-use store_batches::batch_bytes;
+use store_format::batch_bytes;
 use store_format::{Metadata, metadata_bytes};
 
 /// What a node keeps in its folder: a term with a vote, a log in segments, and a snapshot. A store is open over the disk

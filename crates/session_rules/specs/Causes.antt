@@ -127,4 +127,5 @@ engine_cause engine_faults.Sql = SqlError
 engine_cause (engine_faults.Float row column) = FloatColumn
 engine_cause (engine_faults.NotText row column) = NotUtf8
 engine_cause engine_faults.Unopened = NotADatabase
+engine_cause engine_faults.Cut = OutOfMemory
 engine_cause engine_faults.NoMemory = OutOfMemory

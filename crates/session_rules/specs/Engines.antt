@@ -3,6 +3,7 @@ use Rattle.std.specs.Prelude.{ℕ, suc, Bool, true, false, ◌||◌, List, [], �
 use Rattle.dq_base.specs.declared.images.Image.{Image}
 use Rattle.dq_base.specs.declared.pages.NumberedPage.{NumberedPage}
 use Rattle.dq_base.specs.Applying.{page_fault}
+pub use Rattle.page_changes.specs.Touched.{no_pages}
 use Rattle.sql_engine.specs.declared.answer.Ran.{Ran}
 use Rattle.sql_engine.specs.declared.kind.EngineKind.{EngineKind}
 use Rattle.sql_engine.specs.declared.fault.EngineFault.{EngineFault}
@@ -14,10 +15,6 @@ use Rattle.page_apply.specs.Files.{image_after}
 -- an answer of an engine to a statement
 abbrev pub Answer : Type 0
 Answer = Result Ran EngineFault
-
-abbrev pub no_pages : List NumberedPage → Bool
-no_pages [] = true
-no_pages (p ∷ ps) = false
 
 -- the pages can be applied; none always can
 unfoldable pub takes : List NumberedPage → Bool

@@ -1,12 +1,14 @@
 //! The database of a session, as the machine has it.
 
 ghost use Rattle.std.specs.Prelude.{◌≡◌, IfOk};
+ghost use Rattle.std.specs.Arc.{arc_value};
 ghost use Rattle.session_rules.specs.Machine.{machine_of};
 ghost use Rattle.session_table.specs.Table.{database_of};
 
 use dq_base::{Image, Name};
 use page_apply::Machine;
 use std::alloc::{AllocError, Global};
+use std::sync::Arc;
 
 /// The name of the database that was opened; the empty one where none was. Takes no memory.
 pub fn name_of(database: &Option<Name>) -> &str
@@ -32,5 +34,23 @@ pub fn newest_image(alloc: Global, machine: &Machine, name: &str) -> Result<Imag
     match machine.newest_image(name)? {
         Some(image) => Ok(image),
         None => Ok(Image::new(alloc)),
+    }
+}
+
+/// The newest image of the database of a name, shared; the empty one where the machine has none. Where the machine keeps the image
+/// whole this copies nothing, and else it copies the image. `Err` is want of memory.
+pub fn newest_shared(
+    alloc: Global,
+    machine: &Machine,
+    name: &str,
+) -> Result<Arc<Image, Global>, AllocError>
+    ensures { IfOk result (λ image. arc_value image ≡ ((machine_of machine.now).base name.now).image) }
+{
+    match machine.newest_shared(name)? {
+        Some(image) => Ok(image),
+        None => {
+            let image = Arc::new(alloc, Image::new(alloc))?;
+            Ok(image)
+        }
     }
 }

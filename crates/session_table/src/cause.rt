@@ -230,7 +230,7 @@ impl Cause {
             EngineFault::Float(_, _) => Cause::FloatColumn,
             EngineFault::NotText(_, _) => Cause::NotUtf8,
             EngineFault::Unopened => Cause::NotADatabase,
-            EngineFault::NoMemory => Cause::OutOfMemory,
+            EngineFault::Cut | EngineFault::NoMemory => Cause::OutOfMemory,
         }
     }
 }

@@ -15,7 +15,7 @@ mod sweep;
 mod table;
 mod told;
 
-pub use bases::{name_of, newest, newest_image};
+pub use bases::{name_of, newest, newest_image, newest_shared};
 pub use beginning::begin;
 pub use cause::Cause;
 pub use change::{Change, make_change};

@@ -12,5 +12,3 @@ pub mod NeverUnopened
 pub mod Committing
 pub mod Leading
 pub mod Placed
-pub mod SameLengths
-pub mod ListedPages

@@ -82,6 +82,7 @@ plain_fault faults.Sql e = tt
 plain_fault (faults.Float row column) e = tt
 plain_fault (faults.NotText row column) e = tt
 plain_fault faults.Unopened e = absurd cc
+plain_fault faults.Cut e = tt
 plain_fault faults.NoMemory e = tt
 
 pub plain_if : (b : Bool) (x y : Turned) → IsPlain x → IsPlain y → IsPlain (cond b x y)

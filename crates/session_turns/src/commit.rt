@@ -24,12 +24,13 @@ ghost use Rattle.session_asking.specs.Meant.{IsServed};
 ghost use Rattle.session_turns.specs.Turning.{ComesTo};
 ghost use Rattle.session_turns.specs.Hindered.{LeadsTo, Hinders};
 
-use crate::earlier::{are_none, change_by, lengths_of, pinned};
+use crate::earlier::pinned;
 use crate::hindering::{hindrance, log_full};
 use crate::turn::Turn;
 use crate::writing::{change_entries, transaction_number};
-use dq_base::{Items, Name, NumberedPage, PageSet};
+use dq_base::{Items, Name, NumberedPage, PageSet, lengths_of};
 use page_apply::Machine;
+use page_changes::{are_none, change_between};
 use raft_vote::Entries;
 use session_asking::View;
 use session_table::{Cause, Flight, FlightKind, Session, Transaction};
@@ -48,7 +49,7 @@ fn pages_of(
 {
     let _ = lengths_of(&transaction.working);
     let earlier = pinned(machine, &transaction.pin);
-    change_by(
+    change_between(
         alloc,
         &earlier,
         &transaction.working,

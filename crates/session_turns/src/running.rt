@@ -26,9 +26,9 @@ use crate::writing::transaction_number;
 use dq_base::Name;
 use page_apply::Machine;
 use session_asking::{Script, View};
-use session_table::{Prepared, Session, name_of, newest_image};
+use session_table::{Prepared, Session, name_of, newest_image, newest_shared};
 use sql_engine::Engine;
-use statement_runs::{Ending, run_all, run_one};
+use statement_runs::{Ending, run_all, run_unnumbered};
 use std::alloc::{AllocError, Global};
 use wire_words::Value;
 
@@ -39,8 +39,28 @@ fn next_transaction(view: &View) -> u64
     transaction_number(view.term, view.last)
 }
 
-/// Runs a statement over the image of a session: that of its transaction, or the newest of its database. `Err` is want of
-/// memory.
+/// Runs a statement over the newest image of the database of a name, which the machine lends: where it keeps that image whole
+/// nothing is copied. `Err` is want of memory.
+fn run_lent<E: Engine>(
+    alloc: Global,
+    machine: &Machine,
+    name: &str,
+    text: &str,
+    params: &[Value],
+    tx: u64,
+    engine: &mut E,
+) -> Result<Ending, AllocError>
+    ensures kind { E.kind engine.new ≡ E.kind engine.old }
+    ensures openings { E.refused_openings engine.old ≤ E.refused_openings engine.new }
+    ensures unopened { IfOk result (λ ending. ends_unopened ending ≡ true → E.refused_openings engine.old < E.refused_openings engine.new) }
+    ensures ran { IfOk result (RanTo (E.meaning (E.kind engine.old)) (E.kind engine.old) tx ((machine_of machine.now).base name.now).image (record { text = text.now; params = params.now } ∷ []) (E.told engine.old) (E.told engine.new)) }
+{
+    let image = newest_shared(alloc, machine, name)?;
+    Ok(run_unnumbered(engine, &image, text, params, tx))
+}
+
+/// Runs a statement over the image of a session: that of its transaction, or the newest of its database, which is lent. `Err`
+/// is want of memory.
 fn run_statement<E: Engine>(
     alloc: Global,
     machine: &Machine,
@@ -57,10 +77,14 @@ fn run_statement<E: Engine>(
 {
     let text = prepared.text.as_str();
     match &session.transaction {
-        Some(transaction) => Ok(run_one(engine, &transaction.working, text, params, tx)),
+        Some(transaction) => {
+            let image = &transaction.working;
+            Ok(run_unnumbered(engine, image, text, params, tx))
+        }
         None => {
-            let image = newest_image(alloc, machine, name_of(&session.database))?;
-            Ok(run_one(engine, &image, text, params, tx))
+            let name = name_of(&session.database);
+            let ending = run_lent(alloc, machine, name, text, params, tx, engine)?;
+            Ok(ending)
         }
     }
 }
@@ -180,8 +204,8 @@ fn turn_of(
 }
 
 /// What a statement comes to that runs with all parameters, and whose rows are told or not, at a session of a node that serves.
-/// Nothing has changed yet. Outside a transaction the newest image of the database is copied once, inside one nothing is but
-/// what changed. `Err` is want of memory.
+/// Nothing has changed yet. No image is copied: outside a transaction the machine lends the newest one of the database, where it
+/// keeps that whole, and inside one the statement runs over its own. `Err` is want of memory.
 pub fn run_prepared<E: Engine>(
     alloc: Global,
     view: &View,

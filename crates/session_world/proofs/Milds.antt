@@ -63,6 +63,7 @@ engine_mild engine_faults.Sql = tt
 engine_mild (engine_faults.Float row column) = tt
 engine_mild (engine_faults.NotText row column) = tt
 engine_mild engine_faults.Unopened = tt
+engine_mild engine_faults.Cut = tt
 engine_mild engine_faults.NoMemory = tt
 
 abbrev NoneOrMild : Option Cause → Type 0

@@ -1,7 +1,4 @@
 pub mod Chaining
-pub mod Choices
-pub mod Numbers
-pub mod Halves
 pub mod CellFiles
 pub mod CellPages
 pub mod CellBytes

@@ -2,26 +2,18 @@
 use Rattle.std.proofs.Common.{◌≡◌, ℕ, ◌<◌, ◌≤◌, ◌^◌, true, ltb, leb, ◌&&◌, inl, inr, List, ◌++◌, length, take, drop, codes, Option, Some, None, refl, sym, ap, subst, ◌∙◌, take-append-drop, arith}
 use Rattle.std.specs.Prelude.{bytes_eq}
 use Rattle.std.specs.Fmt.{decimal}
-use Rattle.std.specs.Str.Parse.{digits_value}
 use Rattle.std.proofs.lemmas.Bool.{and_parts, and_from, ltb-true, lt-ltb, leb-true, le-leb, cond-true}
 use Rattle.std.proofs.lemmas.Slice.Eq.{bytes_eq-Decides}
 use Rattle.sql_engine.specs.declared.cell_statement.CellStatement.{CellStatement}
 use Rattle.sql_engine.specs.declared.cell_statement.CellStatement.TheVariants.{Set, Get, Wipe}
-use Rattle.sql_engine.specs.CellTexts.{IsCellPage, IsInRange, Says, number, halves, behind, is_cell_page, set_of, get_of, wipe_of, set_in, statement_of}
-use Rattle.sql_engine.proofs.Choices.{some_is, passed, chosen}
-use Rattle.sql_engine.proofs.Numbers.{IsNumber, number_some}
-use Rattle.sql_engine.proofs.Halves.{halves_cut, halves_of, decimal_no_space}
+use Rattle.dq_base.specs.Decimal.{number_below}
+use Rattle.dq_base.specs.Texts.{halves, behind}
+use Rattle.dq_base.proofs.Choices.{some_is, passed, chosen}
+use Rattle.dq_base.proofs.Numbers.{number_is, number_again}
+use Rattle.dq_base.proofs.Halves.{halves_cut, halves_of, decimal_no_space}
+use Rattle.sql_engine.specs.CellTexts.{IsCellPage, IsInRange, Says, is_cell_page, set_of, get_of, wipe_of, set_in, statement_of}
 
 -- ---- what is read is spelled so
-
--- a word that is read as a number is it
-number_is : (word : List ℕ) (n : ℕ) → number word ≡ Some n → IsNumber word n
-unfolding number
-number_is word n e =
-    let v = digits_value 10 word in
-    let a = passed (bytes_eq (decimal v) word && ltb v (2 ^ 64)) (Some v) n e in
-    let both = and_parts (bytes_eq (decimal v) word) (ltb v (2 ^ 64)) a.0 in
-    subst (IsNumber word) (some_is v n a.1) (record { small = ltb-true v (2 ^ 64) both.1; written = sym ((bytes_eq-Decides (decimal v) word).0 both.0) })
 
 -- what stands behind a word
 behind_is : (word text rest : List ℕ) → behind word text ≡ Some rest → text ≡ word ++ rest
@@ -46,16 +38,16 @@ set_numbers (Some p) (Some v) c e =
     let parts = and_parts (is_cell_page p) (ltb v (10 ^ 19)) a.0 in
     (p, v, refl, refl, some_is (Set p v) c a.1, (cell_page_is p parts.0, ltb-true v (10 ^ 19) parts.1))
 
-set_halves : (both : Option (List ℕ × List ℕ)) (c : CellStatement) → set_in both ≡ Some c → (h : List ℕ × List ℕ) × (both ≡ Some h) × (set_of (number h.0) (number h.1) ≡ Some c)
+set_halves : (both : Option (List ℕ × List ℕ)) (c : CellStatement) → set_in both ≡ Some c → (h : List ℕ × List ℕ) × (both ≡ Some h) × (set_of (number_below (2 ^ 64) h.0) (number_below (2 ^ 64) h.1) ≡ Some c)
 set_halves None c e = absurd cc
 set_halves (Some h) c e = (h, refl, e)
 
 set_is : (text rest : List ℕ) (c : CellStatement) → behind (codes "SET ") text ≡ Some rest → set_in (halves rest) ≡ Some c → Says text c
 set_is text rest c at e =
     let a = set_halves (halves rest) c e in
-    let b = set_numbers (number a.0.0) (number a.0.1) c a.2 in
-    let page = number_is a.0.0 b.0 b.2 in
-    let value = number_is a.0.1 b.1 b.3 in
+    let b = set_numbers (number_below (2 ^ 64) a.0.0) (number_below (2 ^ 64) a.0.1) c a.2 in
+    let page = number_is (2 ^ 64) a.0.0 b.0 b.2 in
+    let value = number_is (2 ^ 64) a.0.1 b.1 b.3 in
     let front : List ℕ → List ℕ → List ℕ = λ x y. codes "SET " ++ (x ++ (codes " " ++ y)) in
     subst (Says text) b.4 (record {
       in_range = b.5;
@@ -68,10 +60,10 @@ get_number (Some p) c e =
     let a = passed (is_cell_page p) (Some (Get p)) c e in
     (p, refl, some_is (Get p) c a.1, cell_page_is p a.0)
 
-get_is : (text rest : List ℕ) (c : CellStatement) → behind (codes "GET ") text ≡ Some rest → get_of (number rest) ≡ Some c → Says text c
+get_is : (text rest : List ℕ) (c : CellStatement) → behind (codes "GET ") text ≡ Some rest → get_of (number_below (2 ^ 64) rest) ≡ Some c → Says text c
 get_is text rest c at e =
-    let a = get_number (number rest) c e in
-    let page = number_is rest a.0 a.1 in
+    let a = get_number (number_below (2 ^ 64) rest) c e in
+    let page = number_is (2 ^ 64) rest a.0 a.1 in
     subst (Says text) a.2 (record {
       in_range = a.3;
       spelling = behind_is (codes "GET ") text rest at ∙ ap (λ (x : List ℕ). codes "GET " ++ x) page.written;
@@ -83,10 +75,10 @@ wipe_number (Some n) c e =
     let a = passed (leb n 8192) (Some (Wipe n)) c e in
     (n, refl, some_is (Wipe n) c a.1, leb-true n 8192 a.0)
 
-wipe_is : (text rest : List ℕ) (c : CellStatement) → behind (codes "WIPE ") text ≡ Some rest → wipe_of (number rest) ≡ Some c → Says text c
+wipe_is : (text rest : List ℕ) (c : CellStatement) → behind (codes "WIPE ") text ≡ Some rest → wipe_of (number_below (2 ^ 64) rest) ≡ Some c → Says text c
 wipe_is text rest c at e =
-    let a = wipe_number (number rest) c e in
-    let pages = number_is rest a.0 a.1 in
+    let a = wipe_number (number_below (2 ^ 64) rest) c e in
+    let pages = number_is (2 ^ 64) rest a.0 a.1 in
     subst (Says text) a.2 (record {
       in_range = a.3;
       spelling = behind_is (codes "WIPE ") text rest at ∙ ap (λ (x : List ℕ). codes "WIPE " ++ x) pages.written;
@@ -97,9 +89,9 @@ unfolding statement_of
 statement_is text c e =
     elim (chosen (behind (codes "SET ") text) (λ rest. set_in (halves rest)) _ c e) [
       | inl a ↦ set_is text a.0 c a.1 a.2
-      | inr e ↦ elim (chosen (behind (codes "GET ") text) (λ rest. get_of (number rest)) _ c e) [
+      | inr e ↦ elim (chosen (behind (codes "GET ") text) (λ rest. get_of (number_below (2 ^ 64) rest)) _ c e) [
         | inl a ↦ get_is text a.0 c a.1 a.2
-        | inr e ↦ elim (chosen (behind (codes "WIPE ") text) (λ rest. wipe_of (number rest)) None c e) [
+        | inr e ↦ elim (chosen (behind (codes "WIPE ") text) (λ rest. wipe_of (number_below (2 ^ 64) rest)) None c e) [
           | inl a ↦ wipe_is text a.0 c a.1 a.2
           | inr e ↦ absurd cc
         ]
@@ -112,16 +104,16 @@ set_read : (rest : List ℕ) → statement_of (codes "SET " ++ rest) ≡ set_in 
 unfolding statement_of
 set_read rest = refl
 
-get_read : (rest : List ℕ) → statement_of (codes "GET " ++ rest) ≡ get_of (number rest)
+get_read : (rest : List ℕ) → statement_of (codes "GET " ++ rest) ≡ get_of (number_below (2 ^ 64) rest)
 unfolding statement_of
 get_read rest = refl
 
-wipe_read : (rest : List ℕ) → statement_of (codes "WIPE " ++ rest) ≡ wipe_of (number rest)
+wipe_read : (rest : List ℕ) → statement_of (codes "WIPE " ++ rest) ≡ wipe_of (number_below (2 ^ 64) rest)
 unfolding statement_of
 wipe_read rest = refl
 
-number_again : (n : ℕ) → n < 2 ^ 64 → number (decimal n) ≡ Some n
-number_again n small = number_some (decimal n) n (record { small = small; written = refl })
+again : (n : ℕ) → n < 2 ^ 64 → number_below (2 ^ 64) (decimal n) ≡ Some n
+again n small = number_again (2 ^ 64) n (omega arith) small
 
 set_again : (page value : ℕ) → IsInRange (Set page value) → set_in (halves (decimal page ++ (codes " " ++ decimal value))) ≡ Some (Set page value)
 set_again page value h =
@@ -131,19 +123,19 @@ set_again page value h =
     let value_small : value < 2 ^ 64 = omega arith in
     let fits : (is_cell_page page && ltb value (10 ^ 19)) ≡ true = and_from (is_cell_page page) (ltb value (10 ^ 19)) (cell_page_test page h.0) (lt-ltb value (10 ^ 19) h.1) in
     ap set_in (halves_of (decimal page) (decimal value) (decimal_no_space page page_small))
-    ∙ ap (λ (o : Option ℕ). set_of o (number (decimal value))) (number_again page page_small)
-    ∙ ap (set_of (Some page)) (number_again value value_small)
+    ∙ ap (λ (o : Option ℕ). set_of o (number_below (2 ^ 64) (decimal value))) (again page page_small)
+    ∙ ap (set_of (Some page)) (again value value_small)
     ∙ cond-true (is_cell_page page && ltb value (10 ^ 19)) (Some (Set page value)) None fits
 
 says_statement : (c : CellStatement) (text : List ℕ) → Says text c → statement_of text ≡ Some c
 says_statement (Set page value) text h = ap statement_of h.spelling ∙ set_read (decimal page ++ (codes " " ++ decimal value)) ∙ set_again page value h.in_range
 says_statement (Get page) text h =
     let most = h.in_range.1 in
-    ap statement_of h.spelling ∙ get_read (decimal page) ∙ ap get_of (number_again page (omega arith))
+    ap statement_of h.spelling ∙ get_read (decimal page) ∙ ap get_of (again page (omega arith))
     ∙ cond-true (is_cell_page page) (Some (Get page)) None (cell_page_test page h.in_range)
 says_statement (Wipe pages) text h =
     let most : pages ≤ 8192 = h.in_range in
-    ap statement_of h.spelling ∙ wipe_read (decimal pages) ∙ ap wipe_of (number_again pages (omega arith))
+    ap statement_of h.spelling ∙ wipe_read (decimal pages) ∙ ap wipe_of (again pages (omega arith))
     ∙ cond-true (leb pages 8192) (Some (Wipe pages)) None (le-leb pages 8192 most)
 
 pub text_is_statement : (text : List ℕ) (c : CellStatement) → (statement_of text ≡ Some c → Says text c) × (Says text c → statement_of text ≡ Some c)

@@ -1,9 +1,8 @@
 -- The texts of the statements of cells, and the statement that a text is.
-use Rattle.std.specs.Prelude.{◌≡◌, ◌≢◌, ◌==◌, ◌<◌, ◌≤◌, ◌^◌, ◌&&◌, ◌++◌, ℕ, Bool, List, length, slice_index, take, drop, codes, nat_lt, nat_le, position, Option, Some, None, if◌then◌else◌}
-use Rattle.std.specs.Option.{option_map}
-use Rattle.std.specs.Str.{bytes_eq}
-use Rattle.std.specs.Str.Parse.{digits_value}
+use Rattle.std.specs.Prelude.{◌≡◌, ◌<◌, ◌≤◌, ◌^◌, ◌&&◌, ◌++◌, ℕ, Bool, List, codes, nat_lt, nat_le, Option, Some, None, if◌then◌else◌}
 use Rattle.std.specs.Fmt.{decimal}
+use Rattle.dq_base.specs.Decimal.{number_below}
+use Rattle.dq_base.specs.Texts.{halves, behind, or_else}
 use Rattle.sql_engine.specs.declared.cell_statement.CellStatement.{CellStatement}
 use Rattle.sql_engine.specs.declared.cell_statement.CellStatement.TheVariants.{Set, Get, Wipe}
 
@@ -32,27 +31,6 @@ pub record Says (text : List ℕ) (statement : CellStatement) : Type 0 where
 
 -- ---- the statement that a text is
 
--- neither a sign nor a leading zero, as `0` itself has not
-pub record IsPlain (word : List ℕ) : Type 0 where
-  pub some : 0 < length word
-  pub unsigned : slice_index word 0 ≢ 43
-  pub tight : slice_index word 0 ≡ 48 → length word ≡ 1
-
--- a number in decimal below 2 ^ 64: writing it gives the word again
-unfoldable pub number : List ℕ → Option ℕ
-number word =
-    if bytes_eq (decimal (digits_value 10 word)) word && nat_lt (digits_value 10 word) (2 ^ 64)
-    then Some (digits_value 10 word)
-    else None
-
--- what stands before and behind the first space
-unfoldable pub halves : List ℕ → Option (List ℕ × List ℕ)
-halves text = option_map (λ i. (take i text, drop 1 (drop i text))) (position (λ b. b == 32) text)
-
--- what stands behind a word, where the text begins so
-abbrev pub behind : List ℕ → List ℕ → Option (List ℕ)
-behind word text = if bytes_eq (take (length word) text) word then Some (drop (length word) text) else None
-
 abbrev pub is_cell_page : ℕ → Bool
 is_cell_page page = nat_le 1 page && nat_le page 8192
 
@@ -70,18 +48,13 @@ wipe_of None = None
 
 -- what stands behind `SET `
 abbrev pub set_in : Option (List ℕ × List ℕ) → Option CellStatement
-set_in (Some both) = set_of (number both.0) (number both.1)
+set_in (Some both) = set_of (number_below (2 ^ 64) both.0) (number_below (2 ^ 64) both.1)
 set_in None = None
-
--- the first that is there
-abbrev pub or_else : {A : Type 0} → Option (List ℕ) → (List ℕ → Option A) → Option A → Option A
-or_else None f other = other
-or_else (Some text) f other = f text
 
 -- the statement that a text is
 unfoldable pub statement_of : List ℕ → Option CellStatement
 statement_of text =
     or_else (behind (codes "SET ") text) (λ rest. set_in (halves rest))
-    (or_else (behind (codes "GET ") text) (λ rest. get_of (number rest))
-    (or_else (behind (codes "WIPE ") text) (λ rest. wipe_of (number rest))
+    (or_else (behind (codes "GET ") text) (λ rest. get_of (number_below (2 ^ 64) rest))
+    (or_else (behind (codes "WIPE ") text) (λ rest. wipe_of (number_below (2 ^ 64) rest))
     None))

@@ -6,8 +6,8 @@ ghost use Rattle.sql_engine.specs.Meanings.{IsShort};
 ghost use Rattle.sql_engine.specs.Cells.{changes_in, with_cell, wiped};
 ghost use Rattle.sql_engine.specs.CellChanges.{new_page, cells_from, count_page, lengths_of};
 
-use crate::page_bytes::{cell_page, number_of, pages_in, sizes_page};
-use dq_base::{Image, Lengths, NumberedPage, PAGE_SIZE, Page, page_at};
+use crate::page_bytes::{cell_page, number_of, pages_in};
+use dq_base::{Image, Lengths, NumberedPage, PAGE_SIZE, Page, page_at, sizes_page};
 use std::alloc::{AllocError, Global};
 
 /// The pages that setting a cell changes, in their order, the sizes page last: the pages up to the cell's that were not
@@ -126,7 +126,7 @@ fn list_count(pages: &mut Vec<NumberedPage>, image: &Image) -> Result<(), AllocE
 fn list_sizes(pages: &mut Vec<NumberedPage>, main: usize, side: usize) -> Result<(), AllocError>
     ensures { IfOk result (λ _. pages.new.items ≡ pages.old.items ++ (record { number = 1; page = sizes_page main side }) ∷ []) }
 {
-    let page = sizes_page(main as u64, side as u64);
+    let page = sizes_page(Lengths { main, side });
     pages.push(NumberedPage { number: 1, page })?;
     Ok(())
 }

@@ -1,50 +1,10 @@
-ghost use Rattle.std.specs.Prelude.{◌≡◌, ◌<◌, ◌==◌, ◌↔◌, length, position, IfSome, IsTrue};
-ghost use Rattle.std.specs.Option.{option_map};
-ghost use Rattle.sql_engine.specs.CellTexts.{IsPlain, number, halves, is_cell_page, set_of, get_of, wipe_of, set_in, statement_of};
+ghost use Rattle.std.specs.Prelude.{◌≡◌, ◌^◌};
+ghost use Rattle.dq_base.specs.Decimal.{number_below};
+ghost use Rattle.dq_base.specs.Texts.{halves};
+ghost use Rattle.sql_engine.specs.CellTexts.{is_cell_page, set_of, get_of, wipe_of, set_in, statement_of};
 
 use crate::cell_statement::CellStatement;
-
-/// Whether a word has neither a sign nor a leading zero, as `0` itself has not.
-fn is_plain(word: &[u8]) -> bool
-    ensures { IsTrue result ↔ IsPlain word.now }
-{
-    match word {
-        [] | [b'+', ..] => false,
-        [b'0', ..] => word.len() == 1,
-        [..] => true,
-    }
-}
-
-/// A number in decimal, without sign or leading zeros, below 2^64.
-fn number_in(word: &[u8]) -> Option<u64>
-    ensures { result ≡ number word.now }
-{
-    if !is_plain(word) {
-        return None;
-    }
-    let Ok(text) = std::str::from_utf8(word) else {
-        return None;
-    };
-    text.parse().ok()
-}
-
-/// The place of the first space.
-fn space_in(text: &[u8]) -> Option<usize>
-    ensures place { result ≡ position (λ b. b == 32) text.now }
-    ensures within { IfSome result (λ at. at < length text.now) }
-{
-    text.iter().position(|b| *b == b' ')
-}
-
-/// What stands before and behind the first space.
-#[tactic(auto, unfolding(crate::specs::CellTexts::halves))]
-fn halves_of(text: &[u8]) -> Option<(&[u8], &[u8])>
-    ensures { option_map (λ both. (both.0.now, both.1.now)) result ≡ halves text.now }
-{
-    let at = space_in(text)?;
-    let (before, rest) = text.split_at(at);
-    Some((before, &rest[1..]))
-}
+use dq_base::{decimal_u64, halves_of};
 
 /// Whether a page may hold a cell.
 fn is_cell_page(page: u64) -> bool
@@ -69,16 +29,16 @@ fn set_in(text: &[u8]) -> Option<CellStatement>
     ensures { result ≡ set_in (halves text.now) }
 {
     let (page, value) = halves_of(text)?;
-    let page = number_in(page)?;
-    let value = number_in(value)?;
+    let page = decimal_u64(page)?;
+    let value = decimal_u64(value)?;
     set_of(page, value)
 }
 
 /// What stands behind `GET `.
 fn get_in(text: &[u8]) -> Option<CellStatement>
-    ensures { result ≡ get_of (number text.now) }
+    ensures { result ≡ get_of (number_below (2 ^ 64) text.now) }
 {
-    let page = number_in(text)?;
+    let page = decimal_u64(text)?;
     if is_cell_page(page) {
         Some(CellStatement::Get { page })
     } else {
@@ -88,9 +48,9 @@ fn get_in(text: &[u8]) -> Option<CellStatement>
 
 /// What stands behind `WIPE `.
 fn wipe_in(text: &[u8]) -> Option<CellStatement>
-    ensures { result ≡ wipe_of (number text.now) }
+    ensures { result ≡ wipe_of (number_below (2 ^ 64) text.now) }
 {
-    let pages = number_in(text)?;
+    let pages = decimal_u64(text)?;
     if pages <= 8192 {
         Some(CellStatement::Wipe { pages })
     } else {

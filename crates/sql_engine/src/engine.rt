@@ -86,7 +86,8 @@ pub trait Engine: Sized {
         ensures known { All (MayKnowBeside image.now number (known self.old)) (known self.new) }
         ensures told { told self.new ≡ told self.old };
 
-    /// Knows nothing any more, so that numbers may begin anew, as they do where another machine takes a machine's place.
+    /// Knows nothing by its number any more, so that numbers may begin anew, as they do where another machine takes a machine's
+    /// place. What it has open may stay open, to be found by its bytes.
     fn forget(&mut self)
         ensures known { known self.new ≡ [] }
         ensures stays { Stays (kind self.old) (kind self.new) (refused_openings self.old) (refused_openings self.new) }

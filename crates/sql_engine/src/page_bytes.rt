@@ -1,5 +1,5 @@
 ghost use Rattle.std.specs.Prelude.{◌≡◌};
-ghost use Rattle.dq_base.specs.Images.{zeros, sizes_page, pages_of};
+ghost use Rattle.dq_base.specs.Images.{zeros, pages_of};
 ghost use Rattle.byteorder.specs.Endian.{little_number};
 ghost use Rattle.sql_engine.specs.Cells.{cell_page};
 
@@ -21,16 +21,6 @@ pub(crate) fn number_of(page: &Page) -> u64
     ensures { result ≡ little_number 8 page.now }
 {
     LittleEndian::read_u64(page.bytes())
-}
-
-/// The sizes page of files with these lengths.
-pub(crate) fn sizes_page(main: u64, side: u64) -> Page
-    ensures { result ≡ sizes_page main side }
-{
-    let mut bytes = zeroed_bytes();
-    LittleEndian::write_u64(&mut bytes, main);
-    LittleEndian::write_u64(&mut bytes[8..], side);
-    Page::new(bytes)
 }
 
 /// The bytes of a page of zeros.

@@ -1,9 +1,9 @@
-pub mod Sizes
 pub mod Counts
 pub mod Changing
 pub mod Reaching
 pub mod Standing
 pub mod Opened
-pub mod ComingBack
+pub mod Taking
 pub mod Touching
-pub mod InOrder
+pub mod Agreeing
+pub mod AgreeingOn

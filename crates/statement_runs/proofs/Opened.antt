@@ -14,10 +14,11 @@ opened faults.Sql e = absurd (false≢true e)
 opened (faults.Float row column) e = absurd (false≢true e)
 opened (faults.NotText row column) e = absurd (false≢true e)
 opened faults.Unopened e = refl
+opened faults.Cut e = absurd (false≢true e)
 opened faults.NoMemory e = absurd (false≢true e)
 
 abbrev failed : EngineFault → Result Ran EngineFault
 failed fault = Err fault
 
 pub rose : (before now : ℕ) (fault : EngineFault) → CountsOpenings before now (Err fault) → is_unopened fault ≡ true → before < now
-rose before now fault counts e = counts.unopened (ap failed (opened fault e))
+rose before now fault counts e = counts (ap failed (opened fault e))

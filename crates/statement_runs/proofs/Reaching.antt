@@ -20,11 +20,11 @@ use Rattle.statement_runs.specs.declared.ending.AllRan.{AllRan}
 use Rattle.statement_runs.specs.declared.ending.Ending.{Ending as CodeEnding}
 use Rattle.statement_runs.specs.declared.ending.Ending.TheVariants as codes
 use Rattle.session_rules.specs.Touched.{put_in_order, ListsAll}
-use Rattle.statement_runs.specs.declared.reached.Reached.{Reached as There}
+use Rattle.page_changes.specs.declared.reached.Reached.{Reached as There}
 use Rattle.statement_runs.specs.declared.running.Came.{Came}
 use Rattle.statement_runs.specs.declared.running.Came.TheVariants as came
-use Rattle.statement_runs.specs.Reached.{reached_at, change_to}
-use Rattle.statement_runs.proofs.Touching.{arrives}
+use Rattle.page_changes.specs.Reached.{reached_at, change_to}
+use Rattle.page_changes.proofs.Arriving.{arrives}
 use Rattle.statement_runs.specs.Running.{AdvancedTo, CameTo, ended, TellsAll, change_in, Shows, RanTo, ending_of, Led, Went, WentTooFar, Failed}
 
 -- The answers so far lead from the first image to the one that was reached, with these statements still to run.
@@ -162,7 +162,7 @@ pub came_through : (m : Meaning) (kind : EngineKind) (tx : ℕ) (image : Image) 
 came_through m kind tx image ss before now to answer o touched known reached none ran touches short same is = (
   to,
   subst (AdvancedTo m kind tx image ss before now to answer) none ran,
-  ap (change_to image) (is ∙ ap (λ (ns : List ℕ). reached_at (put_in_order [] ns) to) same) ∙ arrives touched image to (touches none) short,
+  ap (change_to image) (is ∙ ap (λ (ns : List ℕ). reached_at (put_in_order [] ns) to) same) ∙ arrives touched image to (touches none) short.main short.side,
 )
 
 -- how running ends that came to this

@@ -16,7 +16,7 @@ use Rattle.statement_runs.specs.declared.ending.Ending.{Ending as CodeEnding}
 use Rattle.statement_runs.specs.declared.ending.Ending.TheVariants as codes
 use Rattle.statement_runs.specs.declared.running.Came.{Came}
 use Rattle.statement_runs.specs.declared.running.Came.TheVariants as came
-use Rattle.statement_runs.specs.Reached.{change_to}
+use Rattle.page_changes.specs.Reached.{change_to}
 
 -- the engine told these answers one after the other
 unfoldable pub TellsAll : List Answer → Option Told → Option Told → Type 0
@@ -68,6 +68,7 @@ is_unopened faults.Sql = false
 is_unopened (faults.Float row column) = false
 is_unopened (faults.NotText row column) = false
 is_unopened faults.Unopened = true
+is_unopened faults.Cut = false
 is_unopened faults.NoMemory = false
 
 -- running ended since the files of an image were not opened

@@ -1,16 +1,12 @@
 //! Statements of a text, and running them one after another by an engine.
 #![tactic(auto)]
 
-mod change;
 mod ending;
-mod reached;
+mod laws;
 mod running;
 mod text;
-mod touched;
-mod undoing;
 
-pub use change::{add_changed, sizes_of};
 pub use ending::{AllRan, Ending};
-pub use running::{run_all, run_one, takes};
+pub use laws::numbers_stand_for_one_image;
+pub use running::{run_all, run_one, run_unnumbered, takes};
 pub use text::{any_barred, is_control, is_left_out, params_fit};
-pub use touched::in_order;

@@ -1,7 +1,9 @@
 //! Statements one after another, by an engine.
 
-ghost use Rattle.std.specs.Prelude.{◌≡◌, ◌≤◌, ◌<◌, true, false, None, Some, [], ◌∷◌, ◌++◌, length, All, IfOk};
+ghost use Rattle.std.specs.Prelude.{◌≡◌, ◌<◌, true, false, None, Some, [], ◌∷◌, ◌++◌, length, All, Contains, IfOk, IfErr};
 ghost use Rattle.dq_base.specs.Applying.{applied, page_fault};
+ghost use Rattle.sql_engine.specs.Known.{MayRun};
+ghost use Rattle.sql_engine.specs.Meanings.{Answers, CountsOpenings, Faults, Stays, Tells};
 ghost use Rattle.sql_scan.specs.Places.{StandsIn};
 ghost use Rattle.session_rules.specs.Engines as rules;
 ghost use Rattle.statement_runs.specs.declared.ending.Ending.TheVariants as endings;
@@ -10,13 +12,13 @@ ghost use Rattle.statement_runs.specs.Texts.{assigned, wants};
 ghost use Rattle.session_rules.specs.Touched.{ListsAll, numbers_of};
 ghost use Rattle.statement_runs.specs.Running as running;
 ghost use Rattle.statement_runs.specs.Running.{AdvancedTo, CameTo, RanTo, Stepped};
-ghost use Rattle.statement_runs.specs.Undoing.{IsChange, all_undone};
+ghost use Rattle.statement_runs.specs.Learning.{IsLearnt, left_by};
+ghost use Rattle.page_changes.specs.Undoing.{IsChange, all_undone};
 
 use crate::ending::{AllRan, Ending};
-use crate::reached::{Reached, add_numbers};
-use crate::undoing::{Undo, apply_noted, put_back_all};
-use dq_base::{Image, Items, NumberedPage, PageSet, set_lengths};
-use sql_engine::{Engine, Ran};
+use dq_base::{Image, ImageNumber, Items, NumberedPage, PageSet, set_lengths};
+use page_changes::{Reached, Undo, add_numbers, apply_noted, put_back_all};
+use sql_engine::{Engine, EngineFault, ImageNumbers, Ran};
 use sql_scan::Piece;
 use std::alloc::{AllocError, Global};
 use wire_words::Value;
@@ -52,24 +54,70 @@ fn ending_of(ran: Ran) -> Ending
     }
 }
 
-/// Runs one statement over an image, for the transaction of a number. Copies nothing of the image, and takes no memory
-/// beside the engine's.
+/// Runs one statement over an image under its number and that of the image after, for the transaction of a number. Copies nothing
+/// of the image, and takes no memory beside the engine's.
 pub fn run_one<E: Engine>(
+    engine: &mut E,
+    image: &Image,
+    numbers: ImageNumbers,
+    text: &str,
+    params: &[Value],
+    tx: u64,
+) -> Ending
+    requires { MayRun (E.known engine.old) image.now numbers }
+    ensures stays { Stays (E.kind engine.old) (E.kind engine.new) (E.refused_openings engine.old) (E.refused_openings engine.new) }
+    ensures unopened { running.ends_unopened result ≡ true → E.refused_openings engine.old < E.refused_openings engine.new }
+    ensures learnt { All (IsLearnt (E.known engine.old) (Some numbers.before) image.now numbers.after (left_by image.now result)) (E.known engine.new) }
+    ensures ran { RanTo (E.meaning (E.kind engine.old)) (E.kind engine.old) tx image.now (record { text = text.now; params = params.now } ∷ []) (E.told engine.old) (E.told engine.new) result }
+{
+    match engine.run(image, numbers, text, params, tx, None) {
+        Ok(ran) => ending_of(ran),
+        Err(fault) => Ending::Stopped(fault),
+    }
+}
+
+/// The same over an image that has no number: the engine forgets all numbers before and after.
+pub fn run_unnumbered<E: Engine>(
     engine: &mut E,
     image: &Image,
     text: &str,
     params: &[Value],
     tx: u64,
 ) -> Ending
-    ensures kind { E.kind engine.new ≡ E.kind engine.old }
-    ensures openings { E.refused_openings engine.old ≤ E.refused_openings engine.new }
+    ensures stays { Stays (E.kind engine.old) (E.kind engine.new) (E.refused_openings engine.old) (E.refused_openings engine.new) }
     ensures unopened { running.ends_unopened result ≡ true → E.refused_openings engine.old < E.refused_openings engine.new }
+    ensures known { E.known engine.new ≡ [] }
     ensures ran { RanTo (E.meaning (E.kind engine.old)) (E.kind engine.old) tx image.now (record { text = text.now; params = params.now } ∷ []) (E.told engine.old) (E.told engine.new) result }
 {
-    match engine.run(image, text, params, tx) {
+    match run_forgetting(engine, image, text, params, tx) {
         Ok(ran) => ending_of(ran),
         Err(fault) => Ending::Stopped(fault),
     }
+}
+
+/// Runs one statement by an engine that forgets all numbers before and after.
+fn run_forgetting<E: Engine>(
+    engine: &mut E,
+    image: &Image,
+    text: &str,
+    params: &[Value],
+    tx: u64,
+) -> Result<Ran, EngineFault>
+    ensures answers { IfOk result (Answers (E.meaning (E.kind engine.old)) image.now (record { text = text.now; params = params.now }) tx) }
+    ensures faults { IfErr result (Faults (E.meaning (E.kind engine.old)) (E.kind engine.old) image.now (record { text = text.now; params = params.now })) }
+    ensures stays { Stays (E.kind engine.old) (E.kind engine.new) (E.refused_openings engine.old) (E.refused_openings engine.new) }
+    ensures unopened { CountsOpenings (E.refused_openings engine.old) (E.refused_openings engine.new) result }
+    ensures known { E.known engine.new ≡ [] }
+    ensures told { Tells result (E.told engine.old) (E.told engine.new) }
+{
+    engine.forget();
+    let numbers = ImageNumbers {
+        before: ImageNumber::Working(0),
+        after: 1,
+    };
+    let answer = engine.run(image, numbers, text, params, tx, None);
+    engine.forget();
+    answer
 }
 
 /// Where running several statements stands, which work on an image in place.
@@ -169,7 +217,7 @@ fn no_answer(alloc: Global) -> Ran
     }
 }
 
-/// Runs one more statement over the image. How running ends, where this is the last for another reason than that all ran.
+/// Runs one more statement over the image, by an engine that forgets all numbers. How running ends, where this is the last for another reason than that all ran.
 fn step<E: Engine>(
     alloc: Global,
     engine: &mut E,
@@ -179,14 +227,14 @@ fn step<E: Engine>(
     params: &[Value],
     tx: u64,
 ) -> Result<Option<Ending>, AllocError>
-    ensures kind { E.kind engine.new ≡ E.kind engine.old }
-    ensures openings { E.refused_openings engine.old ≤ E.refused_openings engine.new }
+    ensures stays { Stays (E.kind engine.old) (E.kind engine.new) (E.refused_openings engine.old) (E.refused_openings engine.new) }
     ensures unopened { IfOk result (λ ending. running.stops_unopened ending ≡ true → E.refused_openings engine.old < E.refused_openings engine.new) }
+    ensures known { E.known engine.new ≡ [] }
     ensures step { IfOk result (Stepped (E.meaning (E.kind engine.old)) (E.kind engine.old) tx image.old (record { text = text.now; params = params.now }) (E.told engine.old) (E.told engine.new) image.new progress.new.answer) }
     ensures touched { IfOk result (λ ending. ending ≡ None → progress.new.touched.items ≡ progress.old.touched.items ++ numbers_of progress.new.answer.after.pages) }
     ensures kept { all_undone progress.new.undoes.items image.new ≡ all_undone progress.old.undoes.items image.old }
 {
-    match engine.run(image, text, params, tx) {
+    match run_forgetting(engine, image, text, params, tx) {
         Ok(ran) => {
             let ending = progress.take(alloc, image, ran)?;
             Ok(ending)
@@ -211,9 +259,9 @@ fn advance<E: Engine>(
     requires fit { wants pieces.now ≡ length params.now }
     requires start { progress.old.answer ≡ rules.no_answer }
     requires untouched { progress.old.touched.items ≡ [] }
-    ensures kind { E.kind engine.new ≡ E.kind engine.old }
-    ensures openings { E.refused_openings engine.old ≤ E.refused_openings engine.new }
+    ensures stays { Stays (E.kind engine.old) (E.kind engine.new) (E.refused_openings engine.old) (E.refused_openings engine.new) }
     ensures unopened { IfOk result (λ ending. running.stops_unopened ending ≡ true → E.refused_openings engine.old < E.refused_openings engine.new) }
+    ensures known { All (Contains (E.known engine.old)) (E.known engine.new) }
     ensures ran { IfOk result (AdvancedTo (E.meaning (E.kind engine.old)) (E.kind engine.old) tx image.old (assigned text.now pieces.now params.now) (E.told engine.old) (E.told engine.new) image.new progress.new.answer) }
     ensures touched { IfOk result (λ ending. ending ≡ None → ListsAll progress.new.touched.items image.old image.new) }
     ensures kept { all_undone progress.new.undoes.items image.new ≡ all_undone progress.old.undoes.items image.old }
@@ -246,9 +294,9 @@ fn lead<E: Engine>(
     requires fit { wants pieces.now ≡ length params.now }
     requires start { progress.old.answer ≡ rules.no_answer }
     requires untouched { progress.old.touched.items ≡ [] }
-    ensures kind { E.kind engine.new ≡ E.kind engine.old }
-    ensures openings { E.refused_openings engine.old ≤ E.refused_openings engine.new }
+    ensures stays { Stays (E.kind engine.old) (E.kind engine.new) (E.refused_openings engine.old) (E.refused_openings engine.new) }
     ensures unopened { IfOk result (λ came. running.came_unopened came ≡ true → E.refused_openings engine.old < E.refused_openings engine.new) }
+    ensures known { All (Contains (E.known engine.old)) (E.known engine.new) }
     ensures ran { IfOk result (CameTo (E.meaning (E.kind engine.old)) (E.kind engine.old) tx image.old (assigned text.now pieces.now params.now) (E.told engine.old) (E.told engine.new) progress.new.answer) }
     ensures kept { all_undone progress.new.undoes.items image.new ≡ all_undone progress.old.undoes.items image.old }
 {
@@ -281,8 +329,15 @@ fn ended(
     }
 }
 
-/// Runs several statements of a text, or none, as `run_all` does.
-fn run_several<E: Engine>(
+/// Runs the statements of a text one after another, each over the image that the one before it left, for the transaction of
+/// a number. Each takes as many parameters as it counts, in order; together they take all.
+///
+/// The statements work on the image in place, and it is put back whatever the outcome. Each keeps the pages that it changes, as
+/// they were before, and at the end the pages that they changed are compared with those of the first image; a statement that
+/// makes a file shorter keeps a copy of the image. The images between them have no numbers: the engine forgets all numbers
+/// before and after each. `Err` is want of memory; the engine has then run some of the statements, and nothing else has
+/// changed.
+pub fn run_all<E: Engine>(
     alloc: Global,
     engine: &mut E,
     image: &mut Image,
@@ -294,9 +349,9 @@ fn run_several<E: Engine>(
     requires stand { All (StandsIn text.now) pieces.now }
     requires fit { wants pieces.now ≡ length params.now }
     ensures kept { image.new ≡ image.old }
-    ensures kind { E.kind engine.new ≡ E.kind engine.old }
-    ensures openings { E.refused_openings engine.old ≤ E.refused_openings engine.new }
+    ensures stays { Stays (E.kind engine.old) (E.kind engine.new) (E.refused_openings engine.old) (E.refused_openings engine.new) }
     ensures unopened { IfOk result (λ ending. running.ends_unopened ending ≡ true → E.refused_openings engine.old < E.refused_openings engine.new) }
+    ensures known { All (Contains (E.known engine.old)) (E.known engine.new) }
     ensures ran { IfOk result (RanTo (E.meaning (E.kind engine.old)) (E.kind engine.old) tx image.old (assigned text.now pieces.now params.now) (E.told engine.old) (E.told engine.new)) }
 {
     let mut progress = Progress::new(alloc);
@@ -312,35 +367,4 @@ fn run_several<E: Engine>(
     );
     put_back_all(alloc, &mut progress.undoes, image);
     ended(alloc, image, came?, progress.answer, tx)
-}
-
-/// Runs the statements of a text one after another, each over the image that the one before it left, for the transaction of
-/// a number. Each takes as many parameters as it counts, in order; together they take all.
-///
-/// The statements work on the image in place, and it is put back whatever the outcome. One alone copies nothing of it. Of
-/// several, each keeps the pages that it changes, as they were before, and at the end the pages that they changed are compared
-/// with those of the first image; a statement that makes a file shorter keeps a copy of the image. `Err` is want of memory; the
-/// engine has then run some of the statements, and nothing else has changed.
-pub fn run_all<E: Engine>(
-    alloc: Global,
-    engine: &mut E,
-    image: &mut Image,
-    text: &str,
-    pieces: &[Piece],
-    params: &[Value],
-    tx: u64,
-) -> Result<Ending, AllocError>
-    requires stand { All (StandsIn text.now) pieces.now }
-    requires fit { wants pieces.now ≡ length params.now }
-    ensures kept { image.new ≡ image.old }
-    ensures kind { E.kind engine.new ≡ E.kind engine.old }
-    ensures openings { E.refused_openings engine.old ≤ E.refused_openings engine.new }
-    ensures unopened { IfOk result (λ ending. running.ends_unopened ending ≡ true → E.refused_openings engine.old < E.refused_openings engine.new) }
-    ensures ran { IfOk result (RanTo (E.meaning (E.kind engine.old)) (E.kind engine.old) tx image.old (assigned text.now pieces.now params.now) (E.told engine.old) (E.told engine.new)) }
-{
-    if let [piece] = pieces {
-        let one = piece_text(text, piece);
-        return Ok(run_one(engine, image, one, params, tx));
-    }
-    run_several(alloc, engine, image, text, pieces, params, tx)
 }

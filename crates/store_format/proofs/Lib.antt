@@ -3,3 +3,12 @@ pub mod Places
 pub mod Lawfully
 pub mod Written
 pub mod SnapshotWritten
+pub mod Local
+pub mod BatchesLawful
+pub mod BatchesWritten
+pub mod SumPlaces
+pub mod Runs
+pub mod Terms
+pub mod Newer
+pub mod Positive
+pub mod Segments

@@ -4,3 +4,9 @@ pub mod Metadata
 pub mod Snapshots
 pub mod Files
 pub mod Written
+pub mod Batches
+pub mod NodeFormat
+pub mod BatchesWritten
+pub mod BatchesTaken
+pub mod SegmentLog
+pub mod FilesRead

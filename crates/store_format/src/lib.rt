@@ -1,15 +1,33 @@
-//! How the files of a node are spelled, in both formats: their sums, metadata and snapshots.
+//! How the files of a node are spelled, in both formats: their sums, metadata, snapshots and batches; and what the files
+//! stand for, read one after another.
 #![tactic(auto)]
 
+mod batch_reading;
+mod batch_writing;
+mod fault;
+mod files;
+mod kept;
+mod log;
 mod metadata;
+mod segment;
+mod segment_log;
 mod snapshot;
 mod sums;
 mod words;
 
+ghost use Rattle.store_format.specs.BatchesWritten.{BatchesReadBack};
 ghost use Rattle.store_format.specs.Files.{ReadsLawfully};
+ghost use Rattle.store_format.specs.NodeFormat.{IsLawful};
+ghost use Rattle.store_format.specs.SegmentLog.{SegmentsAreRead};
 ghost use Rattle.store_format.specs.Written.{MetadataReadsBack, SnapshotReadsBack};
 
+pub use batch_reading::{FoundBatch, read_batch};
+pub use batch_writing::batch_bytes;
+pub use fault::FilesFault;
+pub use files::FilesRead;
+pub use kept::Kept;
 pub use metadata::{Metadata, metadata_bytes, read_metadata};
+pub use segment_log::{Damage, LastSegment};
 pub use snapshot::{SnapshotFile, read_snapshot, snapshot_bytes};
 pub use sums::{crc32, sum8};
 pub use words::format_in;
@@ -30,4 +48,22 @@ pub fn metadata_reads_back()
 /// A snapshot that is written reads as it, in the file of its index.
 pub fn snapshot_reads_back()
     ensures { SnapshotReadsBack }
+{}
+
+/// The files of a node are read lawfully, batches included: a batch lies within the bytes, and its own bytes read as it,
+/// whatever follows.
+#[tactic(auto, using(crate::proofs::BatchesLawful::is_lawful))]
+pub fn is_lawful()
+    ensures { IsLawful }
+{}
+
+/// A batch that is written reads as it, behind the first word of a segment.
+pub fn batches_read_back()
+    ensures { BatchesReadBack }
+{}
+
+/// What is read of segments, in turn, is what their files stand for: the log, the first damage with its place, and the
+/// last one.
+pub fn segments_are_read()
+    ensures { SegmentsAreRead }
 {}

@@ -2,7 +2,7 @@ use dq_base::Items;
 use raft_vote::{Entry, EntryKind, SharedBytes};
 use std::alloc::{AllocError, Global};
 use std::test::Fail;
-use store_batches::{batch_bytes, read_batch};
+use store_format::{batch_bytes, read_batch};
 
 /// One entry of term 2 at index 3, with the command `abc`, in format 1 and in format 2, as another program spells it.
 const OLD: &[u8] =

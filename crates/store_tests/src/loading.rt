@@ -4,7 +4,7 @@ use disk_model::{Disk, DiskFault, MemDisk, Stop};
 use segment_store::{LoadFault, Store};
 use std::alloc::{AllocError, Global};
 use std::test::Fail;
-use store_reading::Kept;
+use store_format::Kept;
 use wire_words::Writer;
 
 // The files were computed with Python's zlib and hashlib.

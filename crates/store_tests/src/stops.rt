@@ -3,7 +3,7 @@ use dq_base::Items;
 use raft_vote::{Entry, EntryKind, SharedBytes, Snapshot};
 use segment_store::Store;
 use std::alloc::Global;
-use store_reading::Kept;
+use store_format::Kept;
 
 /// Which states a load found: the one before; the new snapshot with a longer old part of the log; the new snapshot with
 /// the log that was given.

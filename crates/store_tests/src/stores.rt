@@ -3,7 +3,7 @@ use dq_base::Items;
 use raft_vote::{Entry, EntryKind, SharedBytes};
 use segment_store::Store;
 use std::alloc::Global;
-use store_batches::read_batch;
+use store_format::read_batch;
 use store_format::read_metadata;
 
 /// The version, term and vote in a file of metadata.

@@ -39,13 +39,13 @@ const REQUESTS_READ: &[(u8, u8, &[u8], &str)] = &[
         5,
         0,
         b"\0\0\0\0\0\0\0\0\x02\x01\x03\xff\xff\xff\xff\xff\x05\0\0\0\0\0\0\0x\0\0\0\0\0\0\0",
-        "Ok(Exec { db: 0, statement: 0, params: Items { inner: [Integer(5), Text(WireText { inner: \"x\" })] }, wide: false })",
+        "Ok(Exec { db: 0, statement: 0, params: [Integer(5), Text(WireText { inner: \"x\" })], wide: false })",
     ),
     (
         6,
         1,
         b"\x01\0\0\0\x02\0\0\0\x01\0\0\0\x05\0\0\0\0\0\0\0\0\0\0\0",
-        "Ok(Query { db: 1, statement: 2, params: Items { inner: [Null] }, wide: true })",
+        "Ok(Query { db: 1, statement: 2, params: [Null], wide: true })",
     ),
     (
         7,
@@ -57,13 +57,13 @@ const REQUESTS_READ: &[(u8, u8, &[u8], &str)] = &[
         8,
         0,
         b"\x01\0\0\0\0\0\0\0x\0\0\0\0\0\0\0",
-        "Ok(ExecSql { db: 1, sql: WireText { inner: \"x\" }, params: Items { inner: [] }, wide: false })",
+        "Ok(ExecSql { db: 1, sql: WireText { inner: \"x\" }, params: [], wide: false })",
     ),
     (
         9,
         0,
         b"\x01\0\0\0\0\0\0\0x\0\0\0\0\0\0\0\0\0\0\0\0\0\0\0",
-        "Ok(QuerySql { db: 1, sql: WireText { inner: \"x\" }, params: Items { inner: [] }, wide: false })",
+        "Ok(QuerySql { db: 1, sql: WireText { inner: \"x\" }, params: [], wide: false })",
     ),
     (10, 0, b"\x01\0\0\0\0\0\0\0", "Ok(Interrupt { db: 1 })"),
     (
@@ -152,7 +152,7 @@ const RESPONSES_READ: &[(u8, u8, &[u8], &str)] = &[
         3,
         0,
         b"\x01\0\0\0\0\0\0\0\x01\0\0\0\0\0\0\0n1\0\0\0\0\0\0\x02\0\0\0\0\0\0\0",
-        "Ok(Servers { servers: Items { inner: [NodeInfo { id: 1, address: WireText { inner: \"n1\" }, role: Some(2) }] } })",
+        "Ok(Servers { servers: [NodeInfo { id: 1, address: WireText { inner: \"n1\" }, role: Some(2) }] })",
     ),
     (4, 0, b"\x01\0\0\0\0\0\0\0", "Ok(Db { id: 1 })"),
     (
@@ -178,7 +178,7 @@ const RESPONSES_READ: &[(u8, u8, &[u8], &str)] = &[
         9,
         0,
         b"\x01\0\0\0\0\0\0\0d\0\0\0\0\0\0\0\x01\0\0\0\0\0\0\0x\0\0\0\0\0\0\0",
-        "Ok(Files { files: Items { inner: [File { name: WireText { inner: \"d\" }, content: Items { inner: [120] } }] } })",
+        "Ok(Files { files: [File { name: WireText { inner: \"d\" }, content: [120] }] })",
     ),
     (
         10,

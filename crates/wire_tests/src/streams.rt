@@ -41,6 +41,42 @@ fn streams_are_cut(rt: HostRuntime) {
     }
 }
 
+/// The fault that a splitter tells of a piece behind a version word, and how many messages come of that piece and these bytes,
+/// where a peer's messages follow behind the piece.
+fn peers(alloc: Global, piece: &[u8], behind: &[u8]) -> (Option<SplitFault>, Option<usize>) {
+    let mut splitter = Splitter::after_version(alloc);
+    let Ok(first) = splitter.feed(piece) else {
+        return (splitter.fault(), None);
+    };
+    let fault = splitter.fault();
+    let mut splitter = splitter.for_peer();
+    match splitter.feed(behind) {
+        Ok(more) => (fault, Some(first.len().saturating_add(more.len()))),
+        Err(_) => (fault, Some(first.len())),
+    }
+}
+
+const LONG: &[u8] = b"\x01\0\x20\0\0\0\0\0";
+
+const PEERS: &[(&[u8], &[u8], Option<SplitFault>, Option<usize>)] = &[
+    (b"\0\0\0\0\0\0\0\0", LONG, None, Some(1)),
+    (
+        b"\0\0\0\0\0\0\0\0\x01\0",
+        b"\0\0\0\0\0\0 byte by",
+        None,
+        Some(2),
+    ),
+    (LONG, b"", Some(SplitFault::TooLong(2_097_153)), None),
+    (b"", b"\x01\0\0\x02\0\0\0\0", None, Some(0)),
+];
+
+#[test]
+fn peers_may_send_longer_messages(rt: HostRuntime) {
+    for &(piece, behind, fault, count) in PEERS {
+        assert_eq!(rt; peers(rt.alloc(), piece, behind), (fault, count));
+    }
+}
+
 /// The fault of a piece, and then that of a byte, behind the messages that one piece gave; and what is held then.
 fn faults_behind(alloc: Global, stream: &[u8], piece: &[u8]) -> Option<([SplitFault; 2], u64)> {
     let mut splitter = Splitter::after_version(alloc);

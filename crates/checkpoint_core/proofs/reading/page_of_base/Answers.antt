@@ -17,6 +17,6 @@ returns c =
       none = e.none;
       least = e.least;
       bytes =
-          c.padded_page.ensures ∙ ap (λ (k : ℕ). resized 4096 (take k (drop begin file))) back
+          c.padded.ensures ∙ ap (λ (k : ℕ). resized 4096 (take k (drop begin file))) back
           ∙ base_bytes file c.args.start end begin n e.within c.min-begin.ensures c.min.ensures;
     }

@@ -18,7 +18,7 @@ returns c =
       least = least;
       is_least = least_of_file c.args.parity log.lengths c.args.frame (c.args.count - 1) c.least.result c.least.ensures.main c.least.ensures.side;
       bytes = λ d.
-          c.padded_page.ensures
+          c.padded.ensures
           ∙ ap (λ (b : List ℕ). resized 4096 (take kept b)) c.bytes.ensures.value
           ∙ ap (resized 4096) (kept_page p.page rest kept c.page-page.ensures.size kept_is)
           ∙ ap (λ (q : NumberedPage). resized 4096 (take rest q.page)) (get_or_read log.pages c.args.frame p c.requires.pages c.page-page.ensures.value d);

@@ -1,6 +1,6 @@
 use Rattle.std.proofs.Common.{◌≡◌, ◌≤◌, ◌<◌, ℕ, get_or}
 use Rattle.disk_model.specs.Folder.{named_file}
-use Rattle.disk_model.specs.declared.folder.MemFile.{MemFile}
+use Rattle.disk_model.specs.MemFiles.{MemFile}
 use Rattle.disk_model.proofs.folder.put_names_down.Given as goal
 
 abbrev pub invariant-loop-file : goal.invariant-loop-file

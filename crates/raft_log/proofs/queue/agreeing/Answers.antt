@@ -9,8 +9,8 @@ use Rattle.raft_log.proofs.queue.agreeing.Goals as goal
 
 pub returns-then-not-is_of_term : goal.returns-then-not-is_of_term
 returns-then-not-is_of_term c =
-    let rest = drop c.args.place c.args.queue.now.items in
-    let size = length-drop c.args.place c.args.queue.now.items in
+    let rest = drop c.args.place c.args.queue.now in
+    let size = length-drop c.args.place c.args.queue.now in
     let short = front_short rest c.args.coming.now in
     let its : c.entry.inside.term ≡ nth_term c.args.coming.now c.loop-n.n = ap (λ (e : Entry). e.term) (c.entry.view_is ∙ c.index-coming-n.is) ∙ sym (nth_entry c.args.coming.now c.loop-n.n c.index-coming-n.result c.loop-n-test.true) in
     let differs : c.is_of_term.result ≡ false = ⊎_elim (λ (h : c.is_of_term.result ≡ true). let n = ap not h in let f = c.if-not-is_of_term.true in cc) (λ (h : c.is_of_term.result ≡ false). h) (cases_Bool c.is_of_term.result) in
@@ -19,7 +19,7 @@ returns-then-not-is_of_term c =
 
 pub loop-n-preserved : goal.loop-n-preserved
 loop-n-preserved c =
-    let rest = drop c.args.place c.args.queue.now.items in
+    let rest = drop c.args.place c.args.queue.now in
     let its : c.entry.inside.term ≡ nth_term c.args.coming.now c.loop-n.n = ap (λ (e : Entry). e.term) (c.entry.view_is ∙ c.index-coming-n.is) ∙ sym (nth_entry c.args.coming.now c.loop-n.n c.index-coming-n.result c.loop-n-test.true) in
     let same : c.is_of_term.result ≡ true = ⊎_elim (λ (h : c.is_of_term.result ≡ true). h) (λ (h : c.is_of_term.result ≡ false). let n = ap not h in let f = c.if-not-is_of_term.false in cc) (cases_Bool c.is_of_term.result) in
     let more = front_more rest c.args.coming.now c.loop-n.n c.loop-n.invariant c.loop-n-test.true (ap (has_term rest c.loop-n.n) (sym its) ∙ sym c.is_of_term.ensures ∙ same) in
@@ -27,8 +27,8 @@ loop-n-preserved c =
 
 pub returns : goal.returns
 returns c =
-    let rest = drop c.args.place c.args.queue.now.items in
-    let size = length-drop c.args.place c.args.queue.now.items in
+    let rest = drop c.args.place c.args.queue.now in
+    let size = length-drop c.args.place c.args.queue.now in
     let short = front_short rest c.args.coming.now in
     let within = front_within rest c.args.coming.now in
     let front : length c.args.coming.now ≡ agreeing_front rest c.args.coming.now = let i = c.loop-n.invariant in omega arith in

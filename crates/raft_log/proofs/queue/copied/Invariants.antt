@@ -2,4 +2,4 @@ use Rattle.std.proofs.Common.{◌≡◌, ◌-◌, take, drop}
 use Rattle.raft_log.proofs.queue.copied.Given as goal
 
 abbrev pub invariant-loop-place : goal.invariant-loop-place
-invariant-loop-place l = l.copies.items ≡ take (l.place - l.from) (drop l.from l.queue.items)
+invariant-loop-place l = l.copies.items ≡ take (l.place - l.from) (drop l.from l.queue)

@@ -1,6 +1,6 @@
 use Rattle.std.proofs.Common.{ℕ, List, subst, ◌∙◌}
 use Rattle.store_laws.specs.Names.{Segment}
-use Rattle.store_batches.specs.Written.{segment_word}
+use Rattle.store_format.specs.BatchesWritten.{segment_word}
 use Rattle.segment_store.specs.FileNames.{file_name}
 use Rattle.segment_store.specs.Grow.{begin_calls}
 use Rattle.segment_store.specs.Keeps.{Went}

@@ -1,7 +1,7 @@
 use Rattle.std.proofs.lemmas.Result.{err_from_is_err_and}
 use Rattle.disk_model.specs.Writing.{replace_calls}
 use Rattle.std.proofs.Common.{false, length}
-use Rattle.store_batches.specs.Written.{segment_word}
+use Rattle.store_format.specs.BatchesWritten.{segment_word}
 use Rattle.segment_store.specs.Grow.{grow_calls}
 use Rattle.segment_store.proofs.Segments.{ran_both, ran_front, free_write, behind_word}
 use Rattle.segment_store.proofs.segment.begin_segment.Goals as goal

@@ -2,7 +2,7 @@ use Rattle.std.proofs.Common.{◌≡◌, ◌∙◌}
 use Rattle.std.proofs.lemmas.Result.{err_from_is_err_and}
 use Rattle.disk_model.specs.Trait.{Text}
 use Rattle.store_laws.specs.Names.{Segment}
-use Rattle.store_batches.specs.Written.{segment_word}
+use Rattle.store_format.specs.BatchesWritten.{segment_word}
 use Rattle.segment_store.specs.Grow.{begin_calls, IsFree}
 use Rattle.segment_store.specs.FileNames.{file_name}
 use Rattle.segment_store.proofs.Appending.{named_err, named_ok}

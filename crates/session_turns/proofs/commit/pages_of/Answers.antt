@@ -9,5 +9,5 @@ use Rattle.session_turns.proofs.commit.pages_of.Goals as goal
 pub returns-clause-leads : goal.returns-clause-leads
 returns-clause-leads c =
     let x = c.args.transaction.now in
-    IfOk-weaker c.change_by.result _ _
-    (λ pages is. subst (λ (ps : List NumberedPage). LeadsTo ps x.working) (sym is) (change_leads (image_of c.pinned-earlier.result) x.working c.lengths_of.ensures.main_fits c.lengths_of.ensures.side_fits)) c.change_by.ensures
+    IfOk-weaker c.change_between.result _ _
+    (λ pages is. subst (λ (ps : List NumberedPage). LeadsTo ps x.working) (sym is) (change_leads (image_of c.pinned-earlier.result) x.working c.lengths_of.ensures.main_fits c.lengths_of.ensures.side_fits)) c.change_between.ensures

@@ -3,7 +3,8 @@ use Rattle.std.proofs.lemmas.List.{drop_more}
 use Rattle.statement_runs.specs.Running.{stops_unopened}
 use Rattle.statement_runs.proofs.Reaching.{reached_start}
 use Rattle.statement_runs.proofs.Standing.{standing_more, standing_stops, standing_ends, touches_step}
-use Rattle.session_rules.proofs.Touched.{lists_nothing}
+use Rattle.sql_engine.proofs.Knowing.{all_contained}
+use Rattle.page_changes.proofs.Touched.{lists_nothing}
 use Rattle.statement_runs.proofs.running.advance.Goals as goal
 
 pub loop-piece-init : goal.loop-piece-init
@@ -14,6 +15,7 @@ loop-piece-init g c = record {
     reached = rw c.requires.start (reached_start _ _ _ _ _);
   };
   counted = omega arith;
+  known = all_contained _;
   listed = rw c.requires.untouched (lists_nothing _);
   kept = refl;
 }
@@ -24,8 +26,9 @@ loop-piece-preserved g c =
     let so_far = c.loop-piece.invariant in
     record {
       standing = standing_more g.E.Engine.meaning _ _ _ _ _ _ _ _ _ _ _ _ _ _ _ _ _ _ _ _ _ _ so_far.standing c.in_ok-ending.ensures.step c.piece_text-one.ensures (drop_more _ _ _ at) c.split_at.ensures.front c.split_at.ensures.back
-          c.step.ensures.kind c.split_at.ensures.back_len c.in-None.is;
-      counted = let more = c.step.ensures.openings in omega arith;
+          c.step.ensures.stays.kind c.split_at.ensures.back_len c.in-None.is;
+      counted = let more = c.step.ensures.stays.openings in omega arith;
+      known = rw c.step.ensures.known (λ k d lt. absurd (omega (arith, lt)));
       listed = touches_step g.E.Engine.meaning _ _ (g.E.Engine.kind c.step.new.engine) _ _ _ _ _ _ _ _ _ _ _ _ _ _ _ _ _ _ _ so_far.standing c.in_ok-ending.ensures.step c.piece_text-one.ensures (drop_more _ _ _ at) c.split_at.ensures.front c.split_at.ensures.back
           _ _ c.in-None.is c.in_ok-ending.ensures.touched so_far.listed;
       kept = c.step.ensures.kept ∙ so_far.kept;

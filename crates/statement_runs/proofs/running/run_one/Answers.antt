@@ -13,4 +13,4 @@ pub returns-in-Ok-clause-unopened : goal.returns-in-Ok-clause-unopened
 returns-in-Ok-clause-unopened g c = λ e. absurd (both_ways _ c.ending_of.ensures.opened e)
 
 pub returns-in-Err-clause-unopened : goal.returns-in-Err-clause-unopened
-returns-in-Err-clause-unopened g c = λ e. rose _ _ c.in-Err.fault c.in-Err.ensures.openings e
+returns-in-Err-clause-unopened g c = λ e. rose _ _ c.in-Err.fault c.in-Err.ensures.unopened e

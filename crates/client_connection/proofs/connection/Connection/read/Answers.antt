@@ -1,4 +1,4 @@
-use Rattle.std.proofs.Common.{◌≡◌, ◌++◌, ap, arith}
+use Rattle.std.proofs.Common.{◌++◌, ap, arith}
 use Rattle.client_connection.specs.Connection.{Conn}
 use Rattle.client_connection.proofs.Counting.{counts_read, count_fits}
 use Rattle.client_connection.proofs.connection.Connection.read.Goals as goal

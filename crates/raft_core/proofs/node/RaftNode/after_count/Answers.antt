@@ -16,5 +16,5 @@ returns-then-not-won c =
 pub returns : goal.returns
 returns c =
     let h = c.args.self.now in
-    let now = leads_with h c.lead.new.self c.push.new.self c.barrier_of.result c.in_ok-first.first c.term.result c.lead.ensures c.term.ensures c.barrier_of.ensures c.in_ok-push.ensures in
-    subst (λ (m : NodeValue). Does h (on_grants (told h) h.id (node_of h) (said h c.args.say)) m (record { say = c.args.say; recipients = sent.Everyone; change = changes.From c.in_ok-first.first })) (sym now) (does_lead h c.in_ok-first.first c.args.say (sym c.requires ∙ c.if-not-won.false) c.in_ok-first.ensures)
+    let now = leads_with h c.lead.new.self c.push.new.self c.in_ok-barrier.barrier c.in_ok-first.first c.term.result c.lead.ensures c.term.ensures c.in_ok-barrier.ensures c.in_ok-push.ensures in
+    subst (λ (m : NodeValue). Does h (on_grants (told h) h.id (node_of h) (said h c.args.say)) m (record { say = c.args.say; recipients = sent.Everyone; change = changes.From c.in_ok-first.first })) (sym now) (does_lead h c.in_ok-first.first c.args.say (sym c.requires ∙ c.if-not-won.false) c.in_ok-first.ensures.next c.in_ok-first.ensures.past)

@@ -18,4 +18,4 @@ returns-then-is_empty c =
 pub returns : goal.returns
 returns c =
     let h = c.args.self.now in
-    propose_some h c.append.new.self c.args.entries.now c.in_ok-first.first (sym c.leads.ensures ∙ c.if-not-leads.false) (some_of c.args.entries.now (sym c.is_empty.ensures ∙ c.if-is_empty.false)) c.in_ok-first.ensures c.in_ok-append.ensures
+    propose_some h c.append.new.self c.args.entries.now c.in_ok-first.first (sym c.leads.ensures ∙ c.if-not-leads.false) (some_of c.args.entries.now (sym c.is_empty.ensures ∙ c.if-is_empty.false)) c.in_ok-first.ensures.next c.in_ok-first.ensures.past c.in_ok-append.ensures

@@ -3,7 +3,7 @@ use Rattle.raft_rules.specs.Membership.{on_servers}
 use Rattle.raft_rules.specs.Node.{Server, Outcome}
 use Rattle.raft_rules.specs.NodeValues.{node_of}
 use Rattle.raft_rules.specs.Steps.{serve}
-use Rattle.raft_core.specs.Messages.{sendings_value}
+use Rattle.raft_core.specs.Messages.{sents_value}
 use Rattle.raft_core.specs.Steps.{compact_outcome}
 use Rattle.raft_core.proofs.StepRules.{servers_step_is}
 use Rattle.raft_core.proofs.node.RaftNode.step_servers.Goals as goal
@@ -16,4 +16,4 @@ returns-clause-node c =
 pub returns-clause-sends : goal.returns-clause-sends
 returns-clause-sends c =
     let h = c.args.self.now in
-    ap (sendings_value h.id) c.new.ensures ∙ c.in_ok-sends.ensures.sends ∙ ap (λ (s : List Server). (compact_outcome (serve h.id (on_servers h.id (node_of h) s))).out) c.as_slice.ensures ∙ ap (λ (d : Outcome). d.out) (sym (servers_step_is h c.args.servers.now))
+    ap (sents_value h.id) c.new.ensures ∙ c.in_ok-sends.ensures.sends ∙ ap (λ (s : List Server). (compact_outcome (serve h.id (on_servers h.id (node_of h) s))).out) c.as_slice.ensures ∙ ap (λ (d : Outcome). d.out) (sym (servers_step_is h c.args.servers.now))

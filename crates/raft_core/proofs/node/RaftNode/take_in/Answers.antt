@@ -26,8 +26,9 @@ returns c =
     let back = sym c.self.view_is in
     let low = subst (λ (h : NodeValue). h.snapshot.index ≤ c.args.place) back c.requires.low in
     let high = subst (λ (h : NodeValue). c.args.place ≤ length (node_of h).log) back c.requires.high in
+    let keeps = subst (λ (h : NodeValue). (nat_lt 0 (first_replaced (node_of h).log c.args.place c.args.coming.now) && nat_le (first_replaced (node_of h).log c.args.place c.args.coming.now) h.commit) ≡ false) back c.requires.keeps in
     let taken = subst (λ es. TakesAfter c.self.inside.log c.take_after.new.self c.args.place es c.in_ok-from.from) c.in_ok-entries.ensures c.in_ok-from.ensures.ok in
-    let does = takes c.self.inside.log.first v c.take_after.new.self c.args.place c.args.coming.now c.args.commit c.in_ok-from.from refl c.self.invariant.0.low low high taken in
+    let does = takes c.self.inside.log.first v c.take_after.new.self c.args.place c.args.coming.now c.args.commit c.in_ok-from.from refl c.self.invariant.0 low high keeps taken in
     let start = ap (λ (e : LogEnd). e.index) c.in_ok-from.ensures.first in
     let max_is = c.max-self-inside.ensures in
     let now : with_entries v c.take_after.new.self.entries (max v.commit c.args.commit) ≡ record v { entries = c.take_after.new.self.entries; commit = c.max-self-inside.result; base = c.take_after.new.self.first.index } = λ k. record v { entries = c.take_after.new.self.entries; commit = (sym max_is) k; base = (sym start) k } in

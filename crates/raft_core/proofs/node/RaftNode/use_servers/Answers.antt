@@ -1,7 +1,7 @@
 use Rattle.std.proofs.Common.{◌∙◌, sym, ap}
 use Rattle.raft_rules.specs.Node.{is_leader}
 use Rattle.raft_rules.specs.NodeValues.{NodeValue}
-use Rattle.raft_core.specs.Messages.{sendings_value}
+use Rattle.raft_core.specs.Messages.{sents_value}
 use Rattle.raft_core.proofs.MemberRules.{serve_node_quiet, serve_out_quiet, serve_node_leads, serve_out_leads}
 use Rattle.raft_core.proofs.node.RaftNode.use_servers.Goals as goal
 
@@ -13,7 +13,7 @@ returns-then-not-leads-clause-node c =
 pub returns-then-not-leads-clause-sends : goal.returns-then-not-leads-clause-sends
 returns-then-not-leads-clause-sends c =
     let l = ap (λ (n : NodeValue). is_leader n.role) (sym c.in_ok-gained.ensures.node) ∙ sym c.leads.ensures ∙ c.if-not-leads.true in
-    ap (sendings_value c.args.self.now.id) c.new.ensures.items ∙ sym (serve_out_quiet c.args.self.now c.args.servers.now l)
+    ap (sents_value c.args.self.now.id) c.new.ensures.items ∙ sym (serve_out_quiet c.args.self.now c.args.servers.now l)
 
 pub returns-clause-node : goal.returns-clause-node
 returns-clause-node c =

@@ -2,7 +2,7 @@ use Rattle.std.proofs.Common.{Some, None, length, sym, ◌∙◌}
 use Rattle.std.proofs.lemmas.Result.{err_from_is_err_and}
 use Rattle.store_laws.specs.Store.{Log}
 use Rattle.store_laws.specs.Append.{with_batch}
-use Rattle.store_batches.specs.Batches.{batch_bytes}
+use Rattle.store_format.specs.Batches.{batch_bytes}
 use Rattle.segment_store.specs.Grow.{room_in}
 use Rattle.segment_store.specs.MadeCalls.{batch_calls_in}
 use Rattle.segment_store.proofs.Appending.{none_appended, fits_of}

@@ -1,7 +1,7 @@
 use Rattle.std.proofs.Common.{ℕ, List, length, Result, Ok, Err, ap, ◌∙◌}
 use Rattle.std.proofs.lemmas.Result.{err_from_is_err_and}
 use Rattle.store_format.specs.Snapshots.{snapshot_bytes}
-use Rattle.store_batches.specs.Batches.{batch_bytes}
+use Rattle.store_format.specs.Batches.{batch_bytes}
 use Rattle.segment_store.specs.declared.fault.StoreFault.{StoreFault}
 use Rattle.segment_store.specs.Keeping.{snap_value, kept_calls, with_kept}
 use Rattle.segment_store.specs.Plans.{plan_calls}

@@ -1,7 +1,7 @@
 use Rattle.std.proofs.Common.{length, sym, ◌∙◌}
 use Rattle.std.proofs.lemmas.Bool.{eqb-true}
 use Rattle.statement_runs.proofs.Changing.{applied_empty}
-use Rattle.statement_runs.proofs.ComingBack.{empty_taken, some_taken}
+use Rattle.statement_runs.proofs.Taking.{empty_taken, some_taken}
 use Rattle.statement_runs.proofs.running.Progress.apply.Goals as goal
 
 pub returns-then-is_empty-clause-taken : goal.returns-then-is_empty-clause-taken

@@ -1,0 +1,4 @@
+pub mod Touched
+pub mod Undoing
+pub mod Reached
+pub mod Pages

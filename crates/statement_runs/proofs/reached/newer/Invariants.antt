@@ -1,6 +1,0 @@
-use Rattle.std.proofs.Common.{◌≡◌, ◌++◌, drop}
-use Rattle.statement_runs.specs.Reached as there
-use Rattle.statement_runs.proofs.reached.newer.Given as goal
-
-abbrev pub invariant-loop-page : goal.invariant-loop-page
-invariant-loop-page l = l.newer.items ++ there.newer l.before (drop l.page-index l.pages) ≡ there.newer l.before l.pages

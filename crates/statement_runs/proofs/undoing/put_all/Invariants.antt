@@ -1,7 +1,0 @@
-use Rattle.std.proofs.Common.{◌≡◌, drop}
-use Rattle.dq_base.specs.Images.{is_page_of}
-use Rattle.dq_base.specs.Applying.{put_pages}
-use Rattle.statement_runs.proofs.undoing.put_all.Given as goal
-
-abbrev pub invariant-loop-page : goal.invariant-loop-page
-invariant-loop-page l = put_pages (is_page_of l.parity) (drop l.page-index l.pages) l.file ≡ put_pages (is_page_of l.parity) l.pages l.initial.file

@@ -1,4 +1,0 @@
-pub mod Local
-pub mod Lawfully
-pub mod Written
-pub mod SumPlaces

@@ -1,5 +1,0 @@
-use Rattle.store_reading.proofs.Segments.{segments_are_read}
-use Rattle.store_reading.proofs.segments_are_read.Goals as goal
-
-pub returns : goal.returns
-returns c = segments_are_read
