@@ -4,3 +4,5 @@ pub mod Touched
 pub mod Keeping
 pub mod Following
 pub mod Seeing
+mod RestartedRequests
+pub mod RestartedEvents

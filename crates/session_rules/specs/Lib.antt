@@ -12,3 +12,4 @@ pub mod Events
 pub mod Outcomes
 pub mod Laws
 pub mod Seen
+pub mod Restarts

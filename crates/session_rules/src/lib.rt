@@ -5,6 +5,7 @@
 #![tactic(auto)]
 
 ghost use Rattle.session_rules.specs.Laws.{RefusalsKeep, NotesTell, ProposesPages, MachinesFollow};
+ghost use Rattle.session_rules.specs.Restarts.{CountsRestart, EventsShift, CommandsRestart};
 ghost use Rattle.session_rules.specs.Seen.{WrittenIsSeen};
 
 /// A request that is answered by a FAILURE leaves the sessions as they were, and appends nothing.
@@ -31,4 +32,17 @@ pub fn machines_follow()
 /// What is written into a log is seen there again, in its term: commands and configurations that have a spelling.
 pub fn written_is_seen()
     ensures { WrittenIsSeen }
+{}
+
+/// A request comes to the same wherever a machine's counts of commits begin, and hands the same to the engine: so a node that
+/// was restored from a snapshot, and counts from there, answers as one that counts from the first entry.
+pub fn counts_restart()
+    ensures { CountsRestart }
+{}
+
+/// So it is with applied entries, a lost leadership, and connections that come and go; and a command does to such a machine
+/// what it does to the other.
+pub fn events_restart()
+    ensures events { EventsShift }
+    ensures commands { CommandsRestart }
 {}

@@ -23,7 +23,7 @@ to_left : (c : ℕ) (P : Said → Type 0) (xs ys : List Said) → SaidTo c P xs 
 to_left c P [] ys h = absurd h
 to_left c P (x ∷ xs) ys h = ⊎_elim (λ (y : (x.conn ≡ c) × P x). inl y) (λ (y : SaidTo c P xs). inr (to_left c P xs ys y)) h
 
-landed_to : (c : ℕ) (t : Trail) (f : Flight) (k : Kind) → ((said_landed c t f k).conn ≡ c) × ((said_landed c t f k).index ≡ f.last)
+pub landed_to : (c : ℕ) (t : Trail) (f : Flight) (k : Kind) → ((said_landed c t f k).conn ≡ c) × ((said_landed c t f k).index ≡ f.last)
 landed_to c t f Opening = (refl, refl)
 landed_to c t f Configuring = (refl, refl)
 landed_to c t f (Writing reply) = (refl, refl)
@@ -60,11 +60,11 @@ told_to : (cs : List ℕ) (c : ℕ) → among cs c ≡ true → SaidTo c (λ x. 
 told_to [] c e = absurd (true≢false (sym e))
 told_to (x ∷ xs) c e = ⊎_elim (λ (q : (x == c) ≡ true). inl (eqb-true x c q, refl)) (λ (q : among xs c ≡ true). inr (told_to xs c q)) (or_cases (x == c) (among xs c) e)
 
-waits_for : (s : Session) (f : Flight) → s.flight ≡ Some f → s.hung ≡ false → waits s ≡ true
+pub waits_for : (s : Session) (f : Flight) → s.flight ≡ Some f → s.hung ≡ false → waits s ≡ true
 waits_for s f e h = ap (λ b. not b && not (is_none s.flight)) h ∙ ap (λ o. not (is_none o)) e
 
 -- a session with a proposal is there
-there_of : (mean : Meaning) (w : Node) (c : ℕ) (f : Flight) → NodeOk mean w → (w.gate.session c).flight ≡ Some f → among w.gate.conns c ≡ true
+pub there_of : (mean : Meaning) (w : Node) (c : ℕ) (f : Flight) → NodeOk mean w → (w.gate.session c).flight ≡ Some f → among w.gate.conns c ≡ true
 there_of mean w c f a e = ⊎_elim (λ (y : (w.gate.session c).there ≡ true). a.listed c y) (λ (y : (w.gate.session c).there ≡ false). absurd (none_some (sym (a.absent c y).flight ∙ e))) (cases_Bool (w.gate.session c).there)
   where
     none_some : {A : Type 0} {x : A} → None ≡ Some x → ⊥

@@ -71,7 +71,7 @@ set_runs : (image : Image) → outcome_of image (record { text = set_text 7; par
 unfolding outcome_of statement_of number halves digits
 set_runs image = refl
 
-may_set : MayAnswer cells empty_image (record { text = set_text 7; params = [] }) 0 (set_on empty_image 7)
+pub may_set : MayAnswer cells empty_image (record { text = set_text 7; params = [] }) 0 (set_on empty_image 7)
 unfolding fault_in
 may_set = record {
   after = one 7;
@@ -98,7 +98,7 @@ one_wide : (image : Image) (o : Option (List ℕ)) → AllByRecursion (λ row. l
 one_wide image None = tt
 one_wide image (Some page) = (refl, tt)
 
-may_get : MayAnswer cells (one 7) (record { text = codes "GET 1"; params = [] }) 0 (got_on (one 7))
+pub may_get : MayAnswer cells (one 7) (record { text = codes "GET 1"; params = [] }) 0 (got_on (one 7))
 may_get = record {
   after = one 7;
   short = one_short;

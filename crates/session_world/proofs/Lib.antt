@@ -12,6 +12,8 @@ pub mod Lives
 pub mod Lasts
 pub mod Sees
 pub mod Answers
+mod Outcomes
+pub mod Replying
 pub mod Undos
 pub mod Commits
 pub mod Milds

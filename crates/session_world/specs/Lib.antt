@@ -6,3 +6,4 @@ pub mod Laws
 pub mod Logs
 pub mod Alone
 pub mod Examples
+pub mod Answering

@@ -4,6 +4,7 @@
 #![tactic(auto)]
 
 ghost use Rattle.session_world.specs.Alone.{AloneIsSafe, TurnsSay, TurnsSee, ScriptsAreSafe};
+ghost use Rattle.session_world.specs.Answering.{RequestsAreAnswered, TransactionsRun};
 ghost use Rattle.session_world.specs.Examples.{
   WriteWaits,
   OldImages,
@@ -56,6 +57,14 @@ pub fn lives_see<E: Engine>()
 /// a lost leadership where that is lost before.
 pub fn answers_come<E: Engine>()
     ensures { (kind : _) → AnswersCome (E.meaning kind) kind }
+{}
+
+/// The replies to a connection are those to its requests that are handled, one by one and in order: rows are of the request's
+/// statement, a commit is of its statements and those of its transaction, and a reply is owed exactly where a proposal is in
+/// flight. A transaction's statements are those of its requests that weren't refused, in order.
+pub fn requests_are_answered<E: Engine>()
+    ensures replies { (kind : _) → RequestsAreAnswered (E.meaning kind) kind }
+    ensures transactions { TransactionsRun }
 {}
 
 /// At most one session has the write turn of a database, at any time.
