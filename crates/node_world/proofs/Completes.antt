@@ -1,32 +1,31 @@
 -- Every request is answered.
-use Rattle.std.proofs.Common.{◌≡◌, ◌≢◌, ℕ, zero, suc, ◌+◌, ◌<◌, ◌≤◌, Bool, true, false, true≢false, cond, List, [], ◌∷◌, ◌++◌, length, map, drop, refl, sym, ap, ◌∙◌, subst, arith, length-append}
+use Rattle.std.proofs.Common.{◌≡◌, ◌≢◌, ℕ, ◌+◌, ◌<◌, Bool, true, false, true≢false, cond, List, [], ◌∷◌, ◌++◌, length, map, drop, refl, sym, ap, ◌∙◌, subst, arith, length-append}
 use Rattle.std.specs.Prelude.{◌==◌, not, is_none, Option, Some, None}
 use Rattle.std.proofs.Math.Seq.{drop-append_seam}
-use Rattle.std.proofs.lemmas.List.{append-nil, length-map}
-use Rattle.std.proofs.lemmas.Bool.{cond-true, cases_Bool, eq-eqb}
-use Rattle.wire_msgs.specs.declared.request.Request.{Request}
+use Rattle.std.proofs.lemmas.List.{length-map}
+use Rattle.std.proofs.lemmas.Bool.{cond-true, eq-eqb}
 use Rattle.wire_msgs.specs.declared.request.Request.TheVariants as requests
 use Rattle.sql_engine.specs.declared.kind.EngineKind.{EngineKind}
 use Rattle.sql_engine.specs.Meanings.{Meaning}
-use Rattle.session_rules.specs.Sessions.{Reply, Flight, Session, Gateway, is_busy}
+use Rattle.session_rules.specs.Sessions.{Flight, Session, Gateway, is_busy}
 use Rattle.session_world.specs.Nodes.{Said, Trail, Node as Life}
 use Rattle.session_world.specs.Life.{Event as Doing, AllFit, run_from as lives_on}
 use Rattle.session_world.specs.Laws.{NoneComes}
 use Rattle.session_world.specs.Answering.{Handled, handled_in, said_to, IsOpen}
 use Rattle.session_world.proofs.Invariant.{NodeOk as LifeOk, FlightIs, FlightOk}
 use Rattle.session_world.proofs.Lives.{run_ok}
-use Rattle.session_world.proofs.Replying.{Pending, Waiting, owed_by, pairs_count, open_back, fit_ok, Long, long}
+use Rattle.session_world.proofs.Replying.{Pending, owed_by, pairs_count, open_back, fit_ok, long}
 use Rattle.raft_rules.specs.Node as raft
 use Rattle.raft_world.specs.Laws.{node_at}
 use Rattle.raft_world.specs.Members.{Setup}
-use Rattle.cluster_world.specs.Clusters.{Moves, said_of, said_in, cluster}
+use Rattle.cluster_world.specs.Clusters.{Moves, said_in, cluster}
 use Rattle.cluster_world.proofs.Clusters.{cluster_ok, move_fit}
 use Rattle.cluster_world.proofs.Fronts.{leader_is}
 use Rattle.cluster_world.proofs.Seeing.{life_later}
 use Rattle.node_rules.specs.Nodes.{Node, Stands}
 use Rattle.node_rules.specs.Steps.{Taken, AllTaken, calls, told}
-use Rattle.node_world.specs.Runs.{Up, Run, Goes, taken, spoken, with_place, first_run, run_from, run}
-use Rattle.node_world.specs.Laws.{applied, owed, told_to, Waits, Completed, RunsComplete}
+use Rattle.node_world.specs.Runs.{Up, Goes, taken, spoken, with_place, first_run, run_from, run}
+use Rattle.node_world.specs.Laws.{applied, owed, told_to, Waits, RunsComplete}
 use Rattle.node_world.proofs.Lasts.{hold_parts}
 use Rattle.node_world.proofs.Letters.{causes}
 use Rattle.node_world.proofs.Runs.{goes, runs_make_acts_hold}

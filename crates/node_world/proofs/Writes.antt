@@ -1,5 +1,5 @@
 -- The only voter elects itself, and a client writes there.
-use Rattle.std.proofs.Common.{◌≡◌, ◌≢◌, inl, ℕ, zero, suc, ◌+◌, Bool, true, false, true≢false, cond, List, [], ◌∷◌, ◌++◌, length, map, take, drop, refl, sym, ap, ◌∙◌, subst, arith}
+use Rattle.std.proofs.Common.{◌≡◌, ◌≢◌, inl, ℕ, ◌+◌, Bool, true, false, true≢false, cond, List, [], ◌∷◌, ◌++◌, length, map, take, drop, refl, sym, ap, ◌∙◌, subst, arith}
 use Rattle.std.specs.Prelude.{◌==◌, ◌&&◌, codes, Option, Some, None, Ok}
 use Rattle.std.specs.Option.{option_map}
 use Rattle.std.proofs.Math.Seq.{drop-append_seam}
@@ -11,38 +11,36 @@ use Rattle.sql_engine.specs.Replies.{Statement}
 use Rattle.frame_commands.specs.Numbers.{AreLow}
 use Rattle.wire_msgs.specs.declared.request.Request.{Request}
 use Rattle.page_apply.specs.declared.database.Database.{Database}
-use Rattle.page_apply.specs.Databases.{act as act_on_databases}
 use Rattle.page_apply.specs.Files.{empty_image}
 use Rattle.page_apply.specs.Machines.{IsMachine}
 use Rattle.page_apply.proofs.Acting.{act_machine}
 use Rattle.std.specs.List.Sorted.{IsStrictlySortedBy}
-use Rattle.session_rules.specs.Entries.{Content, Does, Other, Entry, entries_of, written_in, written, tx_of}
+use Rattle.session_rules.specs.Entries.{Content, Other, Entry, entries_of, written_in, written, tx_of}
 use Rattle.session_rules.specs.Machine.{Machine, nothing, machine_of, with_commit, framed, act, files}
 use Rattle.session_rules.specs.Restarts.{shifted_tx, shifted_session, shifted, restarted}
 use Rattle.session_rules.specs.Seen.{log_seen}
-use Rattle.session_rules.specs.Sessions.{Reply, Kind, Opening, Writing, Flight, Transaction, Session, Gateway, absent, no_sessions, db, result, in_tx}
+use Rattle.session_rules.specs.Sessions.{Reply, Kind, Opening, Writing, Flight, Session, Gateway, absent, no_sessions, db, result}
 use Rattle.session_rules.proofs.Following.{machines_follow_hold}
-use Rattle.session_world.specs.Answering.{handed_by, outcome, transaction_ran, Handled, comes, handled_in, IsOpen}
+use Rattle.session_world.specs.Answering.{handed_by, outcome, transaction_ran, Handled, comes}
 use Rattle.session_world.specs.Examples as lives
-use Rattle.session_world.specs.Life.{Event as Doing, Connect as Comes_in, Call, Apply, Lose, Lead, Serve, Append, happens as goes_on, run_from as lives_on}
-use Rattle.session_world.specs.Nodes.{Said, Trail, Node as Life, databases}
+use Rattle.session_world.specs.Life.{Event as Doing, Connect as Comes_in, Apply, Lose, Lead, Serve, Append, happens as goes_on, run_from as lives_on}
+use Rattle.session_world.specs.Nodes.{Said, Trail, Node as Life}
 use Rattle.session_world.proofs.Examples.{may_set}
 use Rattle.raft_rules.specs.Log as raft_log
 use Rattle.raft_rules.specs.Node as raft
 use Rattle.raft_rules.specs.Account.{steps, said}
 use Rattle.raft_rules.specs.Compaction.{with_whole_log, compacted_step}
-use Rattle.raft_rules.specs.NodeValues.{NodeValue, node_of}
-use Rattle.raft_world.specs.Cuts.{Twin, AlikeInput, AlikeInputs, Told, SameVoters}
+use Rattle.raft_rules.specs.NodeValues.{node_of}
+use Rattle.raft_world.specs.Cuts.{Twin, AlikeInput, AlikeInputs, SameVoters}
 use Rattle.cluster_world.specs.Clusters.{said_in, InTerm, StepFits}
 use Rattle.cluster_world.specs.Examples.{opening, writing}
 use Rattle.cluster_world.proofs.Examples.{opening_spelled, same_log, first_seen, two_seen, three_seen, plain_weaves, writing_weaves}
 use Rattle.node_rules.specs.Nodes.{Node, Stands}
-use Rattle.node_rules.specs.Steps.{Letter, Taken, calls, ArePartOf, JoinsOnly, Handles, Completes, AllTaken, StepHolds, told}
+use Rattle.node_rules.specs.Steps.{Letter, Taken, ArePartOf, JoinsOnly, Handles, Completes, StepHolds, told}
 use Rattle.node_rules.proofs.Voters.{fixed_tells_hold}
 use Rattle.node_world.specs.Runs.{Connect, Asks, Timeout, first_run, nothing_kept, taken}
 use Rattle.node_world.specs.Examples.{lone, only, client, opens_it, writes_it, opened, wrote, leading, asks_open, asks_set, RunWrites}
 use Rattle.node_world.proofs.Examples.{lone_starts}
-use Rattle.node_world.proofs.Parts.{part_same}
 use Rattle.sql_scan.specs.Bytes.{is_space, is_digit, is_letter, is_word_start, is_word_part, is_sigil, is_quote, is_in_line}
 use Rattle.sql_scan.specs.Grammar.{has_end}
 use Rattle.sql_scan.specs.Kinds.{kind_of}
@@ -57,7 +55,7 @@ use Rattle.dq_base.specs.Images.{zeros, resized, page_from, sizes_page, page_at}
 use Rattle.dq_base.specs.Applying.{stated_main, stated_side, replaced, put_pages, applied, is_sizes, order_fault, length_fault, fault_before}
 use Rattle.dq_base.specs.Changes.{changed_from, changed}
 use Rattle.page_apply.specs.ByName.{at_name, change_first}
-use Rattle.frame_commands.specs.Splitting.{split_from, split}
+use Rattle.frame_commands.specs.Splitting.{split_from}
 use Rattle.session_rules.specs.Asking.{asked_by}
 use Rattle.session_rules.specs.Engines.{takes, runs}
 use Rattle.session_rules.specs.Events.{tidy, landed, settled_by, on_applied, told_applied, on_lost, told_lost, on_hangup, connects, connected}
@@ -74,7 +72,6 @@ use Rattle.raft_rules.specs.Commitment.{is_stored_by_majority, commit_up_to, maj
 use Rattle.raft_rules.specs.Receiving.{in_range as message_in_range, on_message}
 use Rattle.raft_rules.specs.Steps.{message_to, finish, serve, raft_step}
 use Rattle.raft_rules.specs.Account.{step_acts}
-use Rattle.raft_rules.specs.Outcomes.{with_term}
 use Rattle.raft_world.specs.Members.{fixed, change_at, configuration, voters_after, may_change, member_step}
 use Rattle.raft_world.specs.World.{put, run}
 

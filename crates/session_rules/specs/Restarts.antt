@@ -1,5 +1,5 @@
 -- Counts of commits that begin anew: a machine that was restored from a snapshot counts from nothing, and all comes to the same.
-use Rattle.std.specs.Prelude.{◌≡◌, ℕ, ◌+◌, Bool, List}
+use Rattle.std.specs.Prelude.{◌≡◌, ℕ, ◌+◌, List}
 use Rattle.std.specs.Option.{option_map}
 use Rattle.frame_commands.specs.declared.command.Command.{Command}
 use Rattle.wire_msgs.specs.declared.request.Request.{Request}

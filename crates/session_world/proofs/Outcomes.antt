@@ -1,8 +1,7 @@
 -- What comes of a request, as far as the account of statements goes.
-use Rattle.std.proofs.Common.{◌≡◌, ℕ, Bool, true, false, true≢false, cond, List, [], ◌∷◌, refl, sym, ap, ◌∙◌}
+use Rattle.std.proofs.Common.{◌≡◌, ℕ, Bool, true, false, true≢false, List, [], ◌∷◌, refl, sym, ap}
 use Rattle.std.specs.Prelude.{◌&&◌, not, is_none, Option, Some, None}
 use Rattle.std.proofs.lemmas.Bool.{cond_both}
-use Rattle.dq_base.specs.declared.images.Image.{Image}
 use Rattle.dq_base.specs.Images.{page_count}
 use Rattle.dq_base.specs.Changes.{changed}
 use Rattle.page_apply.specs.Files.{empty_image}
@@ -10,11 +9,11 @@ use Rattle.sql_engine.specs.declared.answer.Ran.{Ran}
 use Rattle.sql_engine.specs.Replies.{Statement}
 use Rattle.wire_msgs.specs.declared.request.Request.{Request}
 use Rattle.session_rules.specs.Asking.{Asked, Never, Tells, Sets, Opens, Creates, Prepares, Drops, Begins, Commits, RollsBack, Changes, Runs, Reads, asked}
-use Rattle.session_rules.specs.Causes.{Cause, LogFull, Locked, DatabaseFull}
+use Rattle.session_rules.specs.Causes.{LogFull, DatabaseFull}
 use Rattle.session_rules.specs.Engines.{Answer, no_pages, Ending, Lacking, TooLarge, Stopped, Ended}
 use Rattle.session_rules.specs.Limits.{other_holds, pages_full, log_full, first_cause, hindrance}
 use Rattle.session_rules.specs.Machine.{Machine}
-use Rattle.session_rules.specs.Requests.{worked, flying, change_of, row_cause, reply_of, unless, outside_write, outside, inside, run_in, has_nothing, committed, commit_in, does, on_request}
+use Rattle.session_rules.specs.Requests.{worked, flying, change_of, row_cause, reply_of, outside_write, outside, inside, run_in, has_nothing, committed, commit_in, does, on_request}
 use Rattle.session_rules.specs.Sessions.{Reply, Refusal, Single, Rows, Kind, Opening, Configuring, Writing, Committing, Flight, Transaction, Session, Gateway, View, in_tx, Note, Nothing, Began, Inside, Outside, Turned, Refused, Lacks, Answers, Proposes, Affects}
 use Rattle.session_world.specs.Life.{sole}
 use Rattle.session_world.proofs.Calls.{unless_ok}

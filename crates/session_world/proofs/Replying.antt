@@ -16,13 +16,13 @@ use Rattle.session_rules.specs.Requests.{handed, with_session, affected_by}
 use Rattle.session_rules.specs.Events.{tidy, landed, settled_by, on_applied, lost, on_lost, waits, last_of, placed, ordered, told_lost, left, on_hangup, connects, connected}
 use Rattle.session_rules.specs.Laws.{NoteTells, TurnedTells}
 use Rattle.session_rules.proofs.Keeping.{notes_tell_hold}
-use Rattle.session_world.specs.Nodes.{Query, Commit, Said, Trail, Node, Standing, databases, view_of, unseen, started}
-use Rattle.session_world.specs.Life.{Event, Connect, Hangup, Call, Apply, Lose, Lead, Serve, Append, Follow, sole, query_for, query_by, answered_trail, proposed_trail, tells, called, commit_of, said_landed, said_by, said_applied, landed_trail, trail_by, told_all, joined, happens, run_from, AllFit}
-use Rattle.session_world.specs.Laws.{life, NoneComes}
-use Rattle.session_world.specs.Answering.{statements_in, handed_by, outcome, transaction_ran, runs_on, ran_by, ran_after, TransactionsRun, Handled, comes, handled_by, handled_in, said_to, QueryFrom, CommitFrom, IsReplyTo, ArePaired, Owes, IsOpen, RepliesTo, RequestsAreAnswered}
+use Rattle.session_world.specs.Nodes.{Said, Trail, Node, Standing, databases, view_of, unseen, started}
+use Rattle.session_world.specs.Life.{Event, Connect, Hangup, Call, Apply, Lose, Lead, Serve, Append, Follow, sole, query_for, query_by, answered_trail, proposed_trail, tells, called, said_landed, said_by, said_applied, landed_trail, trail_by, told_all, joined, happens, run_from, AllFit}
+use Rattle.session_world.specs.Laws.{NoneComes}
+use Rattle.session_world.specs.Answering.{statements_in, handed_by, outcome, transaction_ran, runs_on, ran_by, ran_after, TransactionsRun, Handled, comes, handled_by, handled_in, said_to, QueryFrom, IsReplyTo, ArePaired, Owes, IsOpen, RepliesTo, RequestsAreAnswered}
 use Rattle.session_world.proofs.Invariant.{Once, NodeOk}
-use Rattle.session_world.proofs.Tables.{settled_there, lost_bare, lost_there}
-use Rattle.session_world.proofs.Lives.{none_is, happens_ok, run_ok, started_ok}
+use Rattle.session_world.proofs.Tables.{lost_bare, lost_there}
+use Rattle.session_world.proofs.Lives.{none_is, run_ok, started_ok}
 use Rattle.session_world.proofs.Lasts.{run_append, fit_parts}
 use Rattle.session_world.proofs.Answers.{landed_to, there_of, waits_for}
 use Rattle.session_world.proofs.Outcomes.{NoRows, OneIfRows, NoteOk, TxAfter, KindNote, TurnedOk, request_turns}
