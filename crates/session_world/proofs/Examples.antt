@@ -63,7 +63,7 @@ leadership_goes_holds = record { told = refl; image = refl }
 -- the engine may answer so
 
 one_short : IsShort (one 7)
-unfolding is_space is_digit is_letter is_word_start is_word_part is_sigil is_quote is_in_line has_end kind_of quoted starred decimal in_range parameter solid extended finished statements_from scan_of sigil_token dash_token slash_token sign_token token_of tokens_past is_write is_left_out keyword_of followed_by kind_so_far parts_of first_count cut first_nul zeros resized page_from sizes_page page_at stated_main stated_side replaced put_pages applied is_sizes order_fault length_fault fault_before changed_from changed at_name change_first split_from asked_by takes runs tx_of tidy on_applied told_applied on_lost told_lost on_hangup connects connected holds other_holds change_in_flight all_names one_too_many flown pages_with too_full hindrance with_commit framed act files row_cause outside_write outside inside committed does on_request handed with_session may_ask happens cell_page with_page with_cell wiped outcome_of two_open after transaction number halves statement_of fault_in
+unfolding is_space is_digit is_letter is_word_start is_word_part is_sigil is_quote is_in_line has_end kind_of quoted starred decimal in_range parameter solid extended finished statements_from scan_of sigil_token dash_token slash_token sign_token token_of tokens_past is_write is_left_out keyword_of followed_by kind_so_far parts_of first_count cut first_nul zeros resized page_from sizes_page page_at stated_main stated_side replaced put_pages applied is_sizes order_fault length_fault fault_before changed_from changed at_name change_first split_from asked_by takes runs tx_of tidy on_applied told_applied on_lost told_lost on_hangup connects connected holds other_holds change_in_flight all_names one_too_many flown pages_with too_full hindrance with_commit framed act files row_cause outside_write outside inside committed does on_request handed with_session may_ask happens cell_page with_page with_cell wiped outcome_of two_open after transaction number_below halves statement_of fault_in
 one_short = record {
   main = let e : length (one 7).main ≡ 4096 = refl in omega arith;
   side = let e : length (one 7).side ≡ 4096 = refl in omega arith;
@@ -89,11 +89,11 @@ unfolding outcome_of statement_of number_below halves digits
 get_runs image = refl
 
 get_pages : changed (one 7) (one 7) ≡ []
-unfolding is_space is_digit is_letter is_word_start is_word_part is_sigil is_quote is_in_line has_end kind_of quoted starred decimal in_range parameter solid extended finished statements_from scan_of sigil_token dash_token slash_token sign_token token_of tokens_past is_write is_left_out keyword_of followed_by kind_so_far parts_of first_count cut first_nul zeros resized page_from sizes_page page_at stated_main stated_side replaced put_pages applied is_sizes order_fault length_fault fault_before changed_from changed at_name change_first split_from asked_by takes runs tx_of tidy on_applied told_applied on_lost told_lost on_hangup connects connected holds other_holds change_in_flight all_names one_too_many flown pages_with too_full hindrance with_commit framed act files row_cause outside_write outside inside committed does on_request handed with_session may_ask happens cell_page with_page with_cell wiped outcome_of two_open after transaction number halves statement_of fault_in
+unfolding is_space is_digit is_letter is_word_start is_word_part is_sigil is_quote is_in_line has_end kind_of quoted starred decimal in_range parameter solid extended finished statements_from scan_of sigil_token dash_token slash_token sign_token token_of tokens_past is_write is_left_out keyword_of followed_by kind_so_far parts_of first_count cut first_nul zeros resized page_from sizes_page page_at stated_main stated_side replaced put_pages applied is_sizes order_fault length_fault fault_before changed_from changed at_name change_first split_from asked_by takes runs tx_of tidy on_applied told_applied on_lost told_lost on_hangup connects connected holds other_holds change_in_flight all_names one_too_many flown pages_with too_full hindrance with_commit framed act files row_cause outside_write outside inside committed does on_request handed with_session may_ask happens cell_page with_page with_cell wiped outcome_of two_open after transaction number_below halves statement_of fault_in
 get_pages = refl
 
 get_readable : fault_in (plain_rows (cell_rows (page_at (one 7) 2))) ≡ None
-unfolding is_space is_digit is_letter is_word_start is_word_part is_sigil is_quote is_in_line has_end kind_of quoted starred decimal in_range parameter solid extended finished statements_from scan_of sigil_token dash_token slash_token sign_token token_of tokens_past is_write is_left_out keyword_of followed_by kind_so_far parts_of first_count cut first_nul zeros resized page_from sizes_page page_at stated_main stated_side replaced put_pages applied is_sizes order_fault length_fault fault_before changed_from changed at_name change_first split_from asked_by takes runs tx_of tidy on_applied told_applied on_lost told_lost on_hangup connects connected holds other_holds change_in_flight all_names one_too_many flown pages_with too_full hindrance with_commit framed act files row_cause outside_write outside inside committed does on_request handed with_session may_ask happens cell_page with_page with_cell wiped outcome_of two_open after transaction number halves statement_of fault_in
+unfolding is_space is_digit is_letter is_word_start is_word_part is_sigil is_quote is_in_line has_end kind_of quoted starred decimal in_range parameter solid extended finished statements_from scan_of sigil_token dash_token slash_token sign_token token_of tokens_past is_write is_left_out keyword_of followed_by kind_so_far parts_of first_count cut first_nul zeros resized page_from sizes_page page_at stated_main stated_side replaced put_pages applied is_sizes order_fault length_fault fault_before changed_from changed at_name change_first split_from asked_by takes runs tx_of tidy on_applied told_applied on_lost told_lost on_hangup connects connected holds other_holds change_in_flight all_names one_too_many flown pages_with too_full hindrance with_commit framed act files row_cause outside_write outside inside committed does on_request handed with_session may_ask happens cell_page with_page with_cell wiped outcome_of two_open after transaction number_below halves statement_of fault_in
 get_readable = refl
 
 one_wide : (image : Image) (o : Option (List ℕ)) → AllByRecursion (λ row. length row ≡ 1) (cell_rows o)
@@ -111,5 +111,5 @@ may_get = record {
 }
 
 pub transaction_fits : TransactionFits
-unfolding is_space is_digit is_letter is_word_start is_word_part is_sigil is_quote is_in_line has_end kind_of quoted starred decimal in_range parameter solid extended finished statements_from scan_of sigil_token dash_token slash_token sign_token token_of tokens_past is_write is_left_out keyword_of followed_by kind_so_far parts_of first_count cut first_nul zeros resized page_from sizes_page page_at stated_main stated_side replaced put_pages applied is_sizes order_fault length_fault fault_before changed_from changed at_name change_first split_from asked_by takes runs tx_of tidy on_applied told_applied on_lost told_lost on_hangup connects connected holds other_holds change_in_flight all_names one_too_many flown pages_with too_full hindrance with_commit framed act files row_cause outside_write outside inside committed does on_request handed with_session may_ask happens cell_page with_page with_cell wiped outcome_of two_open after transaction number halves statement_of fault_in
+unfolding is_space is_digit is_letter is_word_start is_word_part is_sigil is_quote is_in_line has_end kind_of quoted starred decimal in_range parameter solid extended finished statements_from scan_of sigil_token dash_token slash_token sign_token token_of tokens_past is_write is_left_out keyword_of followed_by kind_so_far parts_of first_count cut first_nul zeros resized page_from sizes_page page_at stated_main stated_side replaced put_pages applied is_sizes order_fault length_fault fault_before changed_from changed at_name change_first split_from asked_by takes runs tx_of tidy on_applied told_applied on_lost told_lost on_hangup connects connected holds other_holds change_in_flight all_names one_too_many flown pages_with too_full hindrance with_commit framed act files row_cause outside_write outside inside committed does on_request handed with_session may_ask happens cell_page with_page with_cell wiped outcome_of two_open after transaction number_below halves statement_of fault_in
 transaction_fits = (refl, ((refl, (tt, tt)), (omega arith, ((refl, refl, λ n. refl), (tt, (tt, ((λ h. tt), (omega arith, ((λ h. tt), ((λ h. tt), ((λ h. ((0, may_set), tt)), ((λ h. tt), (omega arith, ((λ h. ((0, may_get), tt)), tt))))))))))))))
