@@ -30,7 +30,9 @@ use Rattle.session_rules.specs.Machine.{with_commit, framed, act, files}
 use Rattle.session_rules.specs.Requests.{row_cause, outside_write, outside, inside, committed, does, on_request, handed, with_session}
 use Rattle.session_rules.specs.Sessions.{may_ask}
 use Rattle.session_world.specs.Life.{happens}
-use Rattle.sql_engine.specs.CellTexts.{number, halves, statement_of}
+use Rattle.dq_base.specs.Decimal.{number_below}
+use Rattle.dq_base.specs.Texts.{halves}
+use Rattle.sql_engine.specs.CellTexts.{statement_of}
 use Rattle.sql_engine.specs.Replies.{fault_in}
 use Rattle.sql_engine.specs.Cells.{cell_page, with_page, with_cell, wiped, outcome_of}
 use Rattle.std.specs.Prelude.{codes, Option, Some, None, Ok}
@@ -68,7 +70,7 @@ one_short = record {
 }
 
 set_runs : (image : Image) → outcome_of image (record { text = set_text 7; params = [] }) ≡ Ok (record { after = with_cell image 1 7; reply = record { affected = 1; columns = []; rows = [] } })
-unfolding outcome_of statement_of number halves digits
+unfolding outcome_of statement_of number_below halves digits
 set_runs image = refl
 
 pub may_set : MayAnswer cells empty_image (record { text = set_text 7; params = [] }) 0 (set_on empty_image 7)
@@ -83,7 +85,7 @@ may_set = record {
 }
 
 get_runs : (image : Image) → outcome_of image (record { text = codes "GET 1"; params = [] }) ≡ Ok (record { after = image; reply = record { affected = 0; columns = codes "v" ∷ []; rows = plain_rows (cell_rows (page_at image 2)) } })
-unfolding outcome_of statement_of number halves digits
+unfolding outcome_of statement_of number_below halves digits
 get_runs image = refl
 
 get_pages : changed (one 7) (one 7) ≡ []
