@@ -1,9 +1,33 @@
-use dq_base::{Bytes, Image, PageSet, apply};
-use sql_engine::{CellEngine, Engine, EngineFault, Ran};
+use dq_base::{Bytes, Image, ImageNumber, PageSet, apply};
+use sql_engine::{CellEngine, Engine, EngineFault, ImageNumbers, Ran};
 use sqlite_engine::{AnyEngine, SqliteEngine};
 use std::alloc::{AllocError, Global};
 use std::test::Fail;
 use wire_words::{Value, WireText};
+
+/// The numbers of the tests' images, where the engine has forgotten all numbers.
+const NUMBERS: ImageNumbers = ImageNumbers {
+    before: ImageNumber::Working(0),
+    after: 1,
+};
+
+/// What an engine that forgets all numbers answers to a statement, without a limit of steps.
+fn answer<E: Engine>(
+    engine: &mut E,
+    image: &Image,
+    text: &str,
+    params: &[Value],
+    tx: u64,
+) -> Result<Ran, EngineFault> {
+    engine.forget();
+    engine.run(image, NUMBERS, text, params, tx, None)
+}
+
+/// Tells an engine that forgets all numbers of an image.
+fn announce<E: Engine>(engine: &mut E, image: &Image) {
+    engine.forget();
+    engine.ready(image, NUMBERS.before);
+}
 
 /// A database as an engine and an image of it.
 #[derive(Drop)]
@@ -22,7 +46,7 @@ impl Database {
 
     /// Runs a statement, and applies its pages to the image. Answers how many rows and how many pages it changed.
     fn write(&mut self, text: &str, params: &[Value]) -> Result<(u64, usize), Fail> {
-        let ran = self.engine.run(&self.image, text, params, 1)?;
+        let ran = answer(&mut self.engine, &self.image, text, params, 1)?;
         if !ran.after.pages.is_empty() {
             apply(&mut self.image, &ran.after)?;
         }
@@ -66,17 +90,17 @@ fn filled(alloc: Global) -> Result<Database, Fail> {
 
 /// Whether a text that is no SQL is refused.
 fn refuses(engine: &mut SqliteEngine, image: &Image) -> bool {
-    engine.run(image, "SELEC 1", &[], 3).is_err()
+    answer(engine, image, "SELEC 1", &[], 3).is_err()
 }
 
 /// What a query answers over an image that was opened ahead, before and after a text that is refused: whether its row is
 /// there, the pages of its set, and how many openings were tried in all.
 fn asked(engine: &mut SqliteEngine, image: &Image) -> Result<(bool, usize, u64), Fail> {
     let text = "SELECT a, b FROM t";
-    engine.ready(image);
-    let first = engine.run(image, text, &[], 2)?;
+    announce(engine, image);
+    let first = answer(engine, image, text, &[], 2)?;
     let is_refused = refuses(engine, image);
-    let second = engine.run(image, text, &[], 4)?;
+    let second = answer(engine, image, text, &[], 4)?;
     let is_row = row_of(&first) == Some((5, "x")) && row_of(&second) == Some((5, "x"));
     let is_named = first_name(&first) == Some("a");
     Ok((
@@ -108,7 +132,7 @@ fn pages_of(database: &mut Database, text: &str, params: &[Value]) -> Result<Pag
         affected: _,
         columns: _,
         rows: _,
-    } = database.engine.run(&database.image, text, params, 1)?;
+    } = answer(&mut database.engine, &database.image, text, params, 1)?;
     apply(&mut database.image, &after)?;
     Ok(after)
 }
@@ -136,7 +160,7 @@ fn pages_lead_to_the_same_rows_elsewhere(rt: HostRuntime) -> Result<(), Fail> {
 /// The fault of a statement over a filled database.
 fn fault_of(alloc: Global, text: &str) -> Result<Option<EngineFault>, Fail> {
     let mut database = filled(alloc)?;
-    Ok(database.engine.run(&database.image, text, &[], 4).err())
+    Ok(answer(&mut database.engine, &database.image, text, &[], 4).err())
 }
 
 /// Texts, and the fault of each.
@@ -170,7 +194,7 @@ fn over_no_database(alloc: Global) -> Result<Option<EngineFault>, Fail> {
     main.resize(5000, 7)?;
     image.main = Bytes::new(main);
     let mut engine = SqliteEngine::new(alloc);
-    Ok(engine.run(&image, "SELECT 1", &[], 5).err())
+    Ok(answer(&mut engine, &image, "SELECT 1", &[], 5).err())
 }
 
 #[test]
@@ -209,8 +233,8 @@ fn forked(alloc: Global, cells: bool) -> Result<AnyEngine, AllocError> {
 fn fault_under(alloc: Global, cells: bool, text: &str) -> Result<Option<EngineFault>, AllocError> {
     let mut engine = forked(alloc, cells)?;
     let image = Image::new(alloc);
-    engine.ready(&image);
-    Ok(engine.run(&image, text, &[], 6).err())
+    announce(&mut engine, &image);
+    Ok(answer(&mut engine, &image, text, &[], 6).err())
 }
 
 /// Whether cells are asked, a text, and its fault.
@@ -226,5 +250,50 @@ fn each_kind_has_its_own_statements(rt: HostRuntime) -> Result<(), Fail> {
     for &(cells, text, wanted) in KINDS {
         assert_eq!(rt; fault_under(rt.alloc(), cells, text)?, wanted);
     }
+    Ok(())
+}
+/// Texts that look at the listing of tables, or at rows, and change nothing.
+const LOOKS: &[&str] = &[
+    "SELECT name FROM sqlite_schema",
+    "SELECT name, sql FROM sqlite_master WHERE type = 'table'",
+    "SELECT count(*) FROM sqlite_schema",
+    "SELECT a FROM t",
+];
+
+/// How many pages a text changes that looks at a database with two commits, and how many openings were tried in all.
+fn looked(alloc: Global, text: &str) -> Result<(usize, u64), Fail> {
+    let mut database = filled(alloc)?;
+    let (_affected, pages) = database.write(text, &[])?;
+    Ok((pages, database.engine.openings()))
+}
+
+#[test]
+fn a_look_changes_nothing(rt: HostRuntime) -> Result<(), Fail> {
+    for &text in LOOKS {
+        assert_eq!(rt; looked(rt.alloc(), text)?, (0, 1));
+    }
+    Ok(())
+}
+
+/// A join of a table of 110 rows with itself twice.
+const JOIN: &str = "SELECT count(*) FROM n a, n b, n c";
+
+/// What the join answers in at most so many steps, and how many openings were tried in all: it leaves its connection.
+fn joined(alloc: Global, limit: u64) -> Result<(Option<EngineFault>, u64), Fail> {
+    let mut database = Database::new(alloc);
+    database.write("CREATE TABLE n (a INTEGER PRIMARY KEY)", &[])?;
+    database.write("INSERT INTO n VALUES (1), (2), (3), (4), (5), (6), (7), (8), (9), (10)", &[])?;
+    database.write("INSERT INTO n SELECT 10 + 10 * a.a + b.a FROM n a, n b", &[])?;
+    database.engine.forget();
+    let joined = database
+        .engine
+        .run(&database.image, NUMBERS, JOIN, &[], 1, Some(limit));
+    database.write("SELECT 1", &[])?;
+    Ok((joined.err(), database.engine.openings()))
+}
+
+#[test]
+fn a_long_join_is_cut_short(rt: HostRuntime) -> Result<(), Fail> {
+    assert_eq!(rt; joined(rt.alloc(), 10_000)?, (Some(EngineFault::Cut), 1));
     Ok(())
 }

@@ -29,7 +29,8 @@ alike_test a b e =
     and_from (bytes_eq a.main b.main) (bytes_eq a.side b.side)
     ((bytes_eq-Decides a.main b.main).1 (ap (λ (i : Image). i.main) e)) ((bytes_eq-Decides a.side b.side).1 (ap (λ (i : Image). i.side) e))
 
-change_leads : (a b : Image) → length b.main < 2 ^ 64 → length b.side < 2 ^ 64 → applied a (changed a b) ≡ b
+-- the pages that two images differ in lead from one to the other
+pub change_leads : (a b : Image) → length b.main < 2 ^ 64 → length b.side < 2 ^ 64 → applied a (changed a b) ≡ b
 change_leads a b main_fits side_fits =
     elim (cases_Bool (same_image a b)) [
       | inl same ↦ ap (applied a) (unchanged a b same) ∙ applied_none a ∙ alike a b same

@@ -1,13 +1,15 @@
-ghost use Rattle.std.specs.Prelude.{◌≡◌, ◌↔◌, true, false, [], None, Some, IsTrue, IfOk, IfErr, IfSome, Err};
-ghost use Rattle.counts.specs.Counts.{LooksOnly, Returns};
+ghost use Rattle.std.specs.Prelude.{◌≡◌, ◌↔◌, true, false, [], Some, IsTrue, IfOk, IfErr, IfSome, Err};
+ghost use Rattle.counts.specs.Counts.{LooksOnly};
 ghost use Rattle.dq_base.specs.Changes.{changed};
 ghost use Rattle.sql_engine.specs.Meanings.{IsShort};
 ghost use Rattle.sqlite.specs.Files.{file_state};
 ghost use Rattle.sqlite.specs.Listing.{understood};
 ghost use Rattle.sqlite.specs.State.{Executes, FailsToQuery};
 ghost use Rattle.sqlite.specs.Values.{bound};
-ghost use Rattle.sqlite_engine.specs.Sql.{Closed, HasColumns, Stands, RanOn, FailsOn, is_of_store, refusal_of};
-ghost use Rattle.sqlite_engine.specs.Led.{Led};
+ghost use Rattle.sqlite_engine.specs.Sql.{Closed, HasColumns, Stands, RanOn, FailsOn, is_of_store};
+ghost use Rattle.sqlite_engine.specs.Led.{Led, IsRefused, IsLedTo};
+ghost use Rattle.sqlite_engine.specs.Looking.{HasReturning};
+ghost use Rattle.sqlite_engine.specs.Refusing.{IsRefusedOpening};
 ghost use Rattle.sqlite_engine.specs.Settling.{Asked, Settled};
 ghost use Rattle.sqlite_engine.specs.Shows.{showing, FailsSomehow};
 
@@ -22,8 +24,8 @@ use sqlite::types::ValueRef;
 use sqlite::{Error, ErrorCode, Row, Statement};
 use std::alloc::Global;
 
-/// A connection that is kept open over an image. But for what it has counted, it stands to that image as one that was just
-/// opened over it.
+/// A connection that is kept open over an image. But for what it has counted, and its limit of steps, it stands to that image as
+/// one that was just opened over it.
 pub(crate) struct Kept {
     pub(crate) base: Image,
     pub(crate) conn: Conn,
@@ -56,7 +58,8 @@ fn kept_over(base: Image, conn: Conn) -> Kept
 impl Kept {
     /// Opens an image, of which it keeps a copy.
     pub(crate) fn open(alloc: Global, image: &Image) -> Result<Kept, OpenFault>
-        ensures { IfOk result (λ kept. kept.base ≡ image.now) }
+        ensures base { IfOk result (λ kept. kept.base ≡ image.now) }
+        ensures refused { result ≡ Err OpenFault.Refused → ∥ IsRefusedOpening image.now ∥₁ }
     {
         let Ok(base) = image.try_clone(alloc) else {
             return Err(OpenFault::NoMemory);
@@ -71,7 +74,7 @@ impl Kept {
     /// that isn't understood.
     pub(crate) fn looks_only(&self, alloc: Global, text: &str) -> Option<bool>
         ensures looks { result ≡ Some true → LooksOnly (understood (file_state self.now.conn).now.schema text.now) }
-        ensures returns { result ≡ Some false → Returns (understood (file_state self.now.conn).now.schema text.now) }
+        ensures returns { result ≡ Some false → HasReturning (understood (file_state self.now.conn).now.schema text.now) }
     {
         looks_only(alloc, &self.conn, text)
     }
@@ -84,12 +87,23 @@ impl Kept {
             && self.base.main.as_slice() == image.main.as_slice()
     }
 
+    /// The connection with this limit of steps for each later statement, or with none.
+    pub(crate) fn limited(self, limit: Option<u64>) -> Kept
+        ensures base { result.base ≡ self.base }
+        ensures limit { result.conn.step_limit ≡ limit }
+    {
+        let Kept { base, mut conn } = self;
+        conn.set_step_limit(limit);
+        kept_over(base, conn)
+    }
+
     /// What the statement of a text shows, before it is run.
     pub(crate) fn prepared(self, text: &str) -> Result<(Kept, Statement), Failure>
         ensures base { IfOk result (λ r. r.0.base ≡ self.base) }
+        ensures limit { IfOk result (λ r. r.0.conn.step_limit ≡ self.conn.step_limit) }
         ensures columns { IfOk result (λ r. HasColumns (file_state r.0.conn) text.now r.1.columns) }
         ensures left { IfErr result (λ failure. IfSome failure.left (λ left. left.base ≡ self.base)) }
-        ensures fails { IfErr result (λ failure. (params : _) → ∥ FailsOn self.base text.now params failure.error ∥₁) }
+        ensures fails { IfErr result (λ failure. (params : _) → ∥ FailsOn self.base self.conn.step_limit text.now params failure.error ∥₁) }
     {
         let Kept { base, mut conn } = self;
         match outline(&mut conn, text) {
@@ -113,7 +127,7 @@ impl Kept {
         ensures base { IfOk result (λ r. r.0.base ≡ self.base) }
         ensures ran { IfOk result (λ r. ∥ RanOn self.base text.now (bound params.now) self.base (showing statement.now.columns r.1) ∥₁) }
         ensures left { IfErr result (λ failure. IfSome failure.left (λ left. left.base ≡ self.base)) }
-        ensures fails { IfErr result (λ failure. ∥ FailsOn self.base text.now (bound params.now) failure.error ∥₁) }
+        ensures fails { IfErr result (λ failure. ∥ FailsOn self.base self.conn.step_limit text.now (bound params.now) failure.error ∥₁) }
     {
         let Kept { base, mut conn } = self;
         match query(&mut conn, text, params) {
@@ -139,12 +153,12 @@ impl Kept {
         tx: u64,
     ) -> Result<(Option<Kept>, Shows, PageSet), Failure>
         requires columns { HasColumns (file_state self.conn) text.now statement.now.columns }
-        requires returns { (statement.now.columns ≡ [] → ⊥) → Returns (understood (file_state self.conn).now.schema text.now) }
+        requires returns { (statement.now.columns ≡ [] → ⊥) → HasReturning (understood (file_state self.conn).now.schema text.now) }
         ensures led { IfOk result (λ r. Led self.base text.now (bound params.now) tx (showing statement.now.columns r.1) r.2) }
-        ensures over { IfOk result (λ r. IfSome r.0 (λ kept. r.2 ≡ record { tx = tx; pages = changed self.base kept.base })) }
+        ensures over { IfOk result (λ r. IfSome r.0 (λ kept. IsLedTo self.base r.2 kept.base)) }
         ensures bare { IfOk result (λ r. statement.now.columns ≡ [] → r.1.rows.items ≡ []) }
         ensures left { IfErr result (λ failure. IfSome failure.left (λ left. left.base ≡ self.base)) }
-        ensures fails { IfErr result (λ failure. (refusal : _) → refusal_of failure.error ≡ Some refusal → ∥ FailsOn self.base text.now (bound params.now) failure.error ∥₁) }
+        ensures fails { IfErr result (λ failure. IsRefused self.base self.conn.step_limit text.now (bound params.now) failure.error) }
     {
         let Kept { base, mut conn } = self;
         match ask(alloc, &mut conn, statement, text, params) {
@@ -165,10 +179,9 @@ impl Kept {
 
 /// The pages that lead to what the files of a connection are now, and the connection itself, where it is in no transaction.
 fn settled(alloc: Global, base: Image, conn: Conn, tx: u64) -> Option<(Option<Kept>, PageSet)>
-    requires open { IsTrue (file_state conn).is_open }
-    requires unlimited { (file_state conn).step_limit ≡ None }
+    requires { IsTrue (file_state conn).is_open }
     ensures settled { IfSome result (λ r. Settled base conn tx r.1) }
-    ensures over { IfSome result (λ r. IfSome r.0 (λ kept. r.1 ≡ record { tx = tx; pages = changed base kept.base })) }
+    ensures over { IfSome result (λ r. IfSome r.0 (λ kept. IsLedTo base r.1 kept.base)) }
 {
     if conn.is_autocommit() && has_short_log(&conn) {
         match followed(alloc, base, conn, tx) {
@@ -195,7 +208,6 @@ fn has_short_log(conn: &Conn) -> bool {
 fn followed(alloc: Global, base: Image, conn: Conn, tx: u64) -> Option<(Kept, PageSet)>
     requires open { IsTrue (file_state conn).is_open }
     requires autocommit { (file_state conn).in_transaction ≡ false }
-    requires unlimited { (file_state conn).step_limit ≡ None }
     ensures pages { IfSome result (λ r. r.1 ≡ record { tx = tx; pages = changed base r.0.base }) }
     ensures short { IfSome result (λ r. IsShort r.0.base) }
     ensures closed { IfSome result (λ r. Closed r.0.base (file_state conn)) }
@@ -263,10 +275,9 @@ fn shows_of(conn: &Conn, rows: Vec<Row>) -> Shows
 }
 
 fn run_rows(conn: &mut Conn, text: &str, params: &[ValueRef<'_>]) -> Result<Shows, Error>
-    requires { Returns (understood (file_state conn.old).now.schema text.now) }
+    requires { HasReturning (understood (file_state conn.old).now.schema text.now) }
     ensures ok { (columns : _) → IfOk result (λ shows. Asked text.now (bound params.now) conn.old conn.new (showing columns shows)) }
     ensures err { IfErr result (FailsToQuery text.now (bound params.now) (file_state conn.old) (file_state conn.new)) }
-    ensures limit { (file_state conn.new).step_limit ≡ (file_state conn.old).step_limit }
 {
     match query(conn, text, params) {
         Ok(rows) => Ok(shows_of(conn, rows)),
@@ -283,7 +294,6 @@ fn run_plain(
     ensures ok { (columns : _) → columns ≡ [] → IfOk result (λ shows. Asked text.now (bound params.now) conn.old conn.new (showing columns shows)) }
     ensures bare { IfOk result (λ shows. shows.rows.items ≡ []) }
     ensures err { IfErr result (λ error. Executes text.now (bound params.now) (file_state conn.old) (file_state conn.new) (Err error)) }
-    ensures limit { (file_state conn.new).step_limit ≡ (file_state conn.old).step_limit }
 {
     match execute(conn, text, params) {
         Ok(affected) => Ok(Shows {
@@ -301,11 +311,10 @@ fn ask(
     text: &str,
     params: &[ValueRef<'_>],
 ) -> Result<Shows, Error>
-    requires { (statement.now.columns ≡ [] → ⊥) → Returns (understood (file_state conn.old).now.schema text.now) }
+    requires { (statement.now.columns ≡ [] → ⊥) → HasReturning (understood (file_state conn.old).now.schema text.now) }
     ensures ok { IfOk result (λ shows. Asked text.now (bound params.now) conn.old conn.new (showing statement.now.columns shows)) }
     ensures bare { IfOk result (λ shows. statement.now.columns ≡ [] → shows.rows.items ≡ []) }
     ensures err { IfErr result (FailsSomehow text.now (bound params.now) (file_state conn.old) (file_state conn.new)) }
-    ensures limit { (file_state conn.new).step_limit ≡ (file_state conn.old).step_limit }
 {
     match statement.column_names() {
         [] => run_plain(alloc, conn, text, params),

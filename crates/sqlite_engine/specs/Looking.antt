@@ -1,0 +1,26 @@
+-- Texts that look, and change nothing.
+use Rattle.std.specs.Prelude.{◌≡◌, ℕ, ◌<◌, List, [], length, Option, None, IsSome, Result, Ok, Err}
+use Rattle.dq_base.specs.declared.images.Image.{Image}
+use Rattle.sqlite.specs.Files.{file_state}
+use Rattle.sqlite.specs.Listing.{understood}
+use Rattle.sqlite_resolve.specs.declared.compiled.Compiled.{Compiled}
+use Rattle.sqlite_resolve.specs.declared.error.CompileError.{CompileError}
+use Rattle.sql_engine.specs.declared.answer.Ran.{Ran}
+use Rattle.sqlite_engine.specs.Sql.{Conn, Finds}
+
+-- a text with RETURNING, and one without
+abbrev pub HasReturning : Result Compiled CompileError → Type 0
+HasReturning (Ok c) = IsSome c.returning
+HasReturning (Err e) = ⊥
+
+abbrev pub HasNoReturning : Result Compiled CompileError → Type 0
+HasNoReturning (Ok c) = c.returning ≡ None
+HasNoReturning (Err e) = Unit {0}
+
+-- on each connection that finds the image the text has no RETURNING
+abbrev pub ReturnsNothing : Image → List ℕ → Type 0
+ReturnsNothing image text = (limit : Option ℕ) (c : Conn) → Finds image limit (file_state c) → HasNoReturning (understood (file_state c).now.schema text)
+
+-- a text that shows rows, and has no RETURNING, leaves the image as it is
+abbrev pub LeavesLooked : Image → List ℕ → Ran → Type 0
+LeavesLooked image text ran = 0 < length ran.columns → ReturnsNothing image text → ran.after.pages ≡ []

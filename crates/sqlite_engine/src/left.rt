@@ -1,0 +1,47 @@
+ghost use Rattle.std.specs.Prelude.{◌≡◌, IfSome, Err};
+ghost use Rattle.sqlite_engine.specs.Led.{IsLedTo};
+ghost use Rattle.sqlite_engine.specs.Leaving.{IsLeftOver, IsLeftBy};
+
+use crate::kept::Kept;
+
+/// What is left of a connection after a statement.
+#[derive(Drop)]
+pub(crate) enum Left {
+    /// The connection, over the image as it was.
+    Stayed(Kept),
+    /// The connection, over the image that the statement leaves.
+    WentOn(Kept),
+    /// Nothing.
+    Gone,
+}
+
+/// The connection, where nothing has changed on it.
+pub(crate) fn stayed(kept: Option<Kept>) -> Left
+    ensures { (before : _) (fault : _) → IfSome kept (λ it. it.base ≡ before) → IsLeftBy before (Err fault) result }
+{
+    match kept {
+        Some(kept) => Left::Stayed(kept),
+        None => Left::Gone,
+    }
+}
+
+/// The connection, where a statement with these pages has gone on with it.
+pub(crate) fn went_on(kept: Option<Kept>) -> Left
+    ensures { (before : _) (set : _) → IfSome kept (λ it. IsLedTo before set it.base) → IsLeftOver before set result }
+{
+    match kept {
+        Some(kept) => Left::WentOn(kept),
+        None => Left::Gone,
+    }
+}
+
+/// What is left of a connection where the statement isn't answered: one that went on is over an image that nobody has.
+pub(crate) fn unanswered(left: Left) -> Left
+    ensures { (before : _) (set : _) (fault : _) → IsLeftOver before set left → IsLeftBy before (Err fault) result }
+{
+    match left {
+        Left::Stayed(kept) => Left::Stayed(kept),
+        Left::WentOn(_kept) => Left::Gone,
+        Left::Gone => Left::Gone,
+    }
+}
