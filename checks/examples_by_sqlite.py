@@ -51,7 +51,11 @@ def databases(lines):
     for line in lines:
         words = line.split(" ")
         if words[0] == "bytes" and len(words) == 3:
-            streams.setdefault(words[1], bytearray()).extend(bytes.fromhex(words[2]))
+            try:
+                streams.setdefault(words[1], bytearray()).extend(bytes.fromhex(words[2]))
+            except ValueError:
+                # (a line at fault, behind which nothing is run)
+                break
     names = []
     for stream in streams.values():
         for kind, body in messages(bytes(stream[8:])):
@@ -75,12 +79,13 @@ def files(body):
 
 
 def verdict(found):
-    """What SQLite says of these files."""
+    """What SQLite says of these files: the main file, and the log beside it under the name that SQLite gives it."""
     with tempfile.TemporaryDirectory() as folder:
-        for name, content in found.items():
-            (pathlib.Path(folder) / name.replace("/", "_")).write_bytes(content)
-        main = min(found, key=len)
-        connection = sqlite3.connect(pathlib.Path(folder) / main.replace("/", "_"))
+        main = pathlib.Path(folder) / "database"
+        names = sorted(found, key=len)
+        main.write_bytes(found[names[0]])
+        main.with_name("database-wal").write_bytes(found[names[1]])
+        connection = sqlite3.connect(main)
         try:
             return connection.execute("PRAGMA integrity_check").fetchone()[0]
         except sqlite3.Error as error:

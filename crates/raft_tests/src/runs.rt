@@ -1,17 +1,23 @@
+ghost use Rattle.std.specs.Prelude.{◌≡◌};
+ghost use Rattle.raft_core.specs.Starting.{snapshot_in};
+
 use crate::nodes::{FIVE, configuration, fresh, step};
 use raft_core::{Kept2, RaftEvent, RaftNode, RaftRole, Sending, Todo};
 use raft_vote::{
-    Entries, Entry, EntryKind, RaftMessage, SharedBytes, read_message, read_servers, write_message,
+    Entries, Entry, EntryKind, LogEnd, RaftMessage, SharedBytes, Snapshot, What, read_message,
+    read_servers, write_message,
 };
 use std::alloc::{AllocError, Global};
 use std::test::*;
 use wire_words::{Message, WireBytes};
 
-// What a node has kept: its term, its vote, and its log.
+// What a node has kept: its term, its vote, its snapshot, and its log from an index on.
 #[derive(Drop)]
 struct Disk {
     term: u64,
     vote: u64,
+    snapshot: Option<Snapshot>,
+    first: u64,
     log: Vec<Entry>,
 }
 
@@ -29,13 +35,28 @@ impl Disk {
         let Some(first) = batch else {
             return Ok(());
         };
-        self.log.truncate(first.saturating_sub(1) as usize);
+        self.log.truncate(first.saturating_sub(self.first) as usize);
         for index in first..=node.view().last.index {
             if let Some(entry) = node.entry(index) {
                 self.log.push(entry.copied()?)?;
             }
         }
         Ok(())
+    }
+
+    // Keeps a snapshot, with the entries that the node still has.
+    fn keep_snapshot(&mut self, node: &RaftNode, snapshot: Snapshot) -> Result<(), AllocError> {
+        self.first = snapshot.index.saturating_add(1);
+        self.snapshot = Some(snapshot);
+        self.log.clear();
+        for _ in 0..17 {
+            let earlier = self.first.saturating_sub(1);
+            if node.entry(earlier).is_some() {
+                self.first = earlier;
+            }
+        }
+        let first = self.first;
+        self.keep_batch(node, Some(first))
     }
 
     // A copy of the log that it has kept.
@@ -46,13 +67,71 @@ impl Disk {
         }
         Ok(Entries::new(log))
     }
+
+    // The end of its snapshot.
+    fn end(&self) -> Option<LogEnd> {
+        match &self.snapshot {
+            Some(snapshot) => Some(LogEnd {
+                index: snapshot.index,
+                term: snapshot.term,
+            }),
+            None => None,
+        }
+    }
 }
 
-// A node and what it has kept.
+// A node, what it has kept, and a byte for each entry that it has applied.
 #[derive(Drop)]
 struct Member {
     node: RaftNode,
     disk: Disk,
+    applied: Vec<u8>,
+}
+
+// The byte of an entry.
+fn byte_of(entry: &Entry) -> u8 {
+    match entry.bytes.as_slice().first() {
+        Some(byte) => *byte,
+        None => (entry.term & 0xff) as u8,
+    }
+}
+
+impl Member {
+    // What is committed is applied.
+    fn applies(&mut self, commit: u64) -> Result<(), AllocError> {
+        for index in self.applied.len() as u64..commit {
+            if let Some(entry) = self.node.entry(index.saturating_add(1)) {
+                self.applied.push(byte_of(entry))?;
+            }
+        }
+        Ok(())
+    }
+
+    // A snapshot has come: it is kept, and what it says counts as applied.
+    fn installs(&mut self, alloc: Global, came: Option<Snapshot>) -> Result<(), AllocError> {
+        let Some(snapshot) = came else {
+            return Ok(());
+        };
+        self.applied = Vec::from_slice(alloc, snapshot.bytes.as_slice())?;
+        self.disk.keep_snapshot(&self.node, snapshot)
+    }
+
+    // A snapshot of what is applied, past the last one.
+    fn snapshot(&self, alloc: Global) -> Result<Option<Snapshot>, AllocError> {
+        let index = self.applied.len() as u64;
+        let Some(term) = self.node.term_at(index) else {
+            return Ok(None);
+        };
+        if self.disk.end().is_some_and(|end| index <= end.index) || index == 0 {
+            return Ok(None);
+        }
+        let bytes = WireBytes::new(Vec::from_slice(alloc, self.applied.as_slice())?);
+        Ok(Some(Snapshot {
+            index,
+            term,
+            bytes: SharedBytes::new(alloc, bytes)?,
+        }))
+    }
 }
 
 // The numbers that are picked, one after another.
@@ -70,10 +149,29 @@ impl Picks {
     }
 }
 
-// A member takes an event: what it is to keep is kept, and then what it sends is under way.
+// What a member sends, as a message; an Install has the bytes of its snapshot.
+fn message_of(member: &Member, from: u64, sending: Sending) -> Result<Option<RaftMessage>, Fail> {
+    match sending {
+        Sending::Message(message) => Ok(Some(message)),
+        Sending::Install { to, term, last: _ } => match &member.disk.snapshot {
+            Some(snapshot) => Ok(Some(RaftMessage {
+                from,
+                to,
+                term,
+                what: What::Install {
+                    snapshot: snapshot.share()?,
+                },
+            })),
+            None => Err(Fail::from("no snapshot")),
+        },
+    }
+}
+
+// A member takes an event: what it is to keep is kept, then applied, and then what it sends is under way.
 fn happens(
     alloc: Global,
     member: &mut Member,
+    from: u64,
     event: RaftEvent,
     mail: &mut Vec<RaftMessage>,
 ) -> Result<(), Fail> {
@@ -81,32 +179,80 @@ fn happens(
     let Todo {
         meta,
         batch,
-        install: _,
+        install,
         sends,
-        commit: _,
+        commit,
     } = todo;
     member.disk.keep_meta(meta);
     member.disk.keep_batch(&member.node, batch)?;
+    member.installs(alloc, install)?;
+    member.applies(commit)?;
     for sending in sends.into_vec() {
-        if let Sending::Message(message) = sending {
+        if let Some(message) = message_of(member, from, sending)? {
             mail.push(message)?;
         }
     }
     Ok(())
 }
 
-// A member stops, and starts with what it has kept.
-fn restarts(alloc: Global, member: &mut Member, id: u64) -> Result<(), Fail> {
+// A member takes a snapshot of what it has applied, and keeps it.
+fn snaps(
+    alloc: Global,
+    member: &mut Member,
+    from: u64,
+    mail: &mut Vec<RaftMessage>,
+) -> Result<(), Fail> {
+    let Some(snapshot) = member.snapshot(alloc)? else {
+        return Ok(());
+    };
+    let at = LogEnd {
+        index: snapshot.index,
+        term: snapshot.term,
+    };
+    happens(alloc, member, from, RaftEvent::Snapped { at }, mail)?;
+    member.disk.keep_snapshot(&member.node, snapshot)?;
+    Ok(())
+}
+
+// The index of a snapshot's end.
+fn end_index(snapshot: Option<LogEnd>) -> u64
+    ensures { result ≡ (snapshot_in snapshot).index }
+{
+    match snapshot {
+        Some(end) => end.index,
+        None => 0,
+    }
+}
+
+// A node that starts with what was kept.
+fn started(alloc: Global, id: u64, kept: Kept2) -> Result<RaftNode, Fail> {
     let bytes = configuration(alloc, FIVE)?;
     let (servers, _) = read_servers(alloc, bytes.as_slice())?;
+    let index = end_index(kept.snapshot);
+    if kept.first == 0 || kept.first - 1 > index {
+        return Err(Fail::from("a gap behind the snapshot"));
+    }
+    if index - (kept.first - 1) > kept.entries.len() as u64 {
+        return Err(Fail::from("a log before the snapshot"));
+    }
+    Ok(RaftNode::new(alloc, id, servers.as_slice(), kept)?)
+}
+
+// A member stops, and starts with what it has kept.
+fn restarts(alloc: Global, member: &mut Member, id: u64) -> Result<(), Fail> {
     let kept = Kept2 {
         term: member.disk.term,
         vote: member.disk.vote,
-        snapshot: None,
-        first: 1,
+        snapshot: member.disk.end(),
+        first: member.disk.first,
         entries: member.disk.copied(alloc)?,
     };
-    member.node = RaftNode::new(alloc, id, servers.as_slice(), kept)?;
+    member.node = started(alloc, id, kept)?;
+    let state = match &member.disk.snapshot {
+        Some(snapshot) => Vec::from_slice(alloc, snapshot.bytes.as_slice())?,
+        None => Vec::new(alloc),
+    };
+    member.applied = state;
     Ok(())
 }
 
@@ -141,9 +287,9 @@ fn arrives(
     if fate == 1 {
         mail.push(again(alloc, &message)?)?;
     }
-    let at = message.to.saturating_sub(1) as usize;
-    if let Some(member) = members.get_mut(at) {
-        happens(alloc, member, RaftEvent::Message(message), mail)?;
+    let to = message.to;
+    if let Some(member) = members.get_mut(to.saturating_sub(1) as usize) {
+        happens(alloc, member, to, RaftEvent::Message(message), mail)?;
     }
     Ok(())
 }
@@ -165,6 +311,7 @@ fn local_event(alloc: Global, kind: u64, byte: u8) -> Result<RaftEvent, AllocErr
     match kind {
         0 => Ok(RaftEvent::Timeout),
         1 | 2 => Ok(RaftEvent::Beat),
+        3 => Ok(RaftEvent::Transfer(u64::from(byte) % 5 + 1)),
         _ => proposal(alloc, byte),
     }
 }
@@ -176,21 +323,24 @@ fn goes_on(
     mail: &mut Vec<RaftMessage>,
     picks: &mut Picks,
 ) -> Result<(), Fail> {
-    let kind = picks.below(40);
+    let kind = picks.below(64);
     let at = picks.below(5);
     let byte = (picks.below(256) & 0xff) as u8;
-    if kind >= 8 {
+    if kind >= 12 {
         let index = picks.below(mail.len() as u64) as usize;
         return arrives(alloc, members, mail, index, picks.below(8));
     }
     let Some(member) = members.get_mut(at as usize) else {
         return Ok(());
     };
-    if kind == 7 {
-        return restarts(alloc, member, at + 1);
+    match kind {
+        10 => snaps(alloc, member, at + 1, mail),
+        11 => restarts(alloc, member, at + 1),
+        _ => {
+            let event = local_event(alloc, kind, byte)?;
+            happens(alloc, member, at + 1, event, mail)
+        }
     }
-    let event = local_event(alloc, kind, byte)?;
-    happens(alloc, member, event, mail)
 }
 
 // All that is under way comes, in order, and nothing is lost.
@@ -226,7 +376,7 @@ fn at_member(
         RaftEvent::Beat
     };
     match members.get_mut(at) {
-        Some(member) => happens(alloc, member, event, mail),
+        Some(member) => happens(alloc, member, at as u64 + 1, event, mail),
         None => Ok(()),
     }
 }
@@ -248,45 +398,44 @@ fn everywhere(
     Ok(())
 }
 
-// Whether two nodes have the same entry at an index.
-fn same_entry(one: &RaftNode, other: &RaftNode, index: u64) -> bool {
-    match (one.entry(index), other.entry(index)) {
-        (Some(a), Some(b)) => a.term == b.term && a.bytes.as_slice() == b.bytes.as_slice(),
-        _ => false,
-    }
-}
-
-// Up to which index all have applied the same entries, where they are equally far.
-fn common_front(members: &[Member]) -> Option<u64> {
+// How much all have applied, where it is the same.
+fn common_front(members: &[Member]) -> Option<usize> {
     let Some(first) = members.first() else {
         return None;
     };
-    let commit = first.node.view().commit;
-    for member in members {
-        if member.node.view().commit != commit {
-            return None;
-        }
-        for index in 0..commit {
-            if !same_entry(&first.node, &member.node, index + 1) {
-                return None;
-            }
-        }
+    let same = members.iter().all(|member| member.applied.as_slice() == first.applied.as_slice());
+    if !same {
+        return None;
     }
-    Some(commit)
+    Some(first.applied.len())
 }
 
-// A run of five nodes with a seed: so many events with losses, repeats and stops, and then a quiet time. Answers the
-// common front.
-fn run(alloc: Global, seed: u64, events: u32) -> Result<Option<u64>, Fail> {
+// How many have a snapshot.
+fn snapshots(members: &[Member]) -> usize {
+    members
+        .iter()
+        .filter(|member| member.disk.snapshot.is_some())
+        .count()
+}
+
+// A run of five nodes with a seed: so many events with losses, repeats, stops, snapshots and transfers, and then a quiet
+// time. Answers the common front, and how many have a snapshot.
+fn run(alloc: Global, seed: u64, events: u32) -> Result<(Option<usize>, usize), Fail> {
     let mut members = Vec::new(alloc);
     for id in 1..6 {
         let node = fresh(alloc, id, FIVE)?;
         let disk = Disk {
             term: 0,
             vote: 0,
+            snapshot: None,
+            first: 1,
             log: Vec::new(alloc),
         };
-        members.push(Member { node, disk })?;
+        members.push(Member {
+            node,
+            disk,
+            applied: Vec::new(alloc),
+        })?;
     }
     let mut mail = Vec::new(alloc);
     let mut picks = Picks(seed);
@@ -297,14 +446,20 @@ fn run(alloc: Global, seed: u64, events: u32) -> Result<Option<u64>, Fail> {
         everywhere(alloc, &mut members, &mut mail, true)?;
         everywhere(alloc, &mut members, &mut mail, false)?;
     }
-    Ok(common_front(members.as_slice()))
+    Ok((
+        common_front(members.as_slice()),
+        snapshots(members.as_slice()),
+    ))
 }
 
 #[test]
 fn random_runs_end_alike(rt: HostRuntime) -> Result<(), Fail> {
+    let mut with_snapshots = 0;
     for seed in 1..9 {
-        let front = run(rt.alloc(), seed, 400)?;
+        let (front, snapshots) = run(rt.alloc(), seed, 600)?;
         assert!(rt; front.unwrap_or(0) > 0);
+        with_snapshots = snapshots.max(with_snapshots);
     }
+    assert!(rt; with_snapshots > 0);
     Ok(())
 }

@@ -282,8 +282,14 @@ const JOIN: &str = "SELECT count(*) FROM n a, n b, n c";
 fn joined(alloc: Global, limit: u64) -> Result<(Option<EngineFault>, u64), Fail> {
     let mut database = Database::new(alloc);
     database.write("CREATE TABLE n (a INTEGER PRIMARY KEY)", &[])?;
-    database.write("INSERT INTO n VALUES (1), (2), (3), (4), (5), (6), (7), (8), (9), (10)", &[])?;
-    database.write("INSERT INTO n SELECT 10 + 10 * a.a + b.a FROM n a, n b", &[])?;
+    database.write(
+        "INSERT INTO n VALUES (1), (2), (3), (4), (5), (6), (7), (8), (9), (10)",
+        &[],
+    )?;
+    database.write(
+        "INSERT INTO n SELECT 10 + 10 * a.a + b.a FROM n a, n b",
+        &[],
+    )?;
     database.engine.forget();
     let joined = database
         .engine

@@ -54,11 +54,11 @@ found_base place [] base e = absurd cc
 found_base place (x ∷ xs) base e =
     elim (cases_Bool (x.place == place)) [
       | inl same ↦ record {
-          database = x;
-          among = (0, omega arith, refl);
-          is = some_base (numbered x) base (sym (cond-true (x.place == place) (Some (numbered x)) (base_at place (map numbered xs)) same) ∙ e);
-          at = eqb-true x.place place same;
-        }
+        database = x;
+        among = (0, omega arith, refl);
+        is = some_base (numbered x) base (sym (cond-true (x.place == place) (Some (numbered x)) (base_at place (map numbered xs)) same) ∙ e);
+        at = eqb-true x.place place same;
+      }
       | inr other ↦ further_at place x xs base (found_base place xs base (sym (cond-false (x.place == place) (Some (numbered x)) (base_at place (map numbered xs)) other) ∙ e))
     ]
 
@@ -117,12 +117,12 @@ module _ (known works : List Known) (next : ℕ) (before after : List Database) 
   older place commits d c at given =
       elim (each_of (ComesFrom before) after d goes.each c) [
         | inl from ↦ record {
-            database = from.0;
-            among = from.1;
-            at = sym from.2.place ∙ at;
-            follows = from.2;
-            reached = subst (λ (o : Option Numbered). IsReachedIn o commits) (subst (λ (p : ℕ). base_at p (map numbered before) ≡ Some (numbered from.0)) (sym from.2.place ∙ at) (base_of before from.0 old.apart from.1)) given.1;
-          }
+          database = from.0;
+          among = from.1;
+          at = sym from.2.place ∙ at;
+          follows = from.2;
+          reached = subst (λ (o : Option Numbered). IsReachedIn o commits) (subst (λ (p : ℕ). base_at p (map numbered before) ≡ Some (numbered from.0)) (sym from.2.place ∙ at) (base_of before from.0 old.apart from.1)) given.1;
+        }
         | inr past ↦ absurd (omega (arith, past, at, given.0, length-map before numbered))
       ]
 
@@ -134,11 +134,11 @@ module _ (known works : List Known) (next : ℕ) (before after : List Database) 
       elim (cases_Bool (has_commits commits base.number)) [
         | inl as_many ↦ cond-true (has_commits commits base.number) base.image (a.newest place commits) as_many
             ∙ (let many : newest found.database.store ≡ commits = eqb-true (newest found.database.store) commits (ap (λ (b : Numbered). has_commits commits b.number) found.is ∙ as_many) in
-              let up : newest from.database.store ≤ newest found.database.store = from.follows.commits in
-              let most : commits ≤ newest from.database.store = from.reached in
-              let even : newest found.database.store ≡ newest from.database.store = omega arith in
-              sym (ap (λ (b : Numbered). b.image) found.is) ∙ from.follows.image even ∙ stood from.database from.among
-              ∙ ap (λ (p : ℕ). a.newest p (newest from.database.store)) from.at ∙ ap (a.newest place) (sym even ∙ many))
+            let up : newest from.database.store ≤ newest found.database.store = from.follows.commits in
+            let most : commits ≤ newest from.database.store = from.reached in
+            let even : newest found.database.store ≡ newest from.database.store = omega arith in
+            sym (ap (λ (b : Numbered). b.image) found.is) ∙ from.follows.image even ∙ stood from.database from.among
+            ∙ ap (λ (p : ℕ). a.newest p (newest from.database.store)) from.at ∙ ap (a.newest place) (sym even ∙ many))
         | inr fewer ↦ cond-false (has_commits commits base.number) base.image (a.newest place commits) fewer
       ]
 

@@ -1,0 +1,4 @@
+pub mod Kept
+pub mod Elsewhere
+pub mod Heeded
+pub mod Sound

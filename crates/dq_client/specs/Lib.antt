@@ -1,0 +1,4 @@
+pub mod Sending
+pub mod Course
+pub mod Laws
+pub mod Awaiting
