@@ -1,0 +1,2 @@
+mod WholeLogs
+mod Readings

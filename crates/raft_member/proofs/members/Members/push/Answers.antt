@@ -1,0 +1,10 @@
+use Rattle.std.proofs.Common.{◌≡◌, [], ◌∷◌, ◌++◌, sym, subst, rules}
+use Rattle.raft_member.specs.Members.{Configurations, with_change, IsOf}
+use Rattle.raft_member.proofs.WholeLogs.{is_pushed}
+use Rattle.raft_member.proofs.members.Members.push.Goals as goal
+
+pub returns-clause-is : goal.returns-clause-is
+returns-clause-is c setup log e h at reads read =
+    let m : Configurations = record { at = c.self.inside.at; servers = c.self.inside.servers; later = c.push.new.self.items } in
+    let is : m ≡ with_change c.args.self.now c.args.index c.args.servers = search rules in
+    subst (IsOf setup (log ++ e ∷ [])) (sym is) (is_pushed setup log e c.args.self.now c.args.index c.args.servers h at reads read)

@@ -1,0 +1,10 @@
+use Rattle.std.proofs.Common.{◌≡◌, sym, subst, rules}
+use Rattle.raft_member.specs.Members.{Configurations, settled, IsOf}
+use Rattle.raft_member.proofs.WholeLogs.{is_settled}
+use Rattle.raft_member.proofs.members.Members.settle.Goals as goal
+
+pub returns-clause-is : goal.returns-clause-is
+returns-clause-is c setup log h within =
+    let m : Configurations = record { at = c.args.applied; servers = c.self.inside.servers; later = c.self.inside.changes.items } in
+    let is : m ≡ settled c.args.self.now c.args.applied = search rules in
+    subst (IsOf setup log) (sym is) (is_settled setup log c.args.self.now c.args.applied c.requires h within)

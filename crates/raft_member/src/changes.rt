@@ -1,0 +1,54 @@
+//! Which configuration an entry of the log changes to.
+ghost use Rattle.std.specs.Prelude.{◌≡◌, ◌==◌, Some, None, if◌then◌else◌, ◌≢◌, IsErr, IfOk, OnOk, length};
+ghost use Rattle.raft_vote.specs.Servers.{configuration_of};
+ghost use Rattle.raft_vote.specs.declared.servers_fault.ServersFault.TheVariants.{NoMemory};
+ghost use Rattle.raft_member.specs.Members.{configuration_in};
+
+use raft_vote::{Entry, EntryKind, Servers, ServersFault, read_servers};
+use std::alloc::{AllocError, Global};
+
+/// Only want of memory is a reason to give up; any other fault says that the bytes are no configuration.
+fn give_up_for_memory(fault: ServersFault) -> Result<(), AllocError>
+    ensures only { IsErr result → fault ≡ NoMemory }
+    ensures goes_on { OnOk result (fault ≢ NoMemory) }
+{
+    match fault {
+        ServersFault::NoMemory => Err(AllocError),
+        _ => Ok(()),
+    }
+}
+
+/// These servers, where the bytes end with the last of them.
+fn ended(servers: Servers, end: u64, size: usize) -> Option<Servers>
+    ensures { result ≡ (if end == size then Some servers else None) }
+{
+    if end == size as u64 {
+        Some(servers)
+    } else {
+        None
+    }
+}
+
+/// The configuration that all of the bytes are, if any.
+fn read_whole(alloc: Global, bytes: &[u8]) -> Result<Option<Servers>, AllocError>
+    ensures { IfOk result (λ read. read ≡ configuration_of bytes.now) }
+{
+    match read_servers(alloc, bytes) {
+        Ok((servers, end)) => Ok(ended(servers, end, bytes.len())),
+        Err(fault) => {
+            give_up_for_memory(fault)?;
+            Ok(None)
+        }
+    }
+}
+
+/// The configuration that an entry changes to, if any: it is a change, and its bytes are a configuration and end with the
+/// last server. Reads the entry once. `Err` is want of memory.
+pub fn change_in(alloc: Global, entry: &Entry) -> Result<Option<Servers>, AllocError>
+    ensures { IfOk result (λ read. read ≡ configuration_in entry.now) }
+{
+    match entry.kind {
+        EntryKind::Change => read_whole(alloc, entry.bytes.as_slice()),
+        EntryKind::Command | EntryKind::Barrier => Ok(None),
+    }
+}
