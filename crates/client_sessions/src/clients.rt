@@ -211,7 +211,9 @@ impl Clients {
         ensures stands { StandOver self.new machine.new }
         ensures files { machine_of machine.new ≡ machine_of machine.old }
     {
-        let reason = self.reason(conn)?;
+        let Some(reason) = self.reason(conn) else {
+            return None;
+        };
         self.hang_up(conn, machine);
         Some(reason)
     }
@@ -251,7 +253,10 @@ impl Clients {
     fn reason(&self, conn: u64) -> Option<CloseReason>
         ensures { (databases : List Database) → result ≡ closing ((clients_of self.now databases).streams conn) }
     {
-        self.connections.get(&conn)?.close_reason()
+        match self.connections.get(&conn) {
+            Some(stream) => stream.close_reason(),
+            None => None,
+        }
     }
 
     // Takes the first message that waits on a connection, where it is open and its session isn't busy.

@@ -3,10 +3,9 @@ use Rattle.client_sessions.specs.Clients.{Clients, hung_up}
 use Rattle.client_sessions.proofs.Hearing.{closed_none, closed_is_hung}
 use Rattle.client_sessions.proofs.clients.Clients.close.Goals as goal
 
-pub returns-in_none-reason-clause-closed : goal.returns-in_none-reason-clause-closed
-returns-in_none-reason-clause-closed c =
-    sym (closed_none _ c.args.conn (sym (c.reason.ensures c.args.machine.now) ∙ c.in_none-reason.is))
+pub returns-in_default-clause-closed : goal.returns-in_default-clause-closed
+returns-in_default-clause-closed c = sym (closed_none _ c.args.conn (sym (c.reason.ensures c.args.machine.now) ∙ c.in_default.is))
 
 pub returns-clause-closed : goal.returns-clause-closed
 returns-clause-closed c =
-    c.hang_up.ensures.left ∙ sym (closed_is_hung _ c.args.conn c.in_some-reason.reason (sym (c.reason.ensures c.args.machine.now) ∙ c.in_some-reason.is))
+    c.hang_up.ensures.left ∙ sym (closed_is_hung _ c.args.conn c.in-Some.reason (sym (c.reason.ensures c.args.machine.now) ∙ c.in-Some.is))
