@@ -130,9 +130,9 @@ fn batch_outcomes(
 #[test]
 fn each_stop_or_failure_of_a_batch_leaves_the_log_before_or_after(rt: HostRuntime) {
     for (begins, aim, crashes, wanted) in BATCHES {
-        let mut call = 0;
+        let mut call: u64 = 0;
         for outcomes in wanted {
-            call += 1;
+            call = call.saturating_add(1);
             let found = batch_outcomes(rt.alloc(), *begins, *aim, *crashes, call);
             assert_eq!(rt; found, Some(*outcomes));
         }
