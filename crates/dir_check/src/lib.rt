@@ -1,0 +1,10 @@
+//! What the files of a stopped node stand for, printed in lines.
+#![tactic(auto)]
+
+mod checking;
+mod databases;
+mod ends;
+mod lines;
+
+pub use checking::check;
+pub use ends::CheckEnd;
