@@ -4,3 +4,6 @@ pub mod Heeded
 pub mod Sound
 pub mod Dials
 pub mod Driven
+pub mod Noting
+pub mod Lines
+pub mod Told

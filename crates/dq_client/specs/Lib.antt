@@ -5,3 +5,6 @@ pub mod Awaiting
 pub mod Net
 pub mod Running
 pub mod Driving
+pub mod Memory
+pub mod Printing
+pub mod Status

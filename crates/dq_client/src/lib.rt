@@ -9,11 +9,16 @@ mod dialer;
 mod events;
 mod laws;
 mod link;
+mod mem_dialer;
+mod printing;
 mod requests;
 mod run;
+mod status;
 
 pub use client::ClientCore;
 pub use dialer::{Dialer, NetCall};
 pub use events::{ClientDo, ClientEnd, ClientEvent};
 pub use laws::{clients_await, clients_obey};
+pub use mem_dialer::MemDialer;
 pub use run::drive;
+pub use status::{ClientStatus, run_client};
