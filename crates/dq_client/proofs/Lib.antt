@@ -2,3 +2,8 @@ pub mod Kept
 pub mod Elsewhere
 pub mod Heeded
 pub mod Sound
+pub mod Dials
+pub mod Driven
+pub mod Noting
+pub mod Lines
+pub mod Told

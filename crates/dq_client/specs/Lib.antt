@@ -2,3 +2,9 @@ pub mod Sending
 pub mod Course
 pub mod Laws
 pub mod Awaiting
+pub mod Net
+pub mod Running
+pub mod Driving
+pub mod Memory
+pub mod Printing
+pub mod Status
