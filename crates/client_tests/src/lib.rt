@@ -1,0 +1,6 @@
+//! The tests of a client over a dialer in memory. They call the crate from outside. A crate with tests of its own is proved
+//! once more with them, so these stand here.
+#![tactic(auto)]
+
+#[cfg(test)]
+mod queries;
