@@ -13,7 +13,9 @@ use Rattle.page_apply.specs.ByName.{change_first}
 use Rattle.page_apply.specs.Databases.{has_name, with_store}
 use Rattle.page_apply.specs.Machines as machines
 use Rattle.page_apply.specs.Machines.{IsMachine}
+use Rattle.page_apply.specs.ImageNumbers.{NumbersStay}
 use Rattle.page_apply.specs.Pins.{Pinning, has_place, at_place, is_live_in, IsPinned, IsPin, ShowsNewest, StillPinned}
+use Rattle.page_apply.proofs.ImageNumbers.{pin_stays}
 use Rattle.session_rules.specs.Machine.{machine_of}
 use Rattle.session_table.specs.declared.session.Session.{Session}
 use Rattle.session_table.specs.declared.session.Transaction.{Transaction}
@@ -37,10 +39,10 @@ mark_where (m ∷ ms) (suc id) (suc other) mark live = elim (mark_where ms id ot
 
 -- ---- one mark more in a machine
 
-some_same : (a b : Database) → Some a ≡ Some b → a ≡ b
+pub some_same : (a b : Database) → Some a ≡ Some b → a ≡ b
 some_same a b e = cc
 
-none_found : (d : Database) → None ≡ Some d → ⊥
+pub none_found : (d : Database) → None ≡ Some d → ⊥
 none_found d e = cc
 
 found_all : (test : Database → Bool) (P : Database → Type 0) (ds : List Database) (d : Database) → AllByRecursion P ds → find test ds ≡ Some d → P d
@@ -111,6 +113,7 @@ module _ (t : Database → Bool) (mark place : ℕ) (q : Pinning) where
 pinned_one : (name : List ℕ) (old new : List Database) (pin : Pinning) → IsPin name old new pin → IsMachine old → ShowsNewest name old new pin → ((other : Pinning) → StillPinned old new other) → Gained (pin ∷ []) old new
 pinned_one name old new pin is m shows still = record {
   bases = ap machine_of is.now ∙ pinned_stays name pin.mark old;
+  numbers = subst (NumbersStay old) (sym is.now) (pin_stays old name pin.mark);
   still = still;
   fresh = (
     (λ (live : IsPinned old pin).
@@ -133,6 +136,7 @@ pinned_one name old new pin is m shows still = record {
 pub gained_none : (databases : List Database) → Gained [] databases databases
 gained_none databases = record {
   bases = refl;
+  numbers = refl;
   still = λ pin. record { live = λ live. live; same_image = λ live. refl };
   fresh = tt;
   live = tt;

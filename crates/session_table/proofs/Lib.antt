@@ -14,3 +14,4 @@ pub mod Placing
 pub mod Gaining
 pub mod Starting
 pub mod Roomy
+pub mod Works

@@ -2,7 +2,9 @@
 use Rattle.std.proofs.Common.{◌≡◌, ◌≢◌, List, [], ◌∷◌, ◌++◌, refl, sym, ap, subst, ◌∙◌}
 use Rattle.std.specs.List.{AllByRecursion}
 use Rattle.page_apply.specs.declared.database.Database.{Database}
+use Rattle.page_apply.specs.ImageNumbers.{NumbersStay}
 use Rattle.page_apply.specs.Pins.{Pinning, IsPinned, StillPinned, without_pin}
+use Rattle.page_apply.proofs.ImageNumbers.{release_stays}
 use Rattle.session_rules.specs.Machine.{machine_of}
 use Rattle.session_table.specs.Marks.{IsNoneOf, AreDifferent, Released}
 use Rattle.session_table.proofs.Marked.{released_stays, spent_marks}
@@ -78,6 +80,7 @@ still_further old mid new pin first later = record {
 pub released_none : (databases : List Database) → Released [] databases databases
 released_none databases = record {
   bases = refl;
+  numbers = refl;
   still = λ pin none. record { live = λ live. live; same_image = λ live. refl };
   spent = λ pin live. (live, tt);
 }
@@ -85,6 +88,7 @@ released_none databases = record {
 pub released_one : (pin : Pinning) (old new : List Database) → new ≡ without_pin pin old → ((other : Pinning) → other ≢ pin → StillPinned old new other) → Released (pin ∷ []) old new
 released_one pin old new is shown = record {
   bases = ap machine_of is ∙ released_stays pin old;
+  numbers = subst (NumbersStay old) (sym is) (release_stays old pin);
   still = λ other none. shown other none.0;
   spent = λ other live.
       let before = spent_marks pin other old (subst (λ (ds : List Database). IsPinned ds other) is live) in
@@ -94,6 +98,7 @@ released_one pin old new is shown = record {
 pub released_both : (xs ys : List Pinning) (old mid new : List Database) → Released xs old mid → Released ys mid new → Released (xs ++ ys) old new
 released_both xs ys old mid new first later = record {
   bases = later.bases ∙ first.bases;
+  numbers = later.numbers ∙ first.numbers;
   still = λ pin none.
       still_further old mid new pin
       (first.still pin (all_front (λ (other : Pinning). pin ≢ other) xs ys none))

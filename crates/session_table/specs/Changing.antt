@@ -12,6 +12,7 @@ use Rattle.session_rules.specs.Events.{connects, connected}
 use Rattle.session_table.specs.declared.session.Session.{Session}
 use Rattle.session_table.specs.declared.session.Transaction.{Transaction}
 use Rattle.session_table.specs.Table.{session_of, pin_of}
+use Rattle.session_table.specs.Working.{work_of}
 use Rattle.session_table.specs.declared.change.Change.{Change}
 use Rattle.session_table.specs.declared.change.Change.TheVariants as changes
 
@@ -35,7 +36,7 @@ changed_by s changes.Stays = s
 changed_by s (changes.Opens name) = with_database s name
 changed_by s (changes.Prepares prepared) = with_statements s (with_prepared prepared s.statements)
 changed_by s (changes.Drops id) = with_statements s (without_prepared id s.statements)
-changed_by s (changes.Works pages) = with_tx s (worked_on pages.pages s.tx)
+changed_by s (changes.Works pages number) = with_tx s (worked_on pages.pages s.tx)
 changed_by s (changes.Flies flight) = with_flight s (Some flight)
 
 -- a statement that is let go is there
@@ -47,6 +48,7 @@ CanChange statements change = Unit {0}
 pub record FreshFor (conn : ℕ) (s : Session) : Type 0 where
   pub own : s.conn ≡ conn
   pub unmarked : pin_of s.transaction ≡ []
+  pub workless : work_of s.transaction ≡ []
   pub fresh_so : (databases : List Database) → session_of databases s ≡ fresh
 
 -- A connection came: it got a session where the rules give it one, and else nothing changed.

@@ -3,4 +3,5 @@ pub mod Table
 pub mod Marks
 pub mod Sweeping
 pub mod Waiting
+pub mod Working
 pub mod Changing

@@ -2,6 +2,7 @@
 use Rattle.std.specs.Prelude.{◌≡◌, ◌≢◌, ◌<◌, List, [], ◌∷◌, length, ◌⊎◌}
 use Rattle.std.specs.List.{AllByRecursion, Contains}
 use Rattle.page_apply.specs.declared.database.Database.{Database}
+use Rattle.page_apply.specs.ImageNumbers.{NumbersStay}
 use Rattle.page_apply.specs.Pins.{Pinning, IsPinned, StillPinned}
 use Rattle.session_rules.specs.Machine.{machine_of}
 
@@ -20,16 +21,19 @@ pub record AreMarks (pins : List Pinning) (databases : List Database) : Type 0 w
   pub apart : AreDifferent pins
   pub only : (pin : Pinning) → IsPinned databases pin → Contains pins pin
 
--- These marks were released: no database changed, every other mark shows what it showed, and none of these is live.
+-- These marks were released: no database and no number of a newest image changed, every other mark shows what it showed, and none
+-- of these is live.
 pub record Released (gone : List Pinning) (old new : List Database) : Type 0 where
   pub bases : machine_of new ≡ machine_of old
+  pub numbers : NumbersStay old new
   pub still : (pin : Pinning) → IsNoneOf gone pin → StillPinned old new pin
   pub spent : (pin : Pinning) → IsPinned new pin → IsPinned old pin × IsNoneOf gone pin
 
--- These marks were pinned: no database changed, every other mark shows what it showed, and no more are live but these, which
--- were not.
+-- These marks were pinned: no database and no number of a newest image changed, every other mark shows what it showed, and no more
+-- are live but these, which were not.
 pub record Gained (gained : List Pinning) (old new : List Database) : Type 0 where
   pub bases : machine_of new ≡ machine_of old
+  pub numbers : NumbersStay old new
   pub still : (pin : Pinning) → StillPinned old new pin
   pub fresh : AllByRecursion (λ (pin : Pinning). IsPinned old pin → ⊥) gained
   pub live : AllByRecursion (IsPinned new) gained

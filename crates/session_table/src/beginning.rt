@@ -1,12 +1,15 @@
 //! Transactions that begin.
 
-ghost use Rattle.std.specs.Prelude.{◌≡◌, ◌<◌, ℕ, List, vec_len, None, Some, get_or, set, IsSome, OnOk, OnErr, IfOk};
+ghost use Rattle.std.specs.Prelude.{◌⊎◌, ◌≡◌, ◌<◌, ℕ, List, vec_len, None, Some, get_or, set, IsSome, OnOk, OnErr, IfOk};
+ghost use Rattle.std.specs.List.{AllByRecursion, Contains};
 ghost use Rattle.session_rules.specs.Machine.{machine_of};
 ghost use Rattle.session_rules.specs.Requests.{with_session, begun_over, begun};
 ghost use Rattle.session_table.specs.declared.session.Session.{Session};
 ghost use Rattle.session_table.specs.Table.{image_pinned, transaction_of, mark_of, pin_of, table_of, pins_of, IsTable};
 ghost use Rattle.session_table.specs.Marks.{AreMarks, Gained, HasRoom};
 ghost use Rattle.session_table.specs.Changing.{StandsAt, with_transaction};
+ghost use Rattle.session_table.specs.Working.{work_of, works_of, IsNewest};
+ghost use Rattle.page_apply.specs.ImageNumbers.{NumbersStay};
 
 use crate::session::{Session, Transaction};
 use dq_base::{Image, Name};
@@ -56,17 +59,20 @@ fn transaction_over(
     requires { HasRoom machine.old }
     ensures begun { IfOk result (λ x. transaction_of machine.new x ≡ begun_over name.now ((machine_of machine.old).base name.now) turn) }
     ensures gained { IfOk result (λ x. Gained (pin_of (Some x)) machine.old machine.new) }
+    ensures work { IfOk result (λ x. AllByRecursion (IsNewest machine.old) (work_of (Some x))) }
     ensures kept { OnErr result (machine.new ≡ machine.old) }
 {
     let own_name = name.try_clone(alloc)?;
     let working = image_of(alloc, machine, name)?;
     let mark = commits_of(machine, name);
+    let number = machine.number(name.as_str());
     let pin = pin_of_name(machine, name);
     Ok(Transaction {
         name: own_name,
         mark,
         pin,
         working,
+        number,
         turn,
         touched: Vec::new(alloc),
     })
@@ -83,6 +89,7 @@ fn transaction_of_session(
     requires room { HasRoom machine.old }
     ensures begun { IfOk result (λ x. (name : List ℕ) → session.now.database ≡ Some name → transaction_of machine.new x ≡ begun_over name ((machine_of machine.old).base name) turn) }
     ensures gained { IfOk result (λ x. Gained (pin_of (Some x)) machine.old machine.new) }
+    ensures work { IfOk result (λ x. AllByRecursion (IsNewest machine.old) (work_of (Some x))) }
     ensures kept { OnErr result (machine.new ≡ machine.old) }
 {
     match &session.database {
@@ -118,6 +125,9 @@ pub fn begin(
     ensures ok { OnOk result ((weight : ℕ) → table_of machine.new sessions.new.items weight ≡ with_session (table_of machine.old sessions.old.items weight) conn (begun (machine_of machine.old) ((table_of machine.old sessions.old.items weight).session conn) at_once)) }
     ensures kept { OnErr result ((weight : ℕ) → table_of machine.new sessions.new.items weight ≡ table_of machine.old sessions.old.items weight) }
     ensures files { machine_of machine.new ≡ machine_of machine.old }
+    ensures numbers { NumbersStay machine.old machine.new }
+    // A working image is one of before by its number, or the newest one of a database by its.
+    ensures works { AllByRecursion (λ work. Contains (works_of sessions.old.items) work ⊎ IsNewest machine.old work) (works_of sessions.new.items) }
     ensures marks_after { AreMarks (pins_of sessions.new.items) machine.new }
     ensures fit { IsTable sessions.new.items }
 {

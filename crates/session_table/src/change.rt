@@ -9,10 +9,11 @@ ghost use Rattle.session_rules.specs.Touched.{numbers_of};
 ghost use Rattle.session_table.specs.declared.session.Session.{Session};
 ghost use Rattle.session_table.specs.Table.{session_of, table_of, pins_of, IsTable, AreApart, pin_of, transaction_of};
 ghost use Rattle.session_table.specs.Changing.{StandsAt, changed_by, worked_on, CanChange};
+ghost use Rattle.session_table.specs.Working.{work_of, works_of, work_with, work_made, AreAmong};
 
 use crate::session::{Flight, Prepared, Session, Transaction};
 use crate::statements::{finalize, prepare};
-use dq_base::{Image, Name, NumberedPage, PageSet, apply_pages};
+use dq_base::{Image, ImageNumber, Name, NumberedPage, PageSet, apply_pages};
 use std::alloc::AllocError;
 
 /// What a request changes of its own session.
@@ -26,8 +27,8 @@ pub enum Change {
     Prepares(Prepared),
     /// It has let the statement of this number go.
     Drops(u32),
-    /// Its transaction has changed these pages, and has the turn to write.
-    Works(PageSet),
+    /// Its transaction has changed these pages, and has the turn to write; the number that was drawn for its working image.
+    Works(PageSet, u64),
     /// It has this proposal in flight.
     Flies(Flight),
 }
@@ -56,17 +57,24 @@ fn note_numbers(touched: &mut Vec<u64>, pages: &[NumberedPage]) -> Result<(), Al
     Ok(())
 }
 
-/// What a transaction becomes that has changed these pages. `Err` is want of memory; it is then unchanged.
-fn work(transaction: &mut Option<Transaction>, pages: &[NumberedPage]) -> Result<(), AllocError>
+/// What a transaction becomes that has changed these pages; its working image has this number then. `Err` is want of memory; it is
+/// then unchanged.
+fn work(
+    transaction: &mut Option<Transaction>,
+    pages: &[NumberedPage],
+    number: u64,
+) -> Result<(), AllocError>
     ensures ok { OnOk result ((databases : List Database) → option_map (transaction_of databases) transaction.new ≡ worked_on pages.now (option_map (transaction_of databases) transaction.old)) }
     ensures kept { OnErr result ((databases : List Database) → option_map (transaction_of databases) transaction.new ≡ option_map (transaction_of databases) transaction.old) }
     ensures pin { pin_of transaction.new ≡ pin_of transaction.old }
+    ensures works { AreAmong (work_with pages.now number transaction.old ++ work_of transaction.old) (work_of transaction.new) }
 {
     if let Some(transaction) = transaction {
         transaction.touched.reserve(pages.len())?;
         apply_all(&mut transaction.working, pages)?;
         note_numbers(&mut transaction.touched, pages)?;
         transaction.turn = true;
+        transaction.number = Some(ImageNumber::Working(number));
     }
     Ok(())
 }
@@ -79,6 +87,7 @@ impl Session {
         ensures kept { OnErr result ((databases : List Database) → session_of databases self.new ≡ session_of databases self.old) }
         ensures conn { self.new.conn ≡ self.old.conn }
         ensures pin { pin_of self.new.transaction ≡ pin_of self.old.transaction }
+        ensures works { AreAmong (work_made change self.old.transaction ++ work_of self.old.transaction) (work_of self.new.transaction) }
     {
         match change {
             Change::Stays => {}
@@ -90,7 +99,9 @@ impl Session {
                 let _id = prepare(&mut self.statements, prepared)?;
             }
             Change::Drops(id) => finalize(self.statements.as_mut_slice(), id),
-            Change::Works(pages) => work(&mut self.transaction, pages.pages.as_slice())?,
+            Change::Works(set, number) => {
+                work(&mut self.transaction, set.pages.as_slice(), number)?;
+            }
             Change::Flies(flight) => self.flight = Some(flight),
         }
         Ok(())
@@ -111,6 +122,8 @@ pub fn make_change(
     ensures kept { OnErr result ((databases : List Database) (weight : ℕ) → table_of databases sessions.new.items weight ≡ table_of databases sessions.old.items weight) }
     ensures pins { pins_of sessions.new.items ≡ pins_of sessions.old.items }
     ensures fit { IsTable sessions.old.items → IsTable sessions.new.items }
+    // A working image is one of before by its number, or the one that the change makes by the number drawn for it.
+    ensures works { (own : Session) → AreAmong (work_made change (get_or sessions.old.items place own).transaction ++ works_of sessions.old.items) (works_of sessions.new.items) }
 {
     sessions[place].change(change)
 }

@@ -1,7 +1,7 @@
 //! One session.
 
 use crate::reply::Reply;
-use dq_base::{Image, Name};
+use dq_base::{Image, ImageNumber, Name};
 use page_apply::Pin;
 use sql_scan::WordKind;
 use std::marker::Model;
@@ -74,6 +74,9 @@ pub struct Transaction {
     pub pin: Option<Pin>,
     /// That image with the transaction's own changes.
     pub working: Image,
+    /// The number of the working image: that of the database's newest image when it began, as long as it has changed nothing, and
+    /// then the one that was drawn for it; none where the machine had no such database.
+    pub number: Option<ImageNumber>,
     /// Whether it has the turn to write.
     pub turn: bool,
     /// The numbers above 1 of the pages that its statements changed, in the order in which they did.

@@ -10,6 +10,8 @@ ghost use Rattle.session_rules.specs.Events.{landed_reply};
 ghost use Rattle.session_table.specs.declared.sweep.Event.TheVariants.{Applied, Lost, Left, Ended};
 ghost use Rattle.session_table.specs.Table.{mark_of, pin_of, pins_of, table_of, AreApart, IsTable};
 ghost use Rattle.session_table.specs.Marks.{AreMarks, AreDifferent, Released};
+ghost use Rattle.session_table.specs.Working.{works_of, AreAmong};
+ghost use Rattle.page_apply.specs.ImageNumbers.{NumbersStay};
 ghost use Rattle.session_table.specs.Sweeping.{ends_at, done, freed_done, all_kept, all_freed, said, all_said, told_in, all_told, SweptOne, after};
 
 use crate::reply::Reply;
@@ -229,6 +231,8 @@ fn sweep(
     ensures said { told.new.items ≡ told.old.items ++ all_said event sessions.old.items }
     ensures kept { sessions.new.items ≡ all_kept event sessions.old.items }
     ensures files { machine_of machine.new ≡ machine_of machine.old }
+    ensures numbers { NumbersStay machine.old machine.new }
+    ensures works { AreAmong (works_of sessions.old.items) (works_of sessions.new.items) }
     ensures marks_after { AreMarks (pins_of sessions.new.items) machine.new }
     ensures fit { IsTable sessions.old.items → IsTable sessions.new.items }
 {
@@ -251,6 +255,8 @@ pub fn applied(
     ensures kept { OnErr result (sessions.new.items ≡ sessions.old.items) }
     ensures machine_kept { OnErr result (machine.new ≡ machine.old) }
     ensures files { machine_of machine.new ≡ machine_of machine.old }
+    ensures numbers { NumbersStay machine.old machine.new }
+    ensures works { AreAmong (works_of sessions.old.items) (works_of sessions.new.items) }
     ensures marks_after { AreMarks (pins_of sessions.new.items) machine.new }
     ensures fit { IsTable sessions.old.items → IsTable sessions.new.items }
 {
@@ -279,6 +285,8 @@ pub fn lost(
     ensures kept { OnErr result (sessions.new.items ≡ sessions.old.items) }
     ensures machine_kept { OnErr result (machine.new ≡ machine.old) }
     ensures files { machine_of machine.new ≡ machine_of machine.old }
+    ensures numbers { NumbersStay machine.old machine.new }
+    ensures works { AreAmong (works_of sessions.old.items) (works_of sessions.new.items) }
     ensures marks_after { AreMarks (pins_of sessions.new.items) machine.new }
     ensures fit { IsTable sessions.old.items → IsTable sessions.new.items }
 {
@@ -296,6 +304,8 @@ pub fn left(alloc: Global, sessions: &mut Vec<Session>, conn: u64, machine: &mut
     requires marks { AreMarks (pins_of sessions.old.items) machine.old }
     ensures table { (weight : ℕ) → table_of machine.new sessions.new.items weight ≡ events.on_hangup (table_of machine.old sessions.old.items weight) conn }
     ensures files { machine_of machine.new ≡ machine_of machine.old }
+    ensures numbers { NumbersStay machine.old machine.new }
+    ensures works { AreAmong (works_of sessions.old.items) (works_of sessions.new.items) }
     ensures marks_after { AreMarks (pins_of sessions.new.items) machine.new }
     ensures fit { IsTable sessions.old.items → IsTable sessions.new.items }
 {
@@ -310,6 +320,8 @@ pub fn ended(alloc: Global, sessions: &mut Vec<Session>, conn: u64, machine: &mu
     requires marks { AreMarks (pins_of sessions.old.items) machine.old }
     ensures table { (weight : ℕ) → table_of machine.new sessions.new.items weight ≡ after (Ended conn) (table_of machine.old sessions.old.items weight) }
     ensures files { machine_of machine.new ≡ machine_of machine.old }
+    ensures numbers { NumbersStay machine.old machine.new }
+    ensures works { AreAmong (works_of sessions.old.items) (works_of sessions.new.items) }
     ensures marks_after { AreMarks (pins_of sessions.new.items) machine.new }
     ensures fit { IsTable sessions.old.items → IsTable sessions.new.items }
 {

@@ -4,6 +4,7 @@ ghost use Rattle.std.specs.Prelude.{◌≡◌, ◌==◌, ℕ, List, OnErr, IfOk,
 ghost use Rattle.page_apply.specs.declared.database.Database.{Database};
 ghost use Rattle.session_table.specs.Table.{table_of, pins_of, AreApart, IsTable};
 ghost use Rattle.session_table.specs.Changing.{IsAbsent, StandsAt, FreshFor, Joined};
+ghost use Rattle.session_table.specs.Working.{works_of};
 
 use crate::session::Session;
 use std::alloc::{AllocError, Global};
@@ -54,6 +55,7 @@ fn join_new(alloc: Global, sessions: &mut Vec<Session>, conn: u64) -> Result<boo
     ensures table { IfOk result (λ new. (databases : List Database) (weight : ℕ) → Joined (table_of databases sessions.old.items weight) conn new (table_of databases sessions.new.items weight)) }
     ensures kept { OnErr result (sessions.new.items ≡ sessions.old.items) }
     ensures pins { pins_of sessions.new.items ≡ pins_of sessions.old.items }
+    ensures works { works_of sessions.new.items ≡ works_of sessions.old.items }
     ensures fit { IsTable sessions.new.items }
 {
     if sessions.len() >= MOST_SESSIONS {
@@ -70,6 +72,7 @@ pub fn join(alloc: Global, sessions: &mut Vec<Session>, conn: u64) -> Result<boo
     ensures table { IfOk result (λ new. (databases : List Database) (weight : ℕ) → Joined (table_of databases sessions.old.items weight) conn new (table_of databases sessions.new.items weight)) }
     ensures kept { OnErr result (sessions.new.items ≡ sessions.old.items) }
     ensures pins { pins_of sessions.new.items ≡ pins_of sessions.old.items }
+    ensures works { works_of sessions.new.items ≡ works_of sessions.old.items }
     ensures fit { IsTable sessions.new.items }
 {
     match find(sessions.as_slice(), conn) {

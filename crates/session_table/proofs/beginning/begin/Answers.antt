@@ -3,6 +3,7 @@ use Rattle.std.specs.Prelude.{IsSome}
 use Rattle.session_table.specs.declared.session.Session.{Session}
 use Rattle.session_table.proofs.Roomy.{has_room}
 use Rattle.session_table.proofs.Starting.{begun_table, begun_marks, begun_fits}
+use Rattle.session_table.proofs.Works.{begun_works}
 use Rattle.session_table.proofs.beginning.begin.Goals as goal
 
 pub returns-clause-ok : goal.returns-clause-ok
@@ -26,3 +27,8 @@ pub transaction_of_session-requires-clause-room : goal.transaction_of_session-re
 transaction_of_session-requires-clause-room c =
     let s = c.index.result.now in
     has_room c.args.sessions.now.items c.args.place s c.args.machine.now c.requires.table c.requires.place.within (c.requires.idle s) c.requires.marks
+
+pub returns-clause-works : goal.returns-clause-works
+returns-clause-works c =
+    let s = c.index.result.now in
+    begun_works c.args.sessions.now.items c.put.new.sessions.items c.args.place s c.in_ok-transaction.transaction c.args.machine.now (c.put.ensures s) c.in_ok-transaction.ensures.work

@@ -2,6 +2,7 @@ use Rattle.std.proofs.Common.{sym, subst}
 use Rattle.session_table.specs.declared.session.Session.{Session}
 use Rattle.session_table.specs.Changing.{CanChange}
 use Rattle.session_table.proofs.Placing.{change_table, keep_table, keep_pins, was_own, set_is_table, ok_also, err_also}
+use Rattle.session_table.proofs.Works.{changed_works}
 use Rattle.session_table.proofs.change.make_change.Goals as goal
 
 pub change-requires : goal.change-requires
@@ -20,3 +21,6 @@ returns-clause-pins c = keep_pins c.args.sessions.now.items c.args.place c.args.
 
 pub returns-clause-fit : goal.returns-clause-fit
 returns-clause-fit c = λ table. set_is_table c.args.sessions.now.items c.args.place c.change.new.self (was_own c.args.sessions.now.items c.args.place c.args.conn c.requires.apart c.requires.place c.index_mut.result.now c.change.new.self c.index_mut.ensures.value c.change.ensures.conn) table
+
+pub returns-clause-works : goal.returns-clause-works
+returns-clause-works c = λ own. changed_works c.args.sessions.now.items c.args.place c.args.change c.index_mut.result.now c.change.new.self own c.requires.place.within c.index_mut.ensures.value c.change.ensures.works

@@ -3,6 +3,8 @@ use Rattle.session_table.specs.declared.session.Session.{Session}
 use Rattle.session_table.specs.Table.{table_of, pins_of, IsTable}
 use Rattle.session_table.specs.Changing.{Joined}
 use Rattle.session_table.proofs.Placing.{joins, full_stays, more_is_table, more_pins}
+use Rattle.session_table.specs.Working.{works_of}
+use Rattle.session_table.proofs.Works.{more_works}
 use Rattle.session_table.proofs.table.join_new.Goals as goal
 
 pub returns-then-len-ge-MOST_SESSIONS-clause-table : goal.returns-then-len-ge-MOST_SESSIONS-clause-table
@@ -23,3 +25,6 @@ pub returns-clause-fit : goal.returns-clause-fit
 returns-clause-fit c =
     let few : length c.args.sessions.now.items < 64 = omega arith in
     subst IsTable (sym c.in_ok-push.ensures.items) (more_is_table c.args.sessions.now.items c.fresh.result c.args.conn c.requires.absent c.fresh.ensures few c.requires.table)
+
+pub returns-clause-works : goal.returns-clause-works
+returns-clause-works c = ap works_of c.in_ok-push.ensures.items ∙ more_works c.args.sessions.now.items c.fresh.result c.args.conn c.fresh.ensures
