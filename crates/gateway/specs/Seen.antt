@@ -1,16 +1,21 @@
 -- The sessions of a gateway, with the images that their transactions have pinned in a machine.
-use Rattle.std.specs.Prelude.{ℕ, List}
+use Rattle.std.specs.Prelude.{ℕ, List, map}
+use Rattle.sql_engine.specs.Known.{Known}
 use Rattle.page_apply.specs.declared.database.Database.{Database}
+use Rattle.page_apply.specs.ImageNumbers.{numbered}
 use Rattle.page_apply.specs.Pins.{Pinning}
 use Rattle.session_rules.specs.Sessions.{Gateway}
 use Rattle.session_table.specs.declared.session.Session.{Session}
 use Rattle.session_table.specs.Marks.{AreMarks}
 use Rattle.session_table.specs.Table as tables
+use Rattle.session_table.specs.Working.{works_of}
+use Rattle.statement_runs.specs.Agreeing.{Agree}
 
--- what a gateway holds: the sessions, and the node's weight
+-- what a gateway holds: the sessions, the node's weight, and the number that the next working image gets
 pub record Held : Type 0 where
   pub sessions : List Session
   pub weight : ℕ
+  pub next : ℕ
 
 -- the sessions as the rules see them
 unfoldable pub seen : Held → List Database → Gateway
@@ -23,3 +28,7 @@ pins_of held = tables.pins_of held.sessions
 -- the machine's live marks are those of the sessions
 abbrev pub PinsOf : Held → List Database → Type 0
 PinsOf held databases = AreMarks (pins_of held) databases
+
+-- no number stands for two images: neither for an engine, nor for the transactions, nor for the machine's databases
+abbrev pub Agrees : List Known → Held → List Database → Type 0
+Agrees known held databases = Agree known (works_of held.sessions) held.next (map numbered databases)

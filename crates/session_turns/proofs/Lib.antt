@@ -12,3 +12,4 @@ pub mod NeverUnopened
 pub mod Committing
 pub mod Leading
 pub mod Placed
+pub mod Works

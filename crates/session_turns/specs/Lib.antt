@@ -1,5 +1,6 @@
 pub mod Earlier
 pub mod Hindered
 pub mod Runs
+pub mod Numbers
 pub mod Told
 pub mod Turning

@@ -1,6 +1,6 @@
 //! A transaction that ends with its changes.
 
-ghost use Rattle.std.specs.Prelude.{◌≡◌, ◌≤◌, ℕ, List, true, false, is_none, suc, map, Some, IfOk, OnOk};
+ghost use Rattle.std.specs.Prelude.{◌≡◌, ◌≤◌, ℕ, [], List, Option, true, false, is_none, suc, map, Some, IfOk, OnOk};
 ghost use Rattle.std.specs.List.{AllByRecursion};
 ghost use Rattle.dq_base.specs.declared.images.Image.{Image as ImageValue};
 ghost use Rattle.dq_base.specs.Applying.{page_fault};
@@ -21,6 +21,8 @@ ghost use Rattle.session_rules.specs.Sessions as rules;
 ghost use Rattle.session_rules.specs.Sessions.{Session as RuleSession};
 ghost use Rattle.session_table.specs.Table.{image_pinned, mark_of, pin_of, session_of, table_of, AreApart};
 ghost use Rattle.session_asking.specs.Meant.{IsServed};
+ghost use Rattle.session_table.specs.declared.session.Transaction.{Transaction as TransactionValue};
+ghost use Rattle.session_turns.specs.Numbers.{work_in};
 ghost use Rattle.session_turns.specs.Turning.{ComesTo};
 ghost use Rattle.session_turns.specs.Hindered.{LeadsTo, Hinders};
 
@@ -111,7 +113,8 @@ fn proposed(
     requires room { limits.log_full view.now ≡ false }
     requires term { view.now.term ≤ 4294967295 }
     requires taken { is_none (page_fault pages.items) ≡ true }
-    ensures { (m : RuleMachine) (s : RuleSession) → IfOk result (ComesTo view.now m s (rules.Proposes (flying view.now s name.now (change_of view.now name.now pages.items) count rules.Committing) (change_of view.now name.now pages.items) rules.Nothing)) }
+    ensures works { IfOk result (λ turn. (tx : Option TransactionValue) → work_in turn tx ≡ []) }
+    ensures comes { (m : RuleMachine) (s : RuleSession) → IfOk result (ComesTo view.now m s (rules.Proposes (flying view.now s name.now (change_of view.now name.now pages.items) count rules.Committing) (change_of view.now name.now pages.items) rules.Nothing)) }
 {
     let set = set_of(view, pages);
     let entries = entries_of(alloc, view, name, &set)?;
@@ -158,7 +161,8 @@ fn commit(
     requires apart { AreApart sessions.now }
     requires term { view.now.term ≤ 4294967295 }
     requires some { no_pages pages.items ≡ false }
-    ensures { (weight : ℕ) (s : RuleSession) (to : ImageValue) → LeadsTo pages.items to → IfOk result (ComesTo view.now (machine_of machine.now) s (unless (limits.first_cause (limits.log_full view.now) LogFull (limits.hindrance (machine_of machine.now) (table_of machine.now sessions.now weight) conn transaction.now.name transaction.now.mark pages.items to)) (rules.Proposes (flying view.now s transaction.now.name (change_of view.now transaction.now.name pages.items) (page_count to) rules.Committing) (change_of view.now transaction.now.name pages.items) rules.Nothing))) }
+    ensures works { IfOk result (λ turn. (tx : Option TransactionValue) → work_in turn tx ≡ []) }
+    ensures comes { (weight : ℕ) (s : RuleSession) (to : ImageValue) → LeadsTo pages.items to → IfOk result (ComesTo view.now (machine_of machine.now) s (unless (limits.first_cause (limits.log_full view.now) LogFull (limits.hindrance (machine_of machine.now) (table_of machine.now sessions.now weight) conn transaction.now.name transaction.now.mark pages.items to)) (rules.Proposes (flying view.now s transaction.now.name (change_of view.now transaction.now.name pages.items) (page_count to) rules.Committing) (change_of view.now transaction.now.name pages.items) rules.Nothing))) }
 {
     if log_full(view) {
         return Ok(Turn::Refused(Cause::LogFull));
@@ -186,7 +190,8 @@ pub fn commit_turn(
     requires served { IsServed view.now (session_of machine.now session.now) }
     requires live { AllByRecursion (IsPinned machine.now) (pin_of session.now.transaction) }
     requires listed { IsListed (session_of machine.now session.now).tx }
-    ensures { (weight : ℕ) (answers : List Answer) → IfOk result (ComesTo view.now (machine_of machine.now) (session_of machine.now session.now) (does view.now (machine_of machine.now) (table_of machine.now sessions.now weight) session.now.conn (session_of machine.now session.now) Commits answers)) }
+    ensures works { IfOk result (λ turn. (tx : Option TransactionValue) → work_in turn tx ≡ []) }
+    ensures comes { (weight : ℕ) (answers : List Answer) → IfOk result (ComesTo view.now (machine_of machine.now) (session_of machine.now session.now) (does view.now (machine_of machine.now) (table_of machine.now sessions.now weight) session.now.conn (session_of machine.now session.now) Commits answers)) }
 {
     let Some(transaction) = &session.transaction else {
         return Ok(Turn::Refused(Cause::NoTransaction));

@@ -1,6 +1,6 @@
 //! The ways in which statements that ran end.
 
-ghost use Rattle.std.specs.Prelude.{◌≡◌, ℕ, List, Option, Some, None, true, false, IfOk};
+ghost use Rattle.std.specs.Prelude.{[], ◌≡◌, ℕ, List, Option, Some, None, true, false, IfOk};
 ghost use Rattle.std.specs.List.{AllByRecursion};
 ghost use Rattle.dq_base.specs.declared.images.Image.{Image};
 ghost use Rattle.dq_base.specs.Applying.{applied};
@@ -15,6 +15,9 @@ ghost use Rattle.session_rules.specs.Seen.{HasSpelling};
 ghost use Rattle.session_rules.specs.Sessions as sessions;
 ghost use Rattle.session_rules.specs.Sessions.{Session, View as RuleView, Turned, Note, Transaction};
 ghost use Rattle.session_table.specs.Named.{cause_named, kind_named};
+ghost use Rattle.session_table.specs.Working.{work_with};
+ghost use Rattle.session_table.specs.declared.session.Transaction.{Transaction as TransactionValue};
+ghost use Rattle.session_turns.specs.Numbers.{work_in};
 ghost use Rattle.session_turns.specs.Turning.{ComesTo};
 
 use crate::rows::told;
@@ -34,7 +37,8 @@ pub(crate) fn refused(
     cause: Cause,
 ) -> Result<Turn, AllocError>
     requires { IsTable answer.columns answer.rows }
-    ensures { (hindrance : Option RuleCause) → hindrance ≡ Some (cause_named cause) → (v : RuleView) (m : Machine) (s : Session) (turned : Turned) → IfOk result (ComesTo v m s (unless (row_cause rows answer hindrance) turned)) }
+    ensures works { IfOk result (λ turn. (tx : Option TransactionValue) → work_in turn tx ≡ []) }
+    ensures comes { (hindrance : Option RuleCause) → hindrance ≡ Some (cause_named cause) → (v : RuleView) (m : Machine) (s : Session) (turned : Turned) → IfOk result (ComesTo v m s (unless (row_cause rows answer hindrance) turned)) }
 {
     match told(alloc, rows, answer)? {
         Ok(_reply) => Ok(Turn::Refused(cause)),
@@ -45,7 +49,8 @@ pub(crate) fn refused(
 /// Statements that changed no page are answered. `Err` is want of memory.
 pub(crate) fn idle(alloc: Global, rows: bool, answer: Ran) -> Result<Turn, AllocError>
     requires { IsTable answer.columns answer.rows }
-    ensures { (v : RuleView) (m : Machine) (s : Session) (note : Note) → IfOk result (ComesTo v m s (unless (row_cause rows answer None) (sessions.Answers s (reply_of rows answer) note))) }
+    ensures works { IfOk result (λ turn. (tx : Option TransactionValue) → work_in turn tx ≡ []) }
+    ensures comes { (v : RuleView) (m : Machine) (s : Session) (note : Note) → IfOk result (ComesTo v m s (unless (row_cause rows answer None) (sessions.Answers s (reply_of rows answer) note))) }
 {
     match told(alloc, rows, answer)? {
         Ok(reply) => Ok(Turn::Answers(Change::Stays, reply)),
@@ -53,19 +58,21 @@ pub(crate) fn idle(alloc: Global, rows: bool, answer: Ran) -> Result<Turn, Alloc
     }
 }
 
-/// Statements that changed pages in a transaction are answered. `Err` is want of memory.
+/// Statements that changed pages in a transaction are answered; the number is that of its working image then. `Err` is want of memory.
 #[tactic(auto, using(crate::proofs::InsideRun::works_on))]
 pub(crate) fn worked(
     alloc: Global,
     rows: bool,
     answer: Ran,
     set: PageSet,
+    number: u64,
 ) -> Result<Turn, AllocError>
     requires { IsTable answer.columns answer.rows }
-    ensures { (v : RuleView) (m : Machine) (s : Session) (x : Transaction) (note : Note) (to : Image) → s.tx ≡ Some x → applied x.working set.pages ≡ to → set.pages ≡ changed x.working to → IfOk result (ComesTo v m s (unless (row_cause rows answer None) (sessions.Answers (worked s x to true) (reply_of rows answer) note))) }
+    ensures works { IfOk result (λ turn. (tx : Option TransactionValue) → work_in turn tx ≡ work_with set.pages number tx) }
+    ensures comes { (v : RuleView) (m : Machine) (s : Session) (x : Transaction) (note : Note) (to : Image) → s.tx ≡ Some x → applied x.working set.pages ≡ to → set.pages ≡ changed x.working to → IfOk result (ComesTo v m s (unless (row_cause rows answer None) (sessions.Answers (worked s x to true) (reply_of rows answer) note))) }
 {
     match told(alloc, rows, answer)? {
-        Ok(reply) => Ok(Turn::Answers(Change::Works(set), reply)),
+        Ok(reply) => Ok(Turn::Answers(Change::Works(set, number), reply)),
         Err(cause) => Ok(Turn::Refused(cause)),
     }
 }

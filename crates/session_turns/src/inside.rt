@@ -1,6 +1,6 @@
 //! Statements that ran in a transaction.
 
-ghost use Rattle.std.specs.Prelude.{◌≡◌, ℕ, List, Some, true, false, IfOk};
+ghost use Rattle.std.specs.Prelude.{◌≡◌, ℕ, List, [], Option, Some, true, false, IfOk};
 ghost use Rattle.dq_base.specs.declared.images.Image.{Image};
 ghost use Rattle.dq_base.specs.Applying.{applied};
 ghost use Rattle.dq_base.specs.Changes.{changed};
@@ -15,6 +15,9 @@ ghost use Rattle.session_rules.specs.Sessions as rules;
 ghost use Rattle.session_rules.specs.Sessions.{Session as RuleSession, View as RuleView, Transaction as RuleTransaction, Note};
 ghost use Rattle.statement_runs.specs.Running.{Shows, change_in};
 ghost use Rattle.session_table.specs.Table.{session_of, transaction_of, table_of, AreApart};
+ghost use Rattle.session_table.specs.Working.{work_with, AreAmong};
+ghost use Rattle.session_table.specs.declared.session.Transaction.{Transaction as TransactionValue};
+ghost use Rattle.session_turns.specs.Numbers.{work_in, work_left};
 ghost use Rattle.session_turns.specs.Turning.{ComesTo};
 ghost use Rattle.session_turns.specs.Hindered.{LeadsTo};
 ghost use Rattle.session_turns.specs.Runs.{IsWellFormed};
@@ -51,7 +54,8 @@ fn too_large(
     requires apart { AreApart sessions.now }
     requires table { IsTable answer.columns answer.rows }
     requires large { engines.takes answer.after.pages ≡ false }
-    ensures { (weight : ℕ) (v : RuleView) (s : RuleSession) (to : Image) → IfOk result (ComesTo v (machine_of machine.now) s (unless (row_cause rows answer (limits.hindrance (machine_of machine.now) (table_of machine.now sessions.now weight) conn transaction.now.name transaction.now.mark answer.after.pages to)) (rules.Refused DatabaseFull))) }
+    ensures works { IfOk result (λ turn. (tx : Option TransactionValue) → work_in turn tx ≡ []) }
+    ensures comes { (weight : ℕ) (v : RuleView) (s : RuleSession) (to : Image) → IfOk result (ComesTo v (machine_of machine.now) s (unless (row_cause rows answer (limits.hindrance (machine_of machine.now) (table_of machine.now sessions.now weight) conn transaction.now.name transaction.now.mark answer.after.pages to)) (rules.Refused DatabaseFull))) }
 {
     let name = &transaction.name;
     let cause = hindering(
@@ -75,11 +79,13 @@ fn work(
     transaction: &Transaction,
     rows: bool,
     ran: AllRan,
+    number: u64,
 ) -> Result<Turn, AllocError>
     requires apart { AreApart sessions.now }
     requires table { IsTable ran.answer.columns ran.answer.rows }
     requires some { engines.no_pages (change_in ran).pages ≡ false }
-    ensures { (weight : ℕ) (v : RuleView) (s : RuleSession) (x : RuleTransaction) (note : Note) (to : Image) → LeadsTo (change_in ran).pages to → s.tx ≡ Some x → applied x.working (change_in ran).pages ≡ to → (change_in ran).pages ≡ changed x.working to → IfOk result (ComesTo v (machine_of machine.now) s (unless (row_cause rows ran.answer (limits.hindrance (machine_of machine.now) (table_of machine.now sessions.now weight) conn transaction.now.name transaction.now.mark (change_in ran).pages to)) (rules.Answers (requests.worked s x to true) (reply_of rows ran.answer) note))) }
+    ensures works { IfOk result (λ turn. (tx : Option TransactionValue) → AreAmong (work_with (change_in ran).pages number tx) (work_in turn tx)) }
+    ensures comes { (weight : ℕ) (v : RuleView) (s : RuleSession) (x : RuleTransaction) (note : Note) (to : Image) → LeadsTo (change_in ran).pages to → s.tx ≡ Some x → applied x.working (change_in ran).pages ≡ to → (change_in ran).pages ≡ changed x.working to → IfOk result (ComesTo v (machine_of machine.now) s (unless (row_cause rows ran.answer (limits.hindrance (machine_of machine.now) (table_of machine.now sessions.now weight) conn transaction.now.name transaction.now.mark (change_in ran).pages to)) (rules.Answers (requests.worked s x to true) (reply_of rows ran.answer) note))) }
 {
     let name = &transaction.name;
     let hindered = hindered(alloc, machine, sessions, conn, name, transaction.mark, &ran)?;
@@ -87,13 +93,13 @@ fn work(
         Err(cause) => refused(alloc, rows, ran.answer, cause),
         Ok(_count) => {
             let set = change_of(alloc, &ran)?;
-            worked(alloc, rows, ran.answer, set)
+            worked(alloc, rows, ran.answer, set, number)
         }
     }
 }
 
 /// What statements come to that ran in a transaction, over its own image: they are answered, and the transaction takes the turn
-/// to write with the first that changes pages, where nothing hinders it. `Err` is want of memory.
+/// to write with the first that changes pages, where nothing hinders it; the number is that of its working image then. `Err` is want of memory.
 pub(crate) fn turn_inside(
     alloc: Global,
     machine: &Machine,
@@ -102,11 +108,13 @@ pub(crate) fn turn_inside(
     transaction: &Transaction,
     rows: bool,
     ending: Ending,
+    number: u64,
 ) -> Result<Turn, AllocError>
     requires apart { AreApart sessions.now }
     requires open { session.now.transaction ≡ Some transaction.now }
     requires formed { IsWellFormed ending }
-    ensures { (weight tx : ℕ) (v : RuleView) (statements : List Statement) (ended : engines.Ending) → Shows tx transaction.now.working ended ending → IfOk result (ComesTo v (machine_of machine.now) (session_of machine.now session.now) (requests.inside (machine_of machine.now) (table_of machine.now sessions.now weight) session.now.conn (session_of machine.now session.now) (transaction_of machine.now transaction.now) statements rows ended)) }
+    ensures works { IfOk result (λ turn. AreAmong (work_left transaction.now.working number ending) (work_in turn session.now.transaction)) }
+    ensures comes { (weight tx : ℕ) (v : RuleView) (statements : List Statement) (ended : engines.Ending) → Shows tx transaction.now.working ended ending → IfOk result (ComesTo v (machine_of machine.now) (session_of machine.now session.now) (requests.inside (machine_of machine.now) (table_of machine.now sessions.now weight) session.now.conn (session_of machine.now session.now) (transaction_of machine.now transaction.now) statements rows ended)) }
 {
     match ending {
         Ending::Stopped(fault) => Ok(Turn::Refused(Cause::of_engine(fault))),
@@ -126,6 +134,7 @@ pub(crate) fn turn_inside(
                 transaction,
                 rows,
                 ran,
+                number,
             )
         }
     }

@@ -1,6 +1,6 @@
 //! Requests that run no statement.
 
-ghost use Rattle.std.specs.Prelude.{◌≡◌, ◌+◌, ◌∷◌, ◌<◌, [], ℕ, List, true, false, None, IsSome, IfOk, OnOk};
+ghost use Rattle.std.specs.Prelude.{◌≡◌, ◌+◌, ◌∷◌, ◌<◌, [], ℕ, List, Option, true, false, None, IsSome, IfOk, OnOk};
 ghost use Rattle.frame_commands.specs.declared.command.Command.TheVariants.{OpenDb};
 ghost use Rattle.page_apply.specs.declared.database.Database.{Database};
 ghost use Rattle.session_rules.specs.Asking as asking;
@@ -13,6 +13,8 @@ ghost use Rattle.session_rules.specs.Seen.{HasSpelling};
 ghost use Rattle.session_rules.specs.Sessions.{Session as RuleSession, View as RuleView, Gateway, Opening, Nothing, Proposes, in_tx};
 ghost use Rattle.session_rules.specs.Statements as statements;
 ghost use Rattle.session_table.specs.Table.{AreApart, database_of, session_of, table_of};
+ghost use Rattle.session_table.specs.declared.session.Transaction.{Transaction as TransactionValue};
+ghost use Rattle.session_turns.specs.Numbers.{work_in};
 ghost use Rattle.session_turns.specs.Turning.{ComesTo};
 
 use crate::turn::Turn;
@@ -54,7 +56,8 @@ fn next_index(view: &View) -> u64
 /// The proposal of a new database, where the log has room. `Err` is want of memory.
 fn opening(alloc: Global, view: &View, name: Name) -> Result<Turn, AllocError>
     requires { limits.log_full view.now ≡ false }
-    ensures { (m : RuleMachine) (s : RuleSession) → IfOk result (ComesTo view.now m s (Proposes (flying view.now s name (Does (OpenDb name) ∷ []) 0 Opening) (Does (OpenDb name) ∷ []) Nothing)) }
+    ensures works { IfOk result (λ turn. (tx : Option TransactionValue) → work_in turn tx ≡ []) }
+    ensures comes { (m : RuleMachine) (s : RuleSession) → IfOk result (ComesTo view.now m s (Proposes (flying view.now s name (Does (OpenDb name) ∷ []) 0 Opening) (Does (OpenDb name) ∷ []) Nothing)) }
 {
     let entry = opening_entry(alloc, view.term, &name)?;
     let entries = Entries::new(vec![in alloc; entry]?);
@@ -83,7 +86,8 @@ pub fn creating(
 ) -> Result<Turn, AllocError>
     requires apart { AreApart sessions.now }
     requires room { limits.log_full view.now ≡ false }
-    ensures { (weight conn : ℕ) (answers : List Answer) → IfOk result (ComesTo view.now (machine_of machine.now) (session_of machine.now session.now) (does view.now (machine_of machine.now) (table_of machine.now sessions.now weight) conn (session_of machine.now session.now) (asking.Creates name) answers)) }
+    ensures works { IfOk result (λ turn. (tx : Option TransactionValue) → work_in turn tx ≡ []) }
+    ensures comes { (weight conn : ℕ) (answers : List Answer) → IfOk result (ComesTo view.now (machine_of machine.now) (session_of machine.now session.now) (does view.now (machine_of machine.now) (table_of machine.now sessions.now weight) conn (session_of machine.now session.now) (asking.Creates name) answers)) }
 {
     if pages_full(alloc, machine, sessions, name.as_str(), 1)? {
         return Ok(Turn::Refused(Cause::DatabaseFull));
@@ -107,7 +111,8 @@ pub fn beginning(sessions: &[Session], conn: u64, session: &Session, at_once: bo
     requires apart { AreApart sessions.now }
     requires outside { (databases : List Database) → in_tx (session_of databases session.now) ≡ false }
     requires open { (databases : List Database) → asking.has_database (session_of databases session.now) ≡ true }
-    ensures { (v : RuleView) (databases : List Database) (weight : ℕ) (answers : List Answer) → ComesTo v (machine_of databases) (session_of databases session.now) (does v (machine_of databases) (table_of databases sessions.now weight) conn (session_of databases session.now) (asking.Begins at_once) answers) result }
+    ensures works { (tx : Option TransactionValue) → work_in result tx ≡ [] }
+    ensures comes { (v : RuleView) (databases : List Database) (weight : ℕ) (answers : List Answer) → ComesTo v (machine_of databases) (session_of databases session.now) (does v (machine_of databases) (table_of databases sessions.now weight) conn (session_of databases session.now) (asking.Begins at_once) answers) result }
 {
     if !at_once {
         return Turn::Begins(false);
@@ -122,7 +127,8 @@ pub fn beginning(sessions: &[Session], conn: u64, session: &Session, at_once: bo
 #[tactic(auto, unfolding(session_rules::specs::Requests::does))]
 pub fn preparing(session: &Session, prepared: Prepared, tail: Option<u64>) -> Turn
     requires { statements.free_id session.now.statements.items < 64 }
-    ensures { (v : RuleView) (m : RuleMachine) (g : Gateway) (conn : ℕ) (databases : List Database) (answers : List Answer) → ComesTo v m (session_of databases session.now) (does v m g conn (session_of databases session.now) (asking.Prepares prepared tail) answers) result }
+    ensures works { (tx : Option TransactionValue) → work_in result tx ≡ [] }
+    ensures comes { (v : RuleView) (m : RuleMachine) (g : Gateway) (conn : ℕ) (databases : List Database) (answers : List Answer) → ComesTo v m (session_of databases session.now) (does v m g conn (session_of databases session.now) (asking.Prepares prepared tail) answers) result }
 {
     let id = free_id(session.statements.as_slice()) as u32;
     let params = prepared.params;
@@ -139,7 +145,8 @@ pub fn preparing(session: &Session, prepared: Prepared, tail: Option<u64>) -> Tu
 #[tactic(auto, unfolding(session_rules::specs::Requests::does))]
 pub fn finalizing(session: &Session, id: u32) -> Turn
     requires { IsSome (statements.prepared_at session.now.statements.items id) }
-    ensures { (v : RuleView) (m : RuleMachine) (g : Gateway) (conn : ℕ) (databases : List Database) (answers : List Answer) → ComesTo v m (session_of databases session.now) (does v m g conn (session_of databases session.now) (asking.Drops id) answers) result }
+    ensures works { (tx : Option TransactionValue) → work_in result tx ≡ [] }
+    ensures comes { (v : RuleView) (m : RuleMachine) (g : Gateway) (conn : ℕ) (databases : List Database) (answers : List Answer) → ComesTo v m (session_of databases session.now) (does v m g conn (session_of databases session.now) (asking.Drops id) answers) result }
 {
     let _ = &session.statements;
     Turn::Answers(Change::Drops(id), Reply::Single(Response::Empty))
@@ -148,7 +155,8 @@ pub fn finalizing(session: &Session, id: u32) -> Turn
 /// What comes of OPEN where the database is there. Takes no memory.
 #[tactic(auto, unfolding(session_rules::specs::Requests::does))]
 pub fn opened(name: Name) -> Turn
-    ensures { (v : RuleView) (m : RuleMachine) (g : Gateway) (conn : ℕ) (s : RuleSession) (answers : List Answer) → ComesTo v m s (does v m g conn s (asking.Opens name) answers) result }
+    ensures works { (tx : Option TransactionValue) → work_in result tx ≡ [] }
+    ensures comes { (v : RuleView) (m : RuleMachine) (g : Gateway) (conn : ℕ) (s : RuleSession) (answers : List Answer) → ComesTo v m s (does v m g conn s (asking.Opens name) answers) result }
 {
     Turn::Answers(Change::Opens(name), Reply::Single(Response::Db { id: 0 }))
 }
@@ -156,7 +164,8 @@ pub fn opened(name: Name) -> Turn
 /// What comes of a request that is told a response, and nothing else. Takes no memory.
 #[tactic(auto, unfolding(session_rules::specs::Requests::does))]
 pub fn telling(response: Response) -> Turn
-    ensures { (v : RuleView) (m : RuleMachine) (g : Gateway) (conn : ℕ) (s : RuleSession) (answers : List Answer) → ComesTo v m s (does v m g conn s (asking.Tells response) answers) result }
+    ensures works { (tx : Option TransactionValue) → work_in result tx ≡ [] }
+    ensures comes { (v : RuleView) (m : RuleMachine) (g : Gateway) (conn : ℕ) (s : RuleSession) (answers : List Answer) → ComesTo v m s (does v m g conn s (asking.Tells response) answers) result }
 {
     Turn::Answers(Change::Stays, Reply::Single(response))
 }

@@ -1,6 +1,12 @@
 //! Statements of a request, run by an engine at a session.
 
-ghost use Rattle.std.specs.Prelude.{◌≡◌, ◌<◌, ◌≤◌, ℕ, List, [], ◌∷◌, true, false, suc, length, get_or, IsSome, IfOk};
+ghost use Rattle.std.specs.Prelude.{◌≡◌, ◌<◌, ◌≤◌, ◌+◌, ◌++◌, ℕ, List, [], ◌∷◌, true, false, suc, length, map, get_or, All, Contains, IsSome, IfOk, OnErr};
+ghost use Rattle.std.specs.List.{AllByRecursion};
+ghost use Rattle.sql_engine.specs.Known.{Known, MayRun};
+ghost use Rattle.sql_engine.specs.Meanings.{Stays};
+ghost use Rattle.page_apply.specs.ImageNumbers.{Numbered, numbered};
+ghost use Rattle.statement_runs.specs.Agreeing.{Agree};
+ghost use Rattle.statement_runs.specs.Learning.{IsLearnt, left_by};
 ghost use Rattle.sql_engine.specs.Replies.{Statement};
 ghost use Rattle.session_rules.specs.Engines as engines;
 ghost use Rattle.session_rules.specs.Entries.{tx_of};
@@ -16,6 +22,8 @@ ghost use Rattle.session_table.specs.declared.cause.Cause.TheVariants as causes;
 ghost use Rattle.session_table.specs.declared.session.Session.{Session as SessionValue};
 ghost use Rattle.session_table.specs.Table.{database_of, session_of, table_of, AreApart};
 ghost use Rattle.session_turns.specs.declared.turn.Turn.TheVariants as turns;
+ghost use Rattle.session_table.specs.Working.{with_number, work_of, works_of, AreAmong};
+ghost use Rattle.session_turns.specs.Numbers.{work_in, works_in, work_left, MayRunOver};
 ghost use Rattle.session_turns.specs.Turning.{ComesTo};
 ghost use Rattle.session_turns.specs.Runs.{IsWellFormed, RunsTo, ran_in};
 
@@ -23,12 +31,12 @@ use crate::inside::turn_inside;
 use crate::outside::turn_outside;
 use crate::turn::Turn;
 use crate::writing::transaction_number;
-use dq_base::Name;
+use dq_base::{Image, ImageNumber, Name};
 use page_apply::Machine;
 use session_asking::{Script, View};
 use session_table::{Prepared, Session, name_of, newest_image, newest_shared};
-use sql_engine::Engine;
-use statement_runs::{Ending, run_all, run_unnumbered};
+use sql_engine::{Engine, ImageNumbers};
+use statement_runs::{Ending, run_all, run_one, run_unnumbered};
 use std::alloc::{AllocError, Global};
 use wire_words::Value;
 
@@ -37,6 +45,35 @@ fn next_transaction(view: &View) -> u64
     ensures { view.now.term ≤ 4294967295 → limits.log_full view.now ≡ false → result ≡ tx_of view.now.term (suc view.now.last) }
 {
     transaction_number(view.term, view.last)
+}
+
+/// Runs a statement over an image under its number, where it has one, and the number that was drawn for the image after; an engine
+/// is told to forget all numbers where it has none.
+fn run_on<E: Engine>(
+    engine: &mut E,
+    image: &Image,
+    before: Option<ImageNumber>,
+    number: u64,
+    text: &str,
+    params: &[Value],
+    tx: u64,
+) -> Ending
+    requires { AllByRecursion (λ (work : Known). MayRun (E.known engine.old) work.image (record { before = work.number; after = number })) (with_number before image.now) }
+    ensures stays { Stays (E.kind engine.old) (E.kind engine.new) (E.refused_openings engine.old) (E.refused_openings engine.new) }
+    ensures unopened { ends_unopened result ≡ true → E.refused_openings engine.old < E.refused_openings engine.new }
+    ensures learnt { All (IsLearnt (E.known engine.old) before image.now number (left_by image.now result)) (E.known engine.new) }
+    ensures ran { RanTo (E.meaning (E.kind engine.old)) (E.kind engine.old) tx image.now (record { text = text.now; params = params.now } ∷ []) (E.told engine.old) (E.told engine.new) result }
+{
+    match before {
+        Some(before) => {
+            let numbers = ImageNumbers {
+                before,
+                after: number,
+            };
+            run_one(engine, image, numbers, text, params, tx)
+        }
+        None => run_unnumbered(engine, image, text, params, tx),
+    }
 }
 
 /// Runs a statement over the newest image of the database of a name, which the machine lends: where it keeps that image whole
@@ -48,15 +85,21 @@ fn run_lent<E: Engine>(
     text: &str,
     params: &[Value],
     tx: u64,
+    number: u64,
     engine: &mut E,
 ) -> Result<Ending, AllocError>
+    requires may { MayRunOver (E.known engine.old) [] (map numbered machine.now) number }
     ensures kind { E.kind engine.new ≡ E.kind engine.old }
     ensures openings { E.refused_openings engine.old ≤ E.refused_openings engine.new }
     ensures unopened { IfOk result (λ ending. ends_unopened ending ≡ true → E.refused_openings engine.old < E.refused_openings engine.new) }
     ensures ran { IfOk result (RanTo (E.meaning (E.kind engine.old)) (E.kind engine.old) tx ((machine_of machine.now).base name.now).image (record { text = text.now; params = params.now } ∷ []) (E.told engine.old) (E.told engine.new)) }
+    ensures agree { IfOk result (λ ending. (works : List Known) → Agree (E.known engine.old) works number (map numbered machine.now)
+        → Agree (E.known engine.new) (work_left ((machine_of machine.now).base name.now).image number ending ++ works) (number + 1) (map numbered machine.now)) }
+    ensures failed { OnErr result (E.known engine.new ≡ E.known engine.old) }
 {
     let image = newest_shared(alloc, machine, name)?;
-    Ok(run_unnumbered(engine, &image, text, params, tx))
+    let before = machine.number(name);
+    Ok(run_on(engine, &image, before, number, text, params, tx))
 }
 
 /// Runs a statement over the image of a session: that of its transaction, or the newest of its database, which is lent. `Err`
@@ -68,22 +111,28 @@ fn run_statement<E: Engine>(
     prepared: &Prepared,
     params: &[Value],
     tx: u64,
+    number: u64,
     engine: &mut E,
 ) -> Result<Ending, AllocError>
+    requires may { MayRunOver (E.known engine.old) (work_of session.now.transaction) (map numbered machine.now) number }
     ensures kind { E.kind engine.new ≡ E.kind engine.old }
     ensures openings { E.refused_openings engine.old ≤ E.refused_openings engine.new }
     ensures unopened { IfOk result (λ ending. ends_unopened ending ≡ true → E.refused_openings engine.old < E.refused_openings engine.new) }
     ensures ran { IfOk result (RanTo (E.meaning (E.kind engine.old)) (E.kind engine.old) tx (ground (machine_of machine.now) (session_of machine.now session.now) (session_of machine.now session.now).tx) (with_all prepared.now params.now ∷ []) (E.told engine.old) (E.told engine.new)) }
+    ensures agree { IfOk result (λ ending. (works : List Known) → AreAmong works (work_of session.now.transaction) → Agree (E.known engine.old) works number (map numbered machine.now)
+        → Agree (E.known engine.new) (work_left (ground (machine_of machine.now) (session_of machine.now session.now) (session_of machine.now session.now).tx) number ending ++ works) (number + 1) (map numbered machine.now)) }
+    ensures failed { OnErr result (E.known engine.new ≡ E.known engine.old) }
 {
     let text = prepared.text.as_str();
     match &session.transaction {
         Some(transaction) => {
             let image = &transaction.working;
-            Ok(run_unnumbered(engine, image, text, params, tx))
+            let before = transaction.number;
+            Ok(run_on(engine, image, before, number, text, params, tx))
         }
         None => {
             let name = name_of(&session.database);
-            let ending = run_lent(alloc, machine, name, text, params, tx, engine)?;
+            let ending = run_lent(alloc, machine, name, text, params, tx, number, engine)?;
             Ok(ending)
         }
     }
@@ -104,6 +153,7 @@ fn run_newest<E: Engine>(
     ensures kind { E.kind engine.new ≡ E.kind engine.old }
     ensures openings { E.refused_openings engine.old ≤ E.refused_openings engine.new }
     ensures unopened { IfOk result (λ ending. ends_unopened ending ≡ true → E.refused_openings engine.old < E.refused_openings engine.new) }
+    ensures known { All (Contains (E.known engine.old)) (E.known engine.new) }
     ensures ran { IfOk result (RanTo (E.meaning (E.kind engine.old)) (E.kind engine.old) tx ((machine_of machine.now).base name.now).image (assigned script.now.text script.now.pieces params.now) (E.told engine.old) (E.told engine.new)) }
 {
     let text = script.text.as_str();
@@ -128,6 +178,7 @@ fn run_statements<E: Engine>(
     ensures kind { E.kind engine.new ≡ E.kind engine.old }
     ensures openings { E.refused_openings engine.old ≤ E.refused_openings engine.new }
     ensures unopened { IfOk result (λ ending. ends_unopened ending ≡ true → E.refused_openings engine.old < E.refused_openings engine.new) }
+    ensures known { All (Contains (E.known engine.old)) (E.known engine.new) }
     ensures ran { IfOk result (RanTo (E.meaning (E.kind engine.old)) (E.kind engine.old) tx (ground (machine_of machine.now) (session_of machine.now session.old) (session_of machine.now session.old).tx) (assigned script.now.text script.now.pieces params.now) (E.told engine.old) (E.told engine.new)) }
 {
     match &mut session.transaction {
@@ -163,6 +214,7 @@ fn run_at<E: Engine>(
     ensures kind { E.kind engine.new ≡ E.kind engine.old }
     ensures openings { E.refused_openings engine.old ≤ E.refused_openings engine.new }
     ensures unopened { IfOk result (λ ending. ends_unopened ending ≡ true → E.refused_openings engine.old < E.refused_openings engine.new) }
+    ensures known { All (Contains (E.known engine.old)) (E.known engine.new) }
     ensures ran { (own : SessionValue) → IfOk result (RanTo (E.meaning (E.kind engine.old)) (E.kind engine.old) tx (ground (machine_of machine.now) (session_of machine.now (get_or sessions.old place own)) (session_of machine.now (get_or sessions.old place own)).tx) (assigned script.now.text script.now.pieces params.now) (E.told engine.old) (E.told engine.new)) }
 {
     let session = &mut sessions[place];
@@ -186,15 +238,26 @@ fn turn_of(
     session: &Session,
     rows: bool,
     ending: Ending,
+    number: u64,
 ) -> Result<Turn, AllocError>
     requires apart { AreApart sessions.now }
     requires open { IsSome session.now.database }
     requires formed { IsWellFormed ending }
-    ensures { (weight tx : ℕ) (statements : List Statement) (ended : engines.Ending) → (limits.log_full view.now ≡ false → tx ≡ tx_of view.now.term (suc view.now.last)) → Shows tx (ground (machine_of machine.now) (session_of machine.now session.now) (session_of machine.now session.now).tx) ended ending → IfOk result (ComesTo view.now (machine_of machine.now) (session_of machine.now session.now) (ran_in view.now (machine_of machine.now) (table_of machine.now sessions.now weight) session.now.conn (session_of machine.now session.now) (session_of machine.now session.now).tx statements rows ended)) }
+    ensures works { IfOk result (λ turn. AreAmong (work_left (ground (machine_of machine.now) (session_of machine.now session.now) (session_of machine.now session.now).tx) number ending) (work_in turn session.now.transaction)) }
+    ensures comes { (weight tx : ℕ) (statements : List Statement) (ended : engines.Ending) → (limits.log_full view.now ≡ false → tx ≡ tx_of view.now.term (suc view.now.last)) → Shows tx (ground (machine_of machine.now) (session_of machine.now session.now) (session_of machine.now session.now).tx) ended ending → IfOk result (ComesTo view.now (machine_of machine.now) (session_of machine.now session.now) (ran_in view.now (machine_of machine.now) (table_of machine.now sessions.now weight) session.now.conn (session_of machine.now session.now) (session_of machine.now session.now).tx statements rows ended)) }
 {
     match &session.transaction {
         Some(transaction) => {
-            turn_inside(alloc, machine, sessions, session, transaction, rows, ending)
+            turn_inside(
+                alloc,
+                machine,
+                sessions,
+                session,
+                transaction,
+                rows,
+                ending,
+                number,
+            )
         }
         None => {
             let name = opened(session);
@@ -204,7 +267,7 @@ fn turn_of(
 }
 
 /// What a statement comes to that runs with all parameters, and whose rows are told or not, at a session of a node that serves.
-/// Nothing has changed yet. No image is copied: outside a transaction the machine lends the newest one of the database, where it
+/// Nothing has changed yet. The number is one that was drawn: the image that the statement leaves has it. No image is copied: outside a transaction the machine lends the newest one of the database, where it
 /// keeps that whole, and inside one the statement runs over its own. `Err` is want of memory.
 pub fn run_prepared<E: Engine>(
     alloc: Global,
@@ -215,23 +278,30 @@ pub fn run_prepared<E: Engine>(
     rows: bool,
     prepared: &Prepared,
     params: &[Value],
+    number: u64,
     engine: &mut E,
 ) -> Result<Turn, AllocError>
     requires apart { AreApart sessions.now }
     requires term { view.now.serving ≡ true → view.now.term ≤ 4294967295 }
     requires served { IsServed view.now (session_of machine.now session.now) }
+    requires own { AreAmong (works_of sessions.now) (work_of session.now.transaction) }
+    requires agree { Agree (E.known engine.old) (works_of sessions.now) number (map numbered machine.now) }
+    // No number stands for two images then either, with the working image that the turn makes.
+    ensures agree { Agree (E.known engine.new) (works_in result session.now.transaction ++ works_of sessions.now) (number + 1) (map numbered machine.now) }
     ensures kind { E.kind engine.new ≡ E.kind engine.old }
     ensures openings { E.refused_openings engine.old ≤ E.refused_openings engine.new }
     ensures unopened { IfOk result (λ turn. turn ≡ turns.Refused causes.NotADatabase → E.refused_openings engine.old < E.refused_openings engine.new) }
     ensures ran { (weight : ℕ) → IfOk result (RunsTo (E.meaning (E.kind engine.old)) (E.kind engine.old) view.now (machine_of machine.now) (table_of machine.now sessions.now weight) session.now.conn (session_of machine.now session.now) (with_all prepared.now params.now ∷ []) rows (E.told engine.old) (E.told engine.new)) }
 {
     let tx = next_transaction(view);
-    let ending = run_statement(alloc, machine, session, prepared, params, tx, engine)?;
-    turn_of(alloc, view, machine, sessions, session, rows, ending)
+    let ending = run_statement(
+        alloc, machine, session, prepared, params, tx, number, engine,
+    )?;
+    turn_of(alloc, view, machine, sessions, session, rows, ending, number)
 }
 
 /// What the statements of a text come to, which run one after another with as many parameters as each counts, and whose rows are
-/// dropped, at the session at a place, of a node that serves. Nothing has changed yet: the statements work on the transaction's
+/// dropped, at the session at a place, of a node that serves. The number is one that was drawn: the image that they leave has it. Nothing has changed yet: the statements work on the transaction's
 /// image in place, and it is put back; outside a transaction they work so on a copy of the newest image of the database. Besides
 /// that copy, only pages are copied that they change. `Err` is want of memory.
 pub fn run_script<E: Engine>(
@@ -242,6 +312,7 @@ pub fn run_script<E: Engine>(
     place: usize,
     script: &Script,
     params: &[Value],
+    number: u64,
     engine: &mut E,
 ) -> Result<Turn, AllocError>
     requires apart { AreApart sessions.old }
@@ -249,6 +320,9 @@ pub fn run_script<E: Engine>(
     requires term { view.now.serving ≡ true → view.now.term ≤ 4294967295 }
     requires served { (own : SessionValue) → IsServed view.now (session_of machine.now (get_or sessions.old place own)) }
     requires fits { CanRun params.now (wanted.RunsAll script.now) }
+    requires agree { Agree (E.known engine.old) (works_of sessions.old) number (map numbered machine.now) }
+    // No number stands for two images then either, with the working image that the turn makes.
+    ensures agree { (own : SessionValue) → Agree (E.known engine.new) (works_in result (get_or sessions.old place own).transaction ++ works_of sessions.old) (number + 1) (map numbered machine.now) }
     ensures kept { sessions.new ≡ sessions.old }
     ensures kind { E.kind engine.new ≡ E.kind engine.old }
     ensures openings { E.refused_openings engine.old ≤ E.refused_openings engine.new }
@@ -259,5 +333,5 @@ pub fn run_script<E: Engine>(
     let ending = run_at(alloc, machine, sessions, place, script, params, tx, engine)?;
     let known = &*sessions;
     let session = &known[place];
-    turn_of(alloc, view, machine, known, session, false, ending)
+    turn_of(alloc, view, machine, known, session, false, ending, number)
 }

@@ -8,8 +8,8 @@ use Rattle.session_rules.specs.Seen.{HasSpelling}
 use Rattle.session_rules.specs.Sessions.{Committing}
 use Rattle.session_turns.proofs.commit.proposed.Goals as goal
 
-pub returns : goal.returns
-returns c = λ m s.
+pub returns-clause-comes : goal.returns-clause-comes
+returns-clause-comes c = λ m s.
     let v = c.args.view.now in
     let name = c.args.name.now in
     subst (λ (set : PageSet). (flying v s name (map Does (split name set)) c.args.count Committing ≡ with_flight s (Some c.in_ok-flight.flight)) × (c.in_ok-entries.entries ≡ written v.term (map Does (split name set))) × AllByRecursion HasSpelling (map Does (split name set))) c.set_of-set.ensures

@@ -12,15 +12,15 @@ use Rattle.statement_runs.specs.Running.{change_in}
 use Rattle.session_turns.specs.Hindered.{Hinders}
 use Rattle.session_turns.proofs.inside.work.Goals as goal
 
-pub returns-in-Err : goal.returns-in-Err
-returns-in-Err c = λ weight v s x note to leads begun reaches lists.
+pub returns-in-Err-clause-comes : goal.returns-in-Err-clause-comes
+returns-in-Err-clause-comes c = λ weight v s x note to leads begun reaches lists.
     let pages = (change_in c.args.ran).pages in
-    c.refused.ensures (hindrance (machine_of c.args.machine.now) (table_of c.args.machine.now c.args.sessions.now weight) c.args.conn c.args.transaction.now.name c.args.transaction.now.mark pages to) (subst (Hinders pages to (hindrance (machine_of c.args.machine.now) (table_of c.args.machine.now c.args.sessions.now weight) c.args.conn c.args.transaction.now.name c.args.transaction.now.mark pages to)) c.in-Err.is (c.in_ok-hindered.ensures.hinders weight to leads)) v (machine_of c.args.machine.now) s _
+    c.refused.ensures.comes (hindrance (machine_of c.args.machine.now) (table_of c.args.machine.now c.args.sessions.now weight) c.args.conn c.args.transaction.now.name c.args.transaction.now.mark pages to) (subst (Hinders pages to (hindrance (machine_of c.args.machine.now) (table_of c.args.machine.now c.args.sessions.now weight) c.args.conn c.args.transaction.now.name c.args.transaction.now.mark pages to)) c.in-Err.is (c.in_ok-hindered.ensures.hinders weight to leads)) v (machine_of c.args.machine.now) s _
 
-pub returns : goal.returns
-returns c = λ weight v s x note to leads begun reaches lists.
+pub returns-clause-comes : goal.returns-clause-comes
+returns-clause-comes c = λ weight v s x note to leads begun reaches lists.
     let pages = (change_in c.args.ran).pages in
     let found : Hinders pages to (hindrance (machine_of c.args.machine.now) (table_of c.args.machine.now c.args.sessions.now weight) c.args.conn c.args.transaction.now.name c.args.transaction.now.mark pages to) (Ok c.in-Ok._count) = subst (Hinders pages to (hindrance (machine_of c.args.machine.now) (table_of c.args.machine.now c.args.sessions.now weight) c.args.conn c.args.transaction.now.name c.args.transaction.now.mark pages to)) c.in-Ok.is (c.in_ok-hindered.ensures.hinders weight to leads) in
     let image : applied x.working c.in_ok-set-in-Ok.set.pages ≡ to = ap (λ (set : PageSet). applied x.working set.pages) c.in_ok-set-in-Ok.ensures ∙ reaches in
     subst (λ (h : Option Cause). IfOk c.worked.result (ComesTo v (machine_of c.args.machine.now) s (unless (row_cause c.args.rows c.args.ran.answer h) (Answers (worked s x to true) (reply_of c.args.rows c.args.ran.answer) note)))) (sym found.0)
-    (c.worked.ensures v (machine_of c.args.machine.now) s x note to begun image (ap (λ (set : PageSet). set.pages) c.in_ok-set-in-Ok.ensures ∙ lists))
+    (c.worked.ensures.comes v (machine_of c.args.machine.now) s x note to begun image (ap (λ (set : PageSet). set.pages) c.in_ok-set-in-Ok.ensures ∙ lists))

@@ -18,7 +18,7 @@ returns-in-TooLarge c = λ weight tx statements ended number shows.
 pub returns-then-is_unchanged : goal.returns-then-is_unchanged
 returns-then-is_unchanged c = λ weight tx statements ended number shows.
     let all = shows_ended tx ((machine_of c.args.machine.now).base c.args.name.now).image ended c.in-Ended.ran (subst (Shows tx ((machine_of c.args.machine.now).base c.args.name.now).image ended) c.in-Ended.is shows) in
-    idle_comes c.args.view.now (machine_of c.args.machine.now) (table_of c.args.machine.now c.args.sessions.now weight) c.args.session.now.conn (session_of c.args.machine.now c.args.session.now) statements c.args.rows c.args.name.now c.requires.name ended c.idle.result tx c.in-Ended.ran all (sym c.is_unchanged.ensures ∙ c.if-is_unchanged.true) (c.idle.ensures c.args.view.now (machine_of c.args.machine.now) (session_of c.args.machine.now c.args.session.now) _)
+    idle_comes c.args.view.now (machine_of c.args.machine.now) (table_of c.args.machine.now c.args.sessions.now weight) c.args.session.now.conn (session_of c.args.machine.now c.args.session.now) statements c.args.rows c.args.name.now c.requires.name ended c.idle.result tx c.in-Ended.ran all (sym c.is_unchanged.ensures ∙ c.if-is_unchanged.true) (c.idle.ensures.comes c.args.view.now (machine_of c.args.machine.now) (session_of c.args.machine.now c.args.session.now) _)
 
 pub returns-else-is_unchanged : goal.returns-else-is_unchanged
 returns-else-is_unchanged c = λ weight tx statements ended number shows.

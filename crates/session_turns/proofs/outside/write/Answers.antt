@@ -23,7 +23,7 @@ returns-in-Err c = λ weight s note to leads number.
     behind_log c.args.view.now (machine_of c.args.machine.now) s c.refused.result (log_full c.args.view.now) (row_cause c.args.rows c.args.ran.answer (hindrance (machine_of c.args.machine.now) (table_of c.args.machine.now c.args.sessions.now weight) c.args.conn c.args.name.now newest pages to))
     (proposes c.args.view.now (machine_of c.args.machine.now) s c.refused.result c.args.name.now c.args.rows c.args.ran.answer note (change_of c.args.view.now c.args.name.now pages) (page_count to))
     (sym c.log_full.ensures ∙ c.if-log_full.false)
-    (c.refused.ensures (hindrance (machine_of c.args.machine.now) (table_of c.args.machine.now c.args.sessions.now weight) c.args.conn c.args.name.now newest pages to) found c.args.view.now (machine_of c.args.machine.now) s _)
+    (c.refused.ensures.comes (hindrance (machine_of c.args.machine.now) (table_of c.args.machine.now c.args.sessions.now weight) c.args.conn c.args.name.now newest pages to) found c.args.view.now (machine_of c.args.machine.now) s _)
 
 pub entries_of-requires : goal.entries_of-requires
 entries_of-requires c = subst (AreTaken (change_in c.args.ran).pages) c.in-Ok.is c.in_ok-hindered.ensures.taken

@@ -6,19 +6,19 @@ use Rattle.session_table.specs.Table.{session_of, table_of}
 use Rattle.session_turns.proofs.Flights.{is_locked, begins_at_once, begins_later}
 use Rattle.session_turns.proofs.plain.beginning.Goals as goal
 
-pub returns-then-not-at_once : goal.returns-then-not-at_once
+pub returns-then-not-at_once-clause-comes : goal.returns-then-not-at_once-clause-comes
 unfolding does
-returns-then-not-at_once c = λ v databases weight answers. begins_later v (machine_of databases) (table_of databases c.args.sessions.now weight) c.args.conn (session_of databases c.args.session.now) c.args.at_once c.if-not-at_once.true (c.requires.outside databases) (c.requires.open databases)
+returns-then-not-at_once-clause-comes c = λ v databases weight answers. begins_later v (machine_of databases) (table_of databases c.args.sessions.now weight) c.args.conn (session_of databases c.args.session.now) c.args.at_once c.if-not-at_once.true (c.requires.outside databases) (c.requires.open databases)
 
-pub returns-then-other_holds : goal.returns-then-other_holds
+pub returns-then-other_holds-clause-comes : goal.returns-then-other_holds-clause-comes
 unfolding does
-returns-then-other_holds c = λ v databases weight answers.
+returns-then-other_holds-clause-comes c = λ v databases weight answers.
     is_locked v (machine_of databases) (table_of databases c.args.sessions.now weight) c.args.conn (session_of databases c.args.session.now) c.args.at_once c.if-not-at_once.false
     (ap (other_holds (table_of databases c.args.sessions.now weight) c.args.conn) (sym c.database_name.ensures) ∙ sym (c.other_holds.ensures databases weight) ∙ c.if-other_holds.true)
 
-pub returns : goal.returns
+pub returns-clause-comes : goal.returns-clause-comes
 unfolding does
-returns c = λ v databases weight answers.
+returns-clause-comes c = λ v databases weight answers.
     begins_at_once v (machine_of databases) (table_of databases c.args.sessions.now weight) c.args.conn (session_of databases c.args.session.now) c.args.at_once c.if-not-at_once.false
     (ap (other_holds (table_of databases c.args.sessions.now weight) c.args.conn) (sym c.database_name.ensures) ∙ sym (c.other_holds.ensures databases weight) ∙ c.if-other_holds.false)
     (c.requires.outside databases) (c.requires.open databases)

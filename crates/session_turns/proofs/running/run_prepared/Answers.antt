@@ -23,7 +23,7 @@ returns-clause-unopened g c =
     let run = c.in_ok-ending.ensures.ran in
     let ended = runs (ground (machine_of c.args.machine.now) (session_of c.args.machine.now c.args.session.now) (session_of c.args.machine.now c.args.session.now).tx) no_answer (with_all c.args.prepared.now c.args.params.now ∷ []) run.answers in
     IfOk-weaker c.turn_of.result _ _ (λ turn comes is. c.in_ok-ending.ensures.unopened (was_unopened c.args.view.now (machine_of c.args.machine.now) (table_of c.args.machine.now c.args.sessions.now 0) c.args.session.now.conn (session_of c.args.machine.now c.args.session.now) (session_of c.args.machine.now c.args.session.now).tx (with_all c.args.prepared.now c.args.params.now ∷ []) c.args.rows c.next_transaction-tx.result (ground (machine_of c.args.machine.now) (session_of c.args.machine.now c.args.session.now) (session_of c.args.machine.now c.args.session.now).tx) ended c.in_ok-ending.ending turn run.ends comes is))
-    (c.turn_of.ensures 0 c.next_transaction-tx.result (with_all c.args.prepared.now c.args.params.now ∷ []) ended (λ room. c.next_transaction-tx.ensures (c.requires.term c.requires.served.serves) room) run.ends)
+    (c.turn_of.ensures.comes 0 c.next_transaction-tx.result (with_all c.args.prepared.now c.args.params.now ∷ []) ended (λ room. c.next_transaction-tx.ensures (c.requires.term c.requires.served.serves) room) run.ends)
 
 pub returns-clause-ran : goal.returns-clause-ran
 returns-clause-ran g c = λ weight.
@@ -36,4 +36,4 @@ returns-clause-ran g c = λ weight.
       exact = run.exact;
       is = subst (λ (turned : Turned). ComesTo c.args.view.now (machine_of c.args.machine.now) (session_of c.args.machine.now c.args.session.now) turned turn) (sym (run_is c.args.view.now (machine_of c.args.machine.now) (table_of c.args.machine.now c.args.sessions.now weight) c.args.session.now.conn (session_of c.args.machine.now c.args.session.now) (session_of c.args.machine.now c.args.session.now).tx (with_all c.args.prepared.now c.args.params.now ∷ []) c.args.rows run.answers)) comes;
     })
-    (c.turn_of.ensures weight c.next_transaction-tx.result (with_all c.args.prepared.now c.args.params.now ∷ []) ended (λ room. c.next_transaction-tx.ensures (c.requires.term c.requires.served.serves) room) run.ends)
+    (c.turn_of.ensures.comes weight c.next_transaction-tx.result (with_all c.args.prepared.now c.args.params.now ∷ []) ended (λ room. c.next_transaction-tx.ensures (c.requires.term c.requires.served.serves) room) run.ends)

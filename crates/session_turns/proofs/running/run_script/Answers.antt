@@ -31,7 +31,7 @@ returns-clause-unopened g c =
     let served = found_served c.args.sessions.now c.run_at.new.sessions c.args.place found c.run_at.ensures.kept c.requires.within c.index-known-place.is c.args.view.now c.args.machine.now c.requires.served in
     let ended = runs (ground (machine_of c.args.machine.now) (session_of c.args.machine.now found) (session_of c.args.machine.now found).tx) no_answer (assigned c.args.script.now.text c.args.script.now.pieces c.args.params.now) run.answers in
     IfOk-weaker c.turn_of.result _ _ (λ turn comes is. c.in_ok-ending.ensures.unopened (was_unopened c.args.view.now (machine_of c.args.machine.now) (table_of c.args.machine.now c.run_at.new.sessions 0) found.conn (session_of c.args.machine.now found) (session_of c.args.machine.now found).tx (assigned c.args.script.now.text c.args.script.now.pieces c.args.params.now) false c.next_transaction-tx.result (ground (machine_of c.args.machine.now) (session_of c.args.machine.now found) (session_of c.args.machine.now found).tx) ended c.in_ok-ending.ending turn run.ends comes is))
-    (c.turn_of.ensures 0 c.next_transaction-tx.result (assigned c.args.script.now.text c.args.script.now.pieces c.args.params.now) ended (λ room. c.next_transaction-tx.ensures (c.requires.term served.serves) room) run.ends)
+    (c.turn_of.ensures.comes 0 c.next_transaction-tx.result (assigned c.args.script.now.text c.args.script.now.pieces c.args.params.now) ended (λ room. c.next_transaction-tx.ensures (c.requires.term served.serves) room) run.ends)
 
 pub returns-clause-ran : goal.returns-clause-ran
 returns-clause-ran g c = λ own weight.
@@ -47,4 +47,4 @@ returns-clause-ran g c = λ own weight.
       exact = run.exact;
       is = subst (λ (turned : Turned). ComesTo c.args.view.now (machine_of c.args.machine.now) (session_of c.args.machine.now found) turned turn) (sym (run_is c.args.view.now (machine_of c.args.machine.now) (table_of c.args.machine.now c.run_at.new.sessions weight) found.conn (session_of c.args.machine.now found) (session_of c.args.machine.now found).tx (assigned c.args.script.now.text c.args.script.now.pieces c.args.params.now) false run.answers)) comes;
     })
-    (c.turn_of.ensures weight c.next_transaction-tx.result (assigned c.args.script.now.text c.args.script.now.pieces c.args.params.now) ended (λ room. c.next_transaction-tx.ensures (c.requires.term served.serves) room) run.ends))
+    (c.turn_of.ensures.comes weight c.next_transaction-tx.result (assigned c.args.script.now.text c.args.script.now.pieces c.args.params.now) ended (λ room. c.next_transaction-tx.ensures (c.requires.term served.serves) room) run.ends))

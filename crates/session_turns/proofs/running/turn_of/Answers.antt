@@ -9,12 +9,12 @@ use Rattle.session_turns.specs.Runs.{ran_in}
 use Rattle.session_turns.proofs.Ground.{ground_inside, ground_outside, tx_inside, tx_outside}
 use Rattle.session_turns.proofs.running.turn_of.Goals as goal
 
-pub returns-in-Some : goal.returns-in-Some
-returns-in-Some c = λ weight tx statements ended number shows.
+pub returns-in-Some-clause-comes : goal.returns-in-Some-clause-comes
+returns-in-Some-clause-comes c = λ weight tx statements ended number shows.
     subst (λ (o : Option RuleTransaction). IfOk c.turn_inside.result (ComesTo c.args.view.now (machine_of c.args.machine.now) (session_of c.args.machine.now c.args.session.now) (ran_in c.args.view.now (machine_of c.args.machine.now) (table_of c.args.machine.now c.args.sessions.now weight) c.args.session.now.conn (session_of c.args.machine.now c.args.session.now) o statements c.args.rows ended))) (sym (tx_inside c.args.machine.now c.args.session.now c.in-Some.transaction c.in-Some.is))
-    (c.turn_inside.ensures weight tx c.args.view.now statements ended (subst (λ (image : Image). Shows tx image ended c.args.ending) (ground_inside c.args.machine.now c.args.session.now c.in-Some.transaction c.in-Some.is) shows))
+    (c.turn_inside.ensures.comes weight tx c.args.view.now statements ended (subst (λ (image : Image). Shows tx image ended c.args.ending) (ground_inside c.args.machine.now c.args.session.now c.in-Some.transaction c.in-Some.is) shows))
 
-pub returns-in-None : goal.returns-in-None
-returns-in-None c = λ weight tx statements ended number shows.
+pub returns-in-None-clause-comes : goal.returns-in-None-clause-comes
+returns-in-None-clause-comes c = λ weight tx statements ended number shows.
     subst (λ (o : Option RuleTransaction). IfOk c.turn_outside.result (ComesTo c.args.view.now (machine_of c.args.machine.now) (session_of c.args.machine.now c.args.session.now) (ran_in c.args.view.now (machine_of c.args.machine.now) (table_of c.args.machine.now c.args.sessions.now weight) c.args.session.now.conn (session_of c.args.machine.now c.args.session.now) o statements c.args.rows ended))) (sym (tx_outside c.args.machine.now c.args.session.now c.in-None.is))
     (c.turn_outside.ensures weight tx statements ended number (subst (λ (image : Image). Shows tx image ended c.args.ending) (ground_outside c.args.machine.now c.args.session.now c.in-None.is ∙ ap (λ (name : List ℕ). ((machine_of c.args.machine.now).base name).image) c.opened-name.ensures) shows))
