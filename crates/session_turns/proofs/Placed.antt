@@ -1,9 +1,12 @@
 -- The session at a place of sessions that are as they were before.
-use Rattle.std.proofs.Common.{◌≡◌, ℕ, ◌<◌, Bool, List, length, get_or, Option, IfOk, sym, ap, subst, ◌∙◌}
+use Rattle.std.proofs.Common.{◌≡◌, ℕ, ◌<◌, ◌++◌, Bool, List, length, get_or, Option, IfOk, sym, ap, subst, ◌∙◌}
 use Rattle.std.specs.Prelude.{Result}
+use Rattle.std.specs.declared.alloc.AllocError.{AllocError}
 use Rattle.std.proofs.lemmas.List.{get_or_default}
 use Rattle.page_apply.specs.declared.database.Database.{Database}
+use Rattle.page_apply.specs.ImageNumbers.{Numbered}
 use Rattle.sql_engine.specs.declared.kind.EngineKind.{EngineKind}
+use Rattle.sql_engine.specs.Known.{Known}
 use Rattle.sql_engine.specs.Replies.{Statement}
 use Rattle.sql_engine.specs.Meanings.{Meaning, Told}
 use Rattle.session_rules.specs.Machine.{machine_of}
@@ -11,10 +14,13 @@ use Rattle.session_rules.specs.Requests.{ground}
 use Rattle.session_rules.specs.Sessions.{View}
 use Rattle.session_table.specs.declared.session.Session.{Session}
 use Rattle.session_table.specs.Table.{session_of, table_of}
+use Rattle.session_table.specs.Working.{works_of}
 use Rattle.session_asking.specs.Meant.{IsServed}
+use Rattle.statement_runs.specs.Agreeing.{Agree}
 use Rattle.statement_runs.specs.declared.ending.Ending.{Ending}
 use Rattle.statement_runs.specs.Running.{RanTo}
 use Rattle.session_turns.specs.declared.turn.Turn.{Turn}
+use Rattle.session_turns.specs.Numbers.{works_in}
 use Rattle.session_turns.specs.Runs.{RunsTo}
 
 module _ (old known : List Session) (place : ℕ) (found : Session) (same : known ≡ old) (within : place < length old) (is : found ≡ get_or known place found) where
@@ -24,6 +30,10 @@ module _ (old known : List Session) (place : ℕ) (found : Session) (same : know
 
   pub found_served : (v : View) (databases : List Database) → ((own : Session) → IsServed v (session_of databases (get_or old place own))) → IsServed v (session_of databases found)
   found_served v databases served = subst (λ (s : Session). IsServed v (session_of databases s)) (found_at found) (served found)
+
+  pub found_agree : (engine : List Known) (number : ℕ) (bases : List Numbered) (result : Result Turn AllocError) (own : Session) → Agree engine (works_in result found.transaction ++ works_of old) number bases
+      → Agree engine (works_in result (get_or old place own).transaction ++ works_of old) number bases
+  found_agree engine number bases result own a = subst (λ (s : Session). Agree engine (works_in result s.transaction ++ works_of old) number bases) (sym (found_at own)) a
 
   -- what ran at the place ran at it
   pub found_ran : (m : Meaning) (kind : EngineKind) (tx : ℕ) (databases : List Database) (ss : List Statement) (before now : Option Told) (ending : Ending)

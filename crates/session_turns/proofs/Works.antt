@@ -10,6 +10,7 @@ use Rattle.sql_engine.specs.Known.{Known, MayRun}
 use Rattle.sql_engine.proofs.Knowing.{all_contained}
 use Rattle.page_apply.specs.declared.database.Database.{Database}
 use Rattle.page_apply.specs.Databases.{named}
+use Rattle.page_apply.specs.Files.{empty_image}
 use Rattle.page_apply.specs.ImageNumbers.{Numbered, number_of, numbered}
 use Rattle.session_rules.specs.Machine.{machine_of}
 use Rattle.statement_runs.specs.Agreeing.{Agree, Stands, as_work, as_base}
@@ -20,7 +21,7 @@ use Rattle.statement_runs.proofs.AgreeingOn.{numbered_in}
 use Rattle.session_table.specs.declared.session.Transaction.{Transaction}
 use Rattle.session_table.specs.declared.change.Change.{Change}
 use Rattle.session_table.specs.declared.change.Change.TheVariants as changes
-use Rattle.session_table.specs.Working.{with_number, work_made, AreAmong, IsNewest}
+use Rattle.session_table.specs.Working.{with_number, work_of, work_made, AreAmong, IsNewest}
 use Rattle.session_table.proofs.Placing.{at_place}
 use Rattle.session_table.proofs.Releasing.{all_also, all_both}
 use Rattle.session_table.proofs.Works.{among_more, newest_work}
@@ -54,7 +55,7 @@ pub may_over : (known works : List Known) (bases : List Numbered) (number : ℕ)
 may_over known works bases number these may stand = all_also (λ (k : Known). Stands works bases k.number k.image) (λ (k : Known). MayRun known k.image (record { before = k.number; after = number })) these (λ k s. may k.number k.image s) stand
 
 -- those that stand among fewer working images stand among more
-more_stand : (works fewer_works : List Known) (bases : List Numbered) (number : ImageNumber) (image : Image) → AreAmong works fewer_works → Stands fewer_works bases number image → Stands works bases number image
+pub more_stand : (works fewer_works : List Known) (bases : List Numbered) (number : ImageNumber) (image : Image) → AreAmong works fewer_works → Stands fewer_works bases number image → Stands works bases number image
 more_stand works fewer_works bases number image among (as_work c) =
     as_work (subst (Contains works) c.2 (at_place (Contains works) fewer_works c.0 (record { number = number; image = image }) c.1 among))
 more_stand works fewer_works bases number image among (as_base c) = as_base c
@@ -82,6 +83,26 @@ none_stands works bases image n e = absurd cc
 pub agree_left : (known now works : List Known) (number : ℕ) (bases : List Numbered) (image : Image) (ending : Ending) → All (Contains known) now → Agree known works number bases → Agree now (work_left image number ending ++ works) (number + 1) bases
 agree_left known now works number bases image ending kept a = ran known now works number bases None image (left_by image ending) a (none_stands works bases image) (λ k d lt. was (kept k d lt))
 
+pub learnt_at : (known now : List Known) (before : Option ImageNumber) (number : ImageNumber) (image : Image) (after : ℕ) (left : Image) → before ≡ Some number → All (IsLearnt known (Some number) image after left) now → All (IsLearnt known before image after left) now
+learnt_at known now before number image after left is learnt = subst (λ (o : Option ImageNumber). All (IsLearnt known o image after left) now) (sym is) learnt
+
+-- over the newest image of the database of a name
+pub agree_lent : (known now works : List Known) (number : ℕ) (databases : List Database) (name : List ℕ) (before : Option ImageNumber) (image : Image) (ending : Ending) → before ≡ option_map number_of (named name databases) → image ≡ ((machine_of databases).base name).image
+    → All (IsLearnt known before image number (left_by image ending)) now → Agree known works number (map numbered databases) → Agree now (work_left ((machine_of databases).base name).image number ending ++ works) (number + 1) (map numbered databases)
+agree_lent known now works number databases name before image ending numbered_so shown learnt a =
+    subst (λ (i : Image). Agree now (work_left i number ending ++ works) (number + 1) (map numbered databases)) shown
+    (agree_ran known now works number (map numbered databases) before image ending (newest_stands works name databases before image numbered_so shown) a learnt)
+
+-- over the working image of a transaction
+pub own_works : (tx : Option Transaction) (x : Transaction) (works : List Known) → tx ≡ Some x → AreAmong works (work_of tx) → AreAmong works (with_number x.number x.working)
+own_works tx x works is among = subst (λ (t : Option Transaction). AreAmong works (work_of t)) is among
+
+pub agree_inside : (known now works : List Known) (number : ℕ) (bases : List Numbered) (tx : Option Transaction) (x : Transaction) (ground : Image) (ending : Ending) → tx ≡ Some x → ground ≡ x.working
+    → All (IsLearnt known x.number x.working number (left_by x.working ending)) now → AreAmong works (work_of tx) → Agree known works number bases → Agree now (work_left ground number ending ++ works) (number + 1) bases
+agree_inside known now works number bases tx x ground ending is same learnt among a =
+    subst (λ (i : Image). Agree now (work_left i number ending ++ works) (number + 1) bases) (sym same)
+    (agree_ran known now works number bases x.number x.working ending (works_stand works (with_number x.number x.working) bases (own_works tx x works is among)) a learnt)
+
 pub of_none : {X : Type 0} (P : X → Type 0) (xs : List X) → xs ≡ [] → All P xs
 of_none P xs e = subst (All P) (sym e) (λ k d lt. absurd (omega (arith, lt)))
 
@@ -100,11 +121,7 @@ agree_turned known made works next bases (Ok turn) tx among a =
     (among_more made works)) a
 agree_turned known made works next bases (Err e) tx among a = agree_fewer known (made ++ works) works next bases (among_more made works) a
 
-pub agree_failed : (known now works : List Known) (number : ℕ) (bases : List Numbered) (image : Image) (ending : Ending) → All (Contains known) now → Agree known works number bases → Agree now works (number + 1) bases
-agree_failed known now works number bases image ending kept a =
-    agree_fewer now (work_left image number ending ++ works) works (number + 1) bases (among_more (work_left image number ending) works) (agree_left known now works number bases image ending kept a)
-
--- where nothing runs, a number that was drawn is left out
+-- where nothing was left, a number that was drawn is left out
 pub agree_later : (known works : List Known) (number : ℕ) (bases : List Numbered) (image : Image) → Agree known works number bases → Agree known works (number + 1) bases
 agree_later known works number bases image a =
     agree_fewer known (record { number = Working number; image = image } ∷ works) works (number + 1) bases (among_more (record { number = Working number; image = image } ∷ []) works)
@@ -130,3 +147,7 @@ no_work (turns.Affects effect) = refl
 pub none_outside : (r : Result Turn AllocError) (made : List Known) → IfOk r (λ turn. AreAmong made (work_in turn None))
 none_outside (Ok turn) made = subst (AreAmong made) (sym (no_work turn)) tt
 none_outside (Err e) made = tt
+
+-- and an engine that ran statements knows no more than before
+pub agree_stopped : (known now works : List Known) (number : ℕ) (bases : List Numbered) → All (Contains known) now → Agree known works number bases → Agree now works (number + 1) bases
+agree_stopped known now works number bases kept a = agree_later now works number bases empty_image (fewer known now works works number bases kept (all_contained works) a)

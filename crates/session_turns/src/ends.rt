@@ -15,7 +15,7 @@ ghost use Rattle.session_rules.specs.Seen.{HasSpelling};
 ghost use Rattle.session_rules.specs.Sessions as sessions;
 ghost use Rattle.session_rules.specs.Sessions.{Session, View as RuleView, Turned, Note, Transaction};
 ghost use Rattle.session_table.specs.Named.{cause_named, kind_named};
-ghost use Rattle.session_table.specs.Working.{work_with};
+ghost use Rattle.session_table.specs.Working.{work_with, AreAmong};
 ghost use Rattle.session_table.specs.declared.session.Transaction.{Transaction as TransactionValue};
 ghost use Rattle.session_turns.specs.Numbers.{work_in};
 ghost use Rattle.session_turns.specs.Turning.{ComesTo};
@@ -68,7 +68,7 @@ pub(crate) fn worked(
     number: u64,
 ) -> Result<Turn, AllocError>
     requires { IsTable answer.columns answer.rows }
-    ensures works { IfOk result (λ turn. (tx : Option TransactionValue) → work_in turn tx ≡ work_with set.pages number tx) }
+    ensures works { IfOk result (λ turn. (tx : Option TransactionValue) → AreAmong (work_with set.pages number tx) (work_in turn tx)) }
     ensures comes { (v : RuleView) (m : Machine) (s : Session) (x : Transaction) (note : Note) (to : Image) → s.tx ≡ Some x → applied x.working set.pages ≡ to → set.pages ≡ changed x.working to → IfOk result (ComesTo v m s (unless (row_cause rows answer None) (sessions.Answers (worked s x to true) (reply_of rows answer) note))) }
 {
     match told(alloc, rows, answer)? {

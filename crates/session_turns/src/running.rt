@@ -89,8 +89,7 @@ fn run_lent<E: Engine>(
     engine: &mut E,
 ) -> Result<Ending, AllocError>
     requires may { MayRunOver (E.known engine.old) [] (map numbered machine.now) number }
-    ensures kind { E.kind engine.new ≡ E.kind engine.old }
-    ensures openings { E.refused_openings engine.old ≤ E.refused_openings engine.new }
+    ensures stays { Stays (E.kind engine.old) (E.kind engine.new) (E.refused_openings engine.old) (E.refused_openings engine.new) }
     ensures unopened { IfOk result (λ ending. ends_unopened ending ≡ true → E.refused_openings engine.old < E.refused_openings engine.new) }
     ensures ran { IfOk result (RanTo (E.meaning (E.kind engine.old)) (E.kind engine.old) tx ((machine_of machine.now).base name.now).image (record { text = text.now; params = params.now } ∷ []) (E.told engine.old) (E.told engine.new)) }
     ensures agree { IfOk result (λ ending. (works : List Known) → Agree (E.known engine.old) works number (map numbered machine.now)
@@ -115,8 +114,7 @@ fn run_statement<E: Engine>(
     engine: &mut E,
 ) -> Result<Ending, AllocError>
     requires may { MayRunOver (E.known engine.old) (work_of session.now.transaction) (map numbered machine.now) number }
-    ensures kind { E.kind engine.new ≡ E.kind engine.old }
-    ensures openings { E.refused_openings engine.old ≤ E.refused_openings engine.new }
+    ensures stays { Stays (E.kind engine.old) (E.kind engine.new) (E.refused_openings engine.old) (E.refused_openings engine.new) }
     ensures unopened { IfOk result (λ ending. ends_unopened ending ≡ true → E.refused_openings engine.old < E.refused_openings engine.new) }
     ensures ran { IfOk result (RanTo (E.meaning (E.kind engine.old)) (E.kind engine.old) tx (ground (machine_of machine.now) (session_of machine.now session.now) (session_of machine.now session.now).tx) (with_all prepared.now params.now ∷ []) (E.told engine.old) (E.told engine.new)) }
     ensures agree { IfOk result (λ ending. (works : List Known) → AreAmong works (work_of session.now.transaction) → Agree (E.known engine.old) works number (map numbered machine.now)
@@ -150,8 +148,7 @@ fn run_newest<E: Engine>(
     engine: &mut E,
 ) -> Result<Ending, AllocError>
     requires { CanRun params.now (wanted.RunsAll script.now) }
-    ensures kind { E.kind engine.new ≡ E.kind engine.old }
-    ensures openings { E.refused_openings engine.old ≤ E.refused_openings engine.new }
+    ensures stays { Stays (E.kind engine.old) (E.kind engine.new) (E.refused_openings engine.old) (E.refused_openings engine.new) }
     ensures unopened { IfOk result (λ ending. ends_unopened ending ≡ true → E.refused_openings engine.old < E.refused_openings engine.new) }
     ensures known { All (Contains (E.known engine.old)) (E.known engine.new) }
     ensures ran { IfOk result (RanTo (E.meaning (E.kind engine.old)) (E.kind engine.old) tx ((machine_of machine.now).base name.now).image (assigned script.now.text script.now.pieces params.now) (E.told engine.old) (E.told engine.new)) }
@@ -175,8 +172,7 @@ fn run_statements<E: Engine>(
 ) -> Result<Ending, AllocError>
     requires { CanRun params.now (wanted.RunsAll script.now) }
     ensures kept { session.new ≡ session.old }
-    ensures kind { E.kind engine.new ≡ E.kind engine.old }
-    ensures openings { E.refused_openings engine.old ≤ E.refused_openings engine.new }
+    ensures stays { Stays (E.kind engine.old) (E.kind engine.new) (E.refused_openings engine.old) (E.refused_openings engine.new) }
     ensures unopened { IfOk result (λ ending. ends_unopened ending ≡ true → E.refused_openings engine.old < E.refused_openings engine.new) }
     ensures known { All (Contains (E.known engine.old)) (E.known engine.new) }
     ensures ran { IfOk result (RanTo (E.meaning (E.kind engine.old)) (E.kind engine.old) tx (ground (machine_of machine.now) (session_of machine.now session.old) (session_of machine.now session.old).tx) (assigned script.now.text script.now.pieces params.now) (E.told engine.old) (E.told engine.new)) }
@@ -211,8 +207,7 @@ fn run_at<E: Engine>(
     requires within { place < length sessions.old }
     requires fits { CanRun params.now (wanted.RunsAll script.now) }
     ensures kept { sessions.new ≡ sessions.old }
-    ensures kind { E.kind engine.new ≡ E.kind engine.old }
-    ensures openings { E.refused_openings engine.old ≤ E.refused_openings engine.new }
+    ensures stays { Stays (E.kind engine.old) (E.kind engine.new) (E.refused_openings engine.old) (E.refused_openings engine.new) }
     ensures unopened { IfOk result (λ ending. ends_unopened ending ≡ true → E.refused_openings engine.old < E.refused_openings engine.new) }
     ensures known { All (Contains (E.known engine.old)) (E.known engine.new) }
     ensures ran { (own : SessionValue) → IfOk result (RanTo (E.meaning (E.kind engine.old)) (E.kind engine.old) tx (ground (machine_of machine.now) (session_of machine.now (get_or sessions.old place own)) (session_of machine.now (get_or sessions.old place own)).tx) (assigned script.now.text script.now.pieces params.now) (E.told engine.old) (E.told engine.new)) }
@@ -267,8 +262,9 @@ fn turn_of(
 }
 
 /// What a statement comes to that runs with all parameters, and whose rows are told or not, at a session of a node that serves.
-/// Nothing has changed yet. The number is one that was drawn: the image that the statement leaves has it. No image is copied: outside a transaction the machine lends the newest one of the database, where it
-/// keeps that whole, and inside one the statement runs over its own. `Err` is want of memory.
+/// Nothing has changed yet. The number was drawn for the image that the statement leaves. No image is copied: outside a transaction
+/// the machine lends the newest one of the database, where it keeps that whole, and inside one the statement runs over its own.
+/// `Err` is want of memory.
 pub fn run_prepared<E: Engine>(
     alloc: Global,
     view: &View,
@@ -288,8 +284,7 @@ pub fn run_prepared<E: Engine>(
     requires agree { Agree (E.known engine.old) (works_of sessions.now) number (map numbered machine.now) }
     // No number stands for two images then either, with the working image that the turn makes.
     ensures agree { Agree (E.known engine.new) (works_in result session.now.transaction ++ works_of sessions.now) (number + 1) (map numbered machine.now) }
-    ensures kind { E.kind engine.new ≡ E.kind engine.old }
-    ensures openings { E.refused_openings engine.old ≤ E.refused_openings engine.new }
+    ensures stays { Stays (E.kind engine.old) (E.kind engine.new) (E.refused_openings engine.old) (E.refused_openings engine.new) }
     ensures unopened { IfOk result (λ turn. turn ≡ turns.Refused causes.NotADatabase → E.refused_openings engine.old < E.refused_openings engine.new) }
     ensures ran { (weight : ℕ) → IfOk result (RunsTo (E.meaning (E.kind engine.old)) (E.kind engine.old) view.now (machine_of machine.now) (table_of machine.now sessions.now weight) session.now.conn (session_of machine.now session.now) (with_all prepared.now params.now ∷ []) rows (E.told engine.old) (E.told engine.new)) }
 {
@@ -297,13 +292,15 @@ pub fn run_prepared<E: Engine>(
     let ending = run_statement(
         alloc, machine, session, prepared, params, tx, number, engine,
     )?;
-    turn_of(alloc, view, machine, sessions, session, rows, ending, number)
+    turn_of(
+        alloc, view, machine, sessions, session, rows, ending, number,
+    )
 }
 
 /// What the statements of a text come to, which run one after another with as many parameters as each counts, and whose rows are
-/// dropped, at the session at a place, of a node that serves. The number is one that was drawn: the image that they leave has it. Nothing has changed yet: the statements work on the transaction's
-/// image in place, and it is put back; outside a transaction they work so on a copy of the newest image of the database. Besides
-/// that copy, only pages are copied that they change. `Err` is want of memory.
+/// dropped, at the session at a place, of a node that serves. The number was drawn for the image that they leave. Nothing has
+/// changed yet: the statements work on the transaction's image in place, and it is put back; outside a transaction they work so on
+/// a copy of the newest image of the database. Besides that copy, only pages are copied that they change. `Err` is want of memory.
 pub fn run_script<E: Engine>(
     alloc: Global,
     view: &View,
@@ -324,8 +321,7 @@ pub fn run_script<E: Engine>(
     // No number stands for two images then either, with the working image that the turn makes.
     ensures agree { (own : SessionValue) → Agree (E.known engine.new) (works_in result (get_or sessions.old place own).transaction ++ works_of sessions.old) (number + 1) (map numbered machine.now) }
     ensures kept { sessions.new ≡ sessions.old }
-    ensures kind { E.kind engine.new ≡ E.kind engine.old }
-    ensures openings { E.refused_openings engine.old ≤ E.refused_openings engine.new }
+    ensures stays { Stays (E.kind engine.old) (E.kind engine.new) (E.refused_openings engine.old) (E.refused_openings engine.new) }
     ensures unopened { IfOk result (λ turn. turn ≡ turns.Refused causes.NotADatabase → E.refused_openings engine.old < E.refused_openings engine.new) }
     ensures ran { (own : SessionValue) (weight : ℕ) → IfOk result (RunsTo (E.meaning (E.kind engine.old)) (E.kind engine.old) view.now (machine_of machine.now) (table_of machine.now sessions.old weight) (get_or sessions.old place own).conn (session_of machine.now (get_or sessions.old place own)) (assigned script.now.text script.now.pieces params.now) false (E.told engine.old) (E.told engine.new)) }
 {

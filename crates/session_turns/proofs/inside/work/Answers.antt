@@ -7,6 +7,9 @@ use Rattle.session_rules.specs.Machine.{machine_of}
 use Rattle.session_rules.specs.Sessions.{Answers}
 use Rattle.session_rules.specs.Requests.{unless, row_cause, reply_of, worked}
 use Rattle.session_table.specs.Table.{table_of}
+use Rattle.session_table.specs.declared.session.Transaction.{Transaction}
+use Rattle.session_table.specs.Working.{work_with, AreAmong}
+use Rattle.session_turns.specs.Numbers.{work_in}
 use Rattle.session_turns.specs.Turning.{ComesTo}
 use Rattle.statement_runs.specs.Running.{change_in}
 use Rattle.session_turns.specs.Hindered.{Hinders}
@@ -24,3 +27,7 @@ returns-clause-comes c = λ weight v s x note to leads begun reaches lists.
     let image : applied x.working c.in_ok-set-in-Ok.set.pages ≡ to = ap (λ (set : PageSet). applied x.working set.pages) c.in_ok-set-in-Ok.ensures ∙ reaches in
     subst (λ (h : Option Cause). IfOk c.worked.result (ComesTo v (machine_of c.args.machine.now) s (unless (row_cause c.args.rows c.args.ran.answer h) (Answers (worked s x to true) (reply_of c.args.rows c.args.ran.answer) note)))) (sym found.0)
     (c.worked.ensures.comes v (machine_of c.args.machine.now) s x note to begun image (ap (λ (set : PageSet). set.pages) c.in_ok-set-in-Ok.ensures ∙ lists))
+
+pub returns-clause-works : goal.returns-clause-works
+returns-clause-works c =
+    subst (λ (set : PageSet). IfOk c.worked.result (λ turn. (tx : Option Transaction) → AreAmong (work_with set.pages c.args.number tx) (work_in turn tx))) c.in_ok-set-in-Ok.ensures c.worked.ensures.works

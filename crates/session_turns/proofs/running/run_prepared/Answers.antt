@@ -10,6 +10,9 @@ use Rattle.session_turns.specs.Turning.{ComesTo}
 use Rattle.session_turns.proofs.Formed.{well_formed}
 use Rattle.session_turns.proofs.Ground.{has_opened, run_is}
 use Rattle.session_turns.proofs.NeverUnopened.{was_unopened}
+use Rattle.session_table.specs.Working.{works_of}
+use Rattle.session_turns.specs.Numbers.{work_left}
+use Rattle.session_turns.proofs.Works.{agree_turned}
 use Rattle.session_turns.proofs.running.run_prepared.Goals as goal
 
 pub turn_of-requires-clause-open : goal.turn_of-requires-clause-open
@@ -37,3 +40,8 @@ returns-clause-ran g c = λ weight.
       is = subst (λ (turned : Turned). ComesTo c.args.view.now (machine_of c.args.machine.now) (session_of c.args.machine.now c.args.session.now) turned turn) (sym (run_is c.args.view.now (machine_of c.args.machine.now) (table_of c.args.machine.now c.args.sessions.now weight) c.args.session.now.conn (session_of c.args.machine.now c.args.session.now) (session_of c.args.machine.now c.args.session.now).tx (with_all c.args.prepared.now c.args.params.now ∷ []) c.args.rows run.answers)) comes;
     })
     (c.turn_of.ensures.comes weight c.next_transaction-tx.result (with_all c.args.prepared.now c.args.params.now ∷ []) ended (λ room. c.next_transaction-tx.ensures (c.requires.term c.requires.served.serves) room) run.ends)
+
+pub returns-clause-agree : goal.returns-clause-agree
+returns-clause-agree g c =
+    let left = work_left (ground (machine_of c.args.machine.now) (session_of c.args.machine.now c.args.session.now) (session_of c.args.machine.now c.args.session.now).tx) c.args.number c.in_ok-ending.ending in
+    agree_turned _ left (works_of c.args.sessions.now) _ _ c.turn_of.result c.args.session.now.transaction c.turn_of.ensures.works (c.in_ok-ending.ensures.agree (works_of c.args.sessions.now) c.requires.own c.requires.agree)

@@ -1,5 +1,5 @@
 use Rattle.std.proofs.Common.{false, sym, subst}
-use Rattle.std.proofs.lemmas.Result.{IfOk-weaker}
+use Rattle.std.proofs.lemmas.Result.{IfOk-weaker, err_from_is_err_and}
 use Rattle.session_rules.specs.Engines.{no_answer, runs}
 use Rattle.session_rules.specs.Machine.{machine_of}
 use Rattle.session_rules.specs.Requests.{ground}
@@ -10,7 +10,10 @@ use Rattle.session_turns.specs.Turning.{ComesTo}
 use Rattle.session_turns.proofs.Formed.{well_formed}
 use Rattle.session_turns.proofs.Ground.{has_opened, run_is}
 use Rattle.session_turns.proofs.NeverUnopened.{was_unopened}
-use Rattle.session_turns.proofs.Placed.{found_served, found_ran, found_runs}
+use Rattle.session_table.specs.Working.{works_of}
+use Rattle.session_turns.specs.Numbers.{work_left}
+use Rattle.session_turns.proofs.Placed.{found_agree, found_served, found_ran, found_runs}
+use Rattle.session_turns.proofs.Works.{agree_left, agree_stopped, agree_turned}
 use Rattle.session_turns.proofs.running.run_script.Goals as goal
 
 pub turn_of-requires-clause-open : goal.turn_of-requires-clause-open
@@ -48,3 +51,16 @@ returns-clause-ran g c = λ own weight.
       is = subst (λ (turned : Turned). ComesTo c.args.view.now (machine_of c.args.machine.now) (session_of c.args.machine.now found) turned turn) (sym (run_is c.args.view.now (machine_of c.args.machine.now) (table_of c.args.machine.now c.run_at.new.sessions weight) found.conn (session_of c.args.machine.now found) (session_of c.args.machine.now found).tx (assigned c.args.script.now.text c.args.script.now.pieces c.args.params.now) false run.answers)) comes;
     })
     (c.turn_of.ensures.comes weight c.next_transaction-tx.result (assigned c.args.script.now.text c.args.script.now.pieces c.args.params.now) ended (λ room. c.next_transaction-tx.ensures (c.requires.term served.serves) room) run.ends))
+
+pub returns-in_err-ending-clause-agree : goal.returns-in_err-ending-clause-agree
+returns-in_err-ending-clause-agree g c = λ own.
+    let p = err_from_is_err_and c.from_residual.result c.from_residual.ensures.1 in
+    rw p.1 (agree_stopped _ _ (works_of c.args.sessions.now) c.args.number _ c.run_at.ensures.known c.requires.agree)
+
+pub returns-clause-agree : goal.returns-clause-agree
+returns-clause-agree g c = λ own.
+    let found = c.index-known-place.result in
+    let image = ground (machine_of c.args.machine.now) (session_of c.args.machine.now found) (session_of c.args.machine.now found).tx in
+    found_agree c.args.sessions.now c.run_at.new.sessions c.args.place found c.run_at.ensures.kept c.requires.within c.index-known-place.is _ _ _ c.turn_of.result own
+    (agree_turned _ (work_left image c.args.number c.in_ok-ending.ending) (works_of c.args.sessions.now) _ _ c.turn_of.result found.transaction c.turn_of.ensures.works
+    (agree_left _ _ (works_of c.args.sessions.now) c.args.number _ image c.in_ok-ending.ending c.run_at.ensures.known c.requires.agree))
