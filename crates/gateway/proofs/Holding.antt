@@ -48,49 +48,49 @@ busy_nowhere held databases conn none = sym (ap is_busy (none_there databases he
 -- ---- over what code holds
 
 -- what code holds, as the rules see it
-abbrev pub held : List Session → ℕ → Held
-held sessions weight = record { sessions = sessions; weight = weight }
+abbrev pub held : List Session → ℕ → ℕ → Held
+held sessions weight next = record { sessions = sessions; weight = weight; next = next }
 
-pub seen_now : (sessions : List Session) (weight : ℕ) (now : Held) (databases : List Database) → held sessions weight ≡ now → table_of databases sessions weight ≡ seen now databases
+pub seen_now : (sessions : List Session) (weight next : ℕ) (now : Held) (databases : List Database) → held sessions weight next ≡ now → table_of databases sessions weight ≡ seen now databases
 unfolding seen
-seen_now sessions weight now databases e = ap (λ (h : Held). table_of databases h.sessions h.weight) e
+seen_now sessions weight next now databases e = ap (λ (h : Held). table_of databases h.sessions h.weight) e
 
-pub marks_of : (sessions : List Session) (weight : ℕ) (now : Held) (databases : List Database) → held sessions weight ≡ now → PinsOf now databases → AreMarks (tables.pins_of sessions) databases
+pub marks_of : (sessions : List Session) (weight next : ℕ) (now : Held) (databases : List Database) → held sessions weight next ≡ now → PinsOf now databases → AreMarks (tables.pins_of sessions) databases
 unfolding pins_of
-marks_of sessions weight now databases e marks = subst (λ (h : Held). AreMarks (tables.pins_of h.sessions) databases) (sym e) marks
+marks_of sessions weight next now databases e marks = subst (λ (h : Held). AreMarks (tables.pins_of h.sessions) databases) (sym e) marks
 
-pub marks_held : (sessions : List Session) (weight : ℕ) (databases : List Database) → AreMarks (tables.pins_of sessions) databases → PinsOf (held sessions weight) databases
+pub marks_held : (sessions : List Session) (weight next : ℕ) (databases : List Database) → AreMarks (tables.pins_of sessions) databases → PinsOf (held sessions weight next) databases
 unfolding pins_of
-marks_held sessions weight databases marks = marks
+marks_held sessions weight next databases marks = marks
 
-pub pins_now : (sessions after : List Session) (weight : ℕ) (now : Held) → held sessions weight ≡ now → tables.pins_of after ≡ tables.pins_of sessions → pins_of (held after weight) ≡ pins_of now
+pub pins_now : (sessions after : List Session) (weight next : ℕ) (now : Held) → held sessions weight next ≡ now → tables.pins_of after ≡ tables.pins_of sessions → pins_of (held after weight next) ≡ pins_of now
 unfolding pins_of
-pins_now sessions after weight now e same = same ∙ ap (λ (h : Held). tables.pins_of h.sessions) e
+pins_now sessions after weight next now e same = same ∙ ap (λ (h : Held). tables.pins_of h.sessions) e
 
-pub unmarked_held : {A E : Type 0} (r : Result A E) (sessions : List Session) (weight : ℕ) → OnOk r (tables.pins_of sessions ≡ []) → OnOk r (pins_of (held sessions weight) ≡ [])
+pub unmarked_held : {A E : Type 0} (r : Result A E) (sessions : List Session) (weight next : ℕ) → OnOk r (tables.pins_of sessions ≡ []) → OnOk r (pins_of (held sessions weight next) ≡ [])
 unfolding pins_of
-unmarked_held r sessions weight none = none
+unmarked_held r sessions weight next none = none
 
 -- something happened to all sessions
-pub happened : (old new : List Session) (weight : ℕ) (now : Held) (before after : List Database) (rule : Gateway → Gateway) → held old weight ≡ now
-    → ((w : ℕ) → table_of after new w ≡ rule (table_of before old w)) → seen (held new weight) after ≡ rule (seen now before)
+pub happened : (old new : List Session) (weight next : ℕ) (now : Held) (before after : List Database) (rule : Gateway → Gateway) → held old weight next ≡ now
+    → ((w : ℕ) → table_of after new w ≡ rule (table_of before old w)) → seen (held new weight next) after ≡ rule (seen now before)
 unfolding seen
-happened old new weight now before after rule e is = is weight ∙ ap (λ (h : Held). rule (table_of before h.sessions h.weight)) e
+happened old new weight next now before after rule e is = is weight ∙ ap (λ (h : Held). rule (table_of before h.sessions h.weight)) e
 
-pub happened_ok : {A E : Type 0} (r : Result A E) (old new : List Session) (weight : ℕ) (now : Held) (before after : List Database) (rule : Gateway → Gateway) → held old weight ≡ now
-    → OnOk r ((w : ℕ) → table_of after new w ≡ rule (table_of before old w)) → OnOk r (seen (held new weight) after ≡ rule (seen now before))
-happened_ok (Ok x) old new weight now before after rule e is = happened old new weight now before after rule e is
-happened_ok (Err x) old new weight now before after rule e is = tt
+pub happened_ok : {A E : Type 0} (r : Result A E) (old new : List Session) (weight next : ℕ) (now : Held) (before after : List Database) (rule : Gateway → Gateway) → held old weight next ≡ now
+    → OnOk r ((w : ℕ) → table_of after new w ≡ rule (table_of before old w)) → OnOk r (seen (held new weight next) after ≡ rule (seen now before))
+happened_ok (Ok x) old new weight next now before after rule e is = happened old new weight next now before after rule e is
+happened_ok (Err x) old new weight next now before after rule e is = tt
 
 -- a connection came
-pub came_ok : (r : Result Bool AllocError) (old new : List Session) (weight conn : ℕ) (now : Held) → held old weight ≡ now
+pub came_ok : (r : Result Bool AllocError) (old new : List Session) (weight next conn : ℕ) (now : Held) → held old weight next ≡ now
     → IfOk r (λ joined. (databases : List Database) (w : ℕ) → Joined (table_of databases old w) conn joined (table_of databases new w))
-    → OnOk r ((databases : List Database) → seen (held new weight) databases ≡ cond (connects (seen now databases) conn) (connected (seen now databases) conn) (seen now databases))
+    → OnOk r ((databases : List Database) → seen (held new weight next) databases ≡ cond (connects (seen now databases) conn) (connected (seen now databases) conn) (seen now databases))
 unfolding seen
-came_ok (Ok b) old new weight conn now e is = λ databases.
+came_ok (Ok b) old new weight next conn now e is = λ databases.
     (is databases weight).table ∙ ap (λ (h : Held). let g = table_of databases h.sessions h.weight in cond (connects g conn) (connected g conn) g) e
-came_ok (Err x) old new weight conn now e is = tt
+came_ok (Err x) old new weight next conn now e is = tt
 
-pub busy_now : (sessions : List Session) (weight : ℕ) (now : Held) (databases : List Database) (conn : ℕ) (busy : Bool) → held sessions weight ≡ now
-    → busy ≡ is_busy ((seen (held sessions weight) databases).session conn) → busy ≡ is_busy ((seen now databases).session conn)
-busy_now sessions weight now databases conn busy e is = subst (λ (h : Held). busy ≡ is_busy ((seen h databases).session conn)) e is
+pub busy_now : (sessions : List Session) (weight next : ℕ) (now : Held) (databases : List Database) (conn : ℕ) (busy : Bool) → held sessions weight next ≡ now
+    → busy ≡ is_busy ((seen (held sessions weight next) databases).session conn) → busy ≡ is_busy ((seen now databases).session conn)
+busy_now sessions weight next now databases conn busy e is = subst (λ (h : Held). busy ≡ is_busy ((seen h databases).session conn)) e is

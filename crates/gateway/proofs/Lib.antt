@@ -6,3 +6,4 @@ pub mod Unopened
 pub mod RunTurns
 pub mod CommitTurns
 pub mod Placed
+pub mod Numbering

@@ -4,11 +4,14 @@ use Rattle.std.specs.Prelude.{Result, is_none, not}
 use Rattle.std.specs.Option.{option_map}
 use Rattle.std.proofs.lemmas.Bool.{false≢true}
 use Rattle.std.proofs.lemmas.List.{drop_all, take_all}
+use Rattle.std.specs.declared.alloc.AllocError.{AllocError}
 use Rattle.wire_words.specs.declared.value.Value.{Value}
 use Rattle.wire_msgs.specs.declared.request.Request.{Request}
 use Rattle.session_rules.specs.Asking.{asked_by}
 use Rattle.page_apply.specs.declared.database.Database.{Database}
+use Rattle.page_apply.specs.ImageNumbers.{Numbered}
 use Rattle.sql_engine.specs.declared.kind.EngineKind.{EngineKind}
+use Rattle.sql_engine.specs.Known.{Known}
 use Rattle.sql_engine.specs.Meanings.{Meaning, Told}
 use Rattle.session_rules.specs.Machine.{machine_of}
 use Rattle.session_rules.specs.Sessions.{View}
@@ -16,15 +19,27 @@ use Rattle.session_rules.specs.Touched.{IsListed}
 use Rattle.session_table.specs.declared.session.Session.{Session}
 use Rattle.session_table.specs.declared.session.Transaction.{Transaction}
 use Rattle.session_table.specs.Table.{session_of, transaction_of, table_of}
+use Rattle.session_table.specs.Working.{work_of, works_of, AreAmong}
+use Rattle.session_table.proofs.Works.{own_among}
+use Rattle.statement_runs.specs.Agreeing.{Agree}
 use Rattle.session_asking.specs.declared.wanted.Wanted.{Wanted}
 use Rattle.session_asking.specs.Meant.{meant, CanBeDone, IsAllowed, FitsStatements}
 use Rattle.session_turns.specs.declared.turn.Turn.{Turn}
+use Rattle.session_turns.specs.Numbers.{works_in}
 use Rattle.session_turns.specs.Turning.{TurnsTo}
 use Rattle.session_turns.proofs.Placed.{found_at}
 
 module _ (sessions : List Session) (place : ℕ) (found : Session) (within : place < length sessions) (is : found ≡ get_or sessions place found) where
   at_place : (own : Session) → get_or sessions place own ≡ found
   at_place own = found_at sessions sessions place found refl within is own
+
+  -- its working image is one of all
+  pub own_there : AreAmong (works_of sessions) (work_of found.transaction)
+  own_there = subst (λ (s : Session). AreAmong (works_of sessions) (work_of s.transaction)) (at_place found) (own_among sessions place found within)
+
+  pub agree_there : (known : List Known) (number : ℕ) (bases : List Numbered) (result : Result Turn AllocError) (own : Session) → Agree known (works_in result found.transaction ++ works_of sessions) number bases
+      → Agree known (works_in result (get_or sessions place own).transaction ++ works_of sessions) number bases
+  agree_there known number bases result own a = subst (λ (s : Session). Agree known (works_in result s.transaction ++ works_of sessions) number bases) (sym (at_place own)) a
 
   module _ (v : View) (databases : List Database) (params : List Value) (wanted known : Wanted) (same : wanted ≡ known) (can : (own : Session) → CanBeDone v (session_of databases (get_or sessions place own)) params wanted) where
     can_there : CanBeDone v (session_of databases found) params wanted

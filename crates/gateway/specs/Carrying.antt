@@ -1,12 +1,17 @@
 -- What carrying out an outcome is: the sessions after it, and the act.
-use Rattle.std.specs.Prelude.{◌≡◌, ℕ, [], ◌∷◌, Some, None, IsSome}
+use Rattle.std.specs.Prelude.{◌≡◌, ℕ, List, [], ◌∷◌, ◌++◌, map, Some, None, IsSome}
+use Rattle.sql_engine.specs.Known.{Known}
+use Rattle.page_apply.specs.declared.database.Database.{Database}
+use Rattle.page_apply.specs.ImageNumbers.{numbered}
 use Rattle.session_rules.specs.Causes.{failure}
 use Rattle.session_rules.specs.Machine.{Machine}
 use Rattle.session_rules.specs.Requests.{with_session, with_tx, with_flight, begun, affected_by}
 use Rattle.session_rules.specs.Sessions.{Gateway, responses_of, result}
+use Rattle.statement_runs.specs.Agreeing.{Agree}
 use Rattle.session_table.specs.declared.session.Session.{Session}
 use Rattle.session_table.specs.Named.{cause_named, reply_named}
 use Rattle.session_table.specs.Changing.{changed_by, CanChange}
+use Rattle.session_table.specs.Working.{works_of}
 use Rattle.session_asking.specs.Meant.{effect_named}
 use Rattle.session_turns.specs.declared.turn.Turn.{Turn}
 use Rattle.session_turns.specs.declared.turn.Turn.TheVariants as turns
@@ -21,6 +26,10 @@ Carries m g conn (turns.Begins at_once) now act = (now ≡ with_session g conn (
 Carries m g conn turns.Ends now act = (now ≡ with_session g conn (with_tx (g.session conn) None)) × (act ≡ acts.Reply (responses_of (result 0)))
 Carries m g conn (turns.Proposes flight entries) now act = (now ≡ with_session g conn (with_flight (g.session conn) (Some flight))) × (act ≡ acts.Propose entries)
 Carries m g conn (turns.Affects effect) now act = (now ≡ affected_by g (effect_named effect)) × (act ≡ act_for (effect_named effect))
+
+-- Where no number stood for two images, also with these that are made, none does after it was carried out.
+abbrev pub AgreesOn : List Known → List Session → List Database → List Session → List Database → Type 0
+AgreesOn made before old after new = (known : List Known) (next : ℕ) → Agree known (made ++ works_of before) next (map numbered old) → Agree known (works_of after) next (map numbered new)
 
 -- it can be carried out at this session
 abbrev pub CanCarry : Session → Turn → Type 0

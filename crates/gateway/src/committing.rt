@@ -1,6 +1,6 @@
 //! Transactions that end with their changes.
 
-ghost use Rattle.std.specs.Prelude.{◌≡◌, ◌≢◌, ℕ, List, IfOk, IsSome};
+ghost use Rattle.std.specs.Prelude.{◌≡◌, ◌≢◌, ℕ, [], List, Option, IfOk, IsSome};
 ghost use Rattle.std.specs.List.{AllByRecursion};
 ghost use Rattle.page_apply.specs.Pins.{IsPinned};
 ghost use Rattle.session_rules.specs.Asking.{Commits};
@@ -9,9 +9,11 @@ ghost use Rattle.session_rules.specs.Machine.{machine_of};
 ghost use Rattle.session_rules.specs.Requests.{does};
 ghost use Rattle.session_rules.specs.Touched.{IsListed};
 ghost use Rattle.session_table.specs.declared.cause.Cause.TheVariants.{NotADatabase};
+ghost use Rattle.session_table.specs.declared.session.Transaction.{Transaction};
 ghost use Rattle.session_table.specs.Table.{AreApart, pin_of, session_of, table_of};
 ghost use Rattle.session_asking.specs.Meant.{IsServed};
 ghost use Rattle.session_turns.specs.declared.turn.Turn.TheVariants as turns;
+ghost use Rattle.session_turns.specs.Numbers.{work_in};
 ghost use Rattle.session_turns.specs.Turning.{ComesTo};
 ghost use Rattle.gateway.specs.Calls.{HasShortTerm};
 
@@ -36,6 +38,7 @@ pub(crate) fn commit_turn(
     requires listed { IsListed (session_of machine.now session.now).tx }
     requires open { IsSome session.now.transaction }
     ensures opened { IfOk result (λ turn. turn ≢ turns.Refused NotADatabase) }
+    ensures works { IfOk result (λ turn. (tx : Option Transaction) → work_in turn tx ≡ []) }
     ensures comes { (weight : ℕ) (answers : List Answer) → IfOk result (ComesTo view.now (machine_of machine.now) (session_of machine.now session.now) (does view.now (machine_of machine.now) (table_of machine.now sessions.now weight) session.now.conn (session_of machine.now session.now) Commits answers)) }
 {
     session_turns::commit_turn(alloc, view, machine, sessions, session)

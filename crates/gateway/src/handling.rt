@@ -1,11 +1,15 @@
 //! Handling a request: what comes of it, and carrying that out.
 
-ghost use Rattle.std.specs.Prelude.{◌≡◌, ◌<◌, ◌≤◌, ◌∷◌, [], true, OnErr, IfOk};
+ghost use Rattle.std.specs.Prelude.{◌≡◌, ◌<◌, ◌+◌, ◌∷◌, [], true, map, OnErr, IfOk};
+ghost use Rattle.sql_engine.specs.Meanings.{Stays};
+ghost use Rattle.page_apply.specs.ImageNumbers.{numbered};
 ghost use Rattle.session_rules.specs.Causes.{NotADatabase, failure};
 ghost use Rattle.session_rules.specs.Machine.{machine_of};
 ghost use Rattle.session_rules.specs.Touched.{IsListed};
 ghost use Rattle.session_table.specs.Marks.{AreMarks};
+ghost use Rattle.statement_runs.specs.Agreeing.{Agree};
 ghost use Rattle.session_table.specs.Table.{table_of, pins_of, IsTable};
+ghost use Rattle.session_table.specs.Working.{works_of};
 ghost use Rattle.session_asking.specs.Meant.{NameHasNoNul};
 ghost use Rattle.gateway.specs.Calls.{TurnedBy, HasShortTerm};
 
@@ -19,8 +23,8 @@ use sql_engine::Engine;
 use std::alloc::{AllocError, Global};
 use wire_msgs::Request;
 
-/// Handles a request of a connection that has a session. `Err` is want of memory; nothing has changed then but what the
-/// engine told.
+/// Handles a request of a connection that has a session. The number was drawn for the image that its statements leave. `Err` is
+/// want of memory; nothing has changed then but what the engine told.
 pub(crate) fn handle<E: Engine>(
     alloc: Global,
     sessions: &mut Vec<Session>,
@@ -29,6 +33,7 @@ pub(crate) fn handle<E: Engine>(
     request: &Request,
     view: &View,
     machine: &mut Machine,
+    number: u64,
     engine: &mut E,
 ) -> Result<Act, AllocError>
     requires table { IsTable sessions.old.items }
@@ -37,19 +42,20 @@ pub(crate) fn handle<E: Engine>(
     requires there { ((table_of machine.old sessions.old.items weight.old).session conn).there ≡ true }
     requires name { NameHasNoNul request.now }
     requires term { HasShortTerm view.now }
+    requires agree { Agree (E.known engine.old) (works_of sessions.old.items) number (map numbered machine.old) }
+    ensures agree { Agree (E.known engine.new) (works_of sessions.new.items) (number + 1) (map numbered machine.new) }
     ensures turned { IfOk result (TurnedBy (E.meaning (E.kind engine.old)) (E.kind engine.old) view.now (machine_of machine.old) (table_of machine.old sessions.old.items weight.old) conn request.now (E.told engine.old) (E.told engine.new) (table_of machine.new sessions.new.items weight.new)) }
     ensures failed { OnErr result (table_of machine.new sessions.new.items weight.new ≡ table_of machine.old sessions.old.items weight.old) }
     ensures files { machine_of machine.new ≡ machine_of machine.old }
     ensures marks_after { AreMarks (pins_of sessions.new.items) machine.new }
     ensures fit { IsTable sessions.new.items }
-    ensures kind { E.kind engine.new ≡ E.kind engine.old }
-    ensures openings { E.refused_openings engine.old ≤ E.refused_openings engine.new }
+    ensures stays { Stays (E.kind engine.old) (E.kind engine.new) (E.refused_openings engine.old) (E.refused_openings engine.new) }
     ensures unopened { IfOk result (λ act. act ≡ Act.Reply (failure NotADatabase ∷ []) → E.refused_openings engine.old < E.refused_openings engine.new) }
 {
     let place = find(sessions.as_slice(), conn).unwrap();
     let known = sessions.as_mut_slice();
     let turn = decide(
-        alloc, known, *weight, place, conn, request, view, machine, engine,
+        alloc, known, *weight, place, conn, request, view, machine, number, engine,
     )?;
     carry_out(alloc, sessions, weight, place, conn, machine, turn)
 }

@@ -1,8 +1,11 @@
 //! The gateway and its calls.
 
-ghost use Rattle.std.specs.Prelude.{◌≡◌, ◌<◌, ◌≤◌, true, false, [], ◌∷◌, OnOk, OnErr, IfOk, if◌then◌else◌};
+ghost use Rattle.std.specs.Prelude.{◌≡◌, ◌<◌, ◌≤◌, ◌+◌, true, false, [], ◌∷◌, OnOk, OnErr, IfOk, if◌then◌else◌};
+ghost use Rattle.sql_engine.specs.Meanings.{Stays};
 ghost use Rattle.std.specs.Prelude.{List};
+ghost use Rattle.sql_engine.specs.Known.{Known};
 ghost use Rattle.page_apply.specs.declared.database.Database.{Database};
+ghost use Rattle.page_apply.specs.Machines.{IsMachine};
 ghost use Rattle.session_rules.specs.Causes.{NotADatabase, failure};
 ghost use Rattle.session_rules.specs.Sessions.{no_sessions, is_busy, may_ask};
 ghost use Rattle.session_rules.specs.Machine.{machine_of};
@@ -10,7 +13,7 @@ ghost use Rattle.session_rules.specs.Touched.{IsListed};
 ghost use Rattle.session_rules.specs.Events as events;
 ghost use Rattle.session_table.specs.Sweeping.{all_told};
 ghost use Rattle.gateway.specs.Calls.{TurnedBy, HasNoNul, HasShortTerm};
-ghost use Rattle.gateway.specs.Seen.{seen, pins_of, PinsOf};
+ghost use Rattle.gateway.specs.Seen.{seen, pins_of, Agrees, PinsOf};
 
 use crate::act::Act;
 use crate::handling::handle;
@@ -31,6 +34,7 @@ pub struct Gateway {
     alloc: Global,
     sessions: Vec<Session>,
     weight: u64,
+    next: u64,
 }
 
 impl Model for Gateway {
@@ -39,9 +43,26 @@ impl Model for Gateway {
 
     ghost Value = { Held };
 
-    ghost view = { λ g. record { sessions = g.sessions.items; weight = g.weight } };
+    ghost view = { λ g. record { sessions = g.sessions.items; weight = g.weight; next = g.next } };
 
     ghost invariant = { λ g. IsTable g.sessions.items };
+}
+
+/// Draws the number of a working image. No number is drawn twice: where none is left there is want of memory, and nothing has
+/// changed then.
+fn draw(next: &mut u64) -> Result<u64, AllocError>
+    ensures drawn { IfOk result (λ number. number ≡ next.old) }
+    ensures later { OnOk result (next.new ≡ next.old + 1) }
+    ensures kept { OnErr result (next.new ≡ next.old) }
+{
+    let number = *next;
+    match number.checked_add(1) {
+        Some(later) => {
+            *next = later;
+            Ok(number)
+        }
+        None => Err(AllocError),
+    }
 }
 
 impl Gateway {
@@ -50,11 +71,13 @@ impl Gateway {
     pub fn new(alloc: Global) -> Gateway
         ensures sessions { (databases : List Database) → seen result databases ≡ no_sessions }
         ensures pins { pins_of result ≡ [] }
+        ensures agrees { (databases : List Database) → IsMachine databases → Agrees [] result databases }
     {
         Gateway {
             alloc,
             sessions: Vec::new(alloc),
             weight: 0,
+            next: 0,
         }
     }
 
@@ -64,6 +87,7 @@ impl Gateway {
         ensures connected { OnOk result ((databases : List Database) → seen self.new databases ≡ (if events.connects (seen self.old databases) conn then events.connected (seen self.old databases) conn else seen self.old databases)) }
         ensures told { IfOk result (λ new. (databases : List Database) → new ≡ events.connects (seen self.old databases) conn) }
         ensures pins { pins_of self.new ≡ pins_of self.old }
+        ensures agrees { (known : List Known) (databases : List Database) → Agrees known self.old databases → Agrees known self.new databases }
         ensures failed { OnErr result ((databases : List Database) → seen self.new databases ≡ seen self.old databases) }
     {
         join(self.alloc, &mut self.sessions, conn)
@@ -73,8 +97,11 @@ impl Gateway {
     /// for the node to do. The connection's session is there, is not hung up and has no proposal out; `busy` tells. The
     /// machine is that of the earlier calls with the commands applied since.
     ///
-    /// A refused request has changed nothing. `Err` is want of memory; then nothing has changed either but what the engine
-    /// told.
+    /// A refused request has changed nothing. `Err` is want of memory, which also comes where 2^64 requests were handled; then
+    /// nothing has changed either but what the engine told.
+    ///
+    /// For each request a number is drawn, which that working image of a transaction gets that the request's statements leave.
+    /// So the engine finds what it has open by the number of an image, and compares no bytes.
     ///
     /// Costs, besides the engine's, in the order of the request's bytes and of the pages that it changes, but where an image is
     /// copied: outside a transaction a statement runs over the newest image as the machine lends it, which copies nothing where
@@ -95,6 +122,9 @@ impl Gateway {
         requires listed { IsListed ((seen self.old machine.old).session conn).tx }
         requires text { HasNoNul request.now }
         requires term { HasShortTerm view.now }
+        // No number stands for two images, for the engine, the transactions and the databases; and so it is afterwards.
+        requires agrees { Agrees (E.known engine.old) self.old machine.old }
+        ensures agrees { Agrees (E.known engine.new) self.new machine.new }
         // The definition's outcome, by answers that the engine may give and told.
         ensures turned { IfOk result (TurnedBy (E.meaning (E.kind engine.old)) (E.kind engine.old) view.now (machine_of machine.old) (seen self.old machine.old) conn request.now (E.told engine.old) (E.told engine.new) (seen self.new machine.new)) }
         ensures failed { OnErr result (seen self.new machine.new ≡ seen self.old machine.old) }
@@ -102,14 +132,14 @@ impl Gateway {
         ensures files { machine_of machine.new ≡ machine_of machine.old }
         ensures pins_after { PinsOf self.new machine.new }
         // The engine stays of its kind, and its files were not opened only where it counted so.
-        ensures kind { E.kind engine.new ≡ E.kind engine.old }
-        ensures openings { E.refused_openings engine.old ≤ E.refused_openings engine.new }
+        ensures stays { Stays (E.kind engine.old) (E.kind engine.new) (E.refused_openings engine.old) (E.refused_openings engine.new) }
         ensures unopened { IfOk result (λ act. act ≡ Act.Reply (failure NotADatabase ∷ []) → E.refused_openings engine.old < E.refused_openings engine.new) }
     {
+        let number = draw(&mut self.next)?;
         let sessions = &mut self.sessions;
         let weight = &mut self.weight;
         handle(
-            self.alloc, sessions, weight, conn, request, view, machine, engine,
+            self.alloc, sessions, weight, conn, request, view, machine, number, engine,
         )
     }
 
@@ -128,6 +158,7 @@ impl Gateway {
         ensures failed { OnErr result (seen self.new machine.new ≡ seen self.old machine.old) }
         ensures files { machine_of machine.new ≡ machine_of machine.old }
         ensures pins_after { PinsOf self.new machine.new }
+        ensures agrees { (known : List Known) → Agrees known self.old machine.old → Agrees known self.new machine.new }
     {
         applied(self.alloc, &mut self.sessions, index, machine)
     }
@@ -143,6 +174,7 @@ impl Gateway {
         ensures failed { OnErr result (seen self.new machine.new ≡ seen self.old machine.old) }
         ensures files { machine_of machine.new ≡ machine_of machine.old }
         ensures pins_after { PinsOf self.new machine.new }
+        ensures agrees { (known : List Known) → Agrees known self.old machine.old → Agrees known self.new machine.new }
     {
         lost(self.alloc, &mut self.sessions, machine)
     }
@@ -156,6 +188,7 @@ impl Gateway {
         ensures left { seen self.new machine.new ≡ events.on_hangup (seen self.old machine.old) conn }
         ensures files { machine_of machine.new ≡ machine_of machine.old }
         ensures pins_after { PinsOf self.new machine.new }
+        ensures agrees { (known : List Known) → Agrees known self.old machine.old → Agrees known self.new machine.new }
     {
         left(self.alloc, &mut self.sessions, conn, machine);
     }

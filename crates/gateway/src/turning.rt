@@ -12,10 +12,12 @@ ghost use Rattle.session_table.specs.Changing.{StandsAt, CanChange, changed_by};
 ghost use Rattle.session_table.specs.Marks.{AreMarks};
 ghost use Rattle.session_table.specs.Named.{cause_named, reply_named};
 ghost use Rattle.session_table.specs.Table.{table_of, pins_of, IsTable};
+ghost use Rattle.session_table.specs.Working.{work_made};
 ghost use Rattle.session_asking.specs.Meant.{effect_named};
+ghost use Rattle.session_turns.specs.Numbers.{work_in};
 ghost use Rattle.gateway.specs.declared.act.Act.TheVariants as acts;
 ghost use Rattle.gateway.specs.Calls.{act_for};
-ghost use Rattle.gateway.specs.Carrying.{Carries, CanCarry};
+ghost use Rattle.gateway.specs.Carrying.{Carries, CanCarry, AgreesOn};
 
 use crate::act::Act;
 use dq_base::Items;
@@ -109,6 +111,7 @@ fn begin_told(
     ensures done { (weight : ℕ) → IfOk result (Carries (machine_of machine.old) (table_of machine.old sessions.old.items weight) conn (Turn.Begins at_once) (table_of machine.new sessions.new.items weight)) }
     ensures kept { OnErr result ((weight : ℕ) → table_of machine.new sessions.new.items weight ≡ table_of machine.old sessions.old.items weight) }
     ensures files { machine_of machine.new ≡ machine_of machine.old }
+    ensures agree { AgreesOn [] sessions.old.items machine.old sessions.new.items machine.new }
     ensures marks_after { AreMarks (pins_of sessions.new.items) machine.new }
     ensures fit { IsTable sessions.new.items }
 {
@@ -129,6 +132,7 @@ fn end_told(
     ensures done { (weight : ℕ) → IfOk result (Carries (machine_of machine.old) (table_of machine.old sessions.old.items weight) conn Turn.Ends (table_of machine.new sessions.new.items weight)) }
     ensures kept { OnErr result ((weight : ℕ) → table_of machine.new sessions.new.items weight ≡ table_of machine.old sessions.old.items weight) }
     ensures files { machine_of machine.new ≡ machine_of machine.old }
+    ensures agree { AgreesOn [] sessions.old.items machine.old sessions.new.items machine.new }
     ensures marks_after { AreMarks (pins_of sessions.new.items) machine.new }
     ensures fit { IsTable sessions.new.items }
 {
@@ -152,6 +156,7 @@ fn change_told(
     ensures done { OnOk result ((databases : List Database) (weight : ℕ) → table_of databases sessions.new.items weight ≡ with_session (table_of databases sessions.old.items weight) conn (changed_by ((table_of databases sessions.old.items weight).session conn) change)) }
     ensures kept { OnErr result ((databases : List Database) (weight : ℕ) → table_of databases sessions.new.items weight ≡ table_of databases sessions.old.items weight) }
     ensures pins { pins_of sessions.new.items ≡ pins_of sessions.old.items }
+    ensures agree { (own : SessionValue) (databases : List Database) → AgreesOn (work_made change (get_or sessions.old.items place own).transaction) sessions.old.items databases sessions.new.items databases }
     ensures fit { IsTable sessions.new.items }
 {
     make_change(sessions, place, conn, change)?;
@@ -176,6 +181,8 @@ pub(crate) fn carry_out(
     ensures done { IfOk result (Carries (machine_of machine.old) (table_of machine.old sessions.old.items weight.old) conn turn (table_of machine.new sessions.new.items weight.new)) }
     ensures kept { OnErr result (table_of machine.new sessions.new.items weight.new ≡ table_of machine.old sessions.old.items weight.old) }
     ensures files { machine_of machine.new ≡ machine_of machine.old }
+    // No number stands for two images, where none did with the working image that the turn makes.
+    ensures agree { (own : SessionValue) → AgreesOn (work_in turn (get_or sessions.old.items place own).transaction) sessions.old.items machine.old sessions.new.items machine.new }
     ensures marks_after { AreMarks (pins_of sessions.new.items) machine.new }
     ensures fit { IsTable sessions.new.items }
 {

@@ -6,4 +6,4 @@ use Rattle.gateway.proofs.CommitTurns.{commit_opened}
 use Rattle.gateway.proofs.committing.commit_turn.Goals as goal
 
 pub returns-clause-opened : goal.returns-clause-opened
-returns-clause-opened c = IfOk-weaker c.commit_turn.result _ _ (λ turn comes. commit_opened c.args.view.now (machine_of c.args.machine.now) (table_of c.args.machine.now c.args.sessions.now 0) c.args.session.now.conn (session_of c.args.machine.now c.args.session.now) [] turn comes) (c.commit_turn.ensures 0 [])
+returns-clause-opened c = IfOk-weaker c.commit_turn.result _ _ (λ turn comes. commit_opened c.args.view.now (machine_of c.args.machine.now) (table_of c.args.machine.now c.args.sessions.now 0) c.args.session.now.conn (session_of c.args.machine.now c.args.session.now) [] turn comes) (c.commit_turn.ensures.comes 0 [])

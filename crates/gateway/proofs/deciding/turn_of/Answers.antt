@@ -1,4 +1,4 @@
-use Rattle.std.proofs.Common.{[], refl}
+use Rattle.std.proofs.Common.{[], Ok, get_or, refl}
 use Rattle.std.proofs.lemmas.Result.{IfOk-weaker}
 use Rattle.session_rules.specs.Asking as asking
 use Rattle.session_rules.specs.Sessions.{Refused}
@@ -9,7 +9,8 @@ use Rattle.session_table.specs.Table.{session_of, table_of}
 use Rattle.session_asking.specs.Meant.{IsPlainCause}
 use Rattle.session_turns.specs.declared.turn.Turn.TheVariants as turns
 use Rattle.gateway.proofs.Decided.{nothing_handed, never_unopened, creates_plain, begins_plain}
-use Rattle.gateway.proofs.Placed.{allowed_there, allowed_at, fits_there, listed_there, outside_too, some_inside, turned_there, came_there}
+use Rattle.gateway.proofs.Numbering.{idle_agrees}
+use Rattle.gateway.proofs.Placed.{agree_there, allowed_there, allowed_at, fits_there, listed_there, outside_too, own_there, some_inside, turned_there, came_there}
 use Rattle.gateway.proofs.deciding.turn_of.Goals as goal
 
 pub returns-in-Never-clause-ran : goal.returns-in-Never-clause-ran
@@ -26,51 +27,95 @@ unfolding does
 returns-in-Sets-clause-ran g c = λ own weight. turned_there c.args.sessions.now c.args.place c.index-known-place.result c.requires.within c.index-known-place.is _ _ c.args.view.now c.args.machine.now c.args.params.now c.args.wanted _ _ own weight _ (nothing_handed _ _ c.args.view.now (machine_of c.args.machine.now) (table_of c.args.machine.now c.args.sessions.now weight) c.index-known-place.result.conn (session_of c.args.machine.now c.index-known-place.result) c.args.params.now c.args.wanted _ _ _ c.in-Sets.is refl refl)
 
 pub returns-in-Tells-clause-ran : goal.returns-in-Tells-clause-ran
-returns-in-Tells-clause-ran g c = λ own weight. turned_there c.args.sessions.now c.args.place c.index-known-place.result c.requires.within c.index-known-place.is _ _ c.args.view.now c.args.machine.now c.args.params.now c.args.wanted _ _ own weight _ (nothing_handed _ _ c.args.view.now (machine_of c.args.machine.now) (table_of c.args.machine.now c.args.sessions.now weight) c.index-known-place.result.conn (session_of c.args.machine.now c.index-known-place.result) c.args.params.now c.args.wanted _ _ c.telling.result c.in-Tells.is refl (c.telling.ensures c.args.view.now (machine_of c.args.machine.now) (table_of c.args.machine.now c.args.sessions.now weight) c.index-known-place.result.conn (session_of c.args.machine.now c.index-known-place.result) []))
+returns-in-Tells-clause-ran g c = λ own weight. turned_there c.args.sessions.now c.args.place c.index-known-place.result c.requires.within c.index-known-place.is _ _ c.args.view.now c.args.machine.now c.args.params.now c.args.wanted _ _ own weight _ (nothing_handed _ _ c.args.view.now (machine_of c.args.machine.now) (table_of c.args.machine.now c.args.sessions.now weight) c.index-known-place.result.conn (session_of c.args.machine.now c.index-known-place.result) c.args.params.now c.args.wanted _ _ c.telling.result c.in-Tells.is refl (c.telling.ensures.comes c.args.view.now (machine_of c.args.machine.now) (table_of c.args.machine.now c.args.sessions.now weight) c.index-known-place.result.conn (session_of c.args.machine.now c.index-known-place.result) []))
 
 pub returns-in-Tells-clause-unopened : goal.returns-in-Tells-clause-unopened
 unfolding does
-returns-in-Tells-clause-unopened g c = λ e. absurd (never_unopened c.args.view.now (machine_of c.args.machine.now) (session_of c.args.machine.now c.index-known-place.result) (does c.args.view.now (machine_of c.args.machine.now) (table_of c.args.machine.now c.args.sessions.now 0) c.index-known-place.result.conn (session_of c.args.machine.now c.index-known-place.result) (asking.Tells c.in-Tells.response) []) c.telling.result tt (c.telling.ensures c.args.view.now (machine_of c.args.machine.now) (table_of c.args.machine.now c.args.sessions.now 0) c.index-known-place.result.conn (session_of c.args.machine.now c.index-known-place.result) []) e)
+returns-in-Tells-clause-unopened g c = λ e. absurd (never_unopened c.args.view.now (machine_of c.args.machine.now) (session_of c.args.machine.now c.index-known-place.result) (does c.args.view.now (machine_of c.args.machine.now) (table_of c.args.machine.now c.args.sessions.now 0) c.index-known-place.result.conn (session_of c.args.machine.now c.index-known-place.result) (asking.Tells c.in-Tells.response) []) c.telling.result tt (c.telling.ensures.comes c.args.view.now (machine_of c.args.machine.now) (table_of c.args.machine.now c.args.sessions.now 0) c.index-known-place.result.conn (session_of c.args.machine.now c.index-known-place.result) []) e)
 
 pub returns-in-Opens-clause-ran : goal.returns-in-Opens-clause-ran
-returns-in-Opens-clause-ran g c = λ own weight. turned_there c.args.sessions.now c.args.place c.index-known-place.result c.requires.within c.index-known-place.is _ _ c.args.view.now c.args.machine.now c.args.params.now c.args.wanted _ _ own weight _ (nothing_handed _ _ c.args.view.now (machine_of c.args.machine.now) (table_of c.args.machine.now c.args.sessions.now weight) c.index-known-place.result.conn (session_of c.args.machine.now c.index-known-place.result) c.args.params.now c.args.wanted _ _ c.opened.result c.in-Opens.is refl (c.opened.ensures c.args.view.now (machine_of c.args.machine.now) (table_of c.args.machine.now c.args.sessions.now weight) c.index-known-place.result.conn (session_of c.args.machine.now c.index-known-place.result) []))
+returns-in-Opens-clause-ran g c = λ own weight. turned_there c.args.sessions.now c.args.place c.index-known-place.result c.requires.within c.index-known-place.is _ _ c.args.view.now c.args.machine.now c.args.params.now c.args.wanted _ _ own weight _ (nothing_handed _ _ c.args.view.now (machine_of c.args.machine.now) (table_of c.args.machine.now c.args.sessions.now weight) c.index-known-place.result.conn (session_of c.args.machine.now c.index-known-place.result) c.args.params.now c.args.wanted _ _ c.opened.result c.in-Opens.is refl (c.opened.ensures.comes c.args.view.now (machine_of c.args.machine.now) (table_of c.args.machine.now c.args.sessions.now weight) c.index-known-place.result.conn (session_of c.args.machine.now c.index-known-place.result) []))
 
 pub returns-in-Opens-clause-unopened : goal.returns-in-Opens-clause-unopened
 unfolding does
-returns-in-Opens-clause-unopened g c = λ e. absurd (never_unopened c.args.view.now (machine_of c.args.machine.now) (session_of c.args.machine.now c.index-known-place.result) (does c.args.view.now (machine_of c.args.machine.now) (table_of c.args.machine.now c.args.sessions.now 0) c.index-known-place.result.conn (session_of c.args.machine.now c.index-known-place.result) (asking.Opens c.in-Opens.name) []) c.opened.result tt (c.opened.ensures c.args.view.now (machine_of c.args.machine.now) (table_of c.args.machine.now c.args.sessions.now 0) c.index-known-place.result.conn (session_of c.args.machine.now c.index-known-place.result) []) e)
+returns-in-Opens-clause-unopened g c = λ e. absurd (never_unopened c.args.view.now (machine_of c.args.machine.now) (session_of c.args.machine.now c.index-known-place.result) (does c.args.view.now (machine_of c.args.machine.now) (table_of c.args.machine.now c.args.sessions.now 0) c.index-known-place.result.conn (session_of c.args.machine.now c.index-known-place.result) (asking.Opens c.in-Opens.name) []) c.opened.result tt (c.opened.ensures.comes c.args.view.now (machine_of c.args.machine.now) (table_of c.args.machine.now c.args.sessions.now 0) c.index-known-place.result.conn (session_of c.args.machine.now c.index-known-place.result) []) e)
 
 pub returns-in-Prepares-clause-ran : goal.returns-in-Prepares-clause-ran
-returns-in-Prepares-clause-ran g c = λ own weight. turned_there c.args.sessions.now c.args.place c.index-known-place.result c.requires.within c.index-known-place.is _ _ c.args.view.now c.args.machine.now c.args.params.now c.args.wanted _ _ own weight _ (nothing_handed _ _ c.args.view.now (machine_of c.args.machine.now) (table_of c.args.machine.now c.args.sessions.now weight) c.index-known-place.result.conn (session_of c.args.machine.now c.index-known-place.result) c.args.params.now c.args.wanted _ _ c.preparing.result c.in-Prepares.is refl (c.preparing.ensures c.args.view.now (machine_of c.args.machine.now) (table_of c.args.machine.now c.args.sessions.now weight) c.index-known-place.result.conn c.args.machine.now []))
+returns-in-Prepares-clause-ran g c = λ own weight. turned_there c.args.sessions.now c.args.place c.index-known-place.result c.requires.within c.index-known-place.is _ _ c.args.view.now c.args.machine.now c.args.params.now c.args.wanted _ _ own weight _ (nothing_handed _ _ c.args.view.now (machine_of c.args.machine.now) (table_of c.args.machine.now c.args.sessions.now weight) c.index-known-place.result.conn (session_of c.args.machine.now c.index-known-place.result) c.args.params.now c.args.wanted _ _ c.preparing.result c.in-Prepares.is refl (c.preparing.ensures.comes c.args.view.now (machine_of c.args.machine.now) (table_of c.args.machine.now c.args.sessions.now weight) c.index-known-place.result.conn c.args.machine.now []))
 
 pub returns-in-Prepares-clause-unopened : goal.returns-in-Prepares-clause-unopened
 unfolding does
-returns-in-Prepares-clause-unopened g c = λ e. absurd (never_unopened c.args.view.now (machine_of c.args.machine.now) (session_of c.args.machine.now c.index-known-place.result) (does c.args.view.now (machine_of c.args.machine.now) (table_of c.args.machine.now c.args.sessions.now 0) c.index-known-place.result.conn (session_of c.args.machine.now c.index-known-place.result) (asking.Prepares c.in-Prepares.prepared c.in-Prepares.tail) []) c.preparing.result tt (c.preparing.ensures c.args.view.now (machine_of c.args.machine.now) (table_of c.args.machine.now c.args.sessions.now 0) c.index-known-place.result.conn c.args.machine.now []) e)
+returns-in-Prepares-clause-unopened g c = λ e. absurd (never_unopened c.args.view.now (machine_of c.args.machine.now) (session_of c.args.machine.now c.index-known-place.result) (does c.args.view.now (machine_of c.args.machine.now) (table_of c.args.machine.now c.args.sessions.now 0) c.index-known-place.result.conn (session_of c.args.machine.now c.index-known-place.result) (asking.Prepares c.in-Prepares.prepared c.in-Prepares.tail) []) c.preparing.result tt (c.preparing.ensures.comes c.args.view.now (machine_of c.args.machine.now) (table_of c.args.machine.now c.args.sessions.now 0) c.index-known-place.result.conn c.args.machine.now []) e)
 
 pub returns-in-Drops-clause-ran : goal.returns-in-Drops-clause-ran
-returns-in-Drops-clause-ran g c = λ own weight. turned_there c.args.sessions.now c.args.place c.index-known-place.result c.requires.within c.index-known-place.is _ _ c.args.view.now c.args.machine.now c.args.params.now c.args.wanted _ _ own weight _ (nothing_handed _ _ c.args.view.now (machine_of c.args.machine.now) (table_of c.args.machine.now c.args.sessions.now weight) c.index-known-place.result.conn (session_of c.args.machine.now c.index-known-place.result) c.args.params.now c.args.wanted _ _ c.finalizing.result c.in-Drops.is refl (c.finalizing.ensures c.args.view.now (machine_of c.args.machine.now) (table_of c.args.machine.now c.args.sessions.now weight) c.index-known-place.result.conn c.args.machine.now []))
+returns-in-Drops-clause-ran g c = λ own weight. turned_there c.args.sessions.now c.args.place c.index-known-place.result c.requires.within c.index-known-place.is _ _ c.args.view.now c.args.machine.now c.args.params.now c.args.wanted _ _ own weight _ (nothing_handed _ _ c.args.view.now (machine_of c.args.machine.now) (table_of c.args.machine.now c.args.sessions.now weight) c.index-known-place.result.conn (session_of c.args.machine.now c.index-known-place.result) c.args.params.now c.args.wanted _ _ c.finalizing.result c.in-Drops.is refl (c.finalizing.ensures.comes c.args.view.now (machine_of c.args.machine.now) (table_of c.args.machine.now c.args.sessions.now weight) c.index-known-place.result.conn c.args.machine.now []))
 
 pub returns-in-Drops-clause-unopened : goal.returns-in-Drops-clause-unopened
 unfolding does
-returns-in-Drops-clause-unopened g c = λ e. absurd (never_unopened c.args.view.now (machine_of c.args.machine.now) (session_of c.args.machine.now c.index-known-place.result) (does c.args.view.now (machine_of c.args.machine.now) (table_of c.args.machine.now c.args.sessions.now 0) c.index-known-place.result.conn (session_of c.args.machine.now c.index-known-place.result) (asking.Drops c.in-Drops.id) []) c.finalizing.result tt (c.finalizing.ensures c.args.view.now (machine_of c.args.machine.now) (table_of c.args.machine.now c.args.sessions.now 0) c.index-known-place.result.conn c.args.machine.now []) e)
+returns-in-Drops-clause-unopened g c = λ e. absurd (never_unopened c.args.view.now (machine_of c.args.machine.now) (session_of c.args.machine.now c.index-known-place.result) (does c.args.view.now (machine_of c.args.machine.now) (table_of c.args.machine.now c.args.sessions.now 0) c.index-known-place.result.conn (session_of c.args.machine.now c.index-known-place.result) (asking.Drops c.in-Drops.id) []) c.finalizing.result tt (c.finalizing.ensures.comes c.args.view.now (machine_of c.args.machine.now) (table_of c.args.machine.now c.args.sessions.now 0) c.index-known-place.result.conn c.args.machine.now []) e)
 
 pub returns-in-Begins-clause-ran : goal.returns-in-Begins-clause-ran
-returns-in-Begins-clause-ran g c = λ own weight. turned_there c.args.sessions.now c.args.place c.index-known-place.result c.requires.within c.index-known-place.is _ _ c.args.view.now c.args.machine.now c.args.params.now c.args.wanted _ _ own weight _ (nothing_handed _ _ c.args.view.now (machine_of c.args.machine.now) (table_of c.args.machine.now c.args.sessions.now weight) c.index-known-place.result.conn (session_of c.args.machine.now c.index-known-place.result) c.args.params.now c.args.wanted _ _ c.beginning.result c.in-Begins.is refl (c.beginning.ensures c.args.view.now c.args.machine.now weight []))
+returns-in-Begins-clause-ran g c = λ own weight. turned_there c.args.sessions.now c.args.place c.index-known-place.result c.requires.within c.index-known-place.is _ _ c.args.view.now c.args.machine.now c.args.params.now c.args.wanted _ _ own weight _ (nothing_handed _ _ c.args.view.now (machine_of c.args.machine.now) (table_of c.args.machine.now c.args.sessions.now weight) c.index-known-place.result.conn (session_of c.args.machine.now c.index-known-place.result) c.args.params.now c.args.wanted _ _ c.beginning.result c.in-Begins.is refl (c.beginning.ensures.comes c.args.view.now c.args.machine.now weight []))
 
 pub returns-in-Begins-clause-unopened : goal.returns-in-Begins-clause-unopened
-returns-in-Begins-clause-unopened g c = λ e. absurd (never_unopened c.args.view.now (machine_of c.args.machine.now) (session_of c.args.machine.now c.index-known-place.result) (does c.args.view.now (machine_of c.args.machine.now) (table_of c.args.machine.now c.args.sessions.now 0) c.index-known-place.result.conn (session_of c.args.machine.now c.index-known-place.result) (asking.Begins c.in-Begins.at_once) []) c.beginning.result (begins_plain c.args.view.now (machine_of c.args.machine.now) (table_of c.args.machine.now c.args.sessions.now 0) c.index-known-place.result.conn (session_of c.args.machine.now c.index-known-place.result) [] c.in-Begins.at_once) (c.beginning.ensures c.args.view.now c.args.machine.now 0 []) e)
+returns-in-Begins-clause-unopened g c = λ e. absurd (never_unopened c.args.view.now (machine_of c.args.machine.now) (session_of c.args.machine.now c.index-known-place.result) (does c.args.view.now (machine_of c.args.machine.now) (table_of c.args.machine.now c.args.sessions.now 0) c.index-known-place.result.conn (session_of c.args.machine.now c.index-known-place.result) (asking.Begins c.in-Begins.at_once) []) c.beginning.result (begins_plain c.args.view.now (machine_of c.args.machine.now) (table_of c.args.machine.now c.args.sessions.now 0) c.index-known-place.result.conn (session_of c.args.machine.now c.index-known-place.result) [] c.in-Begins.at_once) (c.beginning.ensures.comes c.args.view.now c.args.machine.now 0 []) e)
 
 pub returns-in-RollsBack-clause-ran : goal.returns-in-RollsBack-clause-ran
 unfolding does
 returns-in-RollsBack-clause-ran g c = λ own weight. turned_there c.args.sessions.now c.args.place c.index-known-place.result c.requires.within c.index-known-place.is _ _ c.args.view.now c.args.machine.now c.args.params.now c.args.wanted _ _ own weight _ (nothing_handed _ _ c.args.view.now (machine_of c.args.machine.now) (table_of c.args.machine.now c.args.sessions.now weight) c.index-known-place.result.conn (session_of c.args.machine.now c.index-known-place.result) c.args.params.now c.args.wanted _ _ _ c.in-RollsBack.is refl (refl, refl))
 
 pub returns-in-Creates-clause-ran : goal.returns-in-Creates-clause-ran
-returns-in-Creates-clause-ran g c = λ own weight. came_there c.args.sessions.now c.args.place c.index-known-place.result c.requires.within c.index-known-place.is _ _ c.args.view.now c.args.machine.now c.args.params.now c.args.wanted _ _ own weight c.creating.result (IfOk-weaker c.creating.result _ _ (λ turn h. nothing_handed _ _ c.args.view.now (machine_of c.args.machine.now) (table_of c.args.machine.now c.args.sessions.now weight) c.index-known-place.result.conn (session_of c.args.machine.now c.index-known-place.result) c.args.params.now c.args.wanted _ _ turn c.in-Creates.is refl h) (c.creating.ensures weight c.index-known-place.result.conn []))
+returns-in-Creates-clause-ran g c = λ own weight. came_there c.args.sessions.now c.args.place c.index-known-place.result c.requires.within c.index-known-place.is _ _ c.args.view.now c.args.machine.now c.args.params.now c.args.wanted _ _ own weight c.creating.result (IfOk-weaker c.creating.result _ _ (λ turn h. nothing_handed _ _ c.args.view.now (machine_of c.args.machine.now) (table_of c.args.machine.now c.args.sessions.now weight) c.index-known-place.result.conn (session_of c.args.machine.now c.index-known-place.result) c.args.params.now c.args.wanted _ _ turn c.in-Creates.is refl h) (c.creating.ensures.comes weight c.index-known-place.result.conn []))
 
 pub returns-in-Creates-clause-unopened : goal.returns-in-Creates-clause-unopened
-returns-in-Creates-clause-unopened g c = IfOk-weaker c.creating.result _ _ (λ turn h e. absurd (never_unopened c.args.view.now (machine_of c.args.machine.now) (session_of c.args.machine.now c.index-known-place.result) (does c.args.view.now (machine_of c.args.machine.now) (table_of c.args.machine.now c.args.sessions.now 0) c.index-known-place.result.conn (session_of c.args.machine.now c.index-known-place.result) (asking.Creates c.in-Creates.name) []) turn (creates_plain c.args.view.now (machine_of c.args.machine.now) (table_of c.args.machine.now c.args.sessions.now 0) c.index-known-place.result.conn (session_of c.args.machine.now c.index-known-place.result) [] c.in-Creates.name) h e)) (c.creating.ensures 0 c.index-known-place.result.conn [])
+returns-in-Creates-clause-unopened g c = IfOk-weaker c.creating.result _ _ (λ turn h e. absurd (never_unopened c.args.view.now (machine_of c.args.machine.now) (session_of c.args.machine.now c.index-known-place.result) (does c.args.view.now (machine_of c.args.machine.now) (table_of c.args.machine.now c.args.sessions.now 0) c.index-known-place.result.conn (session_of c.args.machine.now c.index-known-place.result) (asking.Creates c.in-Creates.name) []) turn (creates_plain c.args.view.now (machine_of c.args.machine.now) (table_of c.args.machine.now c.args.sessions.now 0) c.index-known-place.result.conn (session_of c.args.machine.now c.index-known-place.result) [] c.in-Creates.name) h e)) (c.creating.ensures.comes 0 c.index-known-place.result.conn [])
 
 pub returns-in-Commits-clause-ran : goal.returns-in-Commits-clause-ran
 returns-in-Commits-clause-ran g c = λ own weight. came_there c.args.sessions.now c.args.place c.index-known-place.result c.requires.within c.index-known-place.is _ _ c.args.view.now c.args.machine.now c.args.params.now c.args.wanted _ _ own weight c.commit_turn.result (IfOk-weaker c.commit_turn.result _ _ (λ turn h. nothing_handed _ _ c.args.view.now (machine_of c.args.machine.now) (table_of c.args.machine.now c.args.sessions.now weight) c.index-known-place.result.conn (session_of c.args.machine.now c.index-known-place.result) c.args.params.now c.args.wanted _ _ turn c.in-Commits.is refl h) (c.commit_turn.ensures.comes weight []))
+
+-- ---- no number stands for two images
+
+pub returns-in-Never-clause-agree : goal.returns-in-Never-clause-agree
+returns-in-Never-clause-agree g c = λ own. idle_agrees _ _ c.args.number _ (Ok (turns.Refused c.in-Never.cause)) (get_or c.args.sessions.now c.args.place own).transaction (λ tx. refl) c.requires.agree
+
+pub returns-in-Sets-clause-agree : goal.returns-in-Sets-clause-agree
+returns-in-Sets-clause-agree g c = λ own. idle_agrees _ _ c.args.number _ (Ok (turns.Affects c.in-Sets.effect)) (get_or c.args.sessions.now c.args.place own).transaction (λ tx. refl) c.requires.agree
+
+pub returns-in-Tells-clause-agree : goal.returns-in-Tells-clause-agree
+returns-in-Tells-clause-agree g c = λ own. idle_agrees _ _ c.args.number _ (Ok c.telling.result) (get_or c.args.sessions.now c.args.place own).transaction c.telling.ensures.works c.requires.agree
+
+pub returns-in-Opens-clause-agree : goal.returns-in-Opens-clause-agree
+returns-in-Opens-clause-agree g c = λ own. idle_agrees _ _ c.args.number _ (Ok c.opened.result) (get_or c.args.sessions.now c.args.place own).transaction c.opened.ensures.works c.requires.agree
+
+pub returns-in-Prepares-clause-agree : goal.returns-in-Prepares-clause-agree
+returns-in-Prepares-clause-agree g c = λ own. idle_agrees _ _ c.args.number _ (Ok c.preparing.result) (get_or c.args.sessions.now c.args.place own).transaction c.preparing.ensures.works c.requires.agree
+
+pub returns-in-Drops-clause-agree : goal.returns-in-Drops-clause-agree
+returns-in-Drops-clause-agree g c = λ own. idle_agrees _ _ c.args.number _ (Ok c.finalizing.result) (get_or c.args.sessions.now c.args.place own).transaction c.finalizing.ensures.works c.requires.agree
+
+pub returns-in-Begins-clause-agree : goal.returns-in-Begins-clause-agree
+returns-in-Begins-clause-agree g c = λ own. idle_agrees _ _ c.args.number _ (Ok c.beginning.result) (get_or c.args.sessions.now c.args.place own).transaction c.beginning.ensures.works c.requires.agree
+
+pub returns-in-RollsBack-clause-agree : goal.returns-in-RollsBack-clause-agree
+returns-in-RollsBack-clause-agree g c = λ own. idle_agrees _ _ c.args.number _ (Ok turns.Ends) (get_or c.args.sessions.now c.args.place own).transaction (λ tx. refl) c.requires.agree
+
+pub returns-in-Creates-clause-agree : goal.returns-in-Creates-clause-agree
+returns-in-Creates-clause-agree g c = λ own. idle_agrees _ _ c.args.number _ c.creating.result (get_or c.args.sessions.now c.args.place own).transaction c.creating.ensures.works c.requires.agree
+
+pub returns-in-Commits-clause-agree : goal.returns-in-Commits-clause-agree
+returns-in-Commits-clause-agree g c = λ own. idle_agrees _ _ c.args.number _ c.commit_turn.result (get_or c.args.sessions.now c.args.place own).transaction c.commit_turn.ensures.works c.requires.agree
+
+pub returns-in-RunsOne-clause-agree : goal.returns-in-RunsOne-clause-agree
+returns-in-RunsOne-clause-agree g c = λ own. agree_there c.args.sessions.now c.args.place c.index-known-place.result c.requires.within c.index-known-place.is _ _ _ c.run_prepared.result own c.run_prepared.ensures.agree
+
+pub returns-in-Reads-clause-agree : goal.returns-in-Reads-clause-agree
+returns-in-Reads-clause-agree g c = λ own. agree_there c.args.sessions.now c.args.place c.index-known-place.result c.requires.within c.index-known-place.is _ _ _ c.run_prepared-in-Reads.result own c.run_prepared-in-Reads.ensures.agree
+
+pub run_prepared-requires-clause-own : goal.run_prepared-requires-clause-own
+run_prepared-requires-clause-own g c = own_there c.args.sessions.now c.args.place c.index-known-place.result c.requires.within c.index-known-place.is
+
+pub run_prepared-requires-in-Reads-clause-own : goal.run_prepared-requires-in-Reads-clause-own
+run_prepared-requires-in-Reads-clause-own g c = own_there c.args.sessions.now c.args.place c.index-known-place.result c.requires.within c.index-known-place.is
 
 -- ---- what the calls require
 

@@ -1,15 +1,19 @@
-use Rattle.std.proofs.Common.{List, length, get_or, IfOk, sym, ap, subst, ◌∙◌}
+use Rattle.std.proofs.Common.{List, length, get_or, map, IfOk, sym, ap, subst, ◌∙◌}
 use Rattle.std.proofs.lemmas.Option.{MatchOption-at_some}
 use Rattle.std.proofs.lemmas.Result.{IfOk-weaker}
 use Rattle.session_rules.specs.Machine.{machine_of}
 use Rattle.session_rules.specs.Touched.{IsListed}
+use Rattle.page_apply.specs.ImageNumbers.{numbered}
+use Rattle.statement_runs.specs.Agreeing.{Agree}
 use Rattle.session_table.specs.Table.{table_of}
+use Rattle.session_table.specs.Working.{works_of}
 use Rattle.session_table.specs.declared.session.Session.{Session}
 use Rattle.session_table.specs.Changing.{IsAbsent, StandsAt}
 use Rattle.gateway.proofs.Decided.{is_found, stands_somewhere, moved, carry_at}
 use Rattle.session_rules.specs.Requests.{on_request}
 use Rattle.gateway.specs.Carrying.{CanCarry, Carries}
 use Rattle.gateway.proofs.Carried.{carried}
+use Rattle.gateway.proofs.Numbering.{carried_agree, failed_agree}
 use Rattle.gateway.proofs.Placed.{lent_back}
 use Rattle.gateway.proofs.Unopened.{unopened_turn}
 use Rattle.gateway.proofs.handling.handle.Goals as goal
@@ -49,3 +53,19 @@ returns-clause-unopened g c =
     IfOk-weaker c.carry_out.result _ _
     (λ act h is. c.in_ok-turn.ensures.unopened (unopened_turn c.args.view.now (machine_of c.args.machine.now) (table_of c.args.machine.now c.args.sessions.now.items c.args.weight.now) c.args.conn c.args.request.now ran.answers (table_of c.carry_out.new.machine c.carry_out.new.sessions.items c.carry_out.new.weight) act is c.in_ok-turn.turn ran.is h))
     (subst (λ (ss : List Session). IfOk c.carry_out.result (Carries (machine_of c.args.machine.now) (table_of c.args.machine.now ss c.args.weight.now) c.args.conn c.in_ok-turn.turn (table_of c.carry_out.new.machine c.carry_out.new.sessions.items c.carry_out.new.weight))) back c.carry_out.ensures.done)
+
+pub returns-clause-agree : goal.returns-clause-agree
+returns-clause-agree g c =
+    let back = lent_back _ _ _ (c.decide.ensures.kept ∙ c.as_mut_slice-known.ensures.value) (sym c.as_mut_slice-known.ensures.len ∙ ap length c.as_mut_slice-known.ensures.value) in
+    let at : StandsAt c.args.conn c.args.sessions.now.items c.unwrap-place.result = subst (λ (ss : List Session). StandsAt c.args.conn ss c.unwrap-place.result) c.as_slice.ensures.value (MatchOption-at_some _ _ c.unwrap-place.result c.unwrap-place.ensures c.find.ensures) in
+    carried_agree _ c.args.sessions.now.items c.as_mut_slice-known.result.now _ c.unwrap-place.result _ c.args.machine.now at.within c.as_mut_slice-known.ensures.value back c.in_ok-turn.turn c.carry_out.new.sessions.items c.carry_out.new.machine c.in_ok-turn.ensures.agree c.carry_out.ensures.agree
+
+pub returns-in_err-turn-clause-agree : goal.returns-in_err-turn-clause-agree
+returns-in_err-turn-clause-agree g c =
+    let back = lent_back _ _ _ (c.decide.ensures.kept ∙ c.as_mut_slice-known.ensures.value) (sym c.as_mut_slice-known.ensures.len ∙ ap length c.as_mut_slice-known.ensures.value) in
+    let at : StandsAt c.args.conn c.args.sessions.now.items c.unwrap-place.result = subst (λ (ss : List Session). StandsAt c.args.conn ss c.unwrap-place.result) c.as_slice.ensures.value (MatchOption-at_some _ _ c.unwrap-place.result c.unwrap-place.ensures c.find.ensures) in
+    failed_agree _ c.args.sessions.now.items c.as_mut_slice-known.result.now _ c.unwrap-place.result _ c.args.machine.now at.within c.as_mut_slice-known.ensures.value back _ c.in_err-turn.ensures.agree
+
+pub decide-requires-clause-agree : goal.decide-requires-clause-agree
+decide-requires-clause-agree g c =
+    subst (λ (ss : List Session). Agree (g.E.Engine.known c.args.engine.now) (works_of ss) c.args.number (map numbered c.args.machine.now)) (sym c.as_mut_slice-known.ensures.value) c.requires.agree

@@ -1,4 +1,5 @@
 use Rattle.gateway.proofs.Keeping.{marks_stay, sessions_stay}
+use Rattle.gateway.proofs.Numbering.{acted_agree}
 use Rattle.gateway.proofs.laws.commands_keep_sessions.Goals as goal
 
 pub returns-clause-pins : goal.returns-clause-pins
@@ -6,3 +7,6 @@ returns-clause-pins c = marks_stay
 
 pub returns-clause-sessions : goal.returns-clause-sessions
 returns-clause-sessions c = sessions_stay
+
+pub returns-clause-agree : goal.returns-clause-agree
+returns-clause-agree c = acted_agree

@@ -1,6 +1,10 @@
-use Rattle.std.proofs.Common.{get_or, subst}
+use Rattle.std.proofs.Common.{get_or, refl, sym, subst}
 use Rattle.session_turns.specs.declared.turn.Turn.{Turn}
-use Rattle.gateway.specs.Carrying.{CanCarry}
+use Rattle.session_table.specs.Working.{works_of}
+use Rattle.session_table.proofs.Works.{among_more}
+use Rattle.session_turns.specs.Numbers.{work_in}
+use Rattle.gateway.specs.Carrying.{CanCarry, AgreesOn}
+use Rattle.gateway.proofs.Numbering.{fewer_agree}
 use Rattle.gateway.proofs.turning.carry_out.Goals as goal
 
 pub change_told-requires-clause-can : goal.change_told-requires-clause-can
@@ -8,3 +12,14 @@ change_told-requires-clause-can c = λ session. subst (λ (t : Turn). CanCarry (
 
 pub begin_told-requires-clause-can : goal.begin_told-requires-clause-can
 begin_told-requires-clause-can c = λ session. subst (λ (t : Turn). CanCarry (get_or c.args.sessions.now.items c.args.place session) t) c.in-Begins.is (c.requires.can session)
+
+pub returns-in_err-act-in-Answers-clause-agree : goal.returns-in_err-act-in-Answers-clause-agree
+returns-in_err-act-in-Answers-clause-agree c = λ own.
+    let all = c.args.sessions.now.items in
+    let made = work_in c.args.turn (get_or all c.args.place own).transaction in
+    fewer_agree made all all c.args.machine.now c.args.machine.now refl (among_more made (works_of all))
+
+pub returns-in-Proposes-clause-agree : goal.returns-in-Proposes-clause-agree
+returns-in-Proposes-clause-agree c = λ own.
+    let all = c.args.sessions.now.items in
+    subst (λ (t : Turn). AgreesOn (work_in t (get_or all c.args.place own).transaction) all c.args.machine.now c.change_told-in-Proposes.new.sessions.items c.args.machine.now) (sym c.in-Proposes.is) (c.change_told-in-Proposes.ensures.agree own c.args.machine.now)
