@@ -2,8 +2,10 @@
 use Rattle.std.specs.Prelude.{List}
 use Rattle.std.specs.Ordering.{nat_cmp}
 use Rattle.std.specs.BTreeMap.{get}
+use Rattle.sql_engine.specs.Known.{Known}
 use Rattle.page_apply.specs.declared.database.Database.{Database}
 use Rattle.page_apply.specs.Pins.{Pinning, IsPinned}
+use Rattle.gateway.specs.Seen as gateway
 use Rattle.gateway.specs.Seen.{seen, PinsOf}
 use Rattle.client_sessions.specs.declared.clients.Clients.{Clients as Held}
 use Rattle.client_sessions.specs.Clients.{Clients, Sound}
@@ -16,6 +18,10 @@ clients_of held databases = record { sessions = seen held.gateway databases; str
 pub record StandOver (held : Held) (databases : List Database) : Type 0 where
   pub pins : PinsOf held.gateway databases
   pub sound : Sound (clients_of held databases)
+
+-- no number stands for two images: neither for an engine, nor for the clients' transactions, nor for the databases
+abbrev pub Agrees : List Known → Held → List Database → Type 0
+Agrees known held databases = gateway.Agrees known held.gateway databases
 
 -- no image of these databases is pinned
 abbrev pub HasNoMarks : List Database → Type 0

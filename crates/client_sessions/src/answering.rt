@@ -1,13 +1,14 @@
 //! What comes of a message at the sessions.
 
-ghost use Rattle.std.specs.Prelude.{◌≡◌, ◌≤◌, ◌<◌, ℕ, true, [], ◌∷◌, IfOk, OnErr};
+ghost use Rattle.std.specs.Prelude.{◌≡◌, ◌<◌, ℕ, true, [], ◌∷◌, IfOk, OnErr};
+ghost use Rattle.sql_engine.specs.Meanings.{Stays};
 ghost use Rattle.wire_msgs.specs.Reading.{request_of};
 ghost use Rattle.session_rules.specs.Causes.{NotADatabase, failure};
 ghost use Rattle.session_rules.specs.Sessions.{may_ask};
 ghost use Rattle.session_rules.specs.Machine.{machine_of};
 ghost use Rattle.session_rules.specs.Touched.{IsListed};
 ghost use Rattle.gateway.specs.Calls.{TurnedBy, HasNoNul, HasShortTerm};
-ghost use Rattle.gateway.specs.Seen.{seen, PinsOf};
+ghost use Rattle.gateway.specs.Seen.{seen, Agrees, PinsOf};
 ghost use Rattle.client_sessions.specs.Sending.{ActCanSend, FlightCanSend, HasPlainAddresses};
 ghost use Rattle.client_sessions.specs.Clients.{Clients, with_sessions, Sound};
 ghost use Rattle.client_sessions.specs.Calls.{act_on, Asked, Comes};
@@ -71,14 +72,15 @@ fn ask<E: Engine>(
     requires text { HasNoNul request.now }
     requires term { HasShortTerm view.now }
     requires plain { HasPlainAddresses view.now }
+    requires agrees { Agrees (E.known engine.old) gateway.old machine.old }
+    ensures agrees { Agrees (E.known engine.new) gateway.new machine.new }
     ensures turned { IfOk result (TurnedBy (E.meaning (E.kind engine.old)) (E.kind engine.old) view.now (machine_of machine.old) (seen gateway.old machine.old) conn request.now (E.told engine.old) (E.told engine.new) (seen gateway.new machine.new)) }
     ensures unopened { IfOk result (λ act. act ≡ GatewayAct.Reply (failure NotADatabase ∷ []) → E.refused_openings engine.old < E.refused_openings engine.new) }
     ensures sends_after { IfOk result ActCanSend }
     ensures sound { (k : Clients) → k.sessions ≡ seen gateway.old machine.old → Sound k → Sound (with_sessions k (seen gateway.new machine.new)) }
     ensures files { machine_of machine.new ≡ machine_of machine.old }
     ensures pins_after { PinsOf gateway.new machine.new }
-    ensures kind { E.kind engine.new ≡ E.kind engine.old }
-    ensures openings { E.refused_openings engine.old ≤ E.refused_openings engine.new }
+    ensures stays { Stays (E.kind engine.old) (E.kind engine.new) (E.refused_openings engine.old) (E.refused_openings engine.new) }
 {
     gateway.on_request(conn, request, view, machine, engine)
 }
@@ -100,12 +102,13 @@ fn answer<E: Engine>(
     requires text { HasNoNul request.now }
     requires term { HasShortTerm view.now }
     requires plain { HasPlainAddresses view.now }
+    requires agrees { Agrees (E.known engine.old) gateway.old machine.old }
+    ensures agrees { Agrees (E.known engine.new) gateway.new machine.new }
     ensures asked { IfOk result (Asked (E.meaning (E.kind engine.old)) (E.kind engine.old) view.now (machine_of machine.old) (seen gateway.old machine.old) conn request.now (E.told engine.old) (E.told engine.new) (E.refused_openings engine.old) (E.refused_openings engine.new) (seen gateway.new machine.new)) }
     ensures sound { (k : Clients) → k.sessions ≡ seen gateway.old machine.old → Sound k → Sound (with_sessions k (seen gateway.new machine.new)) }
     ensures files { machine_of machine.new ≡ machine_of machine.old }
     ensures pins_after { PinsOf gateway.new machine.new }
-    ensures kind { E.kind engine.new ≡ E.kind engine.old }
-    ensures openings { E.refused_openings engine.old ≤ E.refused_openings engine.new }
+    ensures stays { Stays (E.kind engine.old) (E.kind engine.new) (E.refused_openings engine.old) (E.refused_openings engine.new) }
 {
     let act = ask(gateway, conn, request, view, machine, engine)?;
     act_of(alloc, conn, act)
@@ -128,12 +131,13 @@ pub(crate) fn come<E: Engine>(
     requires pins { PinsOf gateway.old machine.old }
     requires term { HasShortTerm view.now }
     requires plain { HasPlainAddresses view.now }
+    requires agrees { Agrees (E.known engine.old) gateway.old machine.old }
+    ensures agrees { Agrees (E.known engine.new) gateway.new machine.new }
     ensures came { IfOk result (Comes (E.meaning (E.kind engine.old)) (E.kind engine.old) view.now (machine_of machine.old) (seen gateway.old machine.old) conn (request_of message.now) (E.told engine.old) (E.told engine.new) (E.refused_openings engine.old) (E.refused_openings engine.new) (seen gateway.new machine.new)) }
     ensures sound { (k : Clients) → k.sessions ≡ seen gateway.old machine.old → Sound k → Sound (with_sessions k (seen gateway.new machine.new)) }
     ensures files { machine_of machine.new ≡ machine_of machine.old }
     ensures pins_after { PinsOf gateway.new machine.new }
-    ensures kind { E.kind engine.new ≡ E.kind engine.old }
-    ensures openings { E.refused_openings engine.old ≤ E.refused_openings engine.new }
+    ensures stays { Stays (E.kind engine.old) (E.kind engine.new) (E.refused_openings engine.old) (E.refused_openings engine.new) }
 {
     match read(alloc, message)? {
         Ok(request) => answer(alloc, gateway, conn, &request, view, machine, engine),

@@ -1,9 +1,12 @@
 //! The clients of a node, and their calls.
 
-ghost use Rattle.std.specs.Prelude.{◌≡◌, ◌≤◌, false, not, is_none, None, List, ℕ, ◌++◌, IfOk, OnOk, OnErr, if◌then◌else◌};
+ghost use Rattle.std.specs.Prelude.{◌≡◌, [], false, not, is_none, None, List, ℕ, ◌++◌, IfOk, OnOk, OnErr, if◌then◌else◌};
+ghost use Rattle.sql_engine.specs.Meanings.{Stays};
 ghost use Rattle.std.specs.Ordering.{nat_cmp};
 ghost use Rattle.std.specs.BTreeMap.{get};
+ghost use Rattle.sql_engine.specs.Known.{Known};
 ghost use Rattle.page_apply.specs.declared.database.Database.{Database};
+ghost use Rattle.page_apply.specs.Machines.{IsMachine};
 ghost use Rattle.session_rules.specs.Machine.{machine_of};
 ghost use Rattle.session_rules.specs.Events as events;
 ghost use Rattle.session_table.specs.Sweeping.{all_told};
@@ -12,7 +15,7 @@ ghost use Rattle.gateway.specs.Seen.{pins_of};
 ghost use Rattle.client_sessions.specs.Sending.{HasPlainAddresses};
 ghost use Rattle.client_sessions.specs.Clients.{no_clients, joining, joined, joined_as, hung_up, closing, closed, heard, freed};
 ghost use Rattle.client_sessions.specs.Calls.{TookFrom, TookNext, TookTurn, told_conns, sent};
-ghost use Rattle.client_sessions.specs.Seen.{clients_of, StandOver, HasNoMarks};
+ghost use Rattle.client_sessions.specs.Seen.{clients_of, Agrees, StandOver, HasNoMarks};
 
 use crate::act::Act;
 use crate::answering::come;
@@ -55,6 +58,7 @@ impl Clients {
     pub fn new(alloc: Global) -> Clients
         ensures none { (databases : List Database) → clients_of result databases ≡ no_clients }
         ensures stand { (databases : List Database) → HasNoMarks databases → StandOver result databases }
+        ensures agrees { (databases : List Database) → IsMachine databases → Agrees [] result databases }
     {
         Clients {
             alloc,
@@ -77,6 +81,7 @@ impl Clients {
         ensures joined { OnOk result ((databases : List Database) → StandOver self.old databases → clients_of self.new databases ≡ joined (clients_of self.old databases) conn) }
         ensures told { IfOk result (λ how. (databases : List Database) → StandOver self.old databases → how ≡ joining (clients_of self.old databases).sessions conn) }
         ensures stand { (databases : List Database) → StandOver self.old databases → StandOver self.new databases }
+        ensures agrees { (known : List Known) (databases : List Database) → Agrees known self.old databases → Agrees known self.new databases }
         ensures failed { OnErr result ((databases : List Database) → clients_of self.new databases ≡ clients_of self.old databases) }
     {
         if self.is_taken(conn) {
@@ -95,6 +100,7 @@ impl Clients {
     pub fn receive(&mut self, conn: u64, bytes: &[u8]) -> Result<(), AllocError>
         ensures heard { OnOk result ((databases : List Database) → clients_of self.new databases ≡ heard (clients_of self.old databases) conn bytes.now) }
         ensures stand { (databases : List Database) → StandOver self.old databases → StandOver self.new databases }
+        ensures agrees { (known : List Known) (databases : List Database) → Agrees known self.old databases → Agrees known self.new databases }
         ensures failed { OnErr result ((databases : List Database) → clients_of self.new databases ≡ clients_of self.old databases) }
     {
         let Some(stream) = self.connections.get_mut(&conn) else {
@@ -123,14 +129,16 @@ impl Clients {
         requires stand { StandOver self.old machine.old }
         requires term { HasShortTerm view.now }
         requires plain { HasPlainAddresses view.now }
+        // No number stands for two images, for the engine, the transactions and the databases; and so it is afterwards.
+        requires agrees { Agrees (E.known engine.old) self.old machine.old }
+        ensures agrees { Agrees (E.known engine.new) self.new machine.new }
         // The definition's outcome, by answers that the engine may give and told.
         ensures turn { IfOk result (TookTurn (E.meaning (E.kind engine.old)) (E.kind engine.old) view.now (machine_of machine.old) (clients_of self.old machine.old) (E.told engine.old) (E.told engine.new) (E.refused_openings engine.old) (E.refused_openings engine.new) (clients_of self.new machine.new)) }
         ensures stands { StandOver self.new machine.new }
         // The databases stay but for their marks.
         ensures files { machine_of machine.new ≡ machine_of machine.old }
         // The engine stays of its kind.
-        ensures kind { E.kind engine.new ≡ E.kind engine.old }
-        ensures openings { E.refused_openings engine.old ≤ E.refused_openings engine.new }
+        ensures stays { Stays (E.kind engine.old) (E.kind engine.new) (E.refused_openings engine.old) (E.refused_openings engine.new) }
     {
         let Some((conn, message)) = self.take_next() else {
             return Ok(None);
@@ -162,6 +170,7 @@ impl Clients {
         ensures landed { OnOk result (clients_of self.new machine.new ≡ freed (clients_of self.old machine.old) (events.on_applied index (clients_of self.old machine.old).sessions) (told_conns (all_told (events.told_applied index (clients_of self.old machine.old).sessions)))) }
         ensures told { IfOk result (λ told. told.items ≡ sent (all_told (events.told_applied index (clients_of self.old machine.old).sessions))) }
         ensures stands { StandOver self.new machine.new }
+        ensures agrees { (known : List Known) → Agrees known self.old machine.old → Agrees known self.new machine.new }
         ensures files { machine_of machine.new ≡ machine_of machine.old }
     {
         let told = self.gateway.on_applied(index, term, machine)?;
@@ -181,6 +190,7 @@ impl Clients {
         ensures told { IfOk result (λ told. told.items ≡ sent (all_told (events.told_lost (clients_of self.old machine.old).sessions))) }
         ensures unmarked { OnOk result (HasNoMarks machine.new) }
         ensures stands { StandOver self.new machine.new }
+        ensures agrees { (known : List Known) → Agrees known self.old machine.old → Agrees known self.new machine.new }
         ensures files { machine_of machine.new ≡ machine_of machine.old }
     {
         let told = self.gateway.on_lost(machine)?;
@@ -195,6 +205,7 @@ impl Clients {
         requires stand { StandOver self.old machine.old }
         ensures left { clients_of self.new machine.new ≡ hung_up (clients_of self.old machine.old) conn }
         ensures stands { StandOver self.new machine.new }
+        ensures agrees { (known : List Known) → Agrees known self.old machine.old → Agrees known self.new machine.new }
         ensures files { machine_of machine.new ≡ machine_of machine.old }
     {
         if self.connections.remove(&conn).is_some() {
@@ -209,6 +220,7 @@ impl Clients {
         ensures closed { clients_of self.new machine.new ≡ closed (clients_of self.old machine.old) conn }
         ensures told { result ≡ closing ((clients_of self.old machine.old).streams conn) }
         ensures stands { StandOver self.new machine.new }
+        ensures agrees { (known : List Known) → Agrees known self.old machine.old → Agrees known self.new machine.new }
         ensures files { machine_of machine.new ≡ machine_of machine.old }
     {
         let Some(reason) = self.reason(conn) else {
@@ -233,6 +245,7 @@ impl Clients {
         ensures told { IfOk result (λ new. (databases : List Database) → new ≡ events.connects (clients_of self.old databases).sessions conn) }
         ensures joined { IfOk result (λ new. (databases : List Database) → clients_of self.new databases ≡ (if new then joined_as (clients_of self.old databases) conn Joining.Joined else clients_of self.old databases)) }
         ensures pins { pins_of self.new.gateway ≡ pins_of self.old.gateway }
+        ensures agrees { (known : List Known) (databases : List Database) → Agrees known self.old databases → Agrees known self.new databases }
         ensures failed { OnErr result ((databases : List Database) → clients_of self.new databases ≡ clients_of self.old databases) }
     {
         self.connections.insert(conn, Connection::new(self.alloc))?;
