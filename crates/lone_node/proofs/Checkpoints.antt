@@ -12,7 +12,7 @@ use Rattle.session_world.specs.Alone.{due, settled, checkpointed}
 use Rattle.lone_node.specs.declared.voter.Voter.{Voter}
 use Rattle.lone_node.specs.declared.say.Say.{Say}
 use Rattle.lone_node.specs.Lone.{view_now}
-use Rattle.lone_node.specs.Shows.{IsSound, Holds}
+use Rattle.lone_node.specs.Shows.{IsSound, Holds, StaysAgreed}
 use Rattle.lone_node.specs.Applying.{IsFor, At, Going}
 use Rattle.lone_node.proofs.Settling.{at_databases, at_rest, at_checkpoints, settled_end}
 use Rattle.lone_node.proofs.Entries.{Applies}
@@ -68,19 +68,22 @@ settled_machine code from streams ahead before now g = g.holds.machine_is ∙ ap
 -- Some of the checkpoints were applied.
 pub record Partway (first now : Voter) (done : List (List ℕ)) (said_first said_now : List Say) : Type 0 where
   pub sound : IsSound now
+  pub agrees : StaysAgreed first now
   pub goes : (from : Node) (streams : ℕ → Option Conn) (ahead : List ℕ) (before : List Say) (left : List Content) → Going first from [] streams ahead before said_first → due (databases (settled from)) ≡ map checkpoint_of done ++ left
       → Going now (checkpointed (settled from)) left streams ahead said_first said_now
 
 pub part_begins : (first : Voter) (said : List Say) → IsSound first → Partway first first [] said said
 part_begins first said sound = record {
   sound = sound;
+  agrees = λ known a. a;
   goes = λ from streams ahead before left g is. subst (λ (cs : List Content). Going first (checkpointed (settled from)) cs streams ahead said said) is (begins first from streams ahead before said g);
 }
 
 pub part_goes : (first old new : Voter) (done : List (List ℕ)) (name : List ℕ) (command : Option Command) (said_first said_old said_new : List Say) → command ≡ Some (Checkpoint name) → Partway first old done said_first said_old
-    → Applies old new command said_old said_new → IsSound new → Partway first new (done ++ name ∷ []) said_first said_new
-part_goes first old new done name command said_first said_old said_new is p applies sound = record {
+    → Applies old new command said_old said_new → IsSound new → StaysAgreed old new → Partway first new (done ++ name ∷ []) said_first said_new
+part_goes first old new done name command said_first said_old said_new is p applies sound agrees = record {
   sound = sound;
+  agrees = λ known a. agrees known (p.agrees known a);
   goes = λ from streams ahead before left g e.
       let front : due (databases (settled from)) ≡ map checkpoint_of done ++ checkpoint_of name ∷ left =
       e ∙ ap (λ (cs : List Content). cs ++ left) (map-append checkpoint_of done (name ∷ [])) ∙ append_assoc (map checkpoint_of done) (checkpoint_of name ∷ []) left in

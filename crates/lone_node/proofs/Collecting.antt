@@ -5,6 +5,7 @@ use Rattle.std.specs.Prelude.{MatchBool}
 use Rattle.wire_words.specs.declared.message.Message.{Message}
 use Rattle.client_connection.specs.Connection.{Conn}
 use Rattle.sql_engine.specs.declared.kind.EngineKind.{EngineKind}
+use Rattle.sql_engine.specs.Known.{Known}
 use Rattle.sql_engine.specs.Meanings.{Meaning, Told}
 use Rattle.session_rules.specs.Engines.{Answer}
 use Rattle.statement_runs.specs.Running.{TellsAll}
@@ -12,7 +13,7 @@ use Rattle.lone_node.specs.declared.say.Say.{Say}
 use Rattle.lone_node.specs.declared.voter.Voter.{Voter}
 use Rattle.lone_node.specs.Lone.{Lone, given, comes_all, onward, behind}
 use Rattle.lone_node.specs.Safe.{Allowed}
-use Rattle.lone_node.specs.Shows.{IsSound}
+use Rattle.lone_node.specs.Shows.{Agrees, IsSound}
 use Rattle.lone_node.specs.Taking.{Caused, Waits, TakesOne, TakesNone, TakesAll}
 use Rattle.lone_node.proofs.Causes.{caused_none, caused_both}
 
@@ -110,31 +111,34 @@ collects_all m kind w conn stream all told_first told_old told_new refused_first
 -- ---- the loop
 
 module _ (meaning : EngineKind → Meaning) where
-  -- Where it stands: the engine is of the same kind, its count of refused openings did not fall, the voter is sound, and this
-  -- came of the messages so far.
-  pub record Collected (kind kind_now : EngineKind) (first now : Voter) (told_first told_now : Option Told) (refused_first refused_now : ℕ) (said_first said_now : List Say) : Type 0 where
+  -- Where it stands: the engine is of the same kind, its count of refused openings did not fall, the voter is sound, no number stands
+  -- for two images, and this came of the messages so far.
+  pub record Collected (kind kind_now : EngineKind) (known_now : List Known) (first now : Voter) (told_first told_now : Option Told) (refused_first refused_now : ℕ) (said_first said_now : List Say) : Type 0 where
     pub same_kind : kind_now ≡ kind
     pub openings : refused_first ≤ refused_now
     pub sound : IsSound now
+    pub agrees : Agrees known_now now
     pub goes : (w : Lone) (conn : ℕ) (stream : Conn) (all : List Message) → Allowed (meaning kind) kind w.turns → Waits first w conn stream all → Collects (meaning kind) kind w conn stream all told_first told_now refused_first refused_now now said_first said_now
 
-  pub collected_none : (kind : EngineKind) (code : Voter) (told : Option Told) (refused : ℕ) (said : List Say) → IsSound code → Collected kind kind code code told told refused refused said said
-  collected_none kind code told refused said sound = record {
+  pub collected_none : (kind : EngineKind) (known : List Known) (code : Voter) (told : Option Told) (refused : ℕ) (said : List Say) → IsSound code → Agrees known code → Collected kind kind known code code told told refused refused said said
+  collected_none kind known code told refused said sound agrees = record {
     same_kind = refl;
     openings = omega arith;
     sound = sound;
+    agrees = agrees;
     goes = λ w conn stream all allowed waits. collects_none (meaning kind) kind w conn stream all told refused code said allowed waits;
   }
 
-  pub collected_more : (kind kind_old kind_new : EngineKind) (first old new : Voter) (told_first told_old told_new : Option Told) (refused_first refused_old refused_new : ℕ) (said_first said_old said_new : List Say) (took : Bool) → Collected kind kind_old first old told_first told_old refused_first refused_old said_first said_old
-      → took ≡ true → kind_new ≡ kind_old → refused_old ≤ refused_new → IsSound new
+  pub collected_more : (kind kind_old kind_new : EngineKind) (known_old known_new : List Known) (first old new : Voter) (told_first told_old told_new : Option Told) (refused_first refused_old refused_new : ℕ) (said_first said_old said_new : List Say) (took : Bool) → Collected kind kind_old known_old first old told_first told_old refused_first refused_old said_first said_old
+      → took ≡ true → kind_new ≡ kind_old → refused_old ≤ refused_new → IsSound new → Agrees known_new new
       → ((w : Lone) (conn : ℕ) (stream : Conn) (left : List Message) → Allowed (meaning kind_old) kind_old w.turns → Waits old w conn stream left
       → MatchBool took (TakesOne (meaning kind_old) kind_old w conn stream left told_old told_new refused_old refused_new new said_old said_new) (TakesNone w conn stream left told_old told_new new said_old said_new))
-      → Collected kind kind_new first new told_first told_new refused_first refused_new said_first said_new
-  collected_more kind kind_old kind_new first old new told_first told_old told_new refused_first refused_old refused_new said_first said_old said_new took c taken same more sound t = record {
+      → Collected kind kind_new known_new first new told_first told_new refused_first refused_new said_first said_new
+  collected_more kind kind_old kind_new known_old known_new first old new told_first told_old told_new refused_first refused_old refused_new said_first said_old said_new took c taken same more sound agrees t = record {
     same_kind = same ∙ c.same_kind;
     openings = no_fewer refused_first refused_old refused_new c.openings more;
     sound = sound;
+    agrees = agrees;
     goes = λ w conn stream all allowed waits.
         let so_far = c.goes w conn stream all allowed waits in
         let again : Allowed (meaning kind_old) kind_old so_far.next.turns = subst (λ (k : EngineKind). Allowed (meaning k) k so_far.next.turns) (sym c.same_kind) so_far.allowed in
@@ -145,12 +149,12 @@ module _ (meaning : EngineKind → Meaning) where
         (subst (λ (k : EngineKind). TakesOne (meaning k) k so_far.next conn stream so_far.left told_old told_new refused_old refused_new new said_old said_new) c.same_kind one);
   }
 
-  pub collected_all : (kind kind_old : EngineKind) (first old new : Voter) (told_first told_old told_new : Option Told) (refused_first refused_old refused_new : ℕ) (said_first said_old said_new : List Say) (took : Bool) → Collected kind kind_old first old told_first told_old refused_first refused_old said_first said_old
+  pub collected_all : (kind kind_old : EngineKind) (known_old : List Known) (first old new : Voter) (told_first told_old told_new : Option Told) (refused_first refused_old refused_new : ℕ) (said_first said_old said_new : List Say) (took : Bool) → Collected kind kind_old known_old first old told_first told_old refused_first refused_old said_first said_old
       → took ≡ false → refused_old ≤ refused_new
       → ((w : Lone) (conn : ℕ) (stream : Conn) (left : List Message) → Allowed (meaning kind_old) kind_old w.turns → Waits old w conn stream left
       → MatchBool took (TakesOne (meaning kind_old) kind_old w conn stream left told_old told_new refused_old refused_new new said_old said_new) (TakesNone w conn stream left told_old told_new new said_old said_new))
       → (w : Lone) (conn : ℕ) (stream : Conn) (all : List Message) → Allowed (meaning kind) kind w.turns → Waits first w conn stream all → TakesAll (meaning kind) kind w conn stream all told_first told_new refused_first refused_new new said_first said_new
-  collected_all kind kind_old first old new told_first told_old told_new refused_first refused_old refused_new said_first said_old said_new took c none more t w conn stream all allowed waits =
+  collected_all kind kind_old known_old first old new told_first told_old told_new refused_first refused_old refused_new said_first said_old said_new took c none more t w conn stream all allowed waits =
       let so_far = c.goes w conn stream all allowed waits in
       let again : Allowed (meaning kind_old) kind_old so_far.next.turns = subst (λ (k : EngineKind). Allowed (meaning k) k so_far.next.turns) (sym c.same_kind) so_far.allowed in
       collects_all (meaning kind) kind w conn stream all told_first told_old told_new refused_first refused_old refused_new old new said_first said_old said_new c.openings more so_far

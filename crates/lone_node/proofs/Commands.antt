@@ -1,6 +1,7 @@
 -- What a command does to databases that clients stand over.
 use Rattle.std.proofs.Common.{◌≡◌, ℕ, List, sym, ap, subst, ◌∙◌}
 use Rattle.std.specs.Prelude.{Option, Some, Result, Ok, Err, OnOk, OnErr}
+use Rattle.sql_engine.specs.Known.{Known}
 use Rattle.frame_commands.specs.declared.command.Command.{Command}
 use Rattle.frame_commands.specs.Spelling.{Writes}
 use Rattle.frame_commands.proofs.InOtherWords.{fit_low}
@@ -10,7 +11,8 @@ use Rattle.page_apply.specs.Databases.{act}
 use Rattle.page_apply.specs.Pins.{Pinning, StillPinned}
 use Rattle.session_rules.specs.Machine.{machine_of}
 use Rattle.session_rules.proofs.Following.{machines_follow_hold}
-use Rattle.client_sessions.specs.Seen.{clients_of, StandOver}
+use Rattle.gateway.proofs.Numbering.{acted_agree}
+use Rattle.client_sessions.specs.Seen.{clients_of, Agrees, StandOver}
 use Rattle.client_sessions.specs.declared.clients.Clients.{Clients as Held}
 use Rattle.client_sessions.proofs.Standing.{clients_stay, still_stand}
 use Rattle.lone_node.specs.Applying.{done_by, IsLow}
@@ -38,6 +40,11 @@ pub stays : (old new : List Database) (command : Command) (held : Held) → Acte
 stays old new command held (did e) still stand =
     ap (clients_of held) e ∙ clients_stay held old command (λ pin. subst (λ (ds : List Database). StillPinned old ds pin) e (still pin)) stand
 stays old new command held (stayed e) still stand = ap (clients_of held) e
+
+pub agree_still : {F : Type 0} (result : Result (Unit {0}) F) (known : List Known) (old new : List Database) (command : Command) (held : Held) → IsMachine old → OnOk result (IsMachine new) → OnOk result (new ≡ act old command) → OnErr result (new ≡ old)
+    → Agrees known held old → Agrees known held new
+agree_still (Ok u) known old new command held before after is kept a = subst (Agrees known held) (sym is) (acted_agree known held.gateway old command before (subst IsMachine is after) a)
+agree_still (Err f) known old new command held before after is kept a = subst (Agrees known held) (sym kept) a
 
 -- ---- commands of entries
 

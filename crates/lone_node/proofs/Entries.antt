@@ -12,7 +12,7 @@ use Rattle.session_rules.proofs.Seeing.{written_is_seen_holds}
 use Rattle.session_world.specs.Nodes.{Node}
 use Rattle.lone_node.specs.declared.voter.Voter.{Voter}
 use Rattle.lone_node.specs.declared.say.Say.{Say}
-use Rattle.lone_node.specs.Shows.{IsSound}
+use Rattle.lone_node.specs.Shows.{IsSound, StaysAgreed}
 use Rattle.lone_node.specs.Applying.{IsFor, AreFor, Going}
 
 first_content : List Entry → Content
@@ -45,15 +45,17 @@ same_length term (c ∷ cs) = ap suc (same_length term cs)
 -- From what was so far: the entries in front were applied.
 pub record Halfway (first now : Voter) (entries : List raft.Entry) (place : ℕ) (said_first said_now : List Say) : Type 0 where
   pub sound : IsSound now
+  pub agrees : StaysAgreed first now
   pub goes : (from : Node) (contents : List Content) (streams : ℕ → Option Conn) (ahead : List ℕ) (before : List Say) → Going first from contents streams ahead before said_first → AreFor entries contents → Going now from (drop place contents) streams ahead before said_now
 
 abbrev pub Applies : Voter → Voter → Option Command → List Say → List Say → Type 0
 Applies old new command said_old said_new = (from : Node) (content : Content) (left : List Content) (streams : ℕ → Option Conn) (ahead : List ℕ) (before : List Say) → Going old from (content ∷ left) streams ahead before said_old → IsFor command content → Going new from left streams ahead before said_new
 
 pub one_more : (first old new : Voter) (entries : List raft.Entry) (place : ℕ) (e d : raft.Entry) (command : Option Command) (said_first said_old said_new : List Say) → Halfway first old entries place said_first said_old → place < length entries
-    → e ≡ get_or entries place d → IsFor command (content_seen e.kind e.bytes) → Applies old new command said_old said_new → IsSound new → Halfway first new entries (place + 1) said_first said_new
-one_more first old new entries place e d command said_first said_old said_new h within is does applies sound = record {
+    → e ≡ get_or entries place d → IsFor command (content_seen e.kind e.bytes) → Applies old new command said_old said_new → IsSound new → StaysAgreed old new → Halfway first new entries (place + 1) said_first said_new
+one_more first old new entries place e d command said_first said_old said_new h within is does applies sound agrees = record {
   sound = sound;
+  agrees = λ known a. agrees known (h.agrees known a);
   goes = λ from contents streams ahead before g are.
       let there : place < length (written are.term contents) = subst (λ (es : List raft.Entry). place < length es) are.are within in
       let s = stands_in are.term contents place e d are.spelled there (is ∙ ap (λ (es : List raft.Entry). get_or es place d) are.are) in

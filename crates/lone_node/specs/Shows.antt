@@ -1,6 +1,7 @@
 -- Which runs the code of one voter shows.
 use Rattle.std.specs.Prelude.{◌≡◌, ℕ, List, [], length, Option, Some, None, if◌then◌else◌}
 use Rattle.client_connection.specs.Connection.{Conn}
+use Rattle.sql_engine.specs.Known.{Known}
 use Rattle.page_apply.specs.declared.database.Database.{Database}
 use Rattle.session_rules.specs.Machine.{machine_of}
 use Rattle.session_rules.specs.Sessions.{View}
@@ -8,6 +9,7 @@ use Rattle.session_world.specs.Nodes.{Node, databases}
 use Rattle.session_world.specs.Alone.{due}
 use Rattle.gateway.specs.Calls.{HasShortTerm}
 use Rattle.client_sessions.specs.Sending.{HasPlainAddresses}
+use Rattle.client_sessions.specs.Seen as clients
 use Rattle.client_sessions.specs.Seen.{clients_of, StandOver}
 use Rattle.client_sessions.specs.declared.clients.Clients.{Clients as Held}
 use Rattle.lone_node.specs.declared.voter.Voter.{Voter}
@@ -18,6 +20,14 @@ pub record IsSound (code : Voter) : Type 0 where
   pub stands : StandOver code.clients code.machine
   pub plain : HasPlainAddresses code.view
   pub short : HasShortTerm code.view
+
+-- no number stands for two images: neither for an engine, nor for the clients' transactions, nor for the databases
+abbrev pub Agrees : List Known → Voter → Type 0
+Agrees known code = clients.Agrees known code.clients code.machine
+
+-- whatever an engine knows, no number stands for two images afterwards, where none did before
+abbrev pub StaysAgreed : Voter → Voter → Type 0
+StaysAgreed old new = (known : List Known) → Agrees known old → Agrees known new
 
 -- The node rests: it has applied its whole log, serves where it leads, in term 1, no request waits, and no checkpoint is due.
 pub record Rests (node : Node) : Type 0 where

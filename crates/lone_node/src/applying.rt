@@ -2,21 +2,23 @@
 
 ghost use Rattle.std.specs.Prelude.{◌≡◌, ◌≢◌, ◌++◌, ℕ, suc, true, List, [], ◌∷◌, map, Option, Some, IfOk, OnOk, OnErr};
 ghost use Rattle.client_connection.specs.Connection.{Conn};
+ghost use Rattle.sql_engine.specs.Known.{Known};
 ghost use Rattle.frame_commands.specs.declared.command.Command.TheVariants.{Checkpoint};
 ghost use Rattle.frame_commands.specs.Numbers.{HasLowNumbers};
 ghost use Rattle.page_apply.specs.Databases as of_databases;
+ghost use Rattle.page_apply.specs.Machines.{IsMachine};
 ghost use Rattle.page_apply.specs.Pins.{Pinning, StillPinned};
 ghost use Rattle.session_rules.specs.Entries.{Content, Does};
 ghost use Rattle.session_rules.specs.Machine.{Machine as Databases, machine_of, done};
 ghost use Rattle.session_rules.specs.Seen.{entry_seen};
 ghost use Rattle.session_world.specs.Nodes.{Node};
 ghost use Rattle.session_world.specs.Alone.{due, settled, checkpointed};
-ghost use Rattle.client_sessions.specs.Seen.{clients_of, StandOver};
+ghost use Rattle.client_sessions.specs.Seen.{clients_of, Agrees, StandOver};
 ghost use Rattle.client_sessions.specs.declared.clients.Clients.{Clients as Held};
 ghost use Rattle.lone_node.specs.declared.say.Say.{Say};
 ghost use Rattle.lone_node.specs.Lone.{replies};
 ghost use Rattle.lone_node.specs.Applying.{is_due, done_by, IsLow, IsFor, AreFor, Going};
-ghost use Rattle.lone_node.specs.Shows.{IsSound};
+ghost use Rattle.lone_node.specs.Shows.{IsSound, StaysAgreed};
 
 use crate::say::Say;
 use crate::voter::Voter;
@@ -84,10 +86,12 @@ fn act(machine: &mut Machine, command: &Command) -> Result<(), AllocError>
     requires { HasLowNumbers command.now }
     ensures done { OnOk result (machine.new ≡ of_databases.act machine.old command.now) }
     ensures kept { OnErr result (machine.new ≡ machine.old) }
+    ensures stands { OnOk result (IsMachine machine.new) }
     ensures shown { (pin : Pinning) → StillPinned machine.old machine.new pin }
 {
     machine.act(command)?;
     keep_whole(machine, command);
+    let _databases = machine.databases();
     Ok(())
 }
 
@@ -97,6 +101,7 @@ fn perform(machine: &mut Machine, command: &Option<Command>) -> Result<(), Alloc
     ensures done { OnOk result (machine_of machine.new ≡ done_by command.now (machine_of machine.old)) }
     ensures stand { (held : Held) → StandOver held machine.old → StandOver held machine.new }
     ensures seen { (held : Held) → StandOver held machine.old → clients_of held machine.new ≡ clients_of held machine.old }
+    ensures agrees { (known : List Known) (held : Held) → Agrees known held machine.old → Agrees known held machine.new }
 {
     let Some(command) = command else {
         return Ok(());
@@ -150,6 +155,7 @@ impl Voter {
         ensures goes { OnOk result ((from : Node) (content : Content) (left : List Content) (streams : ℕ → Option Conn) (ahead : List ℕ) (before : List Say) → Going self.old from (content ∷ left) streams ahead before said.old.items → IsFor command.now content
             → Going self.new from left streams ahead before said.new.items) }
         ensures sound { IsSound self.new }
+        ensures agrees { StaysAgreed self.old self.new }
         ensures term { self.new.view.term ≡ self.old.view.term }
     {
         let index = next_index(self.view.last)?;
@@ -171,6 +177,7 @@ impl Voter {
         ensures goes { OnOk result ((from : Node) (contents : List Content) (streams : ℕ → Option Conn) (ahead : List ℕ) (before : List Say) → Going self.old from contents streams ahead before said.old.items → AreFor entries.now contents
             → Going self.new from [] streams ahead before said.new.items) }
         ensures sound { IsSound self.new }
+        ensures agrees { StaysAgreed self.old self.new }
     {
         for entry in entries {
             let command = command_of(self.alloc, entry)?;
@@ -185,6 +192,7 @@ impl Voter {
         ensures goes { OnOk result ((from : Node) (streams : ℕ → Option Conn) (ahead : List ℕ) (before : List Say) → Going self.old from [] streams ahead before said.old.items
             → Going self.new (checkpointed (settled from)) [] streams ahead said.old.items said.new.items) }
         ensures sound { IsSound self.new }
+        ensures agrees { StaysAgreed self.old self.new }
     {
         for name in due(self.alloc, &self.machine)? {
             let command = Some(Command::Checkpoint { name });

@@ -1,11 +1,11 @@
 //! How the node starts; timeouts; clients that come and go; and what it shows of itself.
 
-ghost use Rattle.std.specs.Prelude.{◌≡◌, ◌≢◌, true, false, ◌++◌, List, IfOk, OnOk};
+ghost use Rattle.std.specs.Prelude.{◌≡◌, ◌≢◌, true, false, [], ◌++◌, List, IfOk, OnOk};
 ghost use Rattle.session_rules.specs.Engines.{Answer};
 ghost use Rattle.page_apply.specs.Databases.{contents_of};
 ghost use Rattle.gateway.specs.Calls.{HasShortTerm};
 ghost use Rattle.lone_node.specs.Lone.{elected, serving, Lone, fresh, node_of, own_server, contents, starting_view, times_out, joins, hangs_up};
-ghost use Rattle.lone_node.specs.Shows.{IsSound, Shows};
+ghost use Rattle.lone_node.specs.Shows.{Agrees, IsSound, Shows, StaysAgreed};
 
 use crate::say::Say;
 use crate::voter::Voter;
@@ -88,6 +88,7 @@ impl Voter {
     pub fn new(alloc: Global) -> Result<Voter, AllocError>
         ensures shows { IfOk result (λ node. (journal : List Answer) → Shows node (fresh journal)) }
         ensures sound { IfOk result IsSound }
+        ensures agrees { IfOk result (Agrees []) }
     {
         let view = starting_view(alloc)?;
         Ok(Voter {
@@ -106,6 +107,7 @@ impl Voter {
         ensures shows { OnOk result ((w : Lone) → Shows self.old w → Shows self.new (times_out w).0) }
         ensures says { OnOk result ((w : Lone) → Shows self.old w → said.new.items ≡ said.old.items ++ (times_out w).1) }
         ensures sound { IsSound self.new }
+        ensures agrees { StaysAgreed self.old self.new }
     {
         if self.view.serving {
             return Ok(());
@@ -124,6 +126,7 @@ impl Voter {
         ensures shows { OnOk result ((w : Lone) → Shows self.old w → Shows self.new (joins w conn).0) }
         ensures says { OnOk result ((w : Lone) → Shows self.old w → said.new.items ≡ said.old.items ++ (joins w conn).1) }
         ensures sound { IsSound self.new }
+        ensures agrees { StaysAgreed self.old self.new }
     {
         let how = self.clients.connect(conn)?;
         if !gets_in(how) {
@@ -140,6 +143,7 @@ impl Voter {
         requires sound { IsSound self.old }
         ensures shows { (w : Lone) → Shows self.old w → Shows self.new (hangs_up w conn) }
         ensures sound { IsSound self.new }
+        ensures agrees { StaysAgreed self.old self.new }
     {
         self.clients.hang_up(conn, &mut self.machine);
     }

@@ -1,6 +1,7 @@
 //! A client's bytes: its messages, what comes of them, and the end of its stream.
 
-ghost use Rattle.std.specs.Prelude.{◌≡◌, ◌≤◌, ◌++◌, ℕ, List, [], map, Some, None, OnOk, IfOk, MatchBool};
+ghost use Rattle.std.specs.Prelude.{◌≡◌, ◌++◌, ℕ, List, [], map, Some, None, OnOk, IfOk, MatchBool};
+ghost use Rattle.sql_engine.specs.Meanings.{Stays};
 ghost use Rattle.wire_words.specs.declared.message.Message.{Message};
 ghost use Rattle.client_connection.specs.Connection.{Conn};
 ghost use Rattle.lone_node.specs.declared.say.Say.{Say};
@@ -8,7 +9,7 @@ ghost use Rattle.lone_node.specs.declared.say.Say.TheVariants as says;
 ghost use Rattle.lone_node.specs.Applying.{Performs};
 ghost use Rattle.lone_node.specs.Lone.{Lone};
 ghost use Rattle.lone_node.specs.Safe.{Allowed};
-ghost use Rattle.lone_node.specs.Shows.{IsSound, Shows};
+ghost use Rattle.lone_node.specs.Shows.{Agrees, IsSound, Shows, StaysAgreed};
 ghost use Rattle.lone_node.specs.Taking.{Waits, TakesOne, TakesNone, TakesAll, Empties, Closes, Heard};
 
 use crate::say::Say;
@@ -35,6 +36,7 @@ impl Voter {
         requires sound { IsSound self.old }
         ensures performs { OnOk result (Performs act self.old self.new said.old.items said.new.items) }
         ensures sound { IsSound self.new }
+        ensures agrees { StaysAgreed self.old self.new }
     {
         match act {
             Act::Reply { conn, messages } => reply(conn, messages, said),
@@ -59,11 +61,12 @@ impl Voter {
         said: &mut Vec<Say>,
     ) -> Result<bool, AllocError>
         requires sound { IsSound self.old }
+        requires agrees { Agrees (E.known engine.old) self.old }
+        ensures agrees { Agrees (E.known engine.new) self.new }
         ensures took { IfOk result (λ took. (w : Lone) (conn : ℕ) (stream : Conn) (left : List Message) → Allowed (E.meaning (E.kind engine.old)) (E.kind engine.old) w.turns → Waits self.old w conn stream left
             → MatchBool took (TakesOne (E.meaning (E.kind engine.old)) (E.kind engine.old) w conn stream left (E.told engine.old) (E.told engine.new) (E.refused_openings engine.old) (E.refused_openings engine.new) self.new said.old.items said.new.items)
             (TakesNone w conn stream left (E.told engine.old) (E.told engine.new) self.new said.old.items said.new.items)) }
-        ensures kind { E.kind engine.new ≡ E.kind engine.old }
-        ensures openings { E.refused_openings engine.old ≤ E.refused_openings engine.new }
+        ensures stays { Stays (E.kind engine.old) (E.kind engine.new) (E.refused_openings engine.old) (E.refused_openings engine.new) }
         ensures sound { IsSound self.new }
     {
         match self.clients.next(&self.view, &mut self.machine, engine)? {
@@ -82,10 +85,11 @@ impl Voter {
         said: &mut Vec<Say>,
     ) -> Result<(), AllocError>
         requires sound { IsSound self.old }
+        requires agrees { Agrees (E.known engine.old) self.old }
+        ensures agrees { Agrees (E.known engine.new) self.new }
         ensures took { OnOk result ((w : Lone) (conn : ℕ) (stream : Conn) (left : List Message) → Allowed (E.meaning (E.kind engine.old)) (E.kind engine.old) w.turns → Waits self.old w conn stream left
             → TakesAll (E.meaning (E.kind engine.old)) (E.kind engine.old) w conn stream left (E.told engine.old) (E.told engine.new) (E.refused_openings engine.old) (E.refused_openings engine.new) self.new said.old.items said.new.items) }
-        ensures kind { E.kind engine.new ≡ E.kind engine.old }
-        ensures openings { E.refused_openings engine.old ≤ E.refused_openings engine.new }
+        ensures stays { Stays (E.kind engine.old) (E.kind engine.new) (E.refused_openings engine.old) (E.refused_openings engine.new) }
         ensures sound { IsSound self.new }
     {
         for _ in 0..u64::MAX {
@@ -101,6 +105,7 @@ impl Voter {
         requires sound { IsSound self.old }
         ensures closes { OnOk result ((w : Lone) (stream : Conn) → Empties self.old w conn stream → Closes self.new w conn stream said.old.items said.new.items) }
         ensures sound { IsSound self.new }
+        ensures agrees { StaysAgreed self.old self.new }
     {
         if let Some(reason) = self.clients.close(conn, &mut self.machine) {
             said.push(Say::Closed { conn, reason })?;
@@ -122,10 +127,11 @@ impl Voter {
         said: &mut Vec<Say>,
     ) -> Result<(), AllocError>
         requires sound { IsSound self.old }
+        requires agrees { Agrees (E.known engine.old) self.old }
+        ensures agrees { Agrees (E.known engine.new) self.new }
         ensures heard { OnOk result ((w : Lone) → Allowed (E.meaning (E.kind engine.old)) (E.kind engine.old) w.turns → Shows self.old w
             → Heard (E.meaning (E.kind engine.old)) (E.kind engine.old) w conn bytes.now (E.told engine.old) (E.told engine.new) (E.refused_openings engine.old) (E.refused_openings engine.new) self.new said.old.items said.new.items) }
-        ensures kind { E.kind engine.new ≡ E.kind engine.old }
-        ensures openings { E.refused_openings engine.old ≤ E.refused_openings engine.new }
+        ensures stays { Stays (E.kind engine.old) (E.kind engine.new) (E.refused_openings engine.old) (E.refused_openings engine.new) }
         ensures sound { IsSound self.new }
     {
         if !self.clients.is_open(conn) {

@@ -1,11 +1,12 @@
 //! The voter, as its caller has it.
 
-ghost use Rattle.std.specs.Prelude.{◌≡◌, ◌≤◌, ◌++◌, List, IfOk, OnOk};
+ghost use Rattle.std.specs.Prelude.{◌≡◌, [], ◌++◌, List, IfOk, OnOk};
+ghost use Rattle.sql_engine.specs.Meanings.{Stays};
 ghost use Rattle.session_rules.specs.Engines.{Answer};
 ghost use Rattle.page_apply.specs.Databases.{contents_of};
 ghost use Rattle.lone_node.specs.Lone.{Lone, fresh, node_of, contents, times_out, joins, hangs_up};
 ghost use Rattle.lone_node.specs.Safe.{Allowed};
-ghost use Rattle.lone_node.specs.Shows.{Shows};
+ghost use Rattle.lone_node.specs.Shows.{Agrees, Shows, StaysAgreed};
 ghost use Rattle.lone_node.specs.Taking.{Heard};
 
 use crate::say::Say;
@@ -44,7 +45,8 @@ impl Model for LoneNode {
 impl LoneNode {
     /// The node, started: it leads nobody, and has no client. `Err` is want of memory.
     pub fn new(alloc: Global) -> Result<LoneNode, AllocError>
-        ensures { IfOk result (λ node. (journal : List Answer) → Shows node (fresh journal)) }
+        ensures shows { IfOk result (λ node. (journal : List Answer) → Shows node (fresh journal)) }
+        ensures agrees { IfOk result (Agrees []) }
     {
         Ok(LoneNode {
             voter: Voter::new(alloc)?,
@@ -56,6 +58,7 @@ impl LoneNode {
     pub fn timeout(&mut self, said: &mut Vec<Say>) -> Result<(), AllocError>
         ensures shows { OnOk result ((w : Lone) → Shows self.old w → Shows self.new (times_out w).0) }
         ensures says { OnOk result ((w : Lone) → Shows self.old w → said.new.items ≡ said.old.items ++ (times_out w).1) }
+        ensures agrees { StaysAgreed self.old self.new }
     {
         self.voter.timeout(said)
     }
@@ -65,6 +68,7 @@ impl LoneNode {
     pub fn connect(&mut self, conn: u64, said: &mut Vec<Say>) -> Result<(), AllocError>
         ensures shows { OnOk result ((w : Lone) → Shows self.old w → Shows self.new (joins w conn).0) }
         ensures says { OnOk result ((w : Lone) → Shows self.old w → said.new.items ≡ said.old.items ++ (joins w conn).1) }
+        ensures agrees { StaysAgreed self.old self.new }
     {
         self.voter.connect(conn, said)
     }
@@ -81,19 +85,22 @@ impl LoneNode {
         engine: &mut E,
         said: &mut Vec<Say>,
     ) -> Result<(), AllocError>
+        // No number stands for two images, for the engine, the transactions and the databases; and so it is afterwards.
+        requires agrees { Agrees (E.known engine.old) self.old }
+        ensures agrees { Agrees (E.known engine.new) self.new }
         // By answers that the engine may give and told; all of them are used up. A request is refused as over no database only
         // where one more opening was refused.
         ensures heard { OnOk result ((w : Lone) → Allowed (E.meaning (E.kind engine.old)) (E.kind engine.old) w.turns → Shows self.old w
             → Heard (E.meaning (E.kind engine.old)) (E.kind engine.old) w conn bytes.now (E.told engine.old) (E.told engine.new) (E.refused_openings engine.old) (E.refused_openings engine.new) self.new said.old.items said.new.items) }
-        ensures kind { E.kind engine.new ≡ E.kind engine.old }
-        ensures openings { E.refused_openings engine.old ≤ E.refused_openings engine.new }
+        ensures stays { Stays (E.kind engine.old) (E.kind engine.new) (E.refused_openings engine.old) (E.refused_openings engine.new) }
     {
         self.voter.hear(conn, bytes, engine, said)
     }
 
     /// A client hangs up. Where its connection isn't open nothing changes. Takes no memory.
     pub fn hang_up(&mut self, conn: u64)
-        ensures { (w : Lone) → Shows self.old w → Shows self.new (hangs_up w conn) }
+        ensures shows { (w : Lone) → Shows self.old w → Shows self.new (hangs_up w conn) }
+        ensures agrees { StaysAgreed self.old self.new }
     {
         self.voter.hang_up(conn);
     }

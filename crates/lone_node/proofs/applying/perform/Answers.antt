@@ -1,4 +1,4 @@
-use Rattle.lone_node.proofs.Commands.{acted, followed, stands, stays}
+use Rattle.lone_node.proofs.Commands.{acted, agree_still, followed, stands, stays}
 use Rattle.lone_node.proofs.applying.perform.Goals as goal
 
 pub returns-clause-done : goal.returns-clause-done
@@ -9,3 +9,6 @@ returns-clause-stand c = λ held stand. stands c.args.machine.now c.act.new.mach
 
 pub returns-clause-seen : goal.returns-clause-seen
 returns-clause-seen c = λ held stand. stays c.args.machine.now c.act.new.machine c.in-Some.command held (acted c.act.result _ _ _ c.act.ensures.done c.act.ensures.kept) c.act.ensures.shown stand
+
+pub returns-clause-agrees : goal.returns-clause-agrees
+returns-clause-agrees c = λ known held a. agree_still c.act.result known c.args.machine.now c.act.new.machine c.in-Some.command held c.databases-databases.ensures.stand c.act.ensures.stands c.act.ensures.done c.act.ensures.kept a
