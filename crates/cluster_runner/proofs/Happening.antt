@@ -117,11 +117,11 @@ unfolding TellsAll
 untold before now e = e
 
 abbrev tells : Cluster → Option EngineTold
-tells cluster = Some (told_by cluster.engine.noted cluster.engine.cut)
+tells cluster = Some (told_by cluster.served.engine.noted cluster.served.engine.cut)
 
 module _ (kind : EngineKind) (old new : Cluster) (world : World) (holds : HoldsWorld kind old world) where
-  pub timed_out : (node : ℕ) (before now : List Told) → node ≡ 1 → ShowsNode new.node (times_out world.node).0 → now ≡ before ++ (times_out world.node).1
-      → new.engine ≡ old.engine → new.known ≡ old.known → Happened kind old new world (event.Timeout node) before now
+  pub timed_out : (node : ℕ) (before now : List Told) → node ≡ 1 → ShowsNode new.served.node (times_out world.node).0 → now ≡ before ++ (times_out world.node).1
+      → new.served.engine ≡ old.served.engine → new.known ≡ old.known → Happened kind old new world (event.Timeout node) before now
   unfolding happens
   timed_out node before now one shows says engine known = record {
     answers = [];
@@ -137,8 +137,8 @@ module _ (kind : EngineKind) (old new : Cluster) (world : World) (holds : HoldsW
   }
 
   -- the numbers that were known, and this one
-  pub joined : (node connection conn : ℕ) (before now : List Told) → node ≡ 1 → world.known connection ≡ false → conn ≡ connection → ShowsNode new.node (joins world.node conn).0 → now ≡ before ++ (joins world.node conn).1
-      → new.engine ≡ old.engine → ((q : ℕ) → contains nat_cmp new.known q ≡ cond (is_eq (nat_cmp connection q)) true (contains nat_cmp old.known q)) → Happened kind old new world (event.Connect node connection) before now
+  pub joined : (node connection conn : ℕ) (before now : List Told) → node ≡ 1 → world.known connection ≡ false → conn ≡ connection → ShowsNode new.served.node (joins world.node conn).0 → now ≡ before ++ (joins world.node conn).1
+      → new.served.engine ≡ old.served.engine → ((q : ℕ) → contains nat_cmp new.known q ≡ cond (is_eq (nat_cmp connection q)) true (contains nat_cmp old.known q)) → Happened kind old new world (event.Connect node connection) before now
   unfolding happens
   joined node connection conn before now one unknown same shows says engine known = record {
     answers = [];
@@ -146,14 +146,14 @@ module _ (kind : EngineKind) (old new : Cluster) (world : World) (holds : HoldsW
     next = with_node (with_known world connection) (joins world.node connection).0;
     said = (joins world.node connection).1;
     happens = λ later. rw (one, unknown) (ap (λ (next : Lone × List Told). Some (gone_on (with_known world connection) next)) (joins_given world.node connection later));
-    node = subst (λ (q : ℕ). ShowsNode new.node (joins world.node q).0) same shows;
+    node = subst (λ (q : ℕ). ShowsNode new.served.node (joins world.node q).0) same shows;
     known = λ q. ap (cond (eqb q connection) true) (holds.known q) ∙ sym (known q ∙ ap (λ (b : Bool). cond b true (contains nat_cmp old.known q)) (same_key connection q));
     allowed = joins_allowed kind world.node holds.allowed connection;
     engine_kind = ap (λ (e : Noting _). any_kind e.engine) engine ∙ holds.engine_kind;
     says = subst (λ (q : ℕ). now ≡ before ++ (joins world.node q).1) same says;
   }
 
-  pub hung_up : (connection conn : ℕ) (said : List Told) → world.known connection ≡ true → conn ≡ connection → ShowsNode new.node (hangs_up world.node conn) → new.engine ≡ old.engine → new.known ≡ old.known
+  pub hung_up : (connection conn : ℕ) (said : List Told) → world.known connection ≡ true → conn ≡ connection → ShowsNode new.served.node (hangs_up world.node conn) → new.served.engine ≡ old.served.engine → new.known ≡ old.known
       → Happened kind old new world (event.Hangup connection) said said
   unfolding happens
   hung_up connection conn said is_known same shows engine known = record {
@@ -162,7 +162,7 @@ module _ (kind : EngineKind) (old new : Cluster) (world : World) (holds : HoldsW
     next = with_node world (hangs_up world.node connection);
     said = [];
     happens = λ later. rw is_known (ap (λ (w : Lone). Some (with_node world w, [])) (hangs_given world.node connection later));
-    node = subst (λ (q : ℕ). ShowsNode new.node (hangs_up world.node q)) same shows;
+    node = subst (λ (q : ℕ). ShowsNode new.served.node (hangs_up world.node q)) same shows;
     known = λ q. holds.known q ∙ ap (λ k. contains nat_cmp k q) (sym known);
     allowed = hangs_allowed kind world.node holds.allowed connection;
     engine_kind = ap (λ (e : Noting _). any_kind e.engine) engine ∙ holds.engine_kind;
@@ -170,14 +170,14 @@ module _ (kind : EngineKind) (old new : Cluster) (world : World) (holds : HoldsW
   }
 
   pub heard : (connection conn : ℕ) (bytes : List ℕ) (refused_before refused_now : ℕ) (before now : List Told) → world.known connection ≡ true → conn ≡ connection
-      → ((w : Lone) → Allowed (any_meaning (any_kind old.engine.engine)) (any_kind old.engine.engine) w.turns → ShowsNode old.node w
-      → Heard (any_meaning (any_kind old.engine.engine)) (any_kind old.engine.engine) w conn bytes (tells old) (tells new) refused_before refused_now new.node before now)
-      → any_kind new.engine.engine ≡ any_kind old.engine.engine → new.known ≡ old.known → Happened kind old new world (event.Bytes connection bytes) before now
+      → ((w : Lone) → Allowed (any_meaning (any_kind old.served.engine.engine)) (any_kind old.served.engine.engine) w.turns → ShowsNode old.served.node w
+      → Heard (any_meaning (any_kind old.served.engine.engine)) (any_kind old.served.engine.engine) w conn bytes (tells old) (tells new) refused_before refused_now new.served.node before now)
+      → any_kind new.served.engine.engine ≡ any_kind old.served.engine.engine → new.known ≡ old.known → Happened kind old new world (event.Bytes connection bytes) before now
   unfolding happens
   heard connection conn bytes refused_before refused_now before now is_known same hears engine known =
-      let h : Heard (any_meaning kind) kind world.node connection bytes (tells old) (tells new) refused_before refused_now new.node before now =
-      subst (λ (k : EngineKind). Allowed (any_meaning k) k world.node.turns → Heard (any_meaning k) k world.node connection bytes (tells old) (tells new) refused_before refused_now new.node before now) holds.engine_kind
-      (λ a. subst (λ (q : ℕ). Heard (any_meaning (any_kind old.engine.engine)) (any_kind old.engine.engine) world.node q bytes (tells old) (tells new) refused_before refused_now new.node before now) same (hears world.node a holds.node)) holds.allowed in
+      let h : Heard (any_meaning kind) kind world.node connection bytes (tells old) (tells new) refused_before refused_now new.served.node before now =
+      subst (λ (k : EngineKind). Allowed (any_meaning k) k world.node.turns → Heard (any_meaning k) k world.node connection bytes (tells old) (tells new) refused_before refused_now new.served.node before now) holds.engine_kind
+      (λ a. subst (λ (q : ℕ). Heard (any_meaning (any_kind old.served.engine.engine)) (any_kind old.served.engine.engine) world.node q bytes (tells old) (tells new) refused_before refused_now new.served.node before now) same (hears world.node a holds.node)) holds.allowed in
       record {
         answers = h.answers;
         told = h.told;
@@ -229,16 +229,16 @@ world_given : (world : World) (journal : List Answer) → world.node.journal ≡
 world_given world journal e = rw (sym e) refl
 
 module _ (all : List Answer) (kind : EngineKind) (old mid new : Cluster) (world : World) (event : Event) (told : List Told) (said : List Say) (shows : ShowsWorld all kind old world) (before : List Told) (empty : before ≡ []) (h : Happened kind old mid world event before told) where
-  pub leads : Grows (answers_kept new) all → mid.engine.cut ≡ false → mid.journal ≡ old.journal → new.journal ≡ mid.journal ++ mid.engine.noted → new.node ≡ mid.node → new.known ≡ mid.known
-      → new.engine ≡ record mid.engine { noted = [] } → said ≡ map say_of told → Leads all kind new world event said
+  pub leads : Grows (answers_kept new) all → mid.served.engine.cut ≡ false → mid.journal ≡ old.journal → new.journal ≡ mid.journal ++ mid.served.engine.noted → new.served.node ≡ mid.served.node → new.known ≡ mid.known
+      → new.served.engine ≡ record mid.served.engine { noted = [] } → said ≡ map say_of told → Leads all kind new world event said
   leads grows whole journal now node known engine says =
-      let told_so : TellsAll h.answers (Some (record { answers = []; cut = false })) (Some (record { answers = map answer_of mid.engine.noted; cut = false })) =
-      subst (λ (cut : Bool). TellsAll h.answers (Some (record { answers = []; cut = false })) (Some (record { answers = map answer_of mid.engine.noted; cut = cut }))) whole
-      (subst (λ (cut : Bool). TellsAll h.answers (Some (record { answers = []; cut = cut })) (Some (told_by mid.engine.noted mid.engine.cut))) shows.holds.whole
-      (subst (λ (noted : List Noted). TellsAll h.answers (Some (told_by noted old.engine.cut)) (Some (told_by mid.engine.noted mid.engine.cut))) shows.holds.taken h.told)) in
-      let answers : map answer_of mid.engine.noted ≡ h.answers = told_all h.answers [] (map answer_of mid.engine.noted) told_so in
+      let told_so : TellsAll h.answers (Some (record { answers = []; cut = false })) (Some (record { answers = map answer_of mid.served.engine.noted; cut = false })) =
+      subst (λ (cut : Bool). TellsAll h.answers (Some (record { answers = []; cut = false })) (Some (record { answers = map answer_of mid.served.engine.noted; cut = cut }))) whole
+      (subst (λ (cut : Bool). TellsAll h.answers (Some (record { answers = []; cut = cut })) (Some (told_by mid.served.engine.noted mid.served.engine.cut))) shows.holds.whole
+      (subst (λ (noted : List Noted). TellsAll h.answers (Some (told_by noted old.served.engine.cut)) (Some (told_by mid.served.engine.noted mid.served.engine.cut))) shows.holds.taken h.told)) in
+      let answers : map answer_of mid.served.engine.noted ≡ h.answers = told_all h.answers [] (map answer_of mid.served.engine.noted) told_so in
       let kept : answers_kept new ≡ answers_kept old ++ h.answers =
-      ap (map answer_of) (now ∙ ap (λ (j : List Noted). j ++ mid.engine.noted) journal) ∙ map-append answer_of old.journal mid.engine.noted ∙ ap (λ (l : List Answer). answers_kept old ++ l) answers in
+      ap (map answer_of) (now ∙ ap (λ (j : List Noted). j ++ mid.served.engine.noted) journal) ∙ map-append answer_of old.journal mid.served.engine.noted ∙ ap (λ (l : List Answer). answers_kept old ++ l) answers in
       let later = grows.0 in
       let is_all : (answers_kept old ++ h.answers) ++ later ≡ all = ap (λ (l : List Answer). l ++ later) (sym kept) ∙ grows.1 in
       let left : world.node.journal ≡ h.answers ++ later = shows.left ∙ ap (drop (length (answers_kept old))) (sym is_all) ∙ left_front (answers_kept old) h.answers later in
@@ -247,7 +247,7 @@ module _ (all : List Answer) (kind : EngineKind) (old mid new : Cluster) (world 
         next = with_journal h.next later;
         shows = record {
           holds = record {
-            node = subst (λ (code : Voter). ShowsNode code (given h.next.node later)) (sym node) (shows_given mid.node h.next.node later h.node);
+            node = subst (λ (code : Voter). ShowsNode code (given h.next.node later)) (sym node) (shows_given mid.served.node h.next.node later h.node);
             known = λ q. h.known q ∙ ap (λ k. contains nat_cmp k q) (sym known);
             allowed = h.allowed;
             engine_kind = ap (λ (e : Noting _). any_kind e.engine) engine ∙ h.engine_kind;
@@ -260,5 +260,5 @@ module _ (all : List Answer) (kind : EngineKind) (old mid new : Cluster) (world 
       }
 
 -- so the journal grows
-pub journal_grows : (old mid new : Cluster) → mid.journal ≡ old.journal → new.journal ≡ mid.journal ++ mid.engine.noted → Grows (answers_kept old) (answers_kept new)
-journal_grows old mid new journal now = (map answer_of mid.engine.noted, sym (ap (map answer_of) (now ∙ ap (λ (j : List Noted). j ++ mid.engine.noted) journal) ∙ map-append answer_of old.journal mid.engine.noted))
+pub journal_grows : (old mid new : Cluster) → mid.journal ≡ old.journal → new.journal ≡ mid.journal ++ mid.served.engine.noted → Grows (answers_kept old) (answers_kept new)
+journal_grows old mid new journal now = (map answer_of mid.served.engine.noted, sym (ap (map answer_of) (now ∙ ap (λ (j : List Noted). j ++ mid.served.engine.noted) journal) ∙ map-append answer_of old.journal mid.served.engine.noted))

@@ -3,6 +3,7 @@ pub mod Lines
 pub mod Grammar
 pub mod Spelling
 pub mod World
+pub mod Served
 pub mod Holding
 pub mod Machines
 pub mod Scenes

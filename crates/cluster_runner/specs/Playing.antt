@@ -44,12 +44,12 @@ answers_kept cluster = map answer_of cluster.journal
 -- The node and the connections that were made are those of the world; its engine is of the kind, and the answers of its turns
 -- are allowed; and the journal has taken over what the engine answered.
 pub record HoldsWorld (kind : EngineKind) (cluster : Cluster) (world : World) : Type 0 where
-  pub node : ShowsNode cluster.node world.node
+  pub node : ShowsNode cluster.served.node world.node
   pub known : (connection : ℕ) → world.known connection ≡ contains nat_cmp cluster.known connection
   pub allowed : Allowed (any_meaning kind) kind world.node.turns
-  pub engine_kind : any_kind cluster.engine.engine ≡ kind
-  pub taken : cluster.engine.noted ≡ []
-  pub whole : cluster.engine.cut ≡ false
+  pub engine_kind : any_kind cluster.served.engine.engine ≡ kind
+  pub taken : cluster.served.engine.noted ≡ []
+  pub whole : cluster.served.engine.cut ≡ false
 
 -- The same, where these are all answers of the run: the world has left those that the journal has not yet.
 pub record ShowsWorld (all : List Answer) (kind : EngineKind) (cluster : Cluster) (world : World) : Type 0 where
@@ -60,14 +60,14 @@ pub record ShowsWorld (all : List Answer) (kind : EngineKind) (cluster : Cluster
 -- and this was told.
 pub record Happened (kind : EngineKind) (cluster cluster' : Cluster) (world : World) (event : Event) (before now : List Told) : Type 0 where
   pub answers : List Answer
-  pub told : TellsAll answers (Some (told_by cluster.engine.noted cluster.engine.cut)) (Some (told_by cluster'.engine.noted cluster'.engine.cut))
+  pub told : TellsAll answers (Some (told_by cluster.served.engine.noted cluster.served.engine.cut)) (Some (told_by cluster'.served.engine.noted cluster'.served.engine.cut))
   pub next : World
   pub said : List Told
   pub happens : (later : List Answer) → happens (with_journal world (answers ++ later)) event ≡ Some (with_journal next later, map say_of said)
-  pub node : ShowsNode cluster'.node next.node
+  pub node : ShowsNode cluster'.served.node next.node
   pub known : (connection : ℕ) → next.known connection ≡ contains nat_cmp cluster'.known connection
   pub allowed : Allowed (any_meaning kind) kind next.node.turns
-  pub engine_kind : any_kind cluster'.engine.engine ≡ kind
+  pub engine_kind : any_kind cluster'.served.engine.engine ≡ kind
   pub says : now ≡ before ++ said
 
 -- the event leads from the world to one that is shown

@@ -3,17 +3,15 @@
 ghost use Rattle.std.specs.Prelude.{◌≡◌, ◌++◌, ℕ, List, [], map, true, false, IfOk, OnOk, OnErr, IsErrOf};
 ghost use Rattle.session_rules.specs.Engines.{Answer};
 ghost use Rattle.sql_engine.specs.declared.kind.EngineKind.{EngineKind};
-ghost use Rattle.sqlite_engine.specs.Any.{any_kind};
 ghost use Rattle.lone_node.specs.declared.say.Say.{Say as Told};
 ghost use Rattle.cluster_runner.specs.World.{World, say_of};
 
 use crate::grammar::Event;
+use crate::served::ServedNode;
 use client_connection::CloseReason;
-use engine_journal::{Journal, NotedEngine};
+use engine_journal::Journal;
 use file_digest::digest;
-use lone_node::LoneNode;
-use sql_engine::{CellEngine, EngineKind};
-use sqlite_engine::{AnyEngine, SqliteEngine};
+use sql_engine::EngineKind;
 use std::alloc::{AllocError, AllocFailed, Global};
 use std::collections::BTreeSet;
 use wire_words::WireBytes;
@@ -79,11 +77,10 @@ impl<T: Drop> From<AllocFailed<T>> for EventFault {
     }
 }
 
-/// Node 1, the only voter, and its clients; the engine that runs their statements, and the journal of its answers; and the
-/// numbers of all connections that were ever made.
+/// Node 1, the only voter, with its clients and the engine that runs their statements; the journal of that engine's answers; and
+/// the numbers of all connections that were ever made.
 pub(crate) struct Cluster {
-    node: LoneNode,
-    engine: NotedEngine<AnyEngine>,
+    served: ServedNode,
     journal: Journal,
     known: BTreeSet<u32>,
 }
@@ -92,21 +89,10 @@ pub(crate) struct Cluster {
 impl Drop for Cluster {
     fn drop(self) {
         let Cluster {
-            node: _,
-            engine: _,
+            served: _,
             journal: _,
             known: _,
         } = self;
-    }
-}
-
-/// An engine of a kind.
-fn new_engine(alloc: Global, kind: EngineKind) -> AnyEngine
-    ensures { any_kind result ≡ kind }
-{
-    match kind {
-        EngineKind::Sqlite => AnyEngine::Sqlite(SqliteEngine::new(alloc)),
-        EngineKind::Cells => AnyEngine::Cells(CellEngine::new(alloc)),
     }
 }
 
@@ -146,8 +132,7 @@ impl Cluster {
         ensures journal { IfOk result (λ cluster. answers_kept cluster ≡ []) }
     {
         Ok(Cluster {
-            node: LoneNode::new(alloc)?,
-            engine: NotedEngine::new(alloc, new_engine(alloc, kind)),
+            served: ServedNode::new(alloc, kind)?,
             journal: Journal::new(alloc),
             known: BTreeSet::new(alloc),
         })
@@ -163,7 +148,7 @@ impl Cluster {
         if node != 1 {
             return Err(EventFault::NotThere);
         }
-        self.node.timeout(told)?;
+        self.served.timeout(told)?;
         Ok(())
     }
 
@@ -183,7 +168,7 @@ impl Cluster {
             return Err(EventFault::NotThere);
         }
         self.known.insert(connection)?;
-        self.node.connect(u64::from(connection), told)?;
+        self.served.connect(u64::from(connection), told)?;
         Ok(())
     }
 
@@ -202,8 +187,7 @@ impl Cluster {
         if !self.known.contains(&connection) {
             return Err(EventFault::NotThere);
         }
-        self.node
-            .hear(u64::from(connection), bytes, &mut self.engine, told)?;
+        self.served.hear(u64::from(connection), bytes, told)?;
         Ok(())
     }
 
@@ -217,7 +201,7 @@ impl Cluster {
         if !self.known.contains(&connection) {
             return Err(EventFault::NotThere);
         }
-        self.node.hang_up(u64::from(connection));
+        self.served.hang_up(u64::from(connection));
         Ok(())
     }
 
@@ -240,15 +224,12 @@ impl Cluster {
 
     /// The journal takes over the engine's answers. Where one of them was lost there is want of memory.
     fn keep_answers(&mut self) -> Result<(), AllocError>
-        ensures kept { OnOk result ((self.old.engine.cut ≡ false) × (self.new.journal ≡ self.old.journal ++ self.old.engine.noted)) }
-        ensures engine { OnOk result (self.new.engine ≡ record self.old.engine { noted = [] }) }
-        ensures node { (self.new.node ≡ self.old.node) × (self.new.known ≡ self.old.known) }
+        ensures kept { OnOk result ((self.old.served.engine.cut ≡ false) × (self.new.journal ≡ self.old.journal ++ self.old.served.engine.noted)) }
+        ensures engine { OnOk result (self.new.served.engine ≡ record self.old.served.engine { noted = [] }) }
+        ensures node { (self.new.served.node ≡ self.old.served.node) × (self.new.known ≡ self.old.known) }
         ensures same { OnErr result (self.new.journal ≡ self.old.journal) }
     {
-        if self.engine.is_cut() {
-            return Err(AllocError);
-        }
-        self.journal.take_from(&mut self.engine)
+        self.served.move_answers(&mut self.journal)
     }
 
     /// Has an event happen, and answers what was said; the journal takes over what the engine answered. `NotThere` is an event
@@ -274,10 +255,10 @@ impl Cluster {
     {
         Say::Node {
             node: 1,
-            term: self.node.term(),
-            leads: self.node.leads(),
-            applied: self.node.applied(),
-            digest: digest(self.node.databases()),
+            term: self.served.term(),
+            leads: self.served.leads(),
+            applied: self.served.applied(),
+            digest: digest(self.served.databases()),
         }
     }
 
@@ -286,8 +267,7 @@ impl Cluster {
         ensures { result ≡ self.journal }
     {
         let Cluster {
-            node: _,
-            engine: _,
+            served: _,
             journal,
             known: _,
         } = self;

@@ -9,6 +9,8 @@ mod machines;
 mod printing;
 mod run;
 mod scene;
+mod served;
+mod serving;
 mod stage;
 
 pub use cluster::Say;

@@ -15,4 +15,4 @@ returns-then-node-ne1-clause-fault c = λ e kind world holds.
 pub returns-clause-happened : goal.returns-clause-happened
 returns-clause-happened c = λ kind world holds.
     let one : c.args.node ≡ 1 = search rules in
-    joined kind c.args.self.now (record { node = c.connect.new.self; engine = c.args.self.now.engine; journal = c.args.self.now.journal; known = c.insert.new.self }) world holds c.args.node c.args.connection c.from.result c.args.told.now.items c.connect.new.said.items one (holds.known c.args.connection ∙ sym c.contains.ensures ∙ c.if-contains.false) c.from.ensures (c.in_ok-connect.ensures.shows world.node holds.node) (c.in_ok-connect.ensures.says world.node holds.node) refl c.in_ok-insert.ensures.updates.0
+    joined kind c.args.self.now (record { served = c.connect.new.self; journal = c.args.self.now.journal; known = c.insert.new.self }) world holds c.args.node c.args.connection c.from.result c.args.told.now.items c.connect.new.said.items one (holds.known c.args.connection ∙ sym c.contains.ensures ∙ c.if-contains.false) c.from.ensures (c.in_ok-connect.ensures.shows world.node holds.node) (c.in_ok-connect.ensures.says world.node holds.node) c.connect.ensures.engine c.in_ok-insert.ensures.updates.0

@@ -7,4 +7,4 @@ returns-then-not-contains-clause-fault c = λ e kind world holds. unknown_hangup
 
 pub returns-clause-happened : goal.returns-clause-happened
 returns-clause-happened c = λ kind world said holds.
-    hung_up kind c.args.self.now (record { node = c.hang_up.new.self; engine = c.args.self.now.engine; journal = c.args.self.now.journal; known = c.args.self.now.known }) world holds c.args.connection c.from.result said (holds.known c.args.connection ∙ sym c.contains.ensures ∙ c.if-not-contains.false) c.from.ensures (c.hang_up.ensures world.node holds.node) refl refl
+    hung_up kind c.args.self.now (record { served = c.hang_up.new.self; journal = c.args.self.now.journal; known = c.args.self.now.known }) world holds c.args.connection c.from.result said (holds.known c.args.connection ∙ sym c.contains.ensures ∙ c.if-not-contains.false) c.from.ensures (c.hang_up.ensures.shows world.node holds.node) c.hang_up.ensures.engine refl

@@ -10,4 +10,4 @@ returns-then-node-ne1-clause-fault c = λ e world.
 pub returns-clause-happened : goal.returns-clause-happened
 returns-clause-happened c = λ kind world holds.
     let one : c.args.node ≡ 1 = search rules in
-    timed_out kind c.args.self.now _ world holds c.args.node c.args.told.now.items c.timeout.new.said.items one (c.in_ok-timeout.ensures.shows world.node holds.node) (c.in_ok-timeout.ensures.says world.node holds.node) refl refl
+    timed_out kind c.args.self.now _ world holds c.args.node c.args.told.now.items c.timeout.new.said.items one (c.in_ok-timeout.ensures.shows world.node holds.node) (c.in_ok-timeout.ensures.says world.node holds.node) c.timeout.ensures.engine refl
