@@ -5,7 +5,9 @@ use Rattle.frame_commands.specs.declared.command.Command.{Command}
 use Rattle.page_apply.specs.declared.database.Database.{Database}
 use Rattle.page_apply.specs.Databases.{act}
 use Rattle.page_apply.specs.Pins.{Pinning, StillPinned}
-use Rattle.client_sessions.specs.Seen.{StandOver, HasNoMarks}
+use Rattle.page_apply.specs.Machines.{IsMachine}
+use Rattle.gateway.proofs.Numbering.{acted_agree}
+use Rattle.client_sessions.specs.Seen.{Agrees, StandOver, HasNoMarks}
 use Rattle.client_sessions.specs.declared.clients.Clients.{Clients as Held}
 use Rattle.client_sessions.proofs.Standing.{still_stand}
 
@@ -17,3 +19,6 @@ pub acted : {F : Type 0} (result : Result (Unit {0}) F) (old new : List Database
 acted (Ok u) old new command held did kept still stand =
     subst (StandOver held) (sym did) (still_stand held old command (λ pin. subst (λ (ds : List Database). StillPinned old ds pin) did (still pin)) stand)
 acted (Err f) old new command held did kept still stand = subst (StandOver held) (sym kept) stand
+
+pub agree_still : (old new : List Database) (command : Command) (held : Held) → IsMachine old → IsMachine new → new ≡ act old command → Agrees [] held old → Agrees [] held new
+agree_still old new command held before after did agrees = subst (Agrees [] held) (sym did) (acted_agree [] held.gateway old command before (subst IsMachine did after) agrees)

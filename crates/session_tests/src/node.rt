@@ -1,9 +1,9 @@
 //! A node over cells, alone in its cluster, that is told when its entries are applied and when it loses its leadership.
 
-ghost use Rattle.std.specs.Prelude.{IfOk};
+ghost use Rattle.std.specs.Prelude.{[], IfOk};
 ghost use Rattle.gateway.specs.Calls.{HasShortTerm};
 ghost use Rattle.client_sessions.specs.Sending.{HasPlainAddresses, IsPlain};
-ghost use Rattle.client_sessions.specs.Seen.{StandOver};
+ghost use Rattle.client_sessions.specs.Seen.{Agrees, StandOver};
 
 use crate::messages::{VERSION, executes, opens, queries};
 use client_sessions::{Act, Clients, Joining};
@@ -116,19 +116,25 @@ fn refusal(joining: Joining) -> Option<&'static [u8]> {
 /// Does what the entry of a command says.
 #[tactic(auto, using(frame_commands::proofs::InOtherWords::fit_low))]
 fn act(clients: &Clients, machine: &mut Machine, command: &Command) -> Result<(), AllocError>
-    requires { StandOver clients.now machine.old }
-    ensures { StandOver clients.now machine.new }
+    requires stand { StandOver clients.now machine.old }
+    requires agrees { Agrees [] clients.now machine.old }
+    ensures stand { StandOver clients.now machine.new }
+    ensures agrees { Agrees [] clients.now machine.new }
 {
     if !command.numbers_fit() {
         return Ok(());
     }
-    machine.act(command)
+    let _databases = machine.databases();
+    machine.act(command)?;
+    let _databases = machine.databases();
+    Ok(())
 }
 
 impl Node {
     /// A node that serves as the leader of term 1, and has applied its first entry of it.
     pub(crate) fn new(alloc: Global) -> Node
-        ensures { StandOver result.clients result.machine }
+        ensures stand { StandOver result.clients result.machine }
+        ensures agrees { Agrees [] result.clients result.machine }
     {
         Node {
             alloc,
@@ -165,8 +171,10 @@ impl Node {
 
     /// The message whose turn it is has it; false where none is left.
     fn serve_one(&mut self) -> Result<bool, AllocError>
-        requires { StandOver self.old.clients self.old.machine }
-        ensures { StandOver self.new.clients self.new.machine }
+        requires stand { StandOver self.old.clients self.old.machine }
+        requires agrees { Agrees [] self.old.clients self.old.machine }
+        ensures stand { StandOver self.new.clients self.new.machine }
+        ensures agrees { Agrees [] self.new.clients self.new.machine }
     {
         let view = self.view()?;
         match self
@@ -183,8 +191,10 @@ impl Node {
 
     /// All that waits has its turn, a hundred messages at most.
     fn serve(&mut self) -> Result<(), AllocError>
-        requires { StandOver self.old.clients self.old.machine }
-        ensures { StandOver self.new.clients self.new.machine }
+        requires stand { StandOver self.old.clients self.old.machine }
+        requires agrees { Agrees [] self.old.clients self.old.machine }
+        ensures stand { StandOver self.new.clients self.new.machine }
+        ensures agrees { Agrees [] self.new.clients self.new.machine }
     {
         for _ in 0..100 {
             if !self.serve_one()? {
@@ -196,8 +206,10 @@ impl Node {
 
     /// Bytes come on a connection.
     fn hear(&mut self, conn: u64, bytes: &[u8]) -> Result<(), AllocError>
-        requires { StandOver self.old.clients self.old.machine }
-        ensures { StandOver self.new.clients self.new.machine }
+        requires stand { StandOver self.old.clients self.old.machine }
+        requires agrees { Agrees [] self.old.clients self.old.machine }
+        ensures stand { StandOver self.new.clients self.new.machine }
+        ensures agrees { Agrees [] self.new.clients self.new.machine }
     {
         self.clients.receive(conn, bytes)?;
         self.serve()
@@ -205,8 +217,10 @@ impl Node {
 
     /// A client connects.
     fn connect(&mut self, conn: u64) -> Result<(), AllocError>
-        requires { StandOver self.old.clients self.old.machine }
-        ensures { StandOver self.new.clients self.new.machine }
+        requires stand { StandOver self.old.clients self.old.machine }
+        requires agrees { Agrees [] self.old.clients self.old.machine }
+        ensures stand { StandOver self.new.clients self.new.machine }
+        ensures agrees { Agrees [] self.new.clients self.new.machine }
     {
         let joining = self.clients.connect(conn)?;
         match refusal(joining) {
@@ -222,8 +236,10 @@ impl Node {
 
     /// So many clients connect, with the numbers from 101 on.
     fn crowd(&mut self, count: u64) -> Result<(), AllocError>
-        requires { StandOver self.old.clients self.old.machine }
-        ensures { StandOver self.new.clients self.new.machine }
+        requires stand { StandOver self.old.clients self.old.machine }
+        requires agrees { Agrees [] self.old.clients self.old.machine }
+        ensures stand { StandOver self.new.clients self.new.machine }
+        ensures agrees { Agrees [] self.new.clients self.new.machine }
     {
         for number in 0..count {
             self.connect(number.saturating_add(101))?;
@@ -233,8 +249,10 @@ impl Node {
 
     /// A client sends a message, where there was memory for it.
     fn ask(&mut self, conn: u64, message: Result<Vec<u8>, AllocError>) -> Result<(), AllocError>
-        requires { StandOver self.old.clients self.old.machine }
-        ensures { StandOver self.new.clients self.new.machine }
+        requires stand { StandOver self.old.clients self.old.machine }
+        requires agrees { Agrees [] self.old.clients self.old.machine }
+        ensures stand { StandOver self.new.clients self.new.machine }
+        ensures agrees { Agrees [] self.new.clients self.new.machine }
     {
         let bytes = message?;
         self.hear(conn, bytes.as_slice())
@@ -242,8 +260,10 @@ impl Node {
 
     /// The next entry is applied.
     fn apply_one(&mut self, entry: &Entry) -> Result<(), AllocError>
-        requires { StandOver self.old.clients self.old.machine }
-        ensures { StandOver self.new.clients self.new.machine }
+        requires stand { StandOver self.old.clients self.old.machine }
+        requires agrees { Agrees [] self.old.clients self.old.machine }
+        ensures stand { StandOver self.new.clients self.new.machine }
+        ensures agrees { Agrees [] self.new.clients self.new.machine }
     {
         if let Ok(command) = read_command(self.alloc, entry.bytes.as_slice()) {
             act(&self.clients, &mut self.machine, &command)?;
@@ -257,8 +277,10 @@ impl Node {
 
     /// What was proposed is applied.
     fn apply(&mut self) -> Result<(), AllocError>
-        requires { StandOver self.old.clients self.old.machine }
-        ensures { StandOver self.new.clients self.new.machine }
+        requires stand { StandOver self.old.clients self.old.machine }
+        requires agrees { Agrees [] self.old.clients self.old.machine }
+        ensures stand { StandOver self.new.clients self.new.machine }
+        ensures agrees { Agrees [] self.new.clients self.new.machine }
     {
         let entries = mem::replace(&mut self.proposed, Vec::new(self.alloc));
         for entry in &entries {
@@ -269,8 +291,10 @@ impl Node {
 
     /// Leadership is lost, and what was proposed is gone.
     fn lose(&mut self) -> Result<(), AllocError>
-        requires { StandOver self.old.clients self.old.machine }
-        ensures { StandOver self.new.clients self.new.machine }
+        requires stand { StandOver self.old.clients self.old.machine }
+        requires agrees { Agrees [] self.old.clients self.old.machine }
+        ensures stand { StandOver self.new.clients self.new.machine }
+        ensures agrees { Agrees [] self.new.clients self.new.machine }
     {
         self.serving = false;
         self.proposed.clear();
@@ -281,8 +305,10 @@ impl Node {
 
     /// It leads the next term, with its first entry applied.
     fn lead(&mut self)
-        requires { StandOver self.old.clients self.old.machine }
-        ensures { StandOver self.new.clients self.new.machine }
+        requires stand { StandOver self.old.clients self.old.machine }
+        requires agrees { Agrees [] self.old.clients self.old.machine }
+        ensures stand { StandOver self.new.clients self.new.machine }
+        ensures agrees { Agrees [] self.new.clients self.new.machine }
     {
         self.serving = true;
         self.term = self.term.saturating_add(1);
@@ -291,8 +317,10 @@ impl Node {
 
     /// Something happens.
     pub(crate) fn take(&mut self, step: Step) -> Result<(), AllocError>
-        requires { StandOver self.old.clients self.old.machine }
-        ensures { StandOver self.new.clients self.new.machine }
+        requires stand { StandOver self.old.clients self.old.machine }
+        requires agrees { Agrees [] self.old.clients self.old.machine }
+        ensures stand { StandOver self.new.clients self.new.machine }
+        ensures agrees { Agrees [] self.new.clients self.new.machine }
     {
         match step {
             Step::Connect(conn) => self.connect(conn),
@@ -319,8 +347,10 @@ impl Node {
 
     /// Some things happen, one after another.
     pub(crate) fn take_all(&mut self, steps: &[Step]) -> Result<(), AllocError>
-        requires { StandOver self.old.clients self.old.machine }
-        ensures { StandOver self.new.clients self.new.machine }
+        requires stand { StandOver self.old.clients self.old.machine }
+        requires agrees { Agrees [] self.old.clients self.old.machine }
+        ensures stand { StandOver self.new.clients self.new.machine }
+        ensures agrees { Agrees [] self.new.clients self.new.machine }
     {
         for step in steps {
             self.take(*step)?;
@@ -330,8 +360,10 @@ impl Node {
 
     /// Forgets what it said.
     pub(crate) fn forget(&mut self)
-        requires { StandOver self.old.clients self.old.machine }
-        ensures { StandOver self.new.clients self.new.machine }
+        requires stand { StandOver self.old.clients self.old.machine }
+        requires agrees { Agrees [] self.old.clients self.old.machine }
+        ensures stand { StandOver self.new.clients self.new.machine }
+        ensures agrees { Agrees [] self.new.clients self.new.machine }
     {
         self.said.clear();
     }

@@ -1,5 +1,6 @@
-use Rattle.client_sessions.specs.Seen.{StandOver}
+use Rattle.std.proofs.Common.{[]}
+use Rattle.client_sessions.specs.Seen.{Agrees, StandOver}
 use Rattle.session_tests.proofs.node.Node.serve.Given as goal
 
 abbrev pub invariant-loop : goal.invariant-loop
-invariant-loop l = StandOver l.self.clients l.self.machine
+invariant-loop l = StandOver l.self.clients l.self.machine × Agrees [] l.self.clients l.self.machine
