@@ -235,7 +235,7 @@ impl<R: Files<File = File> + AllocGlobal + Clone + Drop> DirDisk<R> {
         Ok(())
     }
 
-    /// Writes parts behind each other. A file of which a write failed doesn't stay open.
+    /// Writes parts behind each other. The file stays open, also where a write failed.
     fn write_to(&mut self, name: &str, at: u64, parts: [&[u8]; 3]) -> io::Result<()>
         ensures { self.new ≡ self.old }
     {

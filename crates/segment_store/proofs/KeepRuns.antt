@@ -10,9 +10,10 @@ use Rattle.disk_model.proofs.Elsewhere.{Elsewhere, else_same, else_on, else_name
 use Rattle.disk_model.proofs.Runs.{ran_stops, ran_then, ran_last, known_steps, known_ran, known_map}
 use Rattle.store_format.specs.BatchesWritten.{segment_word}
 use Rattle.segment_store.specs.declared.keep_plan.KeepPlan.{KeepPlan}
+use Rattle.segment_store.specs.declared.keep_plan.NewSnapshot.{NewSnapshot}
 use Rattle.segment_store.specs.Grow.{begin_calls, IsFree}
 use Rattle.segment_store.specs.Keeping.{file_calls, removal_calls, loose_removal_calls}
-use Rattle.segment_store.specs.Plans.{snapshot_plan_calls, segment_plan_calls, MayKeep}
+use Rattle.segment_store.specs.Plans.{file_bytes, snapshot_plan_calls, segment_plan_calls, MayKeep}
 use Rattle.segment_store.proofs.Segments.{ran_both}
 
 -- ---- the snapshot's file
@@ -28,8 +29,13 @@ cut_may_write n tells old mid x known steps = known_steps (CutTo n 0) old mid (O
   no_removal = λ q. may.no_removal (sym (ap (λ (h : Held). h.standing) z.0.held ∙ cut_standing (d.read n).there (d.held n)) ∙ q);
 })
 
-pub ran_file : (n : Text) (bytes : List ℕ) (is_there b : Bool) (old new : Disk Text → Type 0) (result : Result Unit DiskFault) → is_there ≡ b → Ran (file_calls n b bytes) old new result → Ran (file_calls n is_there bytes) old new result
-ran_file n bytes is_there b old new result e ran = subst (λ (c : Bool). Ran (file_calls n c bytes) old new result) (sym e) ran
+-- the file's calls, by the parts that the code has
+pub file_ran : (p : NewSnapshot) (b : Bool) (n : Text) (head : List ℕ) (tells : Bool) (old new : Disk Text → Type 0) (result : Result Unit DiskFault) → p.is_there ≡ b → n ≡ p.name → head ≡ p.head.items
+    → (Known tells old (MayWrite n 0) → Ran (file_calls n b (head ++ p.content.now ++ p.tail.now)) old new result) → Known tells old (MayWrite p.name 0) → Ran (snapshot_plan_calls p) old new result
+file_ran p b n head tells old new result there name is ran known =
+    subst (λ (c : Bool). Ran (file_calls p.name c (file_bytes p)) old new result) (sym there)
+    (subst (λ (h : List ℕ). Ran (file_calls p.name b (h ++ p.content.now ++ p.tail.now)) old new result) is
+    (subst (λ (t : Text). Ran (file_calls t b (head ++ p.content.now ++ p.tail.now)) old new result) name (ran (subst (λ (t : Text). Known tells old (MayWrite t 0)) (sym name) known))))
 
 written_else : (n : Text) (bytes : List ℕ) (d m e : Disk Text) → Elsewhere n d m → Done (replace_calls n bytes false) m e → Elsewhere n d e
 written_else n bytes d m e so (p, (did, (q, (syn, (r, (names, last)))))) =
@@ -41,18 +47,14 @@ file_else n true bytes d e (m, (did, done)) = written_else n bytes d m e (else_o
 
 -- ---- a plan
 
-module _ (p : KeepPlan) (tells : Bool) (old mid : Disk Text → Type 0) (known : Known tells old (MayKeep p)) where
-  pub file_ran : (n : Text) (bytes : List ℕ) (result : Result Unit DiskFault) → n ≡ p.snapshot.name → bytes ≡ p.snapshot.bytes.items
-      → (Known tells old (MayWrite n 0) → Ran (file_calls n p.snapshot.is_there bytes) old mid result) → Ran (snapshot_plan_calls p.snapshot) old mid result
-  file_ran n bytes result name is ran =
-      let may = known_map tells old (MayKeep p) (MayWrite n 0) known (λ d m. subst (λ (t : Text). MayWrite t 0 d) (sym name) m.file) in
-      subst (λ (b : List ℕ). Ran (file_calls p.snapshot.name p.snapshot.is_there b) old mid result) is
-      (subst (λ (t : Text). Ran (file_calls t p.snapshot.is_there bytes) old mid result) name (ran may))
+pub file_may : (p : KeepPlan) (tells : Bool) (old : Disk Text → Type 0) → Known tells old (MayKeep p) → Known tells old (MayWrite p.snapshot.name 0)
+file_may p tells old known = known_map tells old (MayKeep p) (MayWrite p.snapshot.name 0) known (λ d m. m.file)
 
+module _ (p : KeepPlan) (tells : Bool) (old mid : Disk Text → Type 0) (known : Known tells old (MayKeep p)) where
   -- the segment isn't there behind the snapshot's file
   free_behind : (x : Unit {0}) → Ran (snapshot_plan_calls p.snapshot) old mid (Ok x) → Known tells mid (IsFree p.segment.name)
   free_behind x ran = known_ran (snapshot_plan_calls p.snapshot) old mid (Ok x) tells (MayKeep p) (IsFree p.segment.name) known ran (λ d e m z.
-      let so = file_else p.snapshot.name p.snapshot.is_there p.snapshot.bytes.items d e z.0 in
+      let so = file_else p.snapshot.name p.snapshot.is_there (file_bytes p.snapshot) d e z.0 in
       record { not_there = ap (λ (f : Found). f.there) (so.read p.segment.name m.apart) ∙ m.free.not_there; rest = so.rest p.segment.name m.apart m.free.rest })
 
   pub segment_ran : (x : Unit {0}) (new : Disk Text → Type 0) (n : Text) (batch : List ℕ) (result : Result Unit DiskFault) → n ≡ p.segment.name → batch ≡ p.segment.batch.items → Ran (snapshot_plan_calls p.snapshot) old mid (Ok x)

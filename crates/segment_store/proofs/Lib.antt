@@ -17,6 +17,8 @@ pub mod LoadCalls
 pub mod LoadSees
 pub mod LoadRuns
 pub mod LoadReads
+pub mod LoadCounting
+pub mod LoadCountLists
 pub mod LoadJudged
 pub mod LoadSettles
 pub mod LoadEnds
@@ -29,3 +31,4 @@ pub mod KeepRuns
 pub mod KeepStore
 pub mod Joints
 pub mod CountedCalls
+pub mod Restarting

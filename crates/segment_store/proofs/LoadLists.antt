@@ -1,5 +1,5 @@
 -- The files of a node among the names of a folder.
-use Rattle.std.proofs.Common.{◌≡◌, ◌≢◌, inl, inr, ℕ, zero, suc, ◌+◌, ◌<◌, ◌≤◌, Bool, true, false, cond, List, [], ◌∷◌, ◌++◌, length, take, drop, get_or, Option, Some, None, Result, Ok, Err, refl, sym, ap, ◌∙◌, subst, arith, append_assoc, ◌⊎◌}
+use Rattle.std.proofs.Common.{◌≡◌, ◌≢◌, inl, inr, ℕ, zero, suc, ◌+◌, ◌<◌, ◌≤◌, Bool, true, false, cond, List, [], ◌∷◌, ◌++◌, length, take, drop, get_or, Option, Some, None, Result, Ok, Err, refl, sym, ap, ◌∙◌, subst, arith, append_assoc, length-append, ◌⊎◌}
 use Rattle.std.specs.Prelude.{OnOk, ◌||◌, ◌==◌, nat_lt}
 use Rattle.std.specs.List.{insert}
 use Rattle.std.specs.Str.{bytes_eq}
@@ -11,13 +11,13 @@ use Rattle.dq_base.specs.Names.{IsName}
 use Rattle.disk_model.specs.Disk.{Disk}
 use Rattle.disk_model.specs.SyncAll.{Among}
 use Rattle.disk_model.specs.Trait.{Text, Lists}
-use Rattle.store_laws.specs.Names.{Name, First, Second, Segment, Snapshot, NodeFiles}
+use Rattle.store_laws.specs.Names.{Name, First, Second, Segment, Snapshot}
 use Rattle.segment_store.specs.declared.names.File.{File}
 use Rattle.segment_store.specs.declared.names.File.TheVariants as files
 use Rattle.segment_store.specs.FileNames.{file_name, name_of, number_of}
-use Rattle.segment_store.specs.Open.{is_listed, segment_numbers}
+use Rattle.segment_store.specs.Open.{is_listed, segment_numbers, snapshot_numbers}
 use Rattle.segment_store.specs.Keeps.{folder}
-use Rattle.segment_store.specs.Listed.{numbered, IsFile, place_for, with_number, FolderList, nothing_listed, with_file, lists, named, IsListed, is_named, AllNames, From, SortedOut, TakesName, Below, FilesBelow}
+use Rattle.segment_store.specs.Listed.{numbered, IsFile, place_for, with_number, FolderList, nothing_listed, with_file, lists, added, files_listed, named, IsListed, is_named, AllNames, From, SortedOut, TakesName, Below, FilesBelow}
 use Rattle.segment_store.proofs.NoTwoAlike.{no_two_alike, beyond_digits}
 
 same_test : (b c : Bool) → (b ≡ true → c ≡ true) → (c ≡ true → b ≡ true) → b ≡ c
@@ -231,7 +231,7 @@ is_named_more t ts u = list_any-append (λ (x : Text). bytes_eq x t) ts (u ∷ [
     alone false = refl
 
 pub sorted_none : SortedOut [] nothing_listed
-sorted_none = record { there = λ n h. none n; among = λ n e. absurd (let z = sym (none n) ∙ e in which z); segments = tt; snapshots = tt; digits = tt; are_names = tt }
+sorted_none = record { there = λ n h. none n; among = λ n e. absurd (let z = sym (none n) ∙ e in which z); segments = tt; snapshots = tt; digits = tt; snapshot_digits = tt; count = refl; are_names = tt }
   where
     none : (n : Name) → lists nothing_listed n ≡ false
     none First = refl
@@ -242,8 +242,44 @@ sorted_none = record { there = λ n h. none n; among = λ n e. absurd (let z = s
     which : false ≡ true → ⊥
     which q = absurd cc
 
-pub sorted_file : (ts : List Text) (l : FolderList) (t : Text) (file : File) → SortedOut ts l → IsName t → t ≡ file_name (name_of file) → number_of file < 10000000000000000 → SortedOut (ts ++ t ∷ []) (with_file file l)
-sorted_file ts l t file s name e small = record {
+snapshots_below : (file : File) (l : FolderList) → number_of file < 10000000000000000 → Below l.snapshots → Below (with_file file l).snapshots
+snapshots_below files.First l h b = b
+snapshots_below files.Second l h b = b
+snapshots_below (files.Segment k) l h b = b
+snapshots_below (files.Snapshot k) l h b = below_with k l.snapshots h b
+
+length_insert : (i n : ℕ) (xs : List ℕ) → length (insert xs i n) ≡ suc (length xs)
+length_insert zero n xs = refl
+length_insert (suc i) n [] = refl
+length_insert (suc i) n (x ∷ xs) = ap suc (length_insert i n xs)
+
+length_with : (n : ℕ) (xs : List ℕ) → is_listed n xs ≡ false → length (with_number n xs) ≡ suc (length xs)
+unfolding with_number
+length_with n xs none = ap length (cond-false _ xs (insert xs (place_for n xs) n) none) ∙ length_insert (place_for n xs) n xs
+
+abbrev one_or_none : Bool → ℕ
+one_or_none b = cond b 1 0
+
+-- a file that isn't listed is one more
+count_with : (file : File) (l : FolderList) → lists l (name_of file) ≡ false → length l.files ≡ files_listed l → length (with_file file l).files ≡ files_listed (with_file file l)
+count_with file l none is = ap length (files_with file l) ∙ length-append l.files (file ∷ []) ∙ more file none
+  where
+    more : (f : File) → lists l (name_of f) ≡ false → length l.files + 1 ≡ files_listed (with_file f l)
+    more files.First none =
+        let z : one_or_none l.first ≡ 0 = ap one_or_none none in
+        omega (arith, z, is)
+    more files.Second none =
+        let z : one_or_none l.second ≡ 0 = ap one_or_none none in
+        omega (arith, z, is)
+    more (files.Segment k) none =
+        let z = length_with k l.segments none in
+        omega (arith, z, is)
+    more (files.Snapshot k) none =
+        let z = length_with k l.snapshots none in
+        omega (arith, z, is)
+
+new_file : (ts : List Text) (l : FolderList) (t : Text) (file : File) → SortedOut ts l → IsName t → t ≡ file_name (name_of file) → number_of file < 10000000000000000 → lists l (name_of file) ≡ false → SortedOut (ts ++ t ∷ []) (with_file file l)
+new_file ts l t file s name e small none = record {
   there = λ n h. lists_with file l n ∙ (λ i. s.there n h i || sym (alike t file n e) i) ∙ sym (is_named_more (file_name n) ts t);
   among = λ n q.
       subst (λ (fs : List File). Among n (named fs)) (sym (files_with file l)) (elim (or_parts (lists l n) (same_name (name_of file) n) (sym (lists_with file l n) ∙ q)) [
@@ -253,8 +289,37 @@ sorted_file ts l t file s name e small = record {
   segments = segments_from file l s.segments;
   snapshots = snapshots_from file l s.snapshots;
   digits = segments_below file l small s.digits;
+  snapshot_digits = snapshots_below file l small s.snapshot_digits;
+  count = count_with file l none s.count;
   are_names = names_more ts t s.are_names name;
 }
+
+-- one that is listed stays
+same_file : (ts : List Text) (l : FolderList) (t : Text) (file : File) → SortedOut ts l → IsName t → t ≡ file_name (name_of file) → lists l (name_of file) ≡ true → SortedOut (ts ++ t ∷ []) l
+same_file ts l t file s name e listed = record {
+  there = λ n h. absorbed n ∙ (λ i. s.there n h i || sym (alike t file n e) i) ∙ sym (is_named_more (file_name n) ts t);
+  among = s.among;
+  segments = s.segments;
+  snapshots = s.snapshots;
+  digits = s.digits;
+  snapshot_digits = s.snapshot_digits;
+  count = s.count;
+  are_names = names_more ts t s.are_names name;
+}
+  where
+    either : (b c : Bool) → (c ≡ true → b ≡ true) → b ≡ (b || c)
+    either true c h = refl
+    either false true h = h refl
+    either false false h = refl
+
+    absorbed : (n : Name) → lists l n ≡ (lists l n || same_name (name_of file) n)
+    absorbed n = either (lists l n) (same_name (name_of file) n) (λ q. ap (lists l) (sym (same_is (name_of file) n q)) ∙ listed)
+
+pub sorted_file : (ts : List Text) (l : FolderList) (t : Text) (file : File) → SortedOut ts l → IsName t → t ≡ file_name (name_of file) → number_of file < 10000000000000000 → SortedOut (ts ++ t ∷ []) (added file l)
+sorted_file ts l t file s name e small = elim (cases_Bool (lists l (name_of file))) [
+  | inl yes_it ↦ subst (SortedOut (ts ++ t ∷ [])) (sym (cond-true _ l (with_file file l) yes_it)) (same_file ts l t file s name e yes_it)
+  | inr none ↦ subst (SortedOut (ts ++ t ∷ [])) (sym (cond-false _ l (with_file file l) none)) (new_file ts l t file s name e small none)
+]
 
 pub sorted_other : (ts : List Text) (l : FolderList) (t : Text) → SortedOut ts l → IsName t → IsFile t None → SortedOut (ts ++ t ∷ []) l
 sorted_other ts l t s name none = record {
@@ -265,6 +330,8 @@ sorted_other ts l t s name none = record {
   segments = s.segments;
   snapshots = s.snapshots;
   digits = s.digits;
+  snapshot_digits = s.snapshot_digits;
+  count = s.count;
   are_names = names_more ts t s.are_names name;
 }
 
@@ -287,20 +354,21 @@ among_name t [] a m = absurd m
 among_name t (u ∷ ts) a (inl e) = subst IsName (sym e) a.0
 among_name t (u ∷ ts) a (inr m) = among_name t ts a.1 m
 
--- the numbers of segments, from the first one on
-numbers_from : ℕ → ℕ → NodeFiles → List ℕ
-numbers_from a zero g = []
-numbers_from a (suc n) g = cond (g (Segment a)).there (a ∷ []) [] ++ numbers_from (suc a) n g
+-- the numbers from a first one on of which this is true
+numbers_from : (ℕ → Bool) → ℕ → ℕ → List ℕ
+numbers_from t a zero = []
+numbers_from t a (suc n) = cond (t a) (a ∷ []) [] ++ numbers_from t (suc a) n
 
-numbers_join : (a n : ℕ) (g : NodeFiles) → segment_numbers a g ++ numbers_from a n g ≡ segment_numbers (a + n) g
-unfolding segment_numbers numbers_from
-numbers_join a zero g = append-nil (segment_numbers a g) ∙ ap (λ (t : ℕ). segment_numbers t g) (sym (plus_zero a))
+numbers_join : (t : ℕ → Bool) (below : ℕ → List ℕ) → ((n : ℕ) → below (suc n) ≡ below n ++ cond (t n) (n ∷ []) []) → (a n : ℕ) → below a ++ numbers_from t a n ≡ below (a + n)
+unfolding numbers_from
+numbers_join t below step a zero = append-nil (below a) ∙ ap below (sym (plus_zero a))
   where
     plus_zero : (n : ℕ) → n + 0 ≡ n
     plus_zero n = omega arith
-numbers_join a (suc n) g =
-    sym (append_assoc (segment_numbers a g) (cond (g (Segment a)).there (a ∷ []) []) (numbers_from (suc a) n g))
-    ∙ numbers_join (suc a) n g ∙ ap (λ (t : ℕ). segment_numbers t g) (plus_suc a n)
+numbers_join t below step a (suc n) =
+    sym (append_assoc (below a) (cond (t a) (a ∷ []) []) (numbers_from t (suc a) n))
+    ∙ ap (λ (l : List ℕ). l ++ numbers_from t (suc a) n) (sym (step a))
+    ∙ numbers_join t below step (suc a) n ∙ ap below (plus_suc a n)
   where
     plus_suc : (a n : ℕ) → suc a + n ≡ a + suc n
     plus_suc a n = omega arith
@@ -309,41 +377,45 @@ none_listed : (a j : ℕ) (xs : List ℕ) → From a xs → j < a → is_listed 
 none_listed a j [] f h = refl
 none_listed a j (x ∷ xs) (low, rest) h = (λ i. ne_eqb x j (λ q. absurd (omega (arith, q, low, h))) i || none_listed (suc x) j xs rest (omega (arith, low, h)) i)
 
--- ascending numbers that are those of the segments that are there, and no others
-numbers_are : (n a : ℕ) (g : NodeFiles) (xs : List ℕ) → From a xs → ((j : ℕ) → a ≤ j → j < a + n → (g (Segment j)).there ≡ is_listed j xs) → ((j : ℕ) → is_listed j xs ≡ true → j < a + n) → numbers_from a n g ≡ xs
+-- ascending numbers of which this is true, and no others
+numbers_are : (n a : ℕ) (t : ℕ → Bool) (xs : List ℕ) → From a xs → ((j : ℕ) → a ≤ j → j < a + n → t j ≡ is_listed j xs) → ((j : ℕ) → is_listed j xs ≡ true → j < a + n) → numbers_from t a n ≡ xs
 unfolding numbers_from
-numbers_are zero a g [] f same below = refl
-numbers_are zero a g (x ∷ xs) f same below = let z : x < a + 0 = below x (ap (λ (b : Bool). b || is_listed x xs) (eq-eqb x x refl)) in absurd (omega (arith, z, f.0))
-numbers_are (suc n) a g [] f same below =
-    let none : (g (Segment a)).there ≡ false = same a (omega arith) (omega arith) in
-    ap (λ (b : Bool). cond b (a ∷ []) [] ++ numbers_from (suc a) n g) none
-    ∙ numbers_are n (suc a) g [] tt (λ j l h. same j (omega (arith, l)) (omega (arith, h))) (λ j e. absurd (which e))
+numbers_are zero a t [] f same below = refl
+numbers_are zero a t (x ∷ xs) f same below = let z : x < a + 0 = below x (ap (λ (b : Bool). b || is_listed x xs) (eq-eqb x x refl)) in absurd (omega (arith, z, f.0))
+numbers_are (suc n) a t [] f same below =
+    let none : t a ≡ false = same a (omega arith) (omega arith) in
+    ap (λ (b : Bool). cond b (a ∷ []) [] ++ numbers_from t (suc a) n) none
+    ∙ numbers_are n (suc a) t [] tt (λ j l h. same j (omega (arith, l)) (omega (arith, h))) (λ j e. absurd (which e))
   where
     which : false ≡ true → ⊥
     which q = absurd cc
-numbers_are (suc n) a g (x ∷ xs) (low, rest) same below = elim (cases_eq x a) [
+numbers_are (suc n) a t (x ∷ xs) (low, rest) same below = elim (cases_eq x a) [
   | inl e ↦
-      let here : (g (Segment a)).there ≡ true = same a (omega arith) (omega arith) ∙ ap (λ (b : Bool). b || is_listed a xs) (eq-eqb x a e) in
-      ap (λ (b : Bool). cond b (a ∷ []) [] ++ numbers_from (suc a) n g) here
-      ∙ (λ i. sym e i ∷ numbers_are n (suc a) g xs (subst (λ (k : ℕ). From (suc k) xs) e rest)
+      let here : t a ≡ true = same a (omega arith) (omega arith) ∙ ap (λ (b : Bool). b || is_listed a xs) (eq-eqb x a e) in
+      ap (λ (b : Bool). cond b (a ∷ []) [] ++ numbers_from t (suc a) n) here
+      ∙ (λ i. sym e i ∷ numbers_are n (suc a) t xs (subst (λ (k : ℕ). From (suc k) xs) e rest)
       (λ j l h. same j (omega (arith, l)) (omega (arith, h)) ∙ ap (λ (b : Bool). b || is_listed j xs) (ne_eqb x j (λ q. absurd (omega (arith, q, e, l)))))
       (λ j q. let z : j < a + suc n = below j (ap (λ (b : Bool). (x == j) || b) q ∙ sym (or_true (x == j))) in omega (arith, z)) i)
   | inr ne ↦
       let up : suc a ≤ x = omega (arith, ne, low) in
-      let none : (g (Segment a)).there ≡ false = same a (omega arith) (omega arith) ∙ (λ i. ne_eqb x a ne i || none_listed (suc x) a xs rest (omega (arith, up)) i) in
-      ap (λ (b : Bool). cond b (a ∷ []) [] ++ numbers_from (suc a) n g) none
-      ∙ numbers_are n (suc a) g (x ∷ xs) (up, rest) (λ j l h. same j (omega (arith, l)) (omega (arith, h))) (λ j q. let z : j < a + suc n = below j q in omega (arith, z))
+      let none : t a ≡ false = same a (omega arith) (omega arith) ∙ (λ i. ne_eqb x a ne i || none_listed (suc x) a xs rest (omega (arith, up)) i) in
+      ap (λ (b : Bool). cond b (a ∷ []) [] ++ numbers_from t (suc a) n) none
+      ∙ numbers_are n (suc a) t (x ∷ xs) (up, rest) (λ j l h. same j (omega (arith, l)) (omega (arith, h))) (λ j q. let z : j < a + suc n = below j q in omega (arith, z))
 ]
 
 pub all_listed : (d : Disk Text) (names : List Text) (l : FolderList) → Lists d names → SortedOut names l → IsListed l (folder d)
-unfolding segment_numbers
+unfolding segment_numbers snapshot_numbers
 all_listed d names l ls s = record {
   there = there;
   above = above;
   among = λ n t. s.among n (sym (there n (above n t)) ∙ t);
   segments = sym (
-      join0
-      ∙ numbers_are 10000000000000000 0 (folder d).read l.segments s.segments (λ j low h. there (Segment j) h) (λ j e. listed_below j l.segments s.digits e));
+      sym (numbers_join (λ j. ((folder d).read (Segment j)).there) (λ n. segment_numbers n (folder d).read) (λ n. refl) 0 10000000000000000)
+      ∙ numbers_are 10000000000000000 0 (λ j. ((folder d).read (Segment j)).there) l.segments s.segments (λ j low h. there (Segment j) h) (λ j e. listed_below j l.segments s.digits e));
+  snapshots = sym (
+      sym (numbers_join (λ j. ((folder d).read (Snapshot j)).there) (λ n. snapshot_numbers n (folder d).read) (λ n. refl) 0 10000000000000000)
+      ∙ numbers_are 10000000000000000 0 (λ j. ((folder d).read (Snapshot j)).there) l.snapshots s.snapshots (λ j low h. there (Snapshot j) h) (λ j e. listed_below j l.snapshots s.snapshot_digits e));
+  count = s.count;
 }
   where
     above : (n : Name) → ((folder d).read n).there ≡ true → numbered n < 10000000000000000
@@ -356,9 +428,6 @@ all_listed d names l ls s = record {
     there n h =
         same_test ((folder d).read n).there (is_named (file_name n) names) (λ t. among_named (file_name n) names (ls.all (file_name n) t)) (λ t. ls.there (file_name n) (named_among (file_name n) names t))
         ∙ sym (s.there n h)
-
-    join0 : segment_numbers 10000000000000000 (folder d).read ≡ numbers_from 0 10000000000000000 (folder d).read
-    join0 = sym (numbers_join 0 10000000000000000 (folder d).read)
 
     listed_below : (j : ℕ) (xs : List ℕ) → Below xs → is_listed j xs ≡ true → j < 10000000000000000
     listed_below j [] b e = absurd cc
@@ -399,7 +468,7 @@ files_at (suc i) (x ∷ fs) d b h = files_at i fs d b.1 (omega (arith, h))
 
 -- ---- one name more, as the code takes it
 
-pub takes_file : {E : Type 0} (t : Text) (file : File) (o : Option File) (old new : FolderList) (r : Result (Unit {0}) E) → IsFile t o → o ≡ Some file → OnOk r (new ≡ with_file file old) → OnOk r (TakesName t old new)
+pub takes_file : {E : Type 0} (t : Text) (file : File) (o : Option File) (old new : FolderList) (r : Result (Unit {0}) E) → IsFile t o → o ≡ Some file → OnOk r (new ≡ added file old) → OnOk r (TakesName t old new)
 takes_file t file o old new (Ok u) is e with_it = λ ts s name.
     let f = subst (IsFile t) e is in
     subst (SortedOut (ts ++ t ∷ [])) (sym with_it) (sorted_file ts old t file s name f.0 f.1)

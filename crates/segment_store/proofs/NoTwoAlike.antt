@@ -1,6 +1,7 @@
 -- No two files of a node have names that are alike.
-use Rattle.std.proofs.Common.{◌≡◌, ℕ, zero, suc, ◌+◌, ◌/◌, ◌%◌, ◌<◌, ◌≤◌, Bool, true, false, List, [], ◌∷◌, ◌++◌, length, take, drop, get_or, replicate, refl, sym, ap, ◌∙◌, subst, arith, length-append}
+use Rattle.std.proofs.Common.{◌≡◌, ℕ, zero, suc, ◌+◌, ◌*◌, ◌/◌, ◌%◌, ◌<◌, ◌≤◌, Bool, true, false, List, [], ◌∷◌, ◌++◌, length, take, drop, get_or, replicate, refl, sym, ap, ◌∙◌, subst, arith, length-append}
 use Rattle.std.specs.Prelude.{◌==◌, ◌||◌, codes, map}
+use Rattle.std.proofs.Math.Nat.{div-div-eq-div-mul}
 use Rattle.std.proofs.lemmas.Bool.{ne_eqb}
 use Rattle.std.proofs.lemmas.List.Folds.{list_any-append}
 use Rattle.dq_base.specs.Names.{IsName, has_nul}
@@ -15,43 +16,34 @@ sixteen_long : (n : ℕ) → length (sixteen n) ≡ 16
 unfolding sixteen
 sixteen_long n = refl
 
--- what is beyond sixteen digits and each of these digits make the number
+tens : ℕ → ℕ
+tens zero = 1
+tens (suc k) = tens k * 10
+
+-- so many last digits
+digits : ℕ → ℕ → List ℕ
+digits zero n = []
+digits (suc k) n = digit n (tens k) ∷ digits k n
+
+all_digits : (n : ℕ) → sixteen n ≡ digits 16 n
+unfolding sixteen tens digits
+all_digits n = refl
+
+-- what is beyond so many last digits and each of these digits make the number
+same_last : (k n m : ℕ) → n / tens k ≡ m / tens k → digits k n ≡ digits k m → n / 1 ≡ m / 1
+unfolding tens digits
+same_last zero n m above e = above
+same_last (suc k) n m above e =
+    same_last k n m
+    (whole (n / tens k) (m / tens k) (div-div-eq-div-mul n (tens k) 10 ∙ above ∙ sym (div-div-eq-div-mul m (tens k) 10)) (ap (λ (l : List ℕ). get_or l 0 0) e))
+    (ap (drop 1) e)
+  where
+    whole : (a b : ℕ) → a / 10 ≡ b / 10 → 48 + a % 10 ≡ 48 + b % 10 → a ≡ b
+    whole a b high low = omega (arith, high, low)
+
 same_digits : (n m : ℕ) → n / 10000000000000000 ≡ m / 10000000000000000 → sixteen n ≡ sixteen m → n ≡ m
-unfolding sixteen
-same_digits n m above e =
-    let d0 : 48 + n / 1000000000000000 % 10 ≡ 48 + m / 1000000000000000 % 10 = ap (λ (l : List ℕ). get_or l 0 0) e in
-    let d1 : 48 + n / 100000000000000 % 10 ≡ 48 + m / 100000000000000 % 10 = ap (λ (l : List ℕ). get_or l 1 0) e in
-    let d2 : 48 + n / 10000000000000 % 10 ≡ 48 + m / 10000000000000 % 10 = ap (λ (l : List ℕ). get_or l 2 0) e in
-    let d3 : 48 + n / 1000000000000 % 10 ≡ 48 + m / 1000000000000 % 10 = ap (λ (l : List ℕ). get_or l 3 0) e in
-    let d4 : 48 + n / 100000000000 % 10 ≡ 48 + m / 100000000000 % 10 = ap (λ (l : List ℕ). get_or l 4 0) e in
-    let d5 : 48 + n / 10000000000 % 10 ≡ 48 + m / 10000000000 % 10 = ap (λ (l : List ℕ). get_or l 5 0) e in
-    let d6 : 48 + n / 1000000000 % 10 ≡ 48 + m / 1000000000 % 10 = ap (λ (l : List ℕ). get_or l 6 0) e in
-    let d7 : 48 + n / 100000000 % 10 ≡ 48 + m / 100000000 % 10 = ap (λ (l : List ℕ). get_or l 7 0) e in
-    let d8 : 48 + n / 10000000 % 10 ≡ 48 + m / 10000000 % 10 = ap (λ (l : List ℕ). get_or l 8 0) e in
-    let d9 : 48 + n / 1000000 % 10 ≡ 48 + m / 1000000 % 10 = ap (λ (l : List ℕ). get_or l 9 0) e in
-    let d10 : 48 + n / 100000 % 10 ≡ 48 + m / 100000 % 10 = ap (λ (l : List ℕ). get_or l 10 0) e in
-    let d11 : 48 + n / 10000 % 10 ≡ 48 + m / 10000 % 10 = ap (λ (l : List ℕ). get_or l 11 0) e in
-    let d12 : 48 + n / 1000 % 10 ≡ 48 + m / 1000 % 10 = ap (λ (l : List ℕ). get_or l 12 0) e in
-    let d13 : 48 + n / 100 % 10 ≡ 48 + m / 100 % 10 = ap (λ (l : List ℕ). get_or l 13 0) e in
-    let d14 : 48 + n / 10 % 10 ≡ 48 + m / 10 % 10 = ap (λ (l : List ℕ). get_or l 14 0) e in
-    let d15 : 48 + n / 1 % 10 ≡ 48 + m / 1 % 10 = ap (λ (l : List ℕ). get_or l 15 0) e in
-    let q0 : n / 1000000000000000 ≡ m / 1000000000000000 = omega (arith, above, d0) in
-    let q1 : n / 100000000000000 ≡ m / 100000000000000 = omega (arith, q0, d1) in
-    let q2 : n / 10000000000000 ≡ m / 10000000000000 = omega (arith, q1, d2) in
-    let q3 : n / 1000000000000 ≡ m / 1000000000000 = omega (arith, q2, d3) in
-    let q4 : n / 100000000000 ≡ m / 100000000000 = omega (arith, q3, d4) in
-    let q5 : n / 10000000000 ≡ m / 10000000000 = omega (arith, q4, d5) in
-    let q6 : n / 1000000000 ≡ m / 1000000000 = omega (arith, q5, d6) in
-    let q7 : n / 100000000 ≡ m / 100000000 = omega (arith, q6, d7) in
-    let q8 : n / 10000000 ≡ m / 10000000 = omega (arith, q7, d8) in
-    let q9 : n / 1000000 ≡ m / 1000000 = omega (arith, q8, d9) in
-    let q10 : n / 100000 ≡ m / 100000 = omega (arith, q9, d10) in
-    let q11 : n / 10000 ≡ m / 10000 = omega (arith, q10, d11) in
-    let q12 : n / 1000 ≡ m / 1000 = omega (arith, q11, d12) in
-    let q13 : n / 100 ≡ m / 100 = omega (arith, q12, d13) in
-    let q14 : n / 10 ≡ m / 10 = omega (arith, q13, d14) in
-    let q15 : n / 1 ≡ m / 1 = omega (arith, q14, d15) in
-    omega (arith, q15)
+unfolding tens
+same_digits n m above e = let z = same_last 16 n m above (sym (all_digits n) ∙ e ∙ all_digits m) in omega (arith, z)
 
 numbers_alike : (n m : ℕ) → number_text n ≡ number_text m → n ≡ m
 unfolding number_text

@@ -7,8 +7,10 @@ pub mod Listed
 pub mod LoadFaults
 pub mod Loading
 pub mod Reads
+pub mod LoadCounts
 pub mod Repairs
 pub mod Settling
 pub mod MadeCalls
 pub mod Keeping
+pub mod Restarts
 pub mod Plans

@@ -1,5 +1,5 @@
 -- The files of a node that a folder lists.
-use Rattle.std.specs.Prelude.{◌≡◌, ℕ, suc, ◌+◌, ◌-◌, ◌*◌, ◌<◌, ◌≤◌, Bool, true, false, ◌&&◌, cond, nat_lt, nat_le, List, [], ◌∷◌, ◌++◌, Option, Some, None}
+use Rattle.std.specs.Prelude.{◌≡◌, ℕ, suc, ◌+◌, ◌-◌, ◌*◌, ◌<◌, ◌≤◌, Bool, true, false, ◌&&◌, cond, nat_lt, nat_le, List, [], ◌∷◌, ◌++◌, length, Option, Some, None}
 use Rattle.std.specs.List.{insert, list_any}
 use Rattle.std.specs.Str.{bytes_eq}
 use Rattle.dq_base.specs.Names.{IsName}
@@ -9,7 +9,7 @@ use Rattle.store_laws.specs.Snapshots.{AllBelow}
 use Rattle.segment_store.specs.declared.names.File.{File}
 use Rattle.segment_store.specs.declared.names.File.TheVariants as files
 use Rattle.segment_store.specs.FileNames.{file_name, name_of, number_of}
-use Rattle.segment_store.specs.Open.{is_listed, segment_numbers}
+use Rattle.segment_store.specs.Open.{is_listed, segment_numbers, snapshot_numbers}
 
 -- one digit more behind a number of fewer than sixteen
 abbrev pub digits_in : ℕ → ℕ → Option ℕ
@@ -77,6 +77,14 @@ lists l Second = l.second
 lists l (Segment k) = is_listed k l.segments
 lists l (Snapshot j) = is_listed j l.snapshots
 
+-- a file that is listed isn't listed again
+abbrev pub added : File → FolderList → FolderList
+added file l = cond (lists l (name_of file)) l (with_file file l)
+
+-- how many files are listed
+abbrev pub files_listed : FolderList → ℕ
+files_listed l = cond l.first 1 0 + (cond l.second 1 0 + (length l.segments + length l.snapshots))
+
 abbrev pub named : List File → List Name
 named [] = []
 named (x ∷ xs) = name_of x ∷ named xs
@@ -87,6 +95,8 @@ pub record IsListed (l : FolderList) (d : NodeDisk) : Type 0 where
   pub above : (n : Name) → (d.read n).there ≡ true → numbered n < 10000000000000000
   pub among : (n : Name) → (d.read n).there ≡ true → Among n (named l.files)
   pub segments : l.segments ≡ segment_numbers 10000000000000000 d.read
+  pub snapshots : l.snapshots ≡ snapshot_numbers 10000000000000000 d.read
+  pub count : length l.files ≡ files_listed l
 
 -- whether a text is among others
 abbrev pub is_named : List ℕ → List (List ℕ) → Bool
@@ -108,6 +118,8 @@ pub record SortedOut (names : List (List ℕ)) (l : FolderList) : Type 0 where
   pub segments : From 0 l.segments
   pub snapshots : From 0 l.snapshots
   pub digits : Below l.segments
+  pub snapshot_digits : Below l.snapshots
+  pub count : length l.files ≡ files_listed l
   pub are_names : AllNames names
 
 -- one name more among those that were looked at

@@ -47,6 +47,11 @@ unfoldable pub segment_numbers : ℕ → NodeFiles → List ℕ
 segment_numbers zero g = []
 segment_numbers (suc n) g = segment_numbers n g ++ cond (g (Segment n)).there (n ∷ []) []
 
+-- the indices of the snapshots below a number whose files are there, ascending
+unfoldable pub snapshot_numbers : ℕ → NodeFiles → List ℕ
+snapshot_numbers zero g = []
+snapshot_numbers (suc n) g = snapshot_numbers n g ++ cond (g (Snapshot n)).there (n ∷ []) []
+
 abbrev pub is_listed : ℕ → List ℕ → Bool
 is_listed j ms = list_any (λ m. m == j) ms
 

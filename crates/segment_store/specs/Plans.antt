@@ -1,5 +1,5 @@
 -- What keeping a snapshot writes and removes, as the code has it.
-use Rattle.std.specs.Prelude.{◌≡◌, ◌<◌, ◌^◌, List, ◌++◌, length}
+use Rattle.std.specs.Prelude.{◌≡◌, ◌<◌, ◌^◌, ℕ, List, ◌++◌, length}
 use Rattle.raft_vote.specs.Entries.{HaveHeads}
 use Rattle.disk_model.specs.Disk.{Disk}
 use Rattle.disk_model.specs.Calls.{Call, MayWrite}
@@ -18,8 +18,12 @@ use Rattle.segment_store.specs.Open.{Open, is_listed}
 use Rattle.segment_store.specs.Grow.{begin_calls, IsFree}
 use Rattle.segment_store.specs.Keeping.{file_calls, removal_calls, loose_removal_calls, segment_names, snapshot_names, older_than}
 
+-- the bytes of a snapshot's file, which lie in three parts
+abbrev pub file_bytes : NewSnapshot → List ℕ
+file_bytes p = p.head.items ++ p.content.now ++ p.tail.now
+
 abbrev pub snapshot_plan_calls : NewSnapshot → List (Call Text)
-snapshot_plan_calls p = file_calls p.name p.is_there p.bytes.items
+snapshot_plan_calls p = file_calls p.name p.is_there (file_bytes p)
 
 abbrev pub segment_plan_calls : NewSegment → List (Call Text)
 segment_plan_calls p = begin_calls p.name segment_word p.batch.items
@@ -42,7 +46,7 @@ pub record IsPlan (s : Open) (x : Snap) (new : Log) (p : KeepPlan) : Type 0 wher
   pub index : x.index < 10000000000000000
   pub snapshot_name : p.snapshot.name ≡ file_name (Snapshot x.index)
   pub is_there : p.snapshot.is_there ≡ is_listed x.index s.snapshots
-  pub bytes : p.snapshot.bytes.items ≡ snapshot_bytes x.index x.term x.bytes
+  pub bytes : file_bytes p.snapshot ≡ snapshot_bytes x.index x.term x.bytes
   pub term : x.term < 2 ^ 64
   pub size : length x.bytes < 2 ^ 64
   pub segment_name : p.segment.name ≡ file_name (Segment s.next)

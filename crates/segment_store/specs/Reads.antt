@@ -1,5 +1,5 @@
 -- What is read of a folder's files.
-use Rattle.std.specs.Prelude.{◌≡◌, ◌⊎◌, ℕ, ◌<◌, ◌≤◌, Bool, true, false, List, [], length, take, map, Option}
+use Rattle.std.specs.Prelude.{◌≡◌, ◌⊎◌, ℕ, ◌+◌, ◌-◌, min, ◌<◌, ◌≤◌, Bool, true, false, List, [], length, take, map, Option}
 use Rattle.store_laws.specs.Names.{First, Second, Segment, Snapshot, NodeFiles, NodeDisk}
 use Rattle.store_laws.specs.Store.{Snap, no_snap, meta_of, snap_in}
 use Rattle.store_laws.specs.Meta.{file_of}
@@ -15,6 +15,11 @@ use Rattle.segment_store.specs.Open.{HasSize, is_listed}
 abbrev pub ReadsOn : List ℕ → List ℕ → List ℕ → Bool → Type 0
 ReadsOn all before after true = before ≡ take (length before) all → after ≡ take (length after) all
 ReadsOn all before after false = (after ≡ before) × (before ≡ take (length before) all → before ≡ all)
+
+-- a piece more was read, of as many bytes as there are and as have room, or there are no more
+abbrev pub ReadsPiece : ℕ → List ℕ → List ℕ → List ℕ → Bool → Type 0
+ReadsPiece room all before after true = (length after ≡ length before + min room (length all - length before)) × (length before < length all)
+ReadsPiece room all before after false = length all ≤ length before
 
 -- a file of metadata was read, where it is there
 abbrev pub ReadsMeta : Bool → Bool → NodeDisk → FilesRead → FilesRead → Option ℕ → Type 0

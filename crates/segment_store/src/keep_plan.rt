@@ -6,20 +6,23 @@ ghost use Rattle.store_format.specs.Snapshots.{snapshot_bytes};
 ghost use Rattle.store_format.specs.Batches.{batch_bytes};
 ghost use Rattle.segment_store.specs.FileNames.{file_name};
 ghost use Rattle.segment_store.specs.Keeping.{segment_names, snapshot_names, older_than, later_than};
+ghost use Rattle.segment_store.specs.Plans.{file_bytes};
 
 use crate::names::{File, file_name};
 use dq_base::Name;
 use raft_vote::Entry;
 use std::alloc::{AllocError, Global};
-use store_format::{batch_bytes, snapshot_bytes};
+use store_format::{batch_bytes, snapshot_head, snapshot_tail};
 
-/// The file of a snapshot.
+/// The file of a snapshot, in three parts. The state stays where it is.
 #[derive(Drop)]
-pub(crate) struct NewSnapshot {
+pub(crate) struct NewSnapshot<'a> {
     pub(crate) name: Name,
     // an old file of this name is there
     pub(crate) is_there: bool,
-    pub(crate) bytes: Vec<u8>,
+    pub(crate) head: Vec<u8>,
+    pub(crate) content: &'a [u8],
+    pub(crate) tail: &'a [u8],
 }
 
 /// A segment with its first batch.
@@ -39,34 +42,36 @@ pub(crate) struct OldFiles {
 /// What keeping a snapshot writes and removes. It is made whole before anything is written, so that want of memory for
 /// it leaves the disk as it is.
 #[derive(Drop)]
-pub(crate) struct KeepPlan {
-    pub(crate) snapshot: NewSnapshot,
+pub(crate) struct KeepPlan<'a> {
+    pub(crate) snapshot: NewSnapshot<'a>,
     pub(crate) segment: NewSegment,
     pub(crate) old: OldFiles,
 }
 
-/// The file of a snapshot, beside which an old one may be there. Its bytes are copied once.
-pub(crate) fn new_snapshot(
+/// The file of a snapshot, beside which an old one may be there. The state isn't copied.
+pub(crate) fn new_snapshot<'a>(
     alloc: Global,
     index: u64,
     term: u64,
-    content: &[u8],
+    content: &'a [u8],
     is_there: bool,
-) -> Result<NewSnapshot, AllocError>
+) -> Result<NewSnapshot<'a>, AllocError>
     requires { index < 10000000000000000 }
     ensures name { IfOk result (λ made. made.name ≡ file_name (Snapshot index)) }
     ensures is_there { IfOk result (λ made. made.is_there ≡ is_there) }
-    ensures bytes { IfOk result (λ made. made.bytes.items ≡ snapshot_bytes index term content.now) }
+    ensures bytes { IfOk result (λ made. file_bytes made ≡ snapshot_bytes index term content.now) }
     ensures term { IfOk result (λ _. term < 2 ^ 64) }
     ensures size { IfOk result (λ _. length content.now < 2 ^ 64) }
 {
     let _size = content.len();
-    let bytes = snapshot_bytes(alloc, index, term, content)?;
+    let head = snapshot_head(alloc, index, term, content)?;
     let name = file_name(alloc, File::Snapshot(index))?;
     Ok(NewSnapshot {
         name,
         is_there,
-        bytes,
+        head,
+        content,
+        tail: snapshot_tail(content),
     })
 }
 

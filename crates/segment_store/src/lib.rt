@@ -7,15 +7,13 @@ mod keep_files;
 mod keep_plan;
 mod load_fault;
 mod loading;
-mod loading_calls;
-mod loading_list;
-mod loading_names;
-mod loading_reads;
 mod names;
 mod segment;
+mod starts;
 mod store;
 
 pub use fault::StoreFault;
 pub use load_fault::LoadFault;
+pub use starts::{kept_starts, load_starts, old_or_kept_starts, old_or_new_starts};
 pub use store::Store;
 pub use store_format::{Kept, crc32, sum8};

@@ -1,7 +1,12 @@
 // Loading a store from a disk, and looking at its files.
-ghost use Rattle.std.specs.Prelude.{◌≡◌, ◌≤◌, ◌<◌, ◌++◌, ◌∷◌, [], suc, None, IfOk};
+mod calls;
+mod list;
+mod names;
+mod reads;
+
+ghost use Rattle.std.specs.Prelude.{◌≡◌, ◌≤◌, ◌<◌, ◌+◌, ◌++◌, ◌∷◌, [], suc, length, None, IfOk};
 ghost use Rattle.disk_model.specs.Spelled.{all_spelled};
-ghost use Rattle.disk_model.specs.Trait.{Known};
+ghost use Rattle.disk_model.specs.Trait.{Known, MakesCalls};
 ghost use Rattle.store_laws.specs.Names.{Segment};
 ghost use Rattle.store_format.specs.FilesRead.{nothing_read};
 ghost use Rattle.store_format.specs.SegmentLog.{FitsNumber};
@@ -11,15 +16,16 @@ ghost use Rattle.segment_store.specs.Grow.{IsFree};
 ghost use Rattle.segment_store.specs.Keeps.{folder, Went};
 ghost use Rattle.segment_store.specs.Listed.{Below, IsListed};
 ghost use Rattle.segment_store.specs.Loading.{Sees, IsPlain, Loads, LooksAt, LoadCause};
+ghost use Rattle.segment_store.specs.LoadCounts.{Counts, LoadCounts, look_count, repair_count, settling_count};
 ghost use Rattle.segment_store.specs.Reads.{ReadsAll};
 ghost use Rattle.segment_store.specs.Repairs.{last_number};
 ghost use Rattle.segment_store.specs.Settling.{front_calls, emptying_calls, left_after, Empties, Settles};
 
 use crate::fault::StoreFault;
 use crate::load_fault::LoadFault;
-use crate::loading_calls::{repair, sync_files};
-use crate::loading_list::{FolderList, list_files};
-use crate::loading_reads::{Sizes, read_files};
+use crate::loading::calls::{repair, sync_files};
+use crate::loading::list::{FolderList, list_files};
+use crate::loading::reads::{Sizes, read_files};
 use crate::names::NUMBERS;
 use crate::store::{Store, begin_batch};
 use disk_model::Disk;
@@ -35,6 +41,7 @@ fn read_folder<D: Disk>(
     requires { read.old ≡ nothing_read }
     ensures told { Sees (D.states disk.old) (D.states disk.new) result (λ d x. IsListed x.0 (folder d) × (IsPlain (folder d) → ReadsAll (folder d) read.new x.1.0 x.1.1)) }
     ensures cause { DiskCause (D.faults disk.old) (D.faults disk.new) result }
+    ensures count { Counts (λ d. look_count (folder d).read) (D.states disk.old) (D.made disk.old) (D.made disk.new) result }
 {
     let list = list_files(alloc, disk)?;
     let sizes = read_files(alloc, disk, &list, read)?;
@@ -51,6 +58,7 @@ fn sync_and_repair<D: Disk>(
     requires { FitsNumber last }
     ensures went { Went (all_spelled file_name (front_calls list.now last)) (D.states disk.old) (D.states disk.new) result }
     ensures cause { DiskCause (D.faults disk.old) (D.faults disk.new) result }
+    ensures count { MakesCalls (suc (length list.now.files) + repair_count last) (D.made disk.old) (D.made disk.new) result }
 {
     sync_files(alloc, disk, list.files())?;
     repair(alloc, disk, last)
@@ -66,6 +74,7 @@ fn begin_empty<D: Disk>(
     requires { number < 10000000000000000 }
     ensures went { Known D.tells (D.states disk.old) (IsFree (file_name (Segment number))) → Went (emptying_calls number first) (D.states disk.old) (D.states disk.new) result }
     ensures cause { DiskCause (D.faults disk.old) (D.faults disk.new) result }
+    ensures count { MakesCalls 5 (D.made disk.old) (D.made disk.new) result }
 {
     let batch = batch_bytes(alloc, first, &[])?;
     begin_batch(alloc, disk, number, batch.as_slice())
@@ -121,6 +130,7 @@ fn empty_log<D: Disk>(
     ensures segments { IfOk result (λ all. all.items ≡ segments.items ++ number ∷ []) }
     ensures digits { IfOk result (λ all. (number < 10000000000000000) × (Below segments.items → Below all.items)) }
     ensures cause { DiskCause (D.faults disk.old) (D.faults disk.new) result }
+    ensures count { MakesCalls 5 (D.made disk.old) (D.made disk.new) result }
 {
     if number >= NUMBERS {
         return Err(StoreFault::NoMemory);
@@ -141,6 +151,7 @@ fn settle<D: Disk>(
     ensures begins { IfOk result (λ store. store.size ≡ None) }
     ensures settles { Settles list read.now sizes.0 sizes.1 (D.states disk.old) (D.states disk.new) result }
     ensures cause { DiskCause (D.faults disk.old) (D.faults disk.new) result }
+    ensures count { MakesCalls (settling_count list read.now) (D.made disk.old) (D.made disk.new) result }
 {
     let last = read.last_segment();
     let stale = read.stale_from();
@@ -169,10 +180,14 @@ impl Store {
     ///
     /// Other names in the folder are left alone. Takes memory for the entries, the newest snapshot, and one file at a
     /// time.
+    ///
+    /// A file is read in pieces of 65,536 bytes, with one call more that finds its end. How many calls of the disk a load
+    /// makes goes by the files alone: those of its reads, one sync for each file and one of the names, and those of the repair.
     pub fn load<D: Disk>(alloc: Global, disk: &mut D) -> Result<(Store, Kept), LoadFault>
         ensures loads { Loads (D.states disk.old) (D.states disk.new) result }
         ensures begins { IfOk result (λ loaded. loaded.0.size ≡ None) }
         ensures cause { LoadCause (D.faults disk.old) (D.faults disk.new) result }
+        ensures count { LoadCounts (D.states disk.old) (D.made disk.old) (D.made disk.new) result }
     {
         let mut read = FilesRead::new(alloc);
         let (list, sizes) = read_folder(alloc, disk, &mut read)?;
@@ -185,6 +200,7 @@ impl Store {
     pub fn look<D: Disk>(alloc: Global, disk: &mut D) -> Result<Kept, LoadFault>
         ensures looks { LooksAt (D.states disk.old) (D.states disk.new) result }
         ensures cause { LoadCause (D.faults disk.old) (D.faults disk.new) result }
+        ensures count { Counts (λ d. look_count (folder d).read) (D.states disk.old) (D.made disk.old) (D.made disk.new) result }
     {
         let mut read = FilesRead::new(alloc);
         read_folder(alloc, disk, &mut read)?;

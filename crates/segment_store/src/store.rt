@@ -318,7 +318,12 @@ impl Store {
     }
 
     // What keeping a snapshot writes and removes. Nothing is left for the store's own memory to refuse later.
-    fn plan(&self, snapshot: &Snapshot, first: u64, rest: &[Entry]) -> Result<KeepPlan, AllocError>
+    fn plan<'a>(
+        &self,
+        snapshot: &'a Snapshot,
+        first: u64,
+        rest: &[Entry],
+    ) -> Result<KeepPlan<'a>, AllocError>
         ensures { IfOk result (λ plan. IsPlan self.now (snap_value snapshot.now) (record { first = first; entries = rest.now }) plan) }
     {
         let Some(number) = self.new_number() else {
@@ -363,7 +368,8 @@ impl Store {
     ///
     /// The snapshot's file is written and synced, and the names; an old file of its name is first cut to nothing. A new
     /// segment begins with the entries. Then older segments go ascending, with a sync of the names after each, and older
-    /// snapshots. Each byte of the snapshot is copied once and written once, and so is each entry. A snapshot's index or a
+    /// snapshots. Each byte of the snapshot is written from where
+    /// it lies, and each entry is copied once. A snapshot's index or a
     /// segment's number of more than sixteen digits, an entry of more than 4,294,967,295 bytes and want of the store's own
     /// memory are answered as want of memory, with nothing written.
     pub fn keep_snapshot<D: Disk>(

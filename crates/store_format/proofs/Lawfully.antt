@@ -98,10 +98,10 @@ odd x ne =
 
 -- ---- snapshots
 
-abbrev snapshot_in : ℕ → List ℕ → Snap
+abbrev pub snapshot_in : ℕ → List ℕ → Snap
 snapshot_in j x = record { index = j; term = word_from 16 x; bytes = take (size_in x) (drop 40 x) }
 
-snap_yes : (j : ℕ) (x : List ℕ) → is_snapshot j x ≡ true → snap_of j x ≡ snapshot_in j x
+pub snap_yes : (j : ℕ) (x : List ℕ) → is_snapshot j x ≡ true → snap_of j x ≡ snapshot_in j x
 unfolding snap_of
 snap_yes j x t = cond-true _ _ _ t
 
@@ -109,7 +109,7 @@ snap_no : (j : ℕ) (x : List ℕ) → is_snapshot j x ≡ false → snap_of j x
 unfolding snap_of
 snap_no j x n = cond-false _ _ _ n
 
-whole_parts : (j : ℕ) (x : List ℕ) → is_snapshot j x ≡ true → (40 ≤ length x) × (length (drop 40 x) ≡ size_in x + gap (size_in x)) × (nat_lt 0 j ≡ true)
+pub whole_parts : (j : ℕ) (x : List ℕ) → is_snapshot j x ≡ true → (40 ≤ length x) × (length (drop 40 x) ≡ size_in x + gap (size_in x)) × (nat_lt 0 j ≡ true)
 unfolding is_snapshot head_fits
 whole_parts j x t =
     let a = (and_parts (head_fits j x && fills (size_in x) (drop 40 x)) (bytes_eq (take 8 (drop 32 x)) (sum_bytes (word_from 0 x) (summed x))) t).0 in
@@ -120,7 +120,7 @@ whole_parts j x t =
     let f = and_parts (nat_le 40 (length x)) (nat_lt 0 j) e in
     (leb-true _ _ f.0, eqb-true _ _ c.0, f.1)
 
-was_snapshot : (j : ℕ) (x : List ℕ) → (snap_of j x).index ≢ 0 → is_snapshot j x ≡ true
+pub was_snapshot : (j : ℕ) (x : List ℕ) → (snap_of j x).index ≢ 0 → is_snapshot j x ≡ true
 was_snapshot j x ne = elim (cases_Bool (is_snapshot j x)) [
   | inl t ↦ t
   | inr n ↦ absurd (ne (ap (λ (s : Snap). s.index) (snap_no j x n)))

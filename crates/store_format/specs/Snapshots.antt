@@ -1,6 +1,6 @@
 -- The file of a snapshot: five words, namely format, index, term, size and a sum, and the bytes with zeros to a whole
 -- word. The sum is that of index, term, size and bytes.
-use Rattle.std.specs.Prelude.{ℕ, ◌+◌, Bool, ◌&&◌, ◌==◌, cond, nat_lt, nat_le, List, ◌++◌, length, take, drop, Option, Some, None}
+use Rattle.std.specs.Prelude.{◌≡◌, ◌<◌, ◌≤◌, ℕ, ◌+◌, Bool, ◌&&◌, ◌==◌, cond, nat_lt, nat_le, List, ◌++◌, length, take, drop, Option, Some, None}
 use Rattle.std.specs.Str.{bytes_eq}
 use Rattle.wire_words.specs.Items.{raw, gap}
 use Rattle.wire_words.specs.Reading.{are_zeros}
@@ -46,3 +46,9 @@ snapshot_bytes index term bytes = with_head (front_bytes index term (length byte
 abbrev pub snap_of_found : Option SnapshotFile → Snap
 snap_of_found None = no_snap
 snap_of_found (Some s) = record { index = s.index; term = s.term; bytes = s.bytes.now }
+
+-- Whether the file of a number holds a whole snapshot that is newer than the one of an index: its term, and how many bytes
+-- its state has, from the place 40 on.
+abbrev pub IsNewer : ℕ → ℕ → List ℕ → Option (ℕ × ℕ) → Type 0
+IsNewer number index x None = (snap_of number x).index ≤ index
+IsNewer number index x (Some found) = (snap_of number x ≡ record { index = number; term = found.0; bytes = take found.1 (drop 40 x) }) × ((index < number) × (40 + found.1 ≤ length x))

@@ -1,9 +1,9 @@
-ghost use Rattle.std.specs.Prelude.{◌≡◌, ◌<◌, ◌^◌, cond, suc, nat_lt, OnOk, IfOk, Some, None};
+ghost use Rattle.std.specs.Prelude.{◌≡◌, ◌<◌, ◌≤◌, ◌+◌, ◌^◌, cond, suc, nat_lt, length, take, drop, OnOk, Some, None};
 ghost use Rattle.store_laws.specs.Store.{newest};
 ghost use Rattle.store_laws.specs.Meta.{next_stamp};
 ghost use Rattle.store_laws.specs.WholeLoad.{is_stale};
 ghost use Rattle.store_format.specs.Metadata.{meta_in, meta_of_found};
-ghost use Rattle.store_format.specs.Snapshots.{snap_of, snap_of_found};
+ghost use Rattle.store_format.specs.Snapshots.{snap_of, IsNewer};
 ghost use Rattle.store_format.specs.NodeFormat.{node_format};
 ghost use Rattle.store_format.specs.SegmentLog.{with_segment, FitsNumber};
 ghost use Rattle.store_format.specs.FilesRead.{nothing_read, snap_kept, with_meta, with_snap, with_segment_read, lacks, judged, kept_by, Judges};
@@ -12,7 +12,7 @@ use crate::fault::FilesFault;
 use crate::kept::Kept;
 use crate::metadata::{Metadata, read_metadata};
 use crate::segment_log::{LastSegment, SegmentLog};
-use crate::snapshot::{SnapshotFile, read_snapshot};
+use crate::snapshot::read_snapshot;
 use raft_vote::{SharedBytes, Snapshot};
 use std::alloc::{AllocError, Global};
 use std::marker::Model;
@@ -69,15 +69,28 @@ fn term_of(snapshot: &Option<Snapshot>) -> u64
     }
 }
 
-fn copied(alloc: Global, file: SnapshotFile<'_>) -> Result<Snapshot, AllocError>
-    ensures { IfOk result (λ s. snap_kept (Some s) ≡ snap_of_found (Some file.entry)) }
+// The term of the snapshot in the file of a number, and how many bytes its state has, where it is whole and newer than
+// the one of an index.
+fn newer_in(number: u64, index: u64, file: &[u8]) -> Option<(u64, usize)>
+    ensures { IsNewer number index file.now result }
 {
-    let bytes = WireBytes::new(Vec::from_slice(alloc, file.bytes)?);
-    Ok(Snapshot {
-        index: file.index,
-        term: file.term,
-        bytes: SharedBytes::new(alloc, bytes)?,
-    })
+    let found = read_snapshot(number, file)?;
+    if found.index > index {
+        Some((found.term, found.bytes.len()))
+    } else {
+        None
+    }
+}
+
+// The state in a snapshot's file, moved to the front of the file's own memory.
+fn into_state(file: Vec<u8>, size: usize) -> Vec<u8>
+    requires { 40 + size ≤ length file.items }
+    ensures { result.items ≡ take size (drop 40 file.items) }
+{
+    let mut bytes = file;
+    bytes.copy_within(40..40 + size, 0);
+    bytes.truncate(size);
+    bytes
 }
 
 impl FilesRead {
@@ -100,20 +113,23 @@ impl FilesRead {
         self.metadata = newest(self.metadata, read_metadata(first, bytes));
     }
 
-    /// The bytes of the snapshot's file of a number. They are copied where the snapshot is whole and the newest so far.
-    /// `Err` is want of memory.
-    #[tactic(auto, using(crate::proofs::Newer::newer, crate::proofs::Newer::not_newer))]
-    pub fn add_snapshot(&mut self, number: u64, bytes: &[u8]) -> Result<(), AllocError>
+    /// The bytes of the snapshot's file of a number. Where the snapshot is whole and the newest so far its state stays in
+    /// their memory, and none is copied into another one. `Err` is want of memory.
+    pub fn add_snapshot(&mut self, number: u64, file: Vec<u8>) -> Result<(), AllocError>
         requires { number < 10000000000000000 }
-        ensures { OnOk result (self.new ≡ with_snap (snap_of number bytes.now) self.old) }
+        ensures { OnOk result (self.new ≡ with_snap (snap_of number file.items) self.old) }
     {
-        let index = self.snapshot_index();
-        match read_snapshot(number, bytes) {
-            Some(found) if found.index > index => {
-                self.snapshot = Some(copied(self.alloc, found)?);
+        match newer_in(number, self.snapshot_index(), file.as_slice()) {
+            None => Ok(()),
+            Some((term, size)) => {
+                let bytes = WireBytes::new(into_state(file, size));
+                self.snapshot = Some(Snapshot {
+                    index: number,
+                    term,
+                    bytes: SharedBytes::new(self.alloc, bytes)?,
+                });
                 Ok(())
             }
-            _ => Ok(()),
         }
     }
 

@@ -28,7 +28,7 @@ pub use files::FilesRead;
 pub use kept::Kept;
 pub use metadata::{Metadata, metadata_bytes, read_metadata};
 pub use segment_log::{Damage, LastSegment};
-pub use snapshot::{SnapshotFile, read_snapshot, snapshot_bytes};
+pub use snapshot::{SnapshotFile, read_snapshot, snapshot_head, snapshot_tail};
 pub use sums::{crc32, sum8};
 pub use words::format_in;
 

@@ -1,4 +1,5 @@
-ghost use Rattle.std.specs.Prelude.{◌≡◌, ◌≤◌, ◌<◌, ◌==◌, true, false, length, take, drop, IfOk, MatchOption};
+ghost use Rattle.std.specs.Prelude.{◌≡◌, ◌≤◌, ◌<◌, ◌==◌, ◌++◌, true, false, length, take, drop, IfOk, MatchOption};
+ghost use Rattle.wire_words.specs.Items.{zeros_after};
 ghost use Rattle.store_format.specs.Snapshots.{fills, head_fits, is_snapshot, size_in, snap_of, snap_of_found, snapshot_bytes};
 
 use crate::sums::{have_sum, sum8_of_both};
@@ -91,14 +92,15 @@ pub fn read_snapshot(number: u64, bytes: &[u8]) -> Option<SnapshotFile<'_>>
     })
 }
 
-/// The file of a snapshot, in format 2: the bytes are copied once. `Err` is want of memory.
-pub fn snapshot_bytes(
+/// What stands before a snapshot's bytes in its file, in format 2: 40 bytes, with the sum. The bytes themselves aren't
+/// copied. `Err` is want of memory.
+pub fn snapshot_head(
     alloc: Global,
     index: u64,
     term: u64,
     bytes: &[u8],
 ) -> Result<Vec<u8>, AllocError>
-    ensures { IfOk result (λ file. file.items ≡ snapshot_bytes index term bytes.now) }
+    ensures { IfOk result (λ head. (head.items ++ bytes.now) ++ zeros_after (length bytes.now) ≡ snapshot_bytes index term bytes.now) }
 {
     let head = front(alloc, index, term, bytes.len() as u64)?;
     let (_, numbers) = head.as_slice().split_at(8);
@@ -106,6 +108,20 @@ pub fn snapshot_bytes(
     let mut out = Writer::new(alloc);
     out.raw(head.as_slice())?;
     out.raw(&sum)?;
-    out.raw(bytes)?;
     Ok(out.finish().into_vec())
+}
+
+const ZEROS: &[u8] = &[0; 8];
+
+/// What stands behind a snapshot's bytes in its file: zeros to a whole word. Takes no memory.
+pub fn snapshot_tail(bytes: &[u8]) -> &'static [u8]
+    ensures { result.now ≡ zeros_after (length bytes.now) }
+{
+    let zeros = ZEROS;
+    let over = bytes.len() % 8;
+    if over == 0 {
+        &zeros[8..]
+    } else {
+        &zeros[over..]
+    }
 }

@@ -1,7 +1,8 @@
 use std::alloc::{AllocError, Global};
 use std::test::Fail;
 use store_format::{
-    Metadata, crc32, metadata_bytes, read_metadata, read_snapshot, snapshot_bytes, sum8,
+    Metadata, crc32, metadata_bytes, read_metadata, read_snapshot, snapshot_head, snapshot_tail,
+    sum8,
 };
 use wire_words::Writer;
 
@@ -57,7 +58,9 @@ fn are_written(alloc: Global, block: &[u64], file: &[u64]) -> Result<bool, Alloc
         vote: 0,
     };
     let written = metadata_bytes(alloc, &metadata)?;
-    let snapshot = snapshot_bytes(alloc, 7, 2, b"abc")?;
+    let mut snapshot = snapshot_head(alloc, 7, 2, b"abc")?;
+    snapshot.extend_from_slice(b"abc")?;
+    snapshot.extend_from_slice(snapshot_tail(b"abc"))?;
     let wanted = file_of(alloc, block)?;
     let wanted_snapshot = file_of(alloc, file)?;
     Ok(written.as_slice() == wanted.as_slice() && snapshot.as_slice() == wanted_snapshot.as_slice())

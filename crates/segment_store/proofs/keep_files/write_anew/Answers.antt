@@ -12,7 +12,7 @@ returns-in_err-cut-clause-ran g c = λ known.
 pub returns-clause-ran : goal.returns-clause-ran
 returns-clause-ran g c = λ known.
     let cut = c.in_ok-cut.ensures.told in
-    ran_then _ _ _ _ _ _ c.replace.result cut (c.replace.ensures.ran (cut_may_write c.args.name.now g.D.Disk.tells _ _ c.in_ok-cut.field-0 known cut))
+    ran_then _ _ _ _ _ _ c.write_new.result cut (c.write_new.ensures.ran (cut_may_write c.args.name.now g.D.Disk.tells _ _ c.in_ok-cut.field-0 known cut))
 
 pub returns-in_err-cut-clause-count : goal.returns-in_err-cut-clause-count
 returns-in_err-cut-clause-count g c =
@@ -20,4 +20,4 @@ returns-in_err-cut-clause-count g c =
     rw p.1 (calls_stop 3 _ _ _ c.in_err-cut.ensures.count)
 
 pub returns-clause-count : goal.returns-clause-count
-returns-clause-count g c = calls_then 3 _ _ _ c.replace.result c.in_ok-cut.ensures.count c.replace.ensures.count
+returns-clause-count g c = calls_then 3 _ _ _ c.write_new.result c.in_ok-cut.ensures.count c.write_new.ensures.count
