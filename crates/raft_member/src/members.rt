@@ -141,6 +141,24 @@ impl Members {
         }
     }
 
+    /// The index up to which the log is applied. Constant cost; takes no memory.
+    pub fn applied_index(&self) -> u64
+        ensures { result ≡ self.now.at }
+    {
+        self.at
+    }
+
+    /// The index of the last change; the one up to which the log is applied, where no change stands after it. Constant cost;
+    /// takes no memory.
+    pub fn last_index(&self) -> u64
+        ensures { result ≡ last_index self.now }
+    {
+        match self.changes.last() {
+            Some(change) => change.index,
+            None => self.at,
+        }
+    }
+
     /// The configuration at the index up to which the log is applied. Constant cost; takes no memory.
     pub fn applied(&self) -> &[Server]
         ensures value { result.now ≡ self.now.servers }
