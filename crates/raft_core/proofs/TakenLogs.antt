@@ -2,7 +2,7 @@
 use Rattle.std.proofs.Common.{◌≡◌, ◌≢◌, ◌⊎◌, inl, inr, ℕ, suc, ◌+◌, ◌-◌, ◌<◌, ◌≤◌, List, ◌++◌, length, take, drop, refl, sym, ap, subst, ◌∙◌, ⊎_elim, arith, append_assoc, length-append, length-drop}
 use Rattle.std.specs.Prelude.{Bool, true, false, cond, ◌&&◌, ◌||◌, ◌==◌, nat_lt, nat_le, max, Option, Some, None, option_map}
 use Rattle.std.proofs.lemmas.Bool.{cond-false, cases_lt, and_cases, ltb-false, leb-true, leb-false, le-leb, ne_eqb}
-use Rattle.std.proofs.lemmas.List.{take_all, drop_at, length-take-le}
+use Rattle.std.proofs.lemmas.List.{take_all, length-take-le}
 use Rattle.std.proofs.Math.Seq.{take-append-add, drop-append-add}
 use Rattle.raft_rules.specs.Log.{Entry, LogEnd, nth_term, term_at, matches, conflict_place, first_replaced}
 use Rattle.raft_rules.specs.Todo.{Begins}

@@ -1,4 +1,4 @@
-// Log compaction: snapshots that a node's owner has taken, and those that a leader sends.
+//! Log compaction: snapshots that a node's owner has taken, and those that a leader sends.
 ghost use Rattle.std.specs.Prelude.{◌≡◌, ◌<◌, ◌≤◌, ◌-◌, [], true, false, nat_le, drop};
 ghost use Rattle.raft_rules.specs.Compaction.{compacted};
 ghost use Rattle.raft_rules.specs.Log.{matches};
@@ -94,7 +94,7 @@ impl RaftNode {
         Effects::installs(acked(from, last), last)
     }
 
-    // An Install of the own term, with the end of its snapshot.
+    /// An Install of the own term, with the end of its snapshot.
     pub(crate) fn on_install(&mut self, alloc: Global, from: u64, last: LogEnd) -> Effects
         ensures outcome { Ends self.old (on_install self.old.id (node_of self.old) from last (compacted last last.index)) self.new result }
         ensures log { ChangesLog (node_of self.old) (node_of self.new) result.change }
@@ -115,6 +115,7 @@ impl RaftNode {
         requires applied { index ≤ self.old.commit }
         ensures { self.new ≡ compacted_at self.old index }
     {
+        // A look at a part tells the prover what holds of the log.
         let _ = &self.votes;
         let term = self.log_term(index);
         let first = Compact::new(self.snapshot).keep_from(index);
@@ -122,11 +123,12 @@ impl RaftNode {
         self.snapshot = LogEnd { index, term };
     }
 
-    // The node's owner has kept a snapshot.
+    /// The node's owner has kept a snapshot.
     pub(crate) fn snapped(&mut self, index: u64) -> Effects
         ensures outcome { Ends self.old (on_snapped (node_of self.old) index) self.new result }
         ensures change { result.change ≡ LogChange.Nothing }
     {
+        // A look at a part tells the prover what holds of the log.
         let _ = &self.votes;
         let snapshot = self.snapshot();
         if index <= snapshot.index {

@@ -1,4 +1,4 @@
-// What a rule has made beside the node after it.
+//! What a rule has made beside the node after it.
 ghost use Rattle.std.specs.Prelude.{◌≡◌};
 
 use raft_vote::LogEnd;

@@ -1,4 +1,4 @@
-// Elections: standing, granting votes, and winning.
+//! Elections: standing, granting votes, and winning.
 ghost use Rattle.std.specs.Prelude.{◌≡◌, suc, IfOk, [], ◌∷◌, length};
 ghost use Rattle.raft_rules.specs.Elections.{may_start_election, start_election, on_grants, on_ask_vote, on_vote};
 ghost use Rattle.raft_rules.specs.Node.{among, majority, voters};
@@ -63,7 +63,7 @@ impl RaftNode {
         })
     }
 
-    // A timeout: who may stand does, and asks every other voter.
+    /// A timeout: who may stand does, and asks every other voter.
     pub(crate) fn start_election(&mut self, alloc: Global) -> Result<Effects, AllocError>
         ensures { IfOk result (λ effects. Does self.old (start_election (told self.old) self.old.id (node_of self.old)) self.new effects) }
     {
@@ -77,7 +77,7 @@ impl RaftNode {
         self.after_count(alloc, won, Say::AskVotes { last })
     }
 
-    // A node asks for the vote in the own term.
+    /// A node asks for the vote in the own term.
     pub(crate) fn on_ask_vote(&mut self, from: u64, last: LogEnd) -> Effects
         ensures { Does self.old (on_ask_vote self.old.id (node_of self.old) from last) self.new result }
     {
@@ -85,7 +85,7 @@ impl RaftNode {
         Effects::says(Say::Vote { to: from, granted })
     }
 
-    // The answer of a node that was asked comes.
+    /// The answer of a node that was asked comes.
     pub(crate) fn on_vote(
         &mut self,
         alloc: Global,

@@ -1,4 +1,4 @@
-// The end of a step: a leader moves its commit index, and sends.
+//! The end of a step: a leader moves its commit index, and sends.
 ghost use Rattle.std.specs.Prelude.{◌≡◌, ◌++◌, ◌-◌, ◌∷◌, [], false, nat_lt, cond, suc, IfOk, map, take, drop};
 ghost use Rattle.raft_rules.specs.Commitment.{commit_index};
 ghost use Rattle.raft_rules.specs.Compaction.{compact_message};
@@ -142,7 +142,7 @@ impl RaftNode {
         Ok(Sending::Message(self.append_for(alloc, peer, next)?))
     }
 
-    // Sends the log to these peers.
+    /// Sends the log to these peers.
     pub(crate) fn send(
         &self,
         alloc: Global,
@@ -173,7 +173,7 @@ impl RaftNode {
         }
     }
 
-    // The end of a step: all that the node sends. A leader first moves its commit index.
+    /// The end of a step: all that the node sends. A leader first moves its commit index.
     pub(crate) fn finish(
         &mut self,
         alloc: Global,

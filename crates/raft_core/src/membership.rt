@@ -1,4 +1,4 @@
-// Other servers: what a node does when it is told them.
+//! Other servers: what a node does when it is told them.
 ghost use Rattle.std.specs.Prelude.{◌≡◌, ◌++◌, ◌∷◌, [], suc, IfOk, length};
 ghost use Rattle.raft_rules.specs.Membership.{gained, on_servers};
 ghost use Rattle.raft_rules.specs.Node.{Candidate, voters, peers};
@@ -25,7 +25,7 @@ fn add_voter(ids: &mut Vec<u64>, server: &Server) -> Result<(), AllocError>
     Ok(())
 }
 
-// The ids of the servers that vote.
+/// The ids of the servers that vote.
 pub(crate) fn voter_ids(alloc: Global, servers: &[Server]) -> Result<Vec<u64>, AllocError>
     ensures { IfOk result (λ ids. ids.items ≡ voters servers.now) }
 {
@@ -47,7 +47,7 @@ fn add_peer(ids: &mut Vec<u64>, server: &Server, own: u64) -> Result<(), AllocEr
     Ok(())
 }
 
-// The ids of the other servers that get the log.
+/// The ids of the other servers that get the log.
 pub(crate) fn peer_ids(alloc: Global, servers: &[Server], own: u64) -> Result<Vec<u64>, AllocError>
     ensures { IfOk result (λ ids. ids.items ≡ peers servers.now own) }
 {
@@ -68,7 +68,7 @@ fn gained_ids(alloc: Global, old: &[u64], new: &[u64]) -> Result<Vec<u64>, Alloc
         .collect(alloc)
 }
 
-// A copy of servers.
+/// A copy of servers.
 pub(crate) fn copied(alloc: Global, servers: &[Server]) -> Result<Vec<Server>, AllocError>
     ensures { IfOk result (λ copies. copies.items ≡ servers.now) }
 {
@@ -112,7 +112,7 @@ impl RaftNode {
         Ok(gained)
     }
 
-    // The step in which a node is told its servers: a leader sends to the peers that it gains.
+    /// The step in which a node is told its servers: a leader sends to the peers that it gains.
     pub(crate) fn use_servers(
         &mut self,
         alloc: Global,

@@ -1,3 +1,4 @@
+//! One node of Raft: its parts, what holds of them, and how single parts are read.
 ghost use Rattle.std.specs.Prelude.{◌≡◌, ◌⊎◌, ◌<◌, ◌≤◌, suc, IfOk, length};
 ghost use Rattle.raft_rules.specs.Log.{log_end, term_at};
 ghost use Rattle.raft_rules.specs.Node.{among, is_leader, is_candidate, voters, peers};
@@ -44,7 +45,7 @@ impl Model for RaftNode {
     ghost invariant = { λ n. IsLog n.log n.commit n.snapshot × IsMembership n.votes.id n.servers n.voters.items n.peers.items n.progress × HasVoters (role_value n.role) n.votes.grants n.servers };
 }
 
-// Whether the id is one of these.
+/// Whether the id is one of these.
 pub(crate) fn contains(ids: &[u64], id: u64) -> bool
     ensures { result ≡ among ids.now id }
 {
@@ -52,77 +53,77 @@ pub(crate) fn contains(ids: &[u64], id: u64) -> bool
 }
 
 impl RaftNode {
-    // Its id.
+    /// Its id.
     pub(crate) fn id(&self) -> u64
         ensures { result ≡ self.now.id }
     {
         self.votes.id()
     }
 
-    // Its term.
+    /// Its term.
     pub(crate) fn term(&self) -> u64
         ensures { result ≡ self.now.term }
     {
         self.votes.term()
     }
 
-    // To whom it gave its vote in this term.
+    /// To whom it gave its vote in this term.
     pub(crate) fn vote(&self) -> u64
         ensures { result ≡ self.now.vote }
     {
         self.votes.vote()
     }
 
-    // Its role.
+    /// Its role.
     pub(crate) fn role(&self) -> RaftRole
         ensures { role_value result ≡ self.now.role }
     {
         self.role
     }
 
-    // Whether it leads.
+    /// Whether it leads.
     pub(crate) fn leads(&self) -> bool
         ensures { result ≡ is_leader self.now.role }
     {
         self.role.leads()
     }
 
-    // Whether it stands for election.
+    /// Whether it stands for election.
     pub(crate) fn stands(&self) -> bool
         ensures { result ≡ is_candidate self.now.role }
     {
         self.role.stands()
     }
 
-    // Its commit index.
+    /// Its commit index.
     pub(crate) fn commit(&self) -> u64
         ensures { result ≡ self.now.commit }
     {
         self.commit
     }
 
-    // The end of its kept snapshot.
+    /// The end of its kept snapshot.
     pub(crate) fn snapshot(&self) -> LogEnd
         ensures { result ≡ self.now.snapshot }
     {
         self.snapshot
     }
 
-    // The servers that vote.
+    /// The servers that vote.
     pub(crate) fn voters(&self) -> &[u64]
         ensures { result.now ≡ voters self.now.servers }
     {
         self.voters.as_slice()
     }
 
-    // To whom it sends its log as a leader.
+    /// To whom it sends its log as a leader.
     pub(crate) fn peers(&self) -> &[u64]
         ensures { result.now ≡ peers self.now.servers self.now.id }
     {
         self.peers.as_slice()
     }
 
-    // The last index of its log.
+    /// The last index of its log.
     #[tactic(auto, using(raft_log::proofs::Places::whole_count, raft_rules::proofs::NodeValues::whole_length))]
     pub(crate) fn last_index(&self) -> u64
         ensures { result ≡ length (node_of self.now).log }
@@ -130,21 +131,21 @@ impl RaftNode {
         self.log.last_index()
     }
 
-    // The end of its log.
+    /// The end of its log.
     pub(crate) fn end(&self) -> LogEnd
         ensures { result ≡ log_end (node_of self.now).log }
     {
         self.log.end()
     }
 
-    // What holds of every node, for the prover alone: a look at a part tells it what holds of all parts.
+    /// What holds of every node, for the prover alone: a look at a part tells it what holds of all parts.
     pub(crate) fn coherent(&self)
         ensures { IsCoherent self.now }
     {
         let _ = &self.votes;
     }
 
-    // The index after the last one. One that is too great is want of memory.
+    /// The index after the last one. One that is too great is want of memory.
     #[tactic(auto, using(raft_rules::proofs::NodeValues::whole_length))]
     pub(crate) fn next_index(&self) -> Result<u64, AllocError>
         ensures next { IfOk result (λ next. next ≡ suc (length (node_of self.now).log)) }
@@ -158,14 +159,14 @@ impl RaftNode {
         }
     }
 
-    // Whether it votes.
+    /// Whether it votes.
     pub(crate) fn is_voter(&self) -> bool
         ensures { result ≡ among (voters self.now.servers) self.now.id }
     {
         contains(self.voters(), self.id())
     }
 
-    // The index after the cut. One that is too great is want of memory.
+    /// The index after the cut. One that is too great is want of memory.
     pub(crate) fn first_index(&self) -> Result<u64, AllocError>
         ensures { IfOk result (λ first. first ≡ suc self.now.base) }
     {
@@ -175,7 +176,7 @@ impl RaftNode {
         }
     }
 
-    // The index up to which the log is cut off.
+    /// The index up to which the log is cut off.
     pub(crate) fn cut_index(&self) -> u64
         ensures { result ≡ self.now.base }
     {
@@ -183,15 +184,15 @@ impl RaftNode {
         first.index
     }
 
-    // The index of the next entry to send to a peer.
+    /// The index of the next entry to send to a peer.
     pub(crate) fn next_of(&self, peer: u64) -> u64
         ensures { result ≡ next_in self.now.rows peer }
     {
         self.progress.next_of(peer)
     }
 
-    // The term at an index where it is known: past the cut, or at the cut where that is the log's begin or the snapshot's
-    // end. Past the log's end it is 0.
+    /// The term at an index where it is known: past the cut, or at the cut where that is the log's begin or the snapshot's
+    /// end. Past the log's end it is 0.
     pub(crate) fn log_term(&self, index: u64) -> u64
         requires past { self.now.base ≤ index }
         requires known { index ≡ self.now.base → (self.now.base ≡ 0) ⊎ (self.now.base ≡ self.now.snapshot.index) }

@@ -1,4 +1,4 @@
-// What a node does with a message, by its term.
+//! What a node does with a message, by its term.
 ghost use Rattle.std.specs.Prelude.{◌≡◌, nat_lt, cond, true, IfOk, []};
 ghost use Rattle.raft_rules.specs.Node.{Follower};
 ghost use Rattle.raft_rules.specs.NodeValues.{node_of};
@@ -55,20 +55,20 @@ impl RaftNode {
     }
 
     // A message of the own term.
-    fn on_own_term(&mut self, alloc: Global, from: u64, what: &What) -> Result<Effects, AllocError>
-        requires { what_in_range (what_value what.now) ≡ true }
-        ensures outcome { IfOk result (λ effects. Ends self.old (on_own_term (told self.old) self.old.id (node_of self.old) from (what_value what.now)) self.new effects) }
+    fn on_own_term(&mut self, alloc: Global, from: u64, what: What) -> Result<Effects, AllocError>
+        requires { what_in_range (what_value what) ≡ true }
+        ensures outcome { IfOk result (λ effects. Ends self.old (on_own_term (told self.old) self.old.id (node_of self.old) from (what_value what)) self.new effects) }
         ensures log { IfOk result (λ effects. ChangesLog (node_of self.old) (node_of self.new) effects.change) }
     {
         match what {
-            What::AskVote { last } => Ok(self.on_ask_vote(from, *last)),
-            What::Vote { granted } => self.on_vote(alloc, from, *granted),
+            What::AskVote { last } => Ok(self.on_ask_vote(from, last)),
+            What::Vote { granted } => self.on_vote(alloc, from, granted),
             What::Append {
                 prev,
                 commit,
                 entries,
-            } => self.on_append(alloc, from, *prev, *commit, entries.as_slice()),
-            What::Ack { good, index } => Ok(self.on_ack(from, *good, *index)),
+            } => self.on_append(from, prev, commit, entries.into_vec()),
+            What::Ack { good, index } => Ok(self.on_ack(from, good, index)),
             What::Install { snapshot } => Ok(self.on_install(
                 alloc,
                 from,
@@ -81,22 +81,22 @@ impl RaftNode {
         }
     }
 
-    // A message comes.
+    /// A message comes. The entries of an Append are moved into the log.
     pub(crate) fn on_message(
         &mut self,
         alloc: Global,
-        message: &RaftMessage,
+        message: RaftMessage,
     ) -> Result<Effects, AllocError>
-        ensures outcome { IfOk result (λ effects. Ends self.old (on_message (told self.old) self.old.id (node_of self.old) (message_value message.now)) self.new effects) }
+        ensures outcome { IfOk result (λ effects. Ends self.old (on_message (told self.old) self.old.id (node_of self.old) (message_value message)) self.new effects) }
         ensures log { IfOk result (λ effects. ChangesLog (node_of self.old) (node_of self.new) effects.change) }
     {
-        if !is_in_range(message) {
+        if !is_in_range(&message) {
             return Ok(Effects::says(Say::Nothing));
         }
         if message.term < self.term() {
             return Ok(self.on_older_term(message.from, &message.what));
         }
         self.hear_term(message.term);
-        self.on_own_term(alloc, message.from, &message.what)
+        self.on_own_term(alloc, message.from, message.what)
     }
 }

@@ -1,4 +1,4 @@
-// Log replication: what an Append does at a follower, what its Ack does at the leader, and what a leader appends.
+//! Log replication: what an Append does at a follower, what its Ack does at the leader, and what a leader appends.
 ghost use Rattle.std.specs.Prelude.{◌≡◌, ◌<◌, ◌≤◌, ◌+◌, ◌-◌, ◌&&◌, nat_lt, nat_le, max, min, true, IfOk, length, drop};
 ghost use Rattle.raft_rules.specs.Log.{first_replaced};
 ghost use Rattle.raft_rules.specs.Node.{among, peers, is_leader};
@@ -8,16 +8,18 @@ ghost use Rattle.raft_core.specs.Effects.{Does};
 
 use crate::effects::{Effects, LogChange, Recipients, Say};
 use crate::node::{RaftNode, contains};
-use raft_vote::{Entry, LogEnd};
-use std::alloc::{AllocError, Global};
+use raft_vote::{Entries, Entry, LogEnd};
+use std::alloc::AllocError;
 
-// The entries of an Append that stand past an index.
-fn past(entries: &[Entry], prev: LogEnd, index: u64) -> &[Entry]
-    ensures { result.now ≡ drop (index - prev.index) entries.now }
+// The entries of an Append that stand past an index: those up to there go.
+fn past(entries: Vec<Entry>, prev: LogEnd, index: u64) -> Vec<Entry>
+    ensures { result.items ≡ drop (index - prev.index) entries.items }
 {
+    let mut entries = entries;
     let count = index.saturating_sub(prev.index);
-    let from = count.min(entries.len() as u64);
-    &entries[from as usize..]
+    let gone = count.min(entries.len() as u64);
+    drop(entries.drain(..gone as usize));
+    entries
 }
 
 // The previous place of an Append, or the snapshot's end where that is later.
@@ -49,6 +51,7 @@ impl RaftNode {
         ensures answer { result ≡ agrees (node_of self.now) prev }
         ensures place { result ≡ true → max prev.index self.now.snapshot.index ≤ length (node_of self.now).log }
     {
+        // A look at a part tells the prover what holds of the log.
         let _ = &self.votes;
         let snapshot = self.snapshot();
         if prev.index <= snapshot.index {
@@ -74,18 +77,17 @@ impl RaftNode {
         self.log.replaces(place, coming, self.commit)
     }
 
-    // An Append of the own term.
+    /// An Append of the own term. Its entries are moved into the log.
     pub(crate) fn on_append(
         &mut self,
-        alloc: Global,
         from: u64,
         prev: LogEnd,
         commit: u64,
-        entries: &[Entry],
+        entries: Vec<Entry>,
     ) -> Result<Effects, AllocError>
         requires index { prev.index ≤ 4294967295 }
-        requires few { length entries.now ≤ 16 }
-        ensures { IfOk result (λ effects. Does self.old (on_append self.old.id (node_of self.old) from prev commit entries.now) self.new effects) }
+        requires few { length entries.items ≤ 16 }
+        ensures { IfOk result (λ effects. Does self.old (on_append self.old.id (node_of self.old) from prev commit entries.items) self.new effects) }
     {
         if self.leads() {
             return Ok(Effects::says(Say::Nothing));
@@ -99,14 +101,14 @@ impl RaftNode {
                 index,
             }));
         }
+        let index = last_known(prev, entries.as_slice());
         let place = place_past(prev, self.snapshot());
         let coming = past(entries, prev, place);
-        if self.replaces_committed(place, coming) {
+        if self.replaces_committed(place, coming.as_slice()) {
             return Ok(Effects::says(Say::Nothing));
         }
         self.follow(from);
-        let index = last_known(prev, entries);
-        let change = self.take_in(alloc, place, coming, known_commit(commit, index))?;
+        let change = self.take_in(place, coming, known_commit(commit, index))?;
         Ok(Effects {
             say: Say::Ack {
                 to: from,
@@ -118,7 +120,7 @@ impl RaftNode {
         })
     }
 
-    // An Ack of the own term.
+    /// An Ack of the own term.
     pub(crate) fn on_ack(&mut self, from: u64, good: bool, index: u64) -> Effects
         requires { index ≤ 4294967295 }
         ensures { Does self.old (on_ack self.old.id (node_of self.old) from good index) self.new result }
@@ -155,9 +157,9 @@ impl RaftNode {
         Effects::says(Say::Nothing)
     }
 
-    // A leader appends entries.
-    pub(crate) fn propose(&mut self, entries: &[Entry]) -> Result<Effects, AllocError>
-        ensures { IfOk result (λ effects. Does self.old (on_propose (node_of self.old) entries.now) self.new effects) }
+    /// A leader appends entries, which are moved into its log.
+    pub(crate) fn propose(&mut self, entries: Entries) -> Result<Effects, AllocError>
+        ensures { IfOk result (λ effects. Does self.old (on_propose (node_of self.old) entries) self.new effects) }
     {
         if !self.leads() {
             return Ok(Effects::says(Say::Nothing));
@@ -174,7 +176,7 @@ impl RaftNode {
         })
     }
 
-    // A leader's heartbeat.
+    /// A leader's heartbeat.
     pub(crate) fn beat(&self) -> Effects
         ensures { Does self.now (on_beat (node_of self.now)) self.now result }
     {
@@ -184,7 +186,7 @@ impl RaftNode {
         Effects::says(Say::Nothing)
     }
 
-    // A leader hands its office over.
+    /// A leader hands its office over.
     pub(crate) fn transfer(&self, to: u64) -> Effects
         ensures { Does self.now (on_transfer self.now.id (node_of self.now) to) self.now result }
     {

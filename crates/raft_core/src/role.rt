@@ -1,3 +1,4 @@
+//! What a node is in its term.
 ghost use Rattle.std.specs.Prelude.{◌≡◌};
 ghost use Rattle.raft_rules.specs.Node.{is_leader, is_candidate};
 ghost use Rattle.raft_core.specs.Roles.{role_value};

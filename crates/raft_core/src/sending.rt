@@ -1,3 +1,4 @@
+//! What a node sends.
 use dq_base::Items;
 use raft_vote::{LogEnd, RaftMessage};
 

@@ -1,4 +1,4 @@
-// How single parts of a node change.
+//! How single parts of a node change.
 ghost use Rattle.std.specs.Prelude.{◌≡◌, ◌<◌, ◌≤◌, suc, IfOk, [], ◌∷◌, ◌++◌, true, false, cond, length};
 ghost use Rattle.raft_rules.specs.Elections.{grants_vote, grants_with};
 ghost use Rattle.raft_rules.specs.Node.{among, majority, voters, peers, Leader, Candidate, Follower};
@@ -12,7 +12,7 @@ use raft_vote::{Entry, LogEnd};
 use std::alloc::AllocError;
 
 impl RaftNode {
-    // A greater term is taken, with no vote and no known leader.
+    /// A greater term is taken, with no vote and no known leader.
     pub(crate) fn take_term(&mut self, term: u64)
         requires { self.old.term < term }
         ensures { self.new ≡ record self.old { term = term; vote = 0; role = Follower; leader = 0; grants = [] } }
@@ -22,7 +22,7 @@ impl RaftNode {
         self.votes.on_term(term);
     }
 
-    // The node follows the leader of its term.
+    /// The node follows the leader of its term.
     pub(crate) fn follow(&mut self, leader: u64)
         ensures { self.new ≡ record self.old { role = Follower; leader = leader } }
     {
@@ -30,7 +30,7 @@ impl RaftNode {
         self.leader = leader;
     }
 
-    // A voter stands in the next term, with its own vote.
+    /// A voter stands in the next term, with its own vote.
     pub(crate) fn stand(&mut self)
         requires term { self.old.term < 4294967295 }
         requires voter { among (voters self.old.servers) self.old.id ≡ true }
@@ -41,7 +41,7 @@ impl RaftNode {
         self.votes.on_timeout();
     }
 
-    // A node asks for the vote in the own term.
+    /// A node asks for the vote in the own term.
     pub(crate) fn ask(&mut self, from: u64, last: LogEnd) -> bool
         ensures answer { result ≡ grants_vote (node_of self.old) from last }
         ensures node { self.new ≡ cond (grants_vote (node_of self.old) from last) (record self.old { vote = from }) self.old }
@@ -51,7 +51,7 @@ impl RaftNode {
         self.votes.on_request(from, term, last, own)
     }
 
-    // A candidate gets a vote; true exactly where a majority of the voters has granted then.
+    /// A candidate gets a vote; true exactly where a majority of the voters has granted then.
     pub(crate) fn count(&mut self, from: u64) -> bool
         requires { self.old.role ≡ Candidate }
         ensures node { self.new ≡ record self.old { grants = grants_with (voters self.old.servers) self.old.grants from } }
@@ -60,7 +60,7 @@ impl RaftNode {
         self.votes.on_grant(from, self.voters.as_slice())
     }
 
-    // The node leads its term; next of each peer is the given index, and match is 0.
+    /// The node leads its term; next of each peer is the given index, and match is 0.
     pub(crate) fn lead(&mut self, next: u64)
         ensures { self.new ≡ record self.old { role = Leader; leader = self.old.id; rows = rows_for (peers self.old.servers self.old.id) next [] } }
     {
@@ -71,7 +71,7 @@ impl RaftNode {
         self.progress = progress;
     }
 
-    // An entry is added at the log's end. Where memory runs out the node stays.
+    /// An entry is added at the log's end. Where memory runs out the node stays.
     pub(crate) fn push(&mut self, entry: Entry) -> Result<(), AllocError>
         ensures { IfOk result (λ done. self.new ≡ record self.old { entries = self.old.entries ++ entry ∷ [] }) }
     {

@@ -64,17 +64,17 @@ fn offered(event: &RaftEvent) -> Result<Option<Snapshot>, AllocError>
 
 impl RaftNode {
     // The rule of an event, but for other servers.
-    fn apply(&mut self, alloc: Global, event: &RaftEvent) -> Result<Effects, AllocError>
-        requires { IsRuled event.now }
-        ensures outcome { IfOk result (λ effects. Ends self.old (rule_at self.old event.now) self.new effects) }
-        ensures log { IfOk result (λ effects. ChangesAt event.now (node_of self.old) (node_of self.new) effects.change) }
+    fn apply(&mut self, alloc: Global, event: RaftEvent) -> Result<Effects, AllocError>
+        requires { IsRuled event }
+        ensures outcome { IfOk result (λ effects. Ends self.old (rule_at self.old event) self.new effects) }
+        ensures log { IfOk result (λ effects. ChangesAt event (node_of self.old) (node_of self.new) effects.change) }
     {
         match event {
             RaftEvent::Timeout => self.start_election(alloc),
             RaftEvent::Beat => Ok(self.beat()),
             RaftEvent::Message(message) => self.on_message(alloc, message),
-            RaftEvent::Propose(entries) => self.propose(entries.as_slice()),
-            RaftEvent::Transfer(to) => Ok(self.transfer(*to)),
+            RaftEvent::Propose(entries) => self.propose(entries),
+            RaftEvent::Transfer(to) => Ok(self.transfer(to)),
             RaftEvent::Snapped { at } => Ok(self.snapped(at.index)),
             RaftEvent::Servers(_) => Ok(Effects::says(Say::Nothing)),
         }
@@ -158,21 +158,21 @@ impl RaftNode {
     }
 
     // The step of an event but that of other servers.
-    fn step_rule(&mut self, alloc: Global, event: &RaftEvent) -> Result<Todo, AllocError>
-        requires { IsRuled event.now }
+    fn step_rule(&mut self, alloc: Global, event: RaftEvent) -> Result<Todo, AllocError>
+        requires { IsRuled event }
         ensures id { IfOk result (λ todo. self.new.id ≡ self.old.id) }
         ensures coherent { IfOk result (λ todo. IsCoherent self.new) }
-        ensures node { IfOk result (λ todo. node_of self.new ≡ (compacted_step self.old.id (node_of self.old) (input_of event.now)).node) }
+        ensures node { IfOk result (λ todo. node_of self.new ≡ (compacted_step self.old.id (node_of self.old) (input_of event)).node) }
         ensures meta { IfOk result (λ todo. IsMeta self.old.term self.old.vote self.new todo.meta) }
-        ensures log { IfOk result (λ todo. WritesLog event.now (node_of self.old) (node_of self.new) todo.install todo.batch) }
-        ensures install { IfOk result (λ todo. IsOffered event.now todo.install) }
-        ensures sends { IfOk result (λ todo. sents_value self.old.id todo.sends ≡ (compacted_step self.old.id (node_of self.old) (input_of event.now)).out) }
+        ensures log { IfOk result (λ todo. WritesLog event (node_of self.old) (node_of self.new) todo.install todo.batch) }
+        ensures install { IfOk result (λ todo. IsOffered event todo.install) }
+        ensures sends { IfOk result (λ todo. sents_value self.old.id todo.sends ≡ (compacted_step self.old.id (node_of self.old) (input_of event)).out) }
         ensures commit { IfOk result (λ todo. todo.commit ≡ self.new.commit) }
     {
         // It tells the prover that the snapshot is applied before the step.
         self.coherent();
         let was = self.meta();
-        let came = offered(event)?;
+        let came = offered(&event)?;
         let effects = self.apply(alloc, event)?;
         let todo = self.end_step(
             alloc,
@@ -211,22 +211,22 @@ impl RaftNode {
         })
     }
 
-    // The step of an event that is lent.
-    fn step_by(&mut self, alloc: Global, event: &RaftEvent) -> Result<Todo, AllocError>
-        requires { EventFits self.old event.now }
+    // The step of an event, by whether it tells the node its servers.
+    fn step_by(&mut self, alloc: Global, event: RaftEvent) -> Result<Todo, AllocError>
+        requires { EventFits self.old event }
         ensures id { IfOk result (λ todo. self.new.id ≡ self.old.id) }
         ensures coherent { IfOk result (λ todo. IsCoherent self.new) }
-        ensures node { IfOk result (λ todo. node_of self.new ≡ (compacted_step self.old.id (node_of self.old) (input_of event.now)).node) }
+        ensures node { IfOk result (λ todo. node_of self.new ≡ (compacted_step self.old.id (node_of self.old) (input_of event)).node) }
         ensures meta { IfOk result (λ todo. IsMeta self.old.term self.old.vote self.new todo.meta) }
-        ensures log { IfOk result (λ todo. WritesLog event.now (node_of self.old) (node_of self.new) todo.install todo.batch) }
-        ensures install { IfOk result (λ todo. IsOffered event.now todo.install) }
-        ensures sends { IfOk result (λ todo. sents_value self.old.id todo.sends ≡ (compacted_step self.old.id (node_of self.old) (input_of event.now)).out) }
+        ensures log { IfOk result (λ todo. WritesLog event (node_of self.old) (node_of self.new) todo.install todo.batch) }
+        ensures install { IfOk result (λ todo. IsOffered event todo.install) }
+        ensures sends { IfOk result (λ todo. sents_value self.old.id todo.sends ≡ (compacted_step self.old.id (node_of self.old) (input_of event)).out) }
         ensures commit { IfOk result (λ todo. todo.commit ≡ self.new.commit) }
     {
-        match told_servers(event) {
-            Some(servers) => self.step_servers(alloc, servers),
-            None => self.step_rule(alloc, event),
+        if let Some(servers) = told_servers(&event) {
+            return self.step_servers(alloc, servers);
         }
+        self.step_rule(alloc, event)
     }
 
     /// One step of the node: the rules' step of the node that it stands for. Answers what is to be kept, then sent, and
@@ -251,6 +251,6 @@ impl RaftNode {
         ensures installs { IfOk result (λ todo. AllByRecursion IsBare todo.sends) }
         ensures commit { IfOk result (λ todo. todo.commit ≡ self.new.commit) }
     {
-        self.step_by(alloc, &event)
+        self.step_by(alloc, event)
     }
 }

@@ -1,3 +1,4 @@
+//! The log of one node, cut off at its front.
 ghost use Rattle.std.specs.Prelude.{◌≡◌, ◌<◌, ◌≤◌, ◌+◌, ◌-◌, ◌++◌, suc, true, MatchOption, option_map, [], ◌∷◌, OnErr, IfOk, IfSome, IsSome, ◌↔◌, if◌then◌else◌, is_ok, length, take, drop, slice_index_or, ◌&&◌, nat_lt, nat_le};
 ghost use Rattle.raft_rules.specs.Log.{nth_term, log_end, term_at, first_replaced};
 ghost use Rattle.raft_rules.specs.Compaction.{whole_log, meets};
@@ -106,7 +107,7 @@ impl Log {
         term_of(&self.entries, place)
     }
 
-    // The term at an index of the whole log; what is cut off has the term of the cut.
+    /// The term at an index of the whole log; what is cut off has the term of the cut.
     pub(crate) fn whole_term(&self, index: u64) -> u64
         requires { index ≤ length (whole_log self.now) }
         ensures { result ≡ term_at (whole_log self.now) index }

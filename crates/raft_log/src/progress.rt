@@ -1,3 +1,4 @@
+//! What a leader knows of the logs of all nodes, and the commit index that follows.
 ghost use Rattle.std.specs.Prelude.{◌≡◌, ◌<◌, ◌≤◌, ◌+◌, ◌++◌, nat_le, length, take, []};
 ghost use Rattle.std.specs.List.{count_by};
 ghost use Rattle.raft_rules.specs.Commitment.{is_stored_by_majority};

@@ -10,8 +10,8 @@ use std::marker::Model;
 /// The most peers of a leader.
 pub const MOST_PEERS: usize = 9;
 
-// One peer: the index of the next entry to send to it, and up to where its log is known to agree. The latter came in a
-// message, so it has 32 bits.
+/// One peer: the index of the next entry to send to it, and up to where its log is known to agree. The latter came in a
+/// message, so it has 32 bits.
 #[derive(Clone, Copy, Default, PartialEq, Eq)]
 pub struct PeerRow {
     pub id: u64,
@@ -118,7 +118,7 @@ fn ack_among(rows: &mut [PeerRow], from: u64, good: bool, index: u64)
     }
 }
 
-// The rows of all peers.
+/// The rows of all peers.
 #[derive(Drop)]
 pub struct PeerRows {
     rows: ArrayVec<PeerRow, MOST_PEERS>,
@@ -134,7 +134,7 @@ impl Model for PeerRows {
 }
 
 impl PeerRows {
-    // No peer.
+    /// No peer.
     pub fn new() -> PeerRows
         ensures { result ≡ [] }
     {
@@ -158,14 +158,14 @@ impl PeerRows {
         self.rows.as_slice()
     }
 
-    // The next of a peer; 1 of a node that has no row.
+    /// The next of a peer; 1 of a node that has no row.
     pub fn next_of(&self, id: u64) -> u64
         ensures { result ≡ next_in self.now id }
     {
         next_among(self.as_slice(), id)
     }
 
-    // The match of a peer; 0 of a node that has no row.
+    /// The match of a peer; 0 of a node that has no row.
     pub fn match_of(&self, id: u64) -> u64
         ensures { result ≡ match_in self.now id }
     {
@@ -196,7 +196,7 @@ impl PeerRows {
         }
     }
 
-    // An Ack of a peer.
+    /// An Ack of a peer.
     pub fn on_ack(&mut self, from: u64, good: bool, index: u64)
         requires { index ≤ 4294967295 }
         ensures { progress_of self.new ≡ after_ack (progress_of self.old) from good index }
@@ -205,7 +205,7 @@ impl PeerRows {
     }
 }
 
-// The rows of the peers of a leader, but for the own id: those that had a row keep it.
+/// The rows of the peers of a leader, but for the own id: those that had a row keep it.
 pub fn rows_of(peers: &[u64], own: u64, next: u64, old: &PeerRows) -> PeerRows
     requires { length peers.now ≤ 9 }
     ensures { result ≡ rows_for (others peers.now own) next old.now }
@@ -215,7 +215,7 @@ pub fn rows_of(peers: &[u64], own: u64, next: u64, old: &PeerRows) -> PeerRows
     rows
 }
 
-// The same of voters and standbys.
+/// The same of voters and standbys.
 pub fn rows_of_both(
     voters: &[u64],
     standbys: &[u64],

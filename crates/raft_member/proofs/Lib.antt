@@ -1,2 +1,3 @@
 mod WholeLogs
 mod Readings
+mod Standing

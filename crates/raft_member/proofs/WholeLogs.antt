@@ -248,3 +248,10 @@ last_change s (x ∷ []) zero c size is = sym (ap (λ (y : Change). y.servers) i
 last_change s (x ∷ []) (suc n) c size is = absurd (omega arith)
 last_change s (x ∷ y ∷ cs) zero c size is = absurd (omega arith)
 last_change s (x ∷ y ∷ cs) (suc n) c size is = last_change x.servers (y ∷ cs) n c (omega arith) is
+
+pub last_place : (at : ℕ) (cs : List Change) (n : ℕ) (c : Change) → suc n ≡ length cs → get_or cs n c ≡ c → c.index ≡ last_from at cs
+last_place at [] n c size is = absurd (omega arith)
+last_place at (x ∷ []) zero c size is = sym (ap (λ (y : Change). y.index) is)
+last_place at (x ∷ []) (suc n) c size is = absurd (omega arith)
+last_place at (x ∷ y ∷ cs) zero c size is = absurd (omega arith)
+last_place at (x ∷ y ∷ cs) (suc n) c size is = last_place x.index (y ∷ cs) n c (omega arith) is

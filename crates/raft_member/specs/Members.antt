@@ -2,7 +2,7 @@
 use Rattle.std.specs.Prelude.{◌≡◌, ℕ, suc, ◌<◌, ◌≤◌, Bool, true, false, cond, nat_lt, nat_le, Option, Some, None, List, [], ◌∷◌, ◌++◌, length, take, drop}
 use Rattle.raft_rules.specs.Log.{Entry}
 use Rattle.raft_rules.specs.Node.{Server}
-use Rattle.raft_vote.specs.Servers.{configuration_of}
+use Rattle.raft_vote.specs.Servers.{IsConfiguration, configuration_of}
 use Rattle.raft_world.specs.Members.{Setup, is_change, servers_read, changes, configuration}
 use Rattle.raft_member.specs.declared.members.Change.{Change}
 
@@ -77,6 +77,17 @@ settled m applied = record { at = applied; servers = settled_servers applied m.s
 abbrev pub SettlesOne : ℕ → Configurations → Configurations → Bool → Type 0
 SettlesOne applied old new false = (new ≡ old) × (settled old applied ≡ record old { at = applied })
 SettlesOne applied old new true = (settled new applied ≡ settled old applied) × (length new.later < length old.later)
+
+-- ---- which may stand
+
+-- the servers of each change may stand together
+abbrev pub EachStands : List Change → Type 0
+EachStands [] = Unit {0}
+EachStands (c ∷ cs) = IsConfiguration c.servers × EachStands cs
+
+-- so do those of every configuration
+abbrev pub AllStand : Configurations → Type 0
+AllStand m = IsConfiguration m.servers × EachStands m.later
 
 -- ---- those of a whole log, by the configurations that the log gives
 

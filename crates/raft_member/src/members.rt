@@ -3,9 +3,10 @@ ghost use Rattle.std.specs.Prelude.{◌≡◌, ◌<◌, ◌≤◌, ◌-◌, ◌+
 ghost use Rattle.raft_rules.specs.Log.{Entry as EntryValue};
 ghost use Rattle.raft_rules.specs.Node.{Server as ServerValue, voters};
 ghost use Rattle.raft_world.specs.Members.{Setup, changes, servers_read, configuration, voters_after};
-ghost use Rattle.raft_member.specs.Members.{first_of, below, last_index, last_servers, with_change, cut_at, settled, SettlesOne, changed, read_setup, IsOf};
+ghost use Rattle.raft_vote.specs.Servers.{IsConfiguration};
+ghost use Rattle.raft_member.specs.Members.{AllStand, first_of, below, last_index, last_servers, with_change, cut_at, settled, SettlesOne, changed, read_setup, IsOf};
 
-use crate::changes::change_in;
+use crate::changes::standing_change;
 use raft_vote::{Entry, Server, Servers};
 use std::alloc::{AllocError, Global};
 use std::marker::Model;
@@ -52,6 +53,7 @@ impl Members {
     /// Those of a log that ends at this index, whose configuration is this one. Takes no memory.
     pub fn new(alloc: Global, servers: Servers, at: u64) -> Members
         ensures value { result ≡ first_of servers at }
+        ensures stand { IsConfiguration servers → AllStand result }
         ensures is { (setup : Setup) (log : List EntryValue) → length log ≡ at → configuration setup log ≡ servers → IsOf setup log result }
     {
         Members {
@@ -67,6 +69,7 @@ impl Members {
         requires { last_index self.old < index }
         ensures pushed { OnOk result (self.new ≡ with_change self.old index servers) }
         ensures kept { OnErr result (self.new ≡ self.old) }
+        ensures stand { AllStand self.old → IsConfiguration servers → OnOk result (AllStand self.new) }
         ensures is { (setup : Setup) (log : List EntryValue) (e : EntryValue) → IsOf setup log self.old → index ≡ suc (length log) →
             changes setup e ≡ true → servers_read (setup.read e.bytes) ≡ servers → OnOk result (IsOf setup (log ++ e ∷ []) self.new) }
     {
@@ -81,10 +84,11 @@ impl Members {
         ensures told { IfOk result (λ told. told ≡ changes (read_setup []) entry.now) }
         ensures taken { OnOk result (self.new ≡ changed self.old index entry.now) }
         ensures kept { OnErr result (self.new ≡ self.old) }
+        ensures stand { AllStand self.old → OnOk result (AllStand self.new) }
         ensures is { (opening : List ServerValue) (log : List EntryValue) → IsOf (read_setup opening) log self.old → index ≡ suc (length log) →
             OnOk result (IsOf (read_setup opening) (log ++ entry.now ∷ []) self.new) }
     {
-        let Some(servers) = change_in(alloc, entry)? else {
+        let Some(servers) = standing_change(alloc, entry)? else {
             return Ok(false);
         };
         self.push(index, servers)?;
@@ -97,6 +101,7 @@ impl Members {
         requires { self.old.at < index }
         ensures cut { self.new ≡ cut_at self.old index }
         ensures told { result ≡ nat_lt (length self.new.later) (length self.old.later) }
+        ensures stand { AllStand self.old → AllStand self.new }
         ensures is { (setup : Setup) (log : List EntryValue) → IsOf setup log self.old → IsOf setup (take (index - 1) log) self.new }
     {
         let kept = below_count(self.changes.as_slice(), index);
@@ -122,6 +127,7 @@ impl Members {
     pub fn settle(&mut self, applied: u64)
         requires { self.old.at ≤ applied }
         ensures settled { self.new ≡ settled self.old applied }
+        ensures stand { AllStand self.old → AllStand self.new }
         ensures is { (setup : Setup) (log : List EntryValue) → IsOf setup log self.old → applied ≤ length log → IsOf setup log self.new }
     {
         while self.settle_one(applied) {}
@@ -132,6 +138,7 @@ impl Members {
     /// opening one. A node that is told it was told the voters that its log gives. Constant cost; takes no memory.
     pub fn current(&self) -> &[Server]
         ensures value { result.now ≡ last_servers self.now }
+        ensures stands { AllStand self.now → IsConfiguration result.now }
         ensures is { (setup : Setup) (log : List EntryValue) → IsOf setup log self.now → result.now ≡ configuration setup log }
         ensures voters { (setup : Setup) (log : List EntryValue) → IsOf setup log self.now → voters result.now ≡ voters_after setup log }
     {
@@ -141,9 +148,28 @@ impl Members {
         }
     }
 
+    /// The index up to which the log is applied. Constant cost; takes no memory.
+    pub fn applied_index(&self) -> u64
+        ensures { result ≡ self.now.at }
+    {
+        self.at
+    }
+
+    /// The index of the last change; the one up to which the log is applied, where no change stands after it. Constant cost;
+    /// takes no memory.
+    pub fn last_index(&self) -> u64
+        ensures { result ≡ last_index self.now }
+    {
+        match self.changes.last() {
+            Some(change) => change.index,
+            None => self.at,
+        }
+    }
+
     /// The configuration at the index up to which the log is applied. Constant cost; takes no memory.
     pub fn applied(&self) -> &[Server]
         ensures value { result.now ≡ self.now.servers }
+        ensures stands { AllStand self.now → IsConfiguration result.now }
         ensures is { (setup : Setup) (log : List EntryValue) → IsOf setup log self.now → result.now ≡ configuration setup (take self.now.at log) }
     {
         self.servers.as_slice()

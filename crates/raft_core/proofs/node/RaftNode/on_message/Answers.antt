@@ -12,24 +12,24 @@ use Rattle.raft_core.proofs.node.RaftNode.on_message.Goals as goal
 pub returns-then-not-is_in_range-clause-outcome : goal.returns-then-not-is_in_range-clause-outcome
 returns-then-not-is_in_range-clause-outcome c =
     let h = c.args.self.now in
-    let m = message_value c.args.message.now in
+    let m = message_value c.args.message in
     ends_of h h (on_message (told h) h.id (node_of h) m) c.says.result (effects_are h h (on_message (told h) h.id (node_of h) m) c.says.result _ c.says.ensures (message_ignored h m (sym c.is_in_range.ensures ∙ c.if-not-is_in_range.true)))
 
 pub returns-then-message-term-clause-outcome : goal.returns-then-message-term-clause-outcome
 returns-then-message-term-clause-outcome c =
     let h = c.args.self.now in
-    let m = message_value c.args.message.now in
+    let m = message_value c.args.message in
     let at = c.term.ensures in
     let less = c.if-message-term.true in
     ends_of h h (on_message (told h) h.id (node_of h) m) c.on_older_term.result (message_older h m c.on_older_term.result (sym c.is_in_range.ensures ∙ c.if-not-is_in_range.false) (lt-ltb m.term h.term (omega arith)) c.on_older_term.ensures)
 
 pub on_own_term-requires : goal.on_own_term-requires
-on_own_term-requires c = what_fits (message_value c.args.message.now) (sym c.is_in_range.ensures ∙ c.if-not-is_in_range.false)
+on_own_term-requires c = what_fits (message_value c.args.message) (sym c.is_in_range.ensures ∙ c.if-not-is_in_range.false)
 
 pub returns-clause-outcome : goal.returns-clause-outcome
 returns-clause-outcome c =
     let h = c.args.self.now in
-    let m = message_value c.args.message.now in
+    let m = message_value c.args.message in
     let at = c.term.ensures in
     let more = c.if-message-term.false in
     if_ok c.on_own_term.result _ _ c.on_own_term.ensures.outcome (λ e x. message_taken h c.hear_term.new.self c.on_own_term.new.self m e (sym c.is_in_range.ensures ∙ c.if-not-is_in_range.false) (le-ltb m.term h.term (omega arith)) c.hear_term.ensures x)

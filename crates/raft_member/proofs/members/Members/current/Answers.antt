@@ -1,6 +1,8 @@
-use Rattle.std.proofs.Common.{◌≡◌, ◌-◌, ◌<◌, length, sym, ap, ◌∙◌, arith, slice_index_or}
+use Rattle.std.proofs.Common.{◌≡◌, ◌-◌, ◌<◌, length, sym, ap, subst, ◌∙◌, arith, slice_index_or}
 use Rattle.std.proofs.lemmas.Grind.{common_steps}
+use Rattle.raft_vote.specs.Servers.{IsConfiguration}
 use Rattle.raft_member.specs.Members.{servers_from, last_servers}
+use Rattle.raft_member.proofs.Standing.{last_stands}
 use Rattle.raft_member.proofs.WholeLogs.{last_change, is_current, same_voters}
 use Rattle.raft_member.proofs.members.Members.current.Goals as goal
 
@@ -27,3 +29,9 @@ returns-in-None-clause-is c setup log h = returns-in-None-clause-value c ∙ is_
 
 pub returns-in-None-clause-voters : goal.returns-in-None-clause-voters
 returns-in-None-clause-voters c setup log h = same_voters setup log c.args.self.now c.as_slice-in-None.result.now (returns-in-None-clause-value c) h
+
+pub returns-in-Some-clause-stands : goal.returns-in-Some-clause-stands
+returns-in-Some-clause-stands c h = subst IsConfiguration (sym (returns-in-Some-clause-value c)) (last_stands c.args.self.now.servers c.args.self.now.later h.0 h.1)
+
+pub returns-in-None-clause-stands : goal.returns-in-None-clause-stands
+returns-in-None-clause-stands c h = subst IsConfiguration (sym (returns-in-None-clause-value c)) (last_stands c.args.self.now.servers c.args.self.now.later h.0 h.1)

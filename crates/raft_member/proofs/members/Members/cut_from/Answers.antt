@@ -1,5 +1,6 @@
 use Rattle.std.proofs.Common.{◌≡◌, ◌-◌, take, sym, subst, rules}
-use Rattle.raft_member.specs.Members.{Configurations, cut_at, IsOf}
+use Rattle.raft_member.specs.Members.{Configurations, cut_at, IsOf, AllStand}
+use Rattle.raft_member.proofs.Standing.{cut_stand}
 use Rattle.raft_member.proofs.WholeLogs.{is_cut}
 use Rattle.raft_member.proofs.members.Members.cut_from.Goals as goal
 
@@ -8,3 +9,9 @@ returns-clause-is c setup log h =
     let m : Configurations = record { at = c.self.inside.at; servers = c.self.inside.servers; later = c.truncate.new.self.items } in
     let is : m ≡ cut_at c.args.self.now c.args.index = search rules in
     subst (IsOf setup (take (c.args.index - 1) log)) (sym is) (is_cut setup log c.args.self.now c.args.index c.requires h)
+
+pub returns-clause-stand : goal.returns-clause-stand
+returns-clause-stand c h =
+    let m : Configurations = record { at = c.self.inside.at; servers = c.self.inside.servers; later = c.truncate.new.self.items } in
+    let is : m ≡ cut_at c.args.self.now c.args.index = search rules in
+    subst AllStand (sym is) (cut_stand c.args.self.now c.args.index h)

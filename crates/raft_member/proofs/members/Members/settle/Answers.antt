@@ -1,5 +1,6 @@
 use Rattle.std.proofs.Common.{◌≡◌, sym, subst, rules}
-use Rattle.raft_member.specs.Members.{Configurations, settled, IsOf}
+use Rattle.raft_member.specs.Members.{Configurations, settled, IsOf, AllStand}
+use Rattle.raft_member.proofs.Standing.{settled_stand}
 use Rattle.raft_member.proofs.WholeLogs.{is_settled}
 use Rattle.raft_member.proofs.members.Members.settle.Goals as goal
 
@@ -8,3 +9,9 @@ returns-clause-is c setup log h within =
     let m : Configurations = record { at = c.args.applied; servers = c.self.inside.servers; later = c.self.inside.changes.items } in
     let is : m ≡ settled c.args.self.now c.args.applied = search rules in
     subst (IsOf setup log) (sym is) (is_settled setup log c.args.self.now c.args.applied c.requires h within)
+
+pub returns-clause-stand : goal.returns-clause-stand
+returns-clause-stand c h =
+    let m : Configurations = record { at = c.args.applied; servers = c.self.inside.servers; later = c.self.inside.changes.items } in
+    let is : m ≡ settled c.args.self.now c.args.applied = search rules in
+    subst AllStand (sym is) (settled_stand c.args.self.now c.args.applied h)
