@@ -1,0 +1,4 @@
+mod StepShapes
+mod KeptLogs
+mod KeptStates
+mod MailPlaces
