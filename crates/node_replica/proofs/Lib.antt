@@ -1,4 +1,5 @@
 mod StepShapes
 mod KeptLogs
 mod KeptStates
+mod Steps
 mod MailPlaces

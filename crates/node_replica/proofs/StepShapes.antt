@@ -175,7 +175,7 @@ comes voters_of me s m f h = cond_both (in_range m) _ _ (Sound s)
 -- ---- whole steps
 
 -- an Install speaks of the snapshot that ends there
-abbrev SpeaksOf : LogEnd → What → Type 0
+abbrev pub SpeaksOf : LogEnd → What → Type 0
 SpeaksOf end (Install last front) = last ≡ end
 SpeaksOf end (AskVote last) = Unit {0}
 SpeaksOf end (Vote granted) = Unit {0}

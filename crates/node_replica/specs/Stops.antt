@@ -22,7 +22,7 @@ votes_between s t = cond ((t.term == s.term) && (t.vote == s.vote)) 0 1
 -- snapshot are those before the step and after it.
 pub data MayLoad (s t : Node) (was now : List ℕ) (count now_count : ℕ) (g : NodeFiles) : Type 0 where
   before : now_count ≡ count → kept_in g ≡ Loaded (kept_at s was) → MayLoad s t was now count now_count g
-  voted : now_count ≤ count + votes_between s t → kept_in g ≡ Loaded (with_vote t.term t.vote (kept_at s was)) → MayLoad s t was now count now_count g
+  between : now_count ≤ count + votes_between s t → kept_in g ≡ Loaded (with_vote t.term t.vote (kept_at s was)) → MayLoad s t was now count now_count g
   after : count + votes_between s t ≤ now_count → IsLonger node_format 10000000000000000 g t.term t.vote (kept_at t now).snap (kept_at t now).log → MayLoad s t was now count now_count g
 
 -- So it is after each crash, and without one.
