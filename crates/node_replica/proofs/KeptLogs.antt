@@ -21,7 +21,7 @@ use Rattle.node_replica.proofs.StepShapes.{Moves, stays, writes, cuts, clears, I
 
 -- ---- lists
 
-drop_length : (n : ℕ) (xs : List Entry) → length (drop n xs) ≡ length xs - n
+pub drop_length : (n : ℕ) (xs : List Entry) → length (drop n xs) ≡ length xs - n
 drop_length zero xs = omega arith
 drop_length (suc n) [] = omega arith
 drop_length (suc n) (x ∷ xs) = let r = drop_length n xs in omega arith
@@ -30,7 +30,7 @@ drop_nil : (n : ℕ) → drop {A = Entry} n [] ≡ []
 drop_nil zero = refl
 drop_nil (suc n) = refl
 
-drop_drop : (m n : ℕ) (xs : List Entry) → drop m (drop n xs) ≡ drop (n + m) xs
+pub drop_drop : (m n : ℕ) (xs : List Entry) → drop m (drop n xs) ≡ drop (n + m) xs
 drop_drop m zero xs = let e : 0 + m ≡ m = omega arith in ap (λ k. drop k xs) (sym e)
 drop_drop m (suc n) [] = drop_nil m ∙ sym (drop_nil (suc n + m))
 drop_drop m (suc n) (x ∷ xs) = let e : suc n + m ≡ suc (n + m) = omega arith in drop_drop m n xs ∙ ap (λ k. drop k (x ∷ xs)) (sym e)
@@ -58,7 +58,7 @@ rest_joined (suc b) (suc n) (x ∷ xs) (y ∷ ys) l w e = let z : suc n - suc b 
 pub own_entries : (h : NodeValue) → drop h.base (node_of h).log ≡ h.entries
 own_entries h = drop_at (compacted h.snapshot h.base) h.entries h.base (compacted_length h.snapshot h.base)
 
-put_away : (u : Node) → drop u.base (compact u).log ≡ drop u.base u.log
+pub put_away : (u : Node) → drop u.base (compact u).log ≡ drop u.base u.log
 put_away u = drop_at (compacted u.snapshot u.base) (drop u.base u.log) u.base (compacted_length u.snapshot u.base)
 
 -- ---- steps
@@ -160,7 +160,7 @@ term_past base i log lt =
     same_nth (drop base log) (i - suc base) ∙ nth_at base (i - suc base) log ∙ ap (term_at log) at
 
 -- the log is kept behind a snapshot whose end it has
-kept_behind : (base : ℕ) (log : List Entry) (snap : Snap) → base < snap.index → snap.index ≤ length log → term_at log snap.index ≡ snap.term → behind snap (log_from base log) ≡ log_from base log
+pub kept_behind : (base : ℕ) (log : List Entry) (snap : Snap) → base < snap.index → snap.index ≤ length log → term_at log snap.index ≡ snap.term → behind snap (log_from base log) ≡ log_from base log
 unfolding behind
 kept_behind base log snap lt le e =
     let n : length (drop base log) ≡ length log - base = drop_length base log in

@@ -2,4 +2,5 @@ mod StepShapes
 mod KeptLogs
 mod KeptStates
 mod Steps
+mod OwnSnapshots
 mod MailPlaces

@@ -26,7 +26,7 @@ pub data Moves (log : List Entry) (snapshot : LogEnd) (base commit : ℕ) (t : N
   clears : t.term ≢ 0 → commit < t.snapshot.index → t.base ≡ t.snapshot.index → matches log t.snapshot ≡ false → length t.log ≡ t.base → Moves log snapshot base commit t
 
 -- none of these messages is an Install
-abbrev IsOther : What → Type 0
+abbrev pub IsOther : What → Type 0
 IsOther (Install last front) = ⊥
 IsOther (AskVote last) = Unit {0}
 IsOther (Vote granted) = Unit {0}
@@ -34,7 +34,7 @@ IsOther (Append prev commit entries) = Unit {0}
 IsOther (Ack good index) = Unit {0}
 IsOther TimeoutNow = Unit {0}
 
-abbrev AreOthers : List Message → Type 0
+abbrev pub AreOthers : List Message → Type 0
 AreOthers [] = Unit {0}
 AreOthers (m ∷ ms) = IsOther m.what × AreOthers ms
 
@@ -195,15 +195,15 @@ other_speaks end (Append prev commit entries) o = tt
 other_speaks end (Ack good index) o = tt
 other_speaks end TimeoutNow o = tt
 
-others_speak : (end : LogEnd) (ms : List Message) → AreOthers ms → SpeakOf end ms
+pub others_speak : (end : LogEnd) (ms : List Message) → AreOthers ms → SpeakOf end ms
 others_speak end [] o = tt
 others_speak end (m ∷ ms) o = (other_speaks end m.what o.0, others_speak end ms o.1)
 
-both_speak : (end : LogEnd) (xs ys : List Message) → SpeakOf end xs → SpeakOf end ys → SpeakOf end (xs ++ ys)
+pub both_speak : (end : LogEnd) (xs ys : List Message) → SpeakOf end xs → SpeakOf end ys → SpeakOf end (xs ++ ys)
 both_speak end [] ys a b = b
 both_speak end (x ∷ xs) ys a b = (a.0, both_speak end xs ys a.1 b)
 
-sent_speaks : (me : ℕ) (s : Node) (ps : List ℕ) → SpeakOf s.snapshot (map (message_to me s) ps)
+pub sent_speaks : (me : ℕ) (s : Node) (ps : List ℕ) → SpeakOf s.snapshot (map (message_to me s) ps)
 unfolding message_to
 sent_speaks me s [] = tt
 sent_speaks me s (p ∷ ps) = (cond_both (needs_snapshot s (s.next_of p)) _ _ (SpeaksOf s.snapshot) (λ e. refl) (λ e. tt), sent_speaks me s ps)
@@ -259,7 +259,7 @@ compact_speaks end (Append prev commit entries) s = tt
 compact_speaks end (Ack good index) s = tt
 compact_speaks end TimeoutNow s = tt
 
-all_compact : (end : LogEnd) (ms : List Message) → SpeakOf end ms → SpeakOf end (map compact_message ms)
+pub all_compact : (end : LogEnd) (ms : List Message) → SpeakOf end ms → SpeakOf end (map compact_message ms)
 all_compact end [] s = tt
 all_compact end (m ∷ ms) s = (compact_speaks end m.what s.0, all_compact end ms s.1)
 

@@ -188,6 +188,12 @@ letters_carry : (me : ℕ) (kept : Snapshot) (sends : List Sending) → AllByRec
 letters_carry me kept [] b = tt
 letters_carry me kept (s ∷ sends) b = (letter_carries me kept s b.0, letters_carry me kept sends b.1)
 
+pub tells_of : (me own : ℕ) (out : List rules.Message) (kept : Snapshot) (sends : List Sending) (messages : List RaftMessage) → me ≡ own → SpeakOf (snapshot_end kept) out → sendings_value me sends ≡ out → AllByRecursion IsBare sends → messages ≡ map (letter own kept) sends → Tells out (snap_value kept) messages
+tells_of me own out kept sends messages is speak says bare e = subst (Tells out (snap_value kept)) (sym e) (subst (λ (n : ℕ). Tells out (snap_value kept) (map (letter n kept) sends)) is (record {
+  says = letters_say me kept sends (subst (SpeakOf (snapshot_end kept)) (sym says) speak) ∙ says;
+  carries = letters_carry me kept sends bare;
+}))
+
 -- ---- the exits
 
 module _ (r : ReplicaValue) (event : RaftEvent) (n : NodeValue) (meta : Option (ℕ × ℕ)) (install : Option Snapshot) (batch : Option ℕ) (m : Made r event n meta install batch) where
@@ -284,7 +290,6 @@ module _ (r : ReplicaValue) (event : RaftEvent) (n : NodeValue) (meta : Option (
   -- ---- what is said
 
   pub all_told : (kept : Snapshot) (sends : List Sending) (messages : List RaftMessage) → n.snapshot ≡ end_of (snap_value kept) → sendings_value r.raft.id sends ≡ said r event → AllByRecursion IsBare sends → messages ≡ map (letter r.id kept) sends → Tells (said r event) (snap_value kept) messages
-  all_told kept sends messages end says bare e = subst (Tells (said r event) (snap_value kept)) (sym e) (subst (λ (me : ℕ). Tells (said r event) (snap_value kept) (map (letter me kept) sends)) m.whole.id (record {
-    says = letters_say r.raft.id kept sends (subst (SpeakOf (snapshot_end kept)) (sym says) (subst (λ (l : LogEnd). SpeakOf l (said r event)) (sym (sym end ∙ ap (λ (s : rules.Node). s.snapshot) m.node)) (step_speaks r.raft.id (node_of r.raft) (input_of event) (rule_intake event m.intake) m.whole.has_term))) ∙ says;
-    carries = letters_carry r.raft.id kept sends bare;
-  }))
+  all_told kept sends messages end says bare e = tells_of r.raft.id r.id (said r event) kept sends messages m.whole.id
+      (subst (λ (l : LogEnd). SpeakOf l (said r event)) (sym (sym end ∙ ap (λ (s : rules.Node). s.snapshot) m.node)) (step_speaks r.raft.id (node_of r.raft) (input_of event) (rule_intake event m.intake) m.whole.has_term))
+      says bare e
