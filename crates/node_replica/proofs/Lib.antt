@@ -3,4 +3,5 @@ mod KeptLogs
 mod KeptStates
 mod Steps
 mod OwnSnapshots
+mod Looks
 mod MailPlaces

@@ -3,4 +3,5 @@ pub mod Keeping
 pub mod Replicas
 pub mod Stops
 pub mod Letters
+pub mod Looking
 pub mod Mails

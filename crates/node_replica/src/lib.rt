@@ -3,7 +3,9 @@
 
 mod keeper;
 mod letters;
+mod looking;
 mod mail;
+mod queries;
 mod replica;
 
 pub use mail::Mail;
