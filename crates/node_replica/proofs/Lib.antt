@@ -1,0 +1,7 @@
+mod StepShapes
+mod KeptLogs
+mod KeptStates
+mod Steps
+mod OwnSnapshots
+mod Looks
+mod MailPlaces

@@ -1,0 +1,12 @@
+//! Raft over its store: each step of one node is kept before what it says is handed out.
+#![tactic(auto)]
+
+mod keeper;
+mod letters;
+mod looking;
+mod mail;
+mod queries;
+mod replica;
+
+pub use mail::Mail;
+pub use replica::{Moved, Replica};
