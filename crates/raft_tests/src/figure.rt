@@ -1,3 +1,4 @@
+//! Five nodes play a figure of entries of older terms, move by move.
 use crate::nodes::{FIVE, entries, fresh, step};
 use raft_core::{RaftEvent, RaftNode, RaftRole, Sending, Todo};
 use raft_vote::RaftMessage;

@@ -1,5 +1,5 @@
-//! The tests of `raft_core`, which call it from outside. A crate with tests of its own is proved once more with them, so
-//! these stand here.
+//! The tests of `raft_vote`, `raft_log`, `raft_core` and `raft_member`, which call them from outside. A crate with tests of
+//! its own is proved once more with them, so these stand here.
 #![tactic(auto)]
 
 #[cfg(test)]
@@ -7,7 +7,11 @@ mod figure;
 #[cfg(test)]
 mod logs;
 #[cfg(test)]
+mod members;
+#[cfg(test)]
 mod nodes;
+#[cfg(test)]
+mod owner;
 #[cfg(test)]
 mod runs;
 #[cfg(test)]

@@ -1,3 +1,4 @@
+//! The log of one node, and the commit index of a leader.
 use raft_log::{Accepted, Log, Progress};
 use raft_vote::{Entry, EntryKind, LogEnd, SharedBytes};
 use std::alloc::{AllocError, Global};

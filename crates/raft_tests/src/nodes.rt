@@ -1,4 +1,4 @@
-// Nodes to test.
+//! Nodes to test.
 use raft_core::{Kept2, RaftEvent, RaftNode, Todo};
 use raft_vote::{Entries, Entry, EntryKind, SharedBytes, read_servers};
 use std::alloc::{AllocError, Global};
@@ -11,7 +11,7 @@ pub const THREE: &[u64] = &[0, 0, 0];
 /// Five voters.
 pub const FIVE: &[u64] = &[0, 0, 0, 0, 0];
 
-// The bytes of a configuration of servers 1, 2, .. with these roles.
+/// The bytes of a configuration of servers 1, 2, .. with these roles.
 pub fn configuration(alloc: Global, roles: &[u64]) -> Result<Vec<u8>, AllocError> {
     let mut bytes = Vec::new(alloc);
     bytes.extend_from_slice(&(roles.len() as u64).to_le_bytes())?;
@@ -25,7 +25,7 @@ pub fn configuration(alloc: Global, roles: &[u64]) -> Result<Vec<u8>, AllocError
     Ok(bytes)
 }
 
-// Entries of these terms.
+/// Entries of these terms.
 pub fn entries(alloc: Global, terms: &[u64]) -> Result<Entries, AllocError> {
     let mut entries = Vec::new(alloc);
     for term in terms {
@@ -38,7 +38,7 @@ pub fn entries(alloc: Global, terms: &[u64]) -> Result<Entries, AllocError> {
     Ok(Entries::new(entries))
 }
 
-// A fresh node among servers of these roles.
+/// A fresh node among servers of these roles.
 pub fn fresh(alloc: Global, id: u64, roles: &[u64]) -> Result<RaftNode, Fail> {
     let bytes = configuration(alloc, roles)?;
     let (servers, _) = read_servers(alloc, bytes.as_slice())?;
@@ -52,7 +52,7 @@ pub fn fresh(alloc: Global, id: u64, roles: &[u64]) -> Result<RaftNode, Fail> {
     Ok(RaftNode::new(alloc, id, servers.as_slice(), kept)?)
 }
 
-// A step of a node, of an event that doesn't tell it servers.
+/// A step of a node, of an event that doesn't tell it servers.
 pub fn step(alloc: Global, node: &mut RaftNode, event: RaftEvent) -> Result<Todo, Fail> {
     if let RaftEvent::Servers(_) = &event {
         return Err(Fail::from("servers"));

@@ -1,3 +1,4 @@
+//! Steps of one node, one after another.
 use crate::nodes::{FIVE, THREE, configuration, entries, fresh, step};
 use raft_core::{RaftEvent, RaftNode, RaftRole, Sending, Todo};
 use raft_vote::{LogEnd, RaftMessage, SharedBytes, Snapshot, What, read_servers};

@@ -1,3 +1,4 @@
+//! Messages and configurations both ways, their faults, and votes.
 use raft_vote::*;
 use std::alloc::{AllocError, Global};
 use std::test::*;
