@@ -228,7 +228,7 @@ impl Owner {
         };
         let left = leaves(&mut self.members, first)?;
         if left {
-            self.undone += 1;
+            self.undone = self.undone.saturating_add(1);
         }
         let came = self.takes(alloc, first)?;
         Ok(left || came)
@@ -260,7 +260,8 @@ impl Owner {
         for index in self.applied.len() as u64..commit {
             if let Some(entry) = self.node.entry(index.saturating_add(1)) {
                 self.applied.push(byte_of(entry))?;
-                self.changed += usize::from(entry.kind == EntryKind::Change);
+                let changes = usize::from(entry.kind == EntryKind::Change);
+                self.changed = self.changed.saturating_add(changes);
             }
         }
         settles_at(&mut self.members, self.applied.len() as u64)
@@ -365,7 +366,10 @@ impl Owner {
         let behind = index.saturating_add(1).saturating_sub(self.disk.first) as usize;
         for n in behind..self.disk.log.len() {
             let at = self.disk.first.saturating_add(n as u64);
-            joins(alloc, &mut self.members, at, &self.disk.log[n])?;
+            let Some(entry) = self.disk.log.get(n) else {
+                return Err(Fail::from("no entry"));
+            };
+            joins(alloc, &mut self.members, at, entry)?;
         }
         Ok(())
     }

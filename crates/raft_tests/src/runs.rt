@@ -280,7 +280,8 @@ fn end_of(alloc: Global, members: &[Owner]) -> Result<Ending, AllocError> {
         undone: 0,
     };
     for member in members {
-        end.snapshots += usize::from(member.disk.snapshot.is_some());
+        let kept = usize::from(member.disk.snapshot.is_some());
+        end.snapshots = end.snapshots.saturating_add(kept);
         end.changed = end.changed.max(member.changed);
         end.undone = end.undone.saturating_add(member.undone);
     }

@@ -1,3 +1,4 @@
+//! Configurations, as bytes: reading and writing the servers of a cluster.
 ghost use Rattle.std.specs.Prelude.{◌≡◌, ◌≤◌, ◌++◌, ◌==◌, nat_lt, ℕ, List, [], Ok, IfOk, OnOk, length, take};
 ghost use Rattle.std.specs.List.{AllByRecursion};
 ghost use Rattle.raft_rules.specs.Node.{Server as ServerValue, voters};

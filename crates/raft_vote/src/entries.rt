@@ -1,3 +1,4 @@
+//! Entries, as bytes: the heads of several, and then what they say. Messages and files have them so.
 ghost use Rattle.std.specs.Prelude.{◌≡◌, ◌<◌, ◌%◌, ◌++◌, length, OnOk, IsErr};
 ghost use Rattle.wire_words.specs.Items.{word, pair, raw};
 ghost use Rattle.wire_words.specs.Reading.{Finds};

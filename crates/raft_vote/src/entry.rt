@@ -1,3 +1,4 @@
+//! The entries of a log, and places in it.
 ghost use Rattle.std.specs.Prelude.{◌≡◌, IfOk};
 ghost use Rattle.raft_vote.specs.Kinds.{kind_code, kind_with};
 

@@ -1,3 +1,4 @@
+//! Why a message of a peer could not be read.
 ghost use Rattle.std.specs.Prelude.{◌≡◌};
 ghost use Rattle.raft_vote.specs.Reading.{of_word};
 

@@ -1,3 +1,4 @@
+//! The items of a message, by its type.
 ghost use Rattle.wire_words.specs.Reading.{Finds};
 ghost use Rattle.raft_vote.specs.Reading.{log_end_at, entries_at, ask_vote_at, vote_at, append_at, ack_at, install_at, said_at, items_at};
 

@@ -1,3 +1,4 @@
+//! The types of message, by their numbers.
 ghost use Rattle.std.specs.Prelude.{◌≡◌};
 ghost use Rattle.raft_vote.specs.Reading.{message_kind};
 

@@ -1,3 +1,4 @@
+//! What holds of the bytes of all messages and configurations.
 ghost use Rattle.std.specs.Prelude.{◌≡◌, ℕ, false, List, [], ◌++◌, length, take, Ok, Err};
 ghost use Rattle.raft_rules.specs.Node.{Server};
 ghost use Rattle.wire_words.specs.declared.message.Message.{Message};

@@ -40,6 +40,7 @@ pub enum What {
     },
     /// The answer to AskVote.
     Vote {
+        /// Whether the sender gave its vote.
         granted: bool,
     },
     /// A leader sends entries of its log.
@@ -55,10 +56,12 @@ pub enum What {
     Ack {
         /// Whether the log agrees with the leader's up to the index; else it agrees no further than there.
         good: bool,
+        /// The index.
         index: u64,
     },
     /// A leader sends a snapshot in place of entries that it has no more.
     Install {
+        /// The snapshot.
         snapshot: Snapshot,
     },
     /// A leader hands its office over: the receiver is to stand for election at once.
@@ -74,5 +77,6 @@ pub struct RaftMessage {
     pub to: u64,
     /// The term that the sender has.
     pub term: u64,
+    /// What it says.
     pub what: What,
 }

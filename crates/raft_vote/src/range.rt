@@ -1,3 +1,4 @@
+//! Which numbers a message may carry.
 ghost use Rattle.std.specs.Prelude.{◌≡◌, ◌&&◌};
 ghost use Rattle.raft_rules.specs.Receiving.{fits_the_wire, terms_fit_the_wire, what_in_range};
 ghost use Rattle.raft_vote.specs.Messages.{what_value, numbers_fit};

@@ -1,3 +1,4 @@
+//! Reading a message of a peer.
 ghost use Rattle.std.specs.Prelude.{◌≡◌, IfOk, Ok};
 ghost use Rattle.raft_vote.specs.declared.message.RaftMessage.{RaftMessage};
 ghost use Rattle.raft_vote.specs.Messages.{Reads};

@@ -1,3 +1,4 @@
+//! The servers of a configuration.
 ghost use Rattle.std.specs.Prelude.{◌≡◌, ◌==◌, nat_le, true, false, IfOk, MatchOption};
 ghost use Rattle.raft_vote.specs.Kinds.{role_number, role_with};
 

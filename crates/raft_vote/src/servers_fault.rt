@@ -1,3 +1,4 @@
+//! Why bytes begin with no configuration.
 ghost use Rattle.std.specs.Prelude.{◌≡◌};
 ghost use Rattle.raft_vote.specs.declared.servers_fault.ServersFault.TheVariants.{NoMemory};
 ghost use Rattle.raft_vote.specs.Servers.{servers_fault};

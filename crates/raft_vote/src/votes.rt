@@ -1,3 +1,4 @@
+//! The votes of one node: those that it gives, and those that it gets.
 ghost use Rattle.std.specs.Prelude.{◌≡◌, ◌<◌, ◌≤◌, nat_lt, [], ◌∷◌, ◌++◌, length, false};
 ghost use Rattle.raft_rules.specs.Node.{among, majority};
 ghost use Rattle.raft_rules.specs.Votes.{after_term, after_timeout, after_request, grants_request, after_grant, wins_with};

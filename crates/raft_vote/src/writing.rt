@@ -1,3 +1,4 @@
+//! Writing a message of a peer.
 ghost use Rattle.std.specs.Prelude.{◌≡◌, ◌<◌, [], ◌∷◌, ◌++◌, ◌/◌, ◌%◌, ◌^◌, true, length, IfOk, OnOk, IsErr};
 ghost use Rattle.wire_words.specs.Items.{word, blob};
 ghost use Rattle.wire_words.specs.Message.{header};
