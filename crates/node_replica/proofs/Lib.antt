@@ -4,4 +4,5 @@ mod KeptStates
 mod Steps
 mod OwnSnapshots
 mod Looks
+mod TwinKeeps
 mod MailPlaces

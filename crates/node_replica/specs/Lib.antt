@@ -5,3 +5,4 @@ pub mod Stops
 pub mod Letters
 pub mod Looking
 pub mod Mails
+pub mod Twins

@@ -2,11 +2,13 @@
 #![tactic(auto)]
 
 mod keeper;
+mod laws;
 mod letters;
 mod looking;
 mod mail;
 mod queries;
 mod replica;
 
+pub use laws::twins_keep_alike;
 pub use mail::Mail;
 pub use replica::{Moved, Replica};
