@@ -5,4 +5,5 @@ mod Steps
 mod OwnSnapshots
 mod Looks
 mod TwinKeeps
+mod Follows
 mod MailPlaces

@@ -1,6 +1,7 @@
 //! Raft over its store: each step of one node is kept before what it says is handed out.
 #![tactic(auto)]
 
+mod following;
 mod keeper;
 mod laws;
 mod letters;
