@@ -143,7 +143,7 @@ batch_written s t bytes first x e b =
     let base = same_base s t x e in
     let count : first - suc s.base ≡ first - 1 - s.base = omega arith in
     let entries : take (first - suc s.base) (drop s.base s.log) ++ drop (first - 1) t.log ≡ drop t.base t.log =
-        ap (λ k. take k (drop s.base s.log) ++ drop (first - 1) t.log) count ∙ rest_joined s.base (first - 1) s.log t.log (omega arith) (omega arith) b.same ∙ ap (λ k. drop k t.log) (sym base) in
+    ap (λ k. take k (drop s.base s.log) ++ drop (first - 1) t.log) count ∙ rest_joined s.base (first - 1) s.log t.log (omega arith) (omega arith) b.same ∙ ap (λ k. drop k t.log) (sym base) in
     λ k. record { term = t.term; vote = t.vote; snap = record { index = (sym e k).index; term = (sym e k).term; bytes = bytes }; log = record { first = suc (sym base k); entries = entries k } }
 
 -- ---- a snapshot that comes

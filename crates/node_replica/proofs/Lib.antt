@@ -4,4 +4,6 @@ mod KeptStates
 mod Steps
 mod OwnSnapshots
 mod Looks
+mod TwinKeeps
+mod Follows
 mod MailPlaces

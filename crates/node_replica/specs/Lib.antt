@@ -5,3 +5,5 @@ pub mod Stops
 pub mod Letters
 pub mod Looking
 pub mod Mails
+pub mod Twins
+pub mod Following

@@ -24,7 +24,7 @@ pub(crate) struct Keeper {
 }
 
 // The number after one. One past 64 bits is want of memory.
-fn one_more(number: u64) -> Result<u64, AllocError>
+pub(crate) fn one_more(number: u64) -> Result<u64, AllocError>
     ensures { IfOk result (λ next. next ≡ suc number) }
 {
     match number.checked_add(1) {

@@ -1,12 +1,15 @@
 //! Raft over its store: each step of one node is kept before what it says is handed out.
 #![tactic(auto)]
 
+mod following;
 mod keeper;
+mod laws;
 mod letters;
 mod looking;
 mod mail;
 mod queries;
 mod replica;
 
+pub use laws::twins_keep_alike;
 pub use mail::Mail;
 pub use replica::{Moved, Replica};

@@ -37,7 +37,7 @@ returns-in_err-keep_snapshot-clause-stopped g c =
     let lent : Log = record { first = c.kept_from-first.result; entries = c.tail.result.now } in
     let log : lent ≡ log_from (cut h i whole.coherent whole.has_term lt le) (node_of h).log = λ k. record { first = first k; entries = rest k } in
     let stores = subst (λ (s : Snap). CanKeep (kept_of r) s (log_from (cut h i whole.coherent whole.has_term lt le) (node_of h).log) → StoresSnapshot {E = StoreFault} g.D.Disk.tells (g.D.Disk.states c.args.disk.now) (g.D.Disk.states c.keep_snapshot.new.disk) r.store c.keep_snapshot.new.self.store (kept_of r) s (log_from (cut h i whole.coherent whole.has_term lt le) (node_of h).log) (Err c.in_err-keep_snapshot.field-0.0)) snap
-        (subst (λ (l : Log). CanKeep (kept_of r) made l → StoresSnapshot {E = StoreFault} g.D.Disk.tells (g.D.Disk.states c.args.disk.now) (g.D.Disk.states c.keep_snapshot.new.disk) r.store c.keep_snapshot.new.self.store (kept_of r) made l (Err c.in_err-keep_snapshot.field-0.0)) log (c.in_err-keep_snapshot.ensures.kept (kept_of r))) in
+    (subst (λ (l : Log). CanKeep (kept_of r) made l → StoresSnapshot {E = StoreFault} g.D.Disk.tells (g.D.Disk.states c.args.disk.now) (g.D.Disk.states c.keep_snapshot.new.disk) r.store c.keep_snapshot.new.self.store (kept_of r) made l (Err c.in_err-keep_snapshot.field-0.0)) log (c.in_err-keep_snapshot.ensures.kept (kept_of r))) in
     let p = err_from_is_err_and c.from_residual.result c.from_residual.ensures.1 in
     rw p.1 (subst (λ (v : ReplicaValue). IsKept g.D.Disk.tells (g.D.Disk.states c.args.disk.now) v → Stops g.D.Disk.tells (g.D.Disk.states c.keep_snapshot.new.disk) (node_of v.raft) (stepped v (snapped v i)) v.snap.bytes c.args.bytes v.keeps c.keep_snapshot.new.self.keeps) c.self.view_is
     (λ has. own_stops h i whole.coherent whole.has_term lt le g.D.Disk.tells (g.D.Disk.states c.args.disk.now) (g.D.Disk.states c.keep_snapshot.new.disk) r.store c.keep_snapshot.new.self.store r.snap.bytes c.args.bytes t c.in_err-keep_snapshot.field-0.0 r.keeps c.keep_snapshot.new.self.keeps o c.in_err-keep_snapshot.ensures.counts.1 stores has))
@@ -61,7 +61,7 @@ returns-in_err-todo-clause-stopped g c =
     let lent : Log = record { first = c.kept_from-first.result; entries = c.tail.result.now } in
     let log : lent ≡ log_from (cut h i whole.coherent whole.has_term lt le) (node_of h).log = λ k. record { first = first k; entries = rest k } in
     let stores = subst (λ (s : Snap). CanKeep (kept_of r) s (log_from (cut h i whole.coherent whole.has_term lt le) (node_of h).log) → StoresSnapshot {E = StoreFault} g.D.Disk.tells (g.D.Disk.states c.args.disk.now) (g.D.Disk.states c.keep_snapshot.new.disk) r.store c.keep_snapshot.new.self.store (kept_of r) s (log_from (cut h i whole.coherent whole.has_term lt le) (node_of h).log) (Ok c.in_ok-keep_snapshot.field-0)) snap
-        (subst (λ (l : Log). CanKeep (kept_of r) made l → StoresSnapshot {E = StoreFault} g.D.Disk.tells (g.D.Disk.states c.args.disk.now) (g.D.Disk.states c.keep_snapshot.new.disk) r.store c.keep_snapshot.new.self.store (kept_of r) made l (Ok c.in_ok-keep_snapshot.field-0)) log (c.in_ok-keep_snapshot.ensures.kept (kept_of r))) in
+    (subst (λ (l : Log). CanKeep (kept_of r) made l → StoresSnapshot {E = StoreFault} g.D.Disk.tells (g.D.Disk.states c.args.disk.now) (g.D.Disk.states c.keep_snapshot.new.disk) r.store c.keep_snapshot.new.self.store (kept_of r) made l (Ok c.in_ok-keep_snapshot.field-0)) log (c.in_ok-keep_snapshot.ensures.kept (kept_of r))) in
     let p = err_from_is_err_and c.from_residual-in_err-todo.result c.from_residual-in_err-todo.ensures.1 in
     let count : c.keep_snapshot.new.self.keeps ≡ r.keeps + 1 = c.in_ok-keep_snapshot.ensures.counts.0 in
     let votes = own_votes h i whole.coherent whole.has_term lt le t r.keeps o in
@@ -87,7 +87,7 @@ returns-in_err-messages-clause-stopped g c =
     let lent : Log = record { first = c.kept_from-first.result; entries = c.tail.result.now } in
     let log : lent ≡ log_from (cut h i whole.coherent whole.has_term lt le) (node_of h).log = λ k. record { first = first k; entries = rest k } in
     let stores = subst (λ (s : Snap). CanKeep (kept_of r) s (log_from (cut h i whole.coherent whole.has_term lt le) (node_of h).log) → StoresSnapshot {E = StoreFault} g.D.Disk.tells (g.D.Disk.states c.args.disk.now) (g.D.Disk.states c.keep_snapshot.new.disk) r.store c.keep_snapshot.new.self.store (kept_of r) s (log_from (cut h i whole.coherent whole.has_term lt le) (node_of h).log) (Ok c.in_ok-keep_snapshot.field-0)) snap
-        (subst (λ (l : Log). CanKeep (kept_of r) made l → StoresSnapshot {E = StoreFault} g.D.Disk.tells (g.D.Disk.states c.args.disk.now) (g.D.Disk.states c.keep_snapshot.new.disk) r.store c.keep_snapshot.new.self.store (kept_of r) made l (Ok c.in_ok-keep_snapshot.field-0)) log (c.in_ok-keep_snapshot.ensures.kept (kept_of r))) in
+    (subst (λ (l : Log). CanKeep (kept_of r) made l → StoresSnapshot {E = StoreFault} g.D.Disk.tells (g.D.Disk.states c.args.disk.now) (g.D.Disk.states c.keep_snapshot.new.disk) r.store c.keep_snapshot.new.self.store (kept_of r) made l (Ok c.in_ok-keep_snapshot.field-0)) log (c.in_ok-keep_snapshot.ensures.kept (kept_of r))) in
     let p = err_from_is_err_and c.from_residual-in_err-messages.result c.from_residual-in_err-messages.ensures.1 in
     let count : c.keep_snapshot.new.self.keeps ≡ r.keeps + 1 = c.in_ok-keep_snapshot.ensures.counts.0 in
     let votes = own_votes h i whole.coherent whole.has_term lt le t r.keeps o in
@@ -165,7 +165,7 @@ returns-clause-kept g c =
     let lent : Log = record { first = c.kept_from-first.result; entries = c.tail.result.now } in
     let log : lent ≡ log_from (cut h i whole.coherent whole.has_term lt le) (node_of h).log = λ k. record { first = first k; entries = rest k } in
     let stores = subst (λ (s : Snap). CanKeep (kept_of r) s (log_from (cut h i whole.coherent whole.has_term lt le) (node_of h).log) → StoresSnapshot {E = StoreFault} g.D.Disk.tells (g.D.Disk.states c.args.disk.now) (g.D.Disk.states c.keep_snapshot.new.disk) r.store c.keep_snapshot.new.self.store (kept_of r) s (log_from (cut h i whole.coherent whole.has_term lt le) (node_of h).log) (Ok c.in_ok-keep_snapshot.field-0)) snap
-        (subst (λ (l : Log). CanKeep (kept_of r) made l → StoresSnapshot {E = StoreFault} g.D.Disk.tells (g.D.Disk.states c.args.disk.now) (g.D.Disk.states c.keep_snapshot.new.disk) r.store c.keep_snapshot.new.self.store (kept_of r) made l (Ok c.in_ok-keep_snapshot.field-0)) log (c.in_ok-keep_snapshot.ensures.kept (kept_of r))) in
+    (subst (λ (l : Log). CanKeep (kept_of r) made l → StoresSnapshot {E = StoreFault} g.D.Disk.tells (g.D.Disk.states c.args.disk.now) (g.D.Disk.states c.keep_snapshot.new.disk) r.store c.keep_snapshot.new.self.store (kept_of r) made l (Ok c.in_ok-keep_snapshot.field-0)) log (c.in_ok-keep_snapshot.ensures.kept (kept_of r))) in
     let kept : snap_value c.keep_snapshot.new.self.snapshot ≡ own_snap r i c.args.bytes = ap snap_value c.in_ok-keep_snapshot.ensures.snapshot ∙ snap in
     let end : c.step.new.self.snapshot ≡ end_of (snap_value c.keep_snapshot.new.self.snapshot) = ap (λ (s : Node). s.snapshot) c.in_ok-todo.ensures.node ∙ o.snapshot ∙ ap end_of (sym kept) in
     subst (λ (v : ReplicaValue). IsKept g.D.Disk.tells (g.D.Disk.states c.args.disk.now) v → Has g.D.Disk.tells (g.D.Disk.states c.keep_snapshot.new.disk) c.keep_snapshot.new.self.store (kept_at (node_of c.step.new.self) c.keep_snapshot.new.self.snapshot.bytes)) c.self.view_is

@@ -1,0 +1,95 @@
+-- The configurations of a whole log follow a node's log.
+use Rattle.std.proofs.Common.{◌≡◌, ℕ, zero, suc, ◌+◌, ◌-◌, ◌<◌, ◌≤◌, Bool, true, false, cond, List, [], ◌∷◌, ◌++◌, length, take, drop, refl, sym, ap, subst, ◌∙◌, arith, append_assoc, Option, Some, None}
+use Rattle.std.specs.Prelude.{◌&&◌, ◌||◌, nat_lt, slice_index_or}
+use Rattle.std.proofs.lemmas.Bool.{cond_both, ltb-true, ltb-false}
+use Rattle.std.proofs.lemmas.List.{length-append, length-take-le, take_more}
+use Rattle.raft_rules.specs.Log.{Entry}
+use Rattle.raft_rules.specs.Node.{Server}
+use Rattle.raft_vote.specs.Servers.{configuration_of}
+use Rattle.raft_world.specs.Members.{is_change, reads, changes, configuration}
+use Rattle.raft_member.specs.declared.members.Change.{Change}
+use Rattle.raft_member.specs.Members.{Configurations, first_of, last_from, last_index, last_servers, with_read, configuration_in, changed, below, cut_at, read_setup, IsOf}
+use Rattle.node_replica.specs.Following.{Joined}
+
+-- ---- the last change
+
+last_of : (at : ℕ) (cs : List Change) (c : Change) → last_from at (cs ++ c ∷ []) ≡ c.index
+last_of at [] c = refl
+last_of at (d ∷ cs) c = last_of d.index cs c
+
+read_low : (m : Configurations) (index : ℕ) (o : Option (List Server)) → last_index m < index → last_index (with_read m index o) ≤ index
+read_low m index None l = omega arith
+read_low m index (Some servers) l = let e = last_of m.at m.later (record { index = index; servers = servers }) in omega arith
+
+changed_low : (m : Configurations) (index : ℕ) (e : Entry) → last_index m < index → last_index (changed m index e) ≤ index
+changed_low m index e l = read_low m index (configuration_in e) l
+
+unread : (m : Configurations) (index : ℕ) (b : Bool) (o : Option (List Server)) → (b && reads o) ≡ false → with_read m index (cond b o None) ≡ m
+unread m index true None e = refl
+unread m index true (Some servers) e = absurd cc
+unread m index false o e = refl
+
+unchanged : (m : Configurations) (index : ℕ) (e : Entry) → changes (read_setup []) e ≡ false → changed m index e ≡ m
+unchanged m index e c = unread m index (is_change e.kind) (configuration_of e.bytes) c
+
+below_low : (index at : ℕ) (cs : List Change) → at < index → last_from at (below index cs) < index
+below_low index at [] l = l
+below_low index at (c ∷ cs) l = cond_both (nat_lt c.index index) _ _ (λ (ds : List Change). last_from at ds < index) (λ e. below_low index c.index cs (ltb-true _ _ e)) (λ e. l)
+
+pub cut_low : (m : Configurations) (index : ℕ) → m.at < index → last_index (cut_at m index) < index
+cut_low m index l = below_low index m.at m.later l
+
+below_all : (index : ℕ) (cs : List Change) → length cs ≤ length (below index cs) → below index cs ≡ cs
+below_all index [] l = refl
+below_all index (c ∷ cs) l = by (nat_lt c.index index) (below_all index cs) l
+  where
+    by : (b : Bool) → (length cs ≤ length (below index cs) → below index cs ≡ cs) → length (c ∷ cs) ≤ length (cond b (c ∷ below index cs) []) → cond b (c ∷ below index cs) [] ≡ c ∷ cs
+    by true rest l = ap (λ ds. c ∷ ds) (rest (omega arith))
+    by false rest l = absurd (omega arith)
+
+pub cut_none : (m : Configurations) (index : ℕ) → nat_lt (length (cut_at m index).later) (length m.later) ≡ false → cut_at m index ≡ m
+cut_none m index e = let l = ltb-false _ _ e in ap (λ cs. record m { later = cs }) (below_all index m.later (omega arith))
+
+-- ---- entries that join
+
+pub none_joined : (m : Configurations) (first : ℕ) → last_index m < first → Joined m m first [] false
+none_joined m first l = record {
+  is = λ opening log h e. subst (λ (es : List Entry). IsOf (read_setup opening) es m) (nil log) h;
+  low = omega arith;
+  stays = λ e. refl;
+}
+  where
+    nil : (log : List Entry) → log ≡ log ++ []
+    nil [] = refl
+    nil (x ∷ xs) = ap (λ l. x ∷ l) (nil xs)
+
+or_false : (a b : Bool) → (a || b) ≡ false → (a ≡ false) × (b ≡ false)
+or_false true b e = absurd cc
+or_false false b e = (refl, e)
+
+pub one_joined : (old m new : Configurations) (first index : ℕ) (entries : List Entry) (e : Entry) (told one : Bool) → Joined old m first entries told → index ≡ first + length entries → one ≡ changes (read_setup []) e → new ≡ changed m index e
+    → ((opening : List Server) (log : List Entry) → IsOf (read_setup opening) log m → index ≡ suc (length log) → IsOf (read_setup opening) (log ++ e ∷ []) new)
+    → Joined old new first (entries ++ e ∷ []) (one || told)
+one_joined old m new first index entries e told one j at c n is =
+    let more = length-append entries (e ∷ []) in
+    let low = j.low in
+    let lt : last_index m < index = omega arith in
+    let last : last_index new ≤ index = subst (λ (x : Configurations). last_index x ≤ index) (sym n) (changed_low m index e lt) in
+    record {
+      is = λ opening log h f.
+          let count : index ≡ suc (length (log ++ entries)) = let a = length-append log entries in omega arith in
+          subst (λ (es : List Entry). IsOf (read_setup opening) es new) (append_assoc log entries (e ∷ [])) (is opening (log ++ entries) (j.is opening log h f) count);
+      low = omega arith;
+      stays = λ f. let both = or_false one told f in n ∙ unchanged m index e (sym c ∙ both.0) ∙ j.stays both.1;
+    }
+
+pub one_more_taken : (all : List Entry) (i : ℕ) (e : Entry) → i < length all → e ≡ slice_index_or all i e → take (i + 1) all ≡ take i all ++ e ∷ []
+one_more_taken all i e lt is = take_more all i e lt ∙ ap (λ x. take i all ++ x ∷ []) (sym is)
+
+-- ---- a log that is another one from an index on
+
+pub current_stays : (old cut new : Configurations) (first : ℕ) (tail : List Entry) (gone came : Bool) → cut ≡ cut_at old first → Joined cut new first tail came → gone ≡ nat_lt (length cut.later) (length old.later) → (gone || came) ≡ false → last_servers new ≡ last_servers old
+current_stays old cut new first tail gone came c j g f =
+    let both = or_false gone came f in
+    let same : cut_at old first ≡ old = cut_none old first (ap (λ (x : Configurations). nat_lt (length x.later) (length old.later)) (sym c) ∙ sym g ∙ both.0) in
+    ap last_servers (j.stays both.1 ∙ c ∙ same)

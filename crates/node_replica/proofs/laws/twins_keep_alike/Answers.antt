@@ -1,0 +1,8 @@
+use Rattle.node_replica.proofs.TwinKeeps.{twins_keep, twins_stop}
+use Rattle.node_replica.proofs.laws.twins_keep_alike.Goals as goal
+
+pub returns-clause-keep : goal.returns-clause-keep
+returns-clause-keep c = twins_keep
+
+pub returns-clause-stop : goal.returns-clause-stop
+returns-clause-stop c = twins_stop

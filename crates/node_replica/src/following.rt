@@ -1,0 +1,76 @@
+//! The configurations of a node's whole log follow the log of its Raft.
+ghost use Rattle.std.specs.Prelude.{◌≡◌, ◌<◌, ◌≤◌, ◌-◌, ◌++◌, ◌||◌, suc, false, List, IfOk, OnOk, length, take, drop};
+ghost use Rattle.raft_rules.specs.Log.{Entry as EntryValue};
+ghost use Rattle.raft_rules.specs.Node.{Server as ServerValue};
+ghost use Rattle.raft_rules.specs.NodeValues.{node_of};
+ghost use Rattle.raft_world.specs.Members.{configuration};
+ghost use Rattle.raft_member.specs.Members.{IsOf, last_index, last_servers, read_setup};
+ghost use Rattle.node_replica.specs.Following.{Joined};
+ghost use Rattle.node_replica.specs.Replicas.{IsWhole};
+
+use crate::keeper::one_more;
+use crate::replica::Replica;
+use raft_member::Members;
+use raft_vote::{Entry, Servers};
+use std::alloc::{AllocError, Global};
+
+fn either(one: bool, other: bool) -> bool
+    ensures { result ≡ (one || other) }
+{
+    one || other
+}
+
+// These entries join the log, the first one at this index. True where one of them is a change that reads.
+fn join(
+    alloc: Global,
+    members: &mut Members,
+    first: u64,
+    entries: &[Entry],
+) -> Result<bool, AllocError>
+    requires { last_index members.old < first }
+    ensures { IfOk result (λ told. Joined members.old members.new first entries.now told) }
+{
+    let mut told = false;
+    let mut index = first;
+    for entry in entries {
+        let changes = members.take_in(alloc, index, entry)?;
+        told = either(changes, told);
+        index = one_more(index)?;
+    }
+    Ok(told)
+}
+
+impl Replica {
+    /// The configurations follow a step after which the log is another one from this index on: changes from there on are
+    /// gone, and those that stand there now join. Where the answer is false the current configuration is the one that it
+    /// was; where it is true, a node that doesn't lead tells its Raft the current one.
+    ///
+    /// Reads each entry from there on once. `Err` is want of memory; the configurations are to be dropped then, with the
+    /// replica.
+    pub fn follow(&self, members: &mut Members, first: u64) -> Result<bool, AllocError>
+        requires cut { self.now.raft.base < first }
+        requires past { members.old.at < first }
+        // They are those of the whole log with this one's entries from the index on.
+        ensures is { (opening : List ServerValue) (log : List EntryValue) → IsOf (read_setup opening) log members.old → first ≤ suc (length log) →
+            OnOk result (IsOf (read_setup opening) (take (first - 1) log ++ drop (first - 1) (node_of self.now.raft).log) members.new) }
+        ensures stays { IfOk result (λ told. told ≡ false → last_servers members.new ≡ last_servers members.old) }
+    {
+        let gone = members.cut_from(first);
+        let came = join(self.alloc, members, first, self.raft.tail(first))?;
+        Ok(either(gone, came))
+    }
+
+    /// The configurations of the whole log of a replica that has applied its snapshot alone, as one that starts, or one
+    /// to which a snapshot has come. These servers are the snapshot's. `Err` is want of memory, or an index past 64 bits.
+    pub fn members(&self, servers: Servers) -> Result<Members, AllocError>
+        requires { IsWhole self.now }
+        ensures is { (opening : List ServerValue) (front : List EntryValue) → length front ≡ self.now.snap.index → configuration (read_setup opening) front ≡ servers →
+            IfOk result (λ members. IsOf (read_setup opening) (front ++ drop self.now.snap.index (node_of self.now.raft).log) members) }
+    {
+        let index = self.keeper.snapshot.index;
+        let mut members = Members::new(self.alloc, servers, index);
+        let first = one_more(index)?;
+        join(self.alloc, &mut members, first, self.raft.tail(first))?;
+        Ok(members)
+    }
+}
