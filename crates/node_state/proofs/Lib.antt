@@ -1,0 +1,8 @@
+mod Following
+mod Names
+mod EachName
+mod Spellings
+mod Snapshots
+mod Offices
+mod EachUndo
+mod Waiting

@@ -1,0 +1,32 @@
+//! What is told of an entry that was applied.
+
+ghost use Rattle.std.specs.Prelude.{◌≡◌};
+ghost use Rattle.node_state.specs.Content.{effect_of_command};
+
+use dq_base::Name;
+use frame_commands::Command;
+
+/// What is told of an entry that was applied.
+#[derive(Debug, Drop)]
+pub enum Effect {
+    /// It was the last command of a transaction, in the database of this name.
+    Committed(Name),
+    /// The servers are others now.
+    Configured,
+    /// None of these.
+    Unmarked,
+}
+
+/// What is told of a command. Moves its name; the pages are dropped.
+pub(crate) fn effect_of(command: Command) -> Effect
+    ensures { result ≡ effect_of_command command }
+{
+    match command {
+        Command::Frames {
+            name,
+            commit: true,
+            ..
+        } => Effect::Committed(name),
+        _ => Effect::Unmarked,
+    }
+}
