@@ -1,6 +1,6 @@
 //! The gateway and its calls.
 
-ghost use Rattle.std.specs.Prelude.{◌≡◌, ◌<◌, ◌≤◌, ◌+◌, true, false, [], ◌∷◌, OnOk, OnErr, IfOk, if◌then◌else◌};
+ghost use Rattle.std.specs.Prelude.{◌≡◌, ◌<◌, ◌+◌, true, false, [], ◌∷◌, OnOk, OnErr, IfOk, if◌then◌else◌};
 ghost use Rattle.sql_engine.specs.Meanings.{Stays};
 ghost use Rattle.std.specs.Prelude.{List};
 ghost use Rattle.sql_engine.specs.Known.{Known};
@@ -97,8 +97,8 @@ impl Gateway {
     /// for the node to do. The connection's session is there, is not hung up and has no proposal out; `busy` tells. The
     /// machine is that of the earlier calls with the commands applied since.
     ///
-    /// A refused request has changed nothing. `Err` is want of memory, which also comes where 2^64 requests were handled; then
-    /// nothing has changed either but what the engine told.
+    /// A refused request has changed nothing. `Err` is want of memory, which also comes where no number is left, after
+    /// 18,446,744,073,709,551,615 requests; then nothing has changed either but what the engine told.
     ///
     /// For each request a number is drawn, which that working image of a transaction gets that the request's statements leave.
     /// So the engine finds what it has open by the number of an image, and compares no bytes.

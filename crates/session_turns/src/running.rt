@@ -4,7 +4,7 @@ ghost use Rattle.std.specs.Prelude.{◌≡◌, ◌<◌, ◌≤◌, ◌+◌, ◌+
 ghost use Rattle.std.specs.List.{AllByRecursion};
 ghost use Rattle.sql_engine.specs.Known.{Known, MayRun};
 ghost use Rattle.sql_engine.specs.Meanings.{Stays};
-ghost use Rattle.page_apply.specs.ImageNumbers.{Numbered, numbered};
+ghost use Rattle.page_apply.specs.ImageNumbers.{numbered};
 ghost use Rattle.statement_runs.specs.Agreeing.{Agree};
 ghost use Rattle.statement_runs.specs.Learning.{IsLearnt, left_by};
 ghost use Rattle.sql_engine.specs.Replies.{Statement};
