@@ -1,5 +1,5 @@
 -- A message at its place among those of other peers.
-use Rattle.std.proofs.Common.{◌≡◌, ℕ, suc, ◌≤◌, Bool, true, false, cond, List, [], ◌∷◌, ◌++◌, length, insert, refl, ap, arith, ◌∙◌, append_assoc}
+use Rattle.std.proofs.Common.{◌≡◌, ℕ, suc, ◌≤◌, Bool, true, false, cond, List, [], ◌∷◌, ◌++◌, length, insert, refl, ap, arith}
 use Rattle.std.specs.Prelude.{nat_le}
 use Rattle.raft_vote.specs.declared.message.RaftMessage.{RaftMessage}
 use Rattle.node_replica.specs.Mails.{MailValue, place_for, placed, posted, all_posted}
