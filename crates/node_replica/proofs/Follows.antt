@@ -1,14 +1,14 @@
 -- The configurations of a whole log follow a node's log.
-use Rattle.std.proofs.Common.{◌≡◌, ℕ, zero, suc, ◌+◌, ◌-◌, ◌<◌, ◌≤◌, Bool, true, false, cond, List, [], ◌∷◌, ◌++◌, length, take, drop, refl, sym, ap, subst, ◌∙◌, arith, append_assoc, Option, Some, None}
+use Rattle.std.proofs.Common.{◌≡◌, ℕ, suc, ◌+◌, ◌<◌, ◌≤◌, Bool, true, false, cond, List, [], ◌∷◌, ◌++◌, length, take, refl, sym, ap, subst, ◌∙◌, arith, append_assoc, Option, Some, None}
 use Rattle.std.specs.Prelude.{◌&&◌, ◌||◌, nat_lt, slice_index_or}
 use Rattle.std.proofs.lemmas.Bool.{cond_both, ltb-true, ltb-false}
-use Rattle.std.proofs.lemmas.List.{length-append, length-take-le, take_more}
+use Rattle.std.proofs.lemmas.List.{length-append, take_more}
 use Rattle.raft_rules.specs.Log.{Entry}
 use Rattle.raft_rules.specs.Node.{Server}
 use Rattle.raft_vote.specs.Servers.{configuration_of}
-use Rattle.raft_world.specs.Members.{is_change, reads, changes, configuration}
+use Rattle.raft_world.specs.Members.{is_change, reads, changes}
 use Rattle.raft_member.specs.declared.members.Change.{Change}
-use Rattle.raft_member.specs.Members.{Configurations, first_of, last_from, last_index, last_servers, with_read, configuration_in, changed, below, cut_at, read_setup, IsOf}
+use Rattle.raft_member.specs.Members.{Configurations, last_from, last_index, last_servers, with_read, configuration_in, changed, below, cut_at, read_setup, IsOf}
 use Rattle.node_replica.specs.Following.{Joined}
 
 -- ---- the last change

@@ -1,19 +1,19 @@
 -- What is kept of a node before and after a step: as batches and snapshots that the store is handed make it.
-use Rattle.std.proofs.Common.{◌≡◌, ◌≢◌, ℕ, zero, suc, ◌+◌, ◌-◌, ◌<◌, ◌≤◌, max, Bool, true, false, cond, List, [], ◌∷◌, ◌++◌, length, map, take, drop, refl, sym, ap, subst, ◌∙◌, arith, ⊎_elim, length-append, inl, inr}
-use Rattle.std.specs.Prelude.{◌&&◌, ◌==◌, not, nat_lt, nat_le, Option, Some, None}
-use Rattle.std.proofs.lemmas.Bool.{cond_both, and_parts, ltb-true, ltb-false, leb-true, leb-false, lt-ltb, le-leb, eqb-true, eq-eqb}
+use Rattle.std.proofs.Common.{◌≡◌, ◌≢◌, ℕ, zero, suc, ◌+◌, ◌-◌, ◌<◌, ◌≤◌, Bool, true, false, List, [], ◌∷◌, ◌++◌, length, take, drop, refl, sym, ap, ◌∙◌, arith, ⊎_elim}
+use Rattle.std.specs.Prelude.{◌&&◌, ◌==◌, nat_lt}
+use Rattle.std.proofs.lemmas.Bool.{cond_both, and_parts, ltb-true, ltb-false, leb-true, lt-ltb, le-leb, eqb-true, eq-eqb}
 use Rattle.std.proofs.lemmas.List.{drop_at}
 use Rattle.raft_rules.specs.Log.{Entry, LogEnd, nth_term, term_at, matches}
-use Rattle.raft_rules.specs.Node.{Node, voters, Input, Local, Snapped}
-use Rattle.raft_rules.specs.Todo.{Begins, IsLogWrite}
+use Rattle.raft_rules.specs.Node.{Node, Input}
+use Rattle.raft_rules.specs.Todo.{Begins}
 use Rattle.raft_rules.specs.Compaction.{compacted, compact, compacted_step}
 use Rattle.raft_rules.specs.NodeValues.{NodeValue, IsCoherent, node_of}
 use Rattle.raft_rules.proofs.NodeValues.{compacted_length, whole_length, compact_kept}
 use Rattle.raft_world.proofs.Logs.{nth_at}
-use Rattle.store_laws.specs.Store.{Snap, Log, Kept, behind, nth_term as kept_term}
-use Rattle.store_laws.specs.Append.{CanAppend, with_batch, wanted}
+use Rattle.store_laws.specs.Store.{Snap, Log, behind, nth_term as kept_term}
+use Rattle.store_laws.specs.Append.{CanAppend, with_batch}
 use Rattle.store_laws.specs.Meta.{with_vote}
-use Rattle.store_laws.specs.Snapshots.{Longer, Stays, part, nothing, with_snapshot}
+use Rattle.store_laws.specs.Snapshots.{Stays, part, nothing, with_snapshot}
 use Rattle.node_replica.specs.Terms.{HasTerm}
 use Rattle.segment_store.specs.Keeping.{CanKeep}
 use Rattle.node_replica.specs.Keeping.{kept_at, batch_from, log_from}

@@ -1,9 +1,9 @@
 -- What the calls of the store leave, said of disks that keep a state over every crash.
-use Rattle.std.proofs.Common.{◌≡◌, ℕ, suc, ◌+◌, ◌≤◌, Bool, true, false, List, refl, sym, ap, subst, ◌∙◌, arith, inl, inr, ⊎_elim, Option, Some, None, Result, Ok, Err}
+use Rattle.std.proofs.Common.{Bool, inl, Ok, Err}
 use Rattle.disk_model.specs.Disk.{Disk, Leaves}
-use Rattle.disk_model.specs.Trait.{Text, Known, told, untold}
+use Rattle.disk_model.specs.Trait.{Text, Known}
 use Rattle.disk_model.proofs.Runs.{known_map}
-use Rattle.store_laws.specs.Names.{NodeFiles, NodeDisk}
+use Rattle.store_laws.specs.Names.{NodeDisk}
 use Rattle.store_laws.specs.Store.{Snap, Log, Kept}
 use Rattle.store_laws.proofs.Seen.{all_seen}
 use Rattle.store_format.specs.NodeFormat.{node_format}

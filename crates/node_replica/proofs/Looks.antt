@@ -1,12 +1,12 @@
 -- Which messages put a snapshot in the place of entries.
-use Rattle.std.proofs.Common.{◌≡◌, ℕ, ◌<◌, ◌≤◌, inl, inr, Bool, true, false, cond, List, refl, sym, ap, subst, ◌∙◌, arith, ◌⊎◌, ⊎_elim}
-use Rattle.std.specs.Prelude.{Option, Some, None, ◌&&◌, ◌||◌, not, nat_lt, nat_le}
+use Rattle.std.proofs.Common.{◌≡◌, ℕ, ◌≤◌, inl, inr, Bool, true, false, List, refl, sym, ap, ◌∙◌, arith, ◌⊎◌, ⊎_elim}
+use Rattle.std.specs.Prelude.{None, ◌&&◌, ◌||◌, not, nat_lt, nat_le}
 use Rattle.std.proofs.lemmas.Bool.{cond_both, ltb-true, ltb-false, leb-true, leb-false, lt-ltb, le-leb, false_from_ne_true}
 use Rattle.raft_rules.specs.Log.{Entry, LogEnd, matches}
-use Rattle.raft_rules.specs.Node.{What, AskVote, Vote, Append, Ack, Install, TimeoutNow, Message, Node, Outcome, voters, is_leader, Input, Receive}
+use Rattle.raft_rules.specs.Node.{AskVote, Vote, Append, Ack, Install, TimeoutNow, Message, Node, Outcome, voters, is_leader, Receive}
 use Rattle.raft_rules.specs.Outcomes.{in_newer_term}
 use Rattle.raft_rules.specs.Snapshots.{on_install}
-use Rattle.raft_rules.specs.Receiving.{fits_the_wire, in_range, on_message}
+use Rattle.raft_rules.specs.Receiving.{in_range, on_message}
 use Rattle.raft_rules.specs.Steps.{raft_step}
 use Rattle.raft_rules.specs.Compaction.{compacted_step}
 use Rattle.raft_rules.specs.Laws.{BringsSnapshot}

@@ -1,32 +1,32 @@
 -- An own snapshot: what may be kept with it, and the step by which Raft is told.
-use Rattle.std.proofs.Common.{◌≡◌, ◌≢◌, ℕ, zero, suc, ◌+◌, ◌-◌, ◌<◌, ◌≤◌, max, Bool, true, false, cond, List, [], ◌∷◌, ◌++◌, length, map, drop, refl, sym, ap, subst, ◌∙◌, arith, inl, inr, ⊎_elim, Option, Some, None, Result, Ok, Err}
-use Rattle.std.specs.Prelude.{◌&&◌, ◌==◌, not, nat_lt, nat_le, IsSome}
-use Rattle.std.proofs.lemmas.Bool.{cond_both, and_parts, ltb-true, lt-ltb, le-leb, eqb-true, eq-eqb}
-use Rattle.raft_rules.specs.Log.{Entry, LogEnd, term_at}
-use Rattle.raft_rules.specs.Node.{Role, Follower, Node, Outcome, voters, is_leader, Input, Local, Snapped}
-use Rattle.raft_rules.specs.Outcomes.{quiet, with_log}
+use Rattle.std.proofs.Common.{◌≡◌, ◌≢◌, ℕ, suc, ◌+◌, ◌-◌, ◌<◌, ◌≤◌, max, Bool, true, false, List, length, drop, refl, sym, ap, subst, ◌∙◌, arith, ⊎_elim, Option, Some, Ok, Err}
+use Rattle.std.specs.Prelude.{◌&&◌, ◌==◌, not, nat_lt, nat_le}
+use Rattle.std.proofs.lemmas.Bool.{cond_both, and_parts, lt-ltb, le-leb, eqb-true, eq-eqb}
+use Rattle.raft_rules.specs.Log.{Entry, term_at}
+use Rattle.raft_rules.specs.Node.{Node, Outcome, voters, is_leader, Local, Snapped}
+use Rattle.raft_rules.specs.Outcomes.{with_log}
 use Rattle.raft_rules.specs.Snapshots.{on_snapped}
 use Rattle.raft_rules.specs.Commitment.{commit_index}
 use Rattle.raft_rules.specs.Steps.{finish, raft_step}
-use Rattle.raft_rules.specs.Compaction.{compacted, compact, compacted_step}
+use Rattle.raft_rules.specs.Compaction.{compact, compacted_step}
 use Rattle.raft_rules.specs.NodeValues.{NodeValue, IsCoherent, node_of}
 use Rattle.raft_rules.proofs.NodeValues.{whole_length}
 use Rattle.raft_core.specs.Queries.{forgets_at, known_at}
 use Rattle.disk_model.specs.Disk.{Disk}
-use Rattle.disk_model.specs.Trait.{Text, Known}
+use Rattle.disk_model.specs.Trait.{Text}
 use Rattle.disk_model.proofs.Runs.{known_map}
-use Rattle.store_laws.specs.Store.{Snap, Log, Kept, Loaded}
-use Rattle.store_laws.specs.Snapshots.{Longer, Stays, part, IsLonger, with_snapshot}
+use Rattle.store_laws.specs.Store.{Snap, Kept, Loaded}
+use Rattle.store_laws.specs.Snapshots.{part, IsLonger, with_snapshot}
 use Rattle.store_format.specs.NodeFormat.{node_format}
 use Rattle.segment_store.specs.Open.{Open}
 use Rattle.segment_store.specs.declared.fault.StoreFault.{StoreFault}
 use Rattle.segment_store.specs.Keeps.{folder}
-use Rattle.segment_store.specs.Keeping.{CanKeep, OldOrKept}
+use Rattle.segment_store.specs.Keeping.{CanKeep}
 use Rattle.segment_store.specs.Loading.{kept_in}
 use Rattle.node_replica.specs.Terms.{HasTerm}
 use Rattle.node_replica.specs.Keeping.{kept_at, log_from, Has, StoresSnapshot}
-use Rattle.node_replica.specs.Stops.{votes_between, before, between, after, StopsIn, Stops}
-use Rattle.node_replica.proofs.StepShapes.{SpeakOf, both_speak, others_speak, sent_speaks, all_compact}
+use Rattle.node_replica.specs.Stops.{votes_between, before, after, StopsIn, Stops}
+use Rattle.node_replica.proofs.StepShapes.{SpeakOf, both_speak, sent_speaks, all_compact}
 use Rattle.node_replica.proofs.KeptLogs.{drop_length, drop_drop, kept_behind, put_away}
 
 -- ---- the step

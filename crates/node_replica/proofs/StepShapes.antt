@@ -1,9 +1,9 @@
 -- What one step does to the log, the snapshot and the cut of a node, and what it says of snapshots: what a node keeps goes by it.
-use Rattle.std.proofs.Common.{◌≡◌, ◌≢◌, ℕ, zero, suc, ◌<◌, ◌≤◌, Bool, true, false, cond, List, [], ◌∷◌, ◌++◌, length, map, take, drop, refl, sym, ap, subst, ◌∙◌, arith}
+use Rattle.std.proofs.Common.{◌≡◌, ◌≢◌, ℕ, ◌<◌, ◌≤◌, Bool, true, false, List, [], ◌∷◌, ◌++◌, length, map, refl, arith}
 use Rattle.std.specs.Prelude.{◌&&◌, ◌==◌, not, nat_lt, nat_le}
 use Rattle.std.proofs.lemmas.Bool.{cond_both, and_parts, ltb-true, ltb-false, leb-false}
 use Rattle.raft_rules.specs.Log.{Entry, LogEnd, matches}
-use Rattle.raft_rules.specs.Node.{Role, Leader, Candidate, Follower, What, AskVote, Vote, Append, Ack, Install, TimeoutNow, Message, Node, Server, Outcome, Recipients, among, others, peers, majority, voters, is_leader, is_candidate, Timeout, Beat, Propose, Transfer, Snapped, UseServers, Input, Local, Receive}
+use Rattle.raft_rules.specs.Node.{Role, Leader, Candidate, Follower, What, AskVote, Vote, Append, Ack, Install, TimeoutNow, Message, Node, Server, Outcome, among, peers, majority, voters, is_leader, is_candidate, Timeout, Beat, Propose, Transfer, Snapped, UseServers, Input, Local, Receive}
 use Rattle.raft_rules.specs.Outcomes.{quiet, in_newer_term, with_grants, with_log}
 use Rattle.raft_rules.specs.Elections.{as_candidate, ask_vote, on_grants, may_start_election, start_election, on_ask_vote, grants_with, grants_vote, on_vote}
 use Rattle.raft_rules.specs.Replication.{agrees, replaces_committed, take_entries, on_append, on_ack, on_propose, on_beat, on_transfer}
@@ -11,8 +11,8 @@ use Rattle.raft_rules.specs.Snapshots.{on_install, needs_snapshot}
 use Rattle.raft_rules.specs.Membership.{on_servers}
 use Rattle.raft_rules.specs.Commitment.{commit_index}
 use Rattle.raft_rules.specs.Receiving.{on_own_term, on_older_term, in_range, fits_the_wire, what_in_range, on_message}
-use Rattle.raft_rules.specs.Steps.{message_to, receivers, advance_commit, sends, finish, serve, raft_step}
-use Rattle.raft_rules.specs.Compaction.{compacted, compact, compact_what, compact_message, compacted_step}
+use Rattle.raft_rules.specs.Steps.{message_to, finish, serve, raft_step}
+use Rattle.raft_rules.specs.Compaction.{compact, compact_what, compact_message, compacted_step}
 use Rattle.node_replica.specs.Terms.{HasTerm}
 
 -- ---- what is shown of a rule

@@ -1,5 +1,5 @@
 -- What a step leaves: after Ok, and at each exit of an Err.
-use Rattle.std.proofs.Common.{◌≡◌, ◌≢◌, ℕ, suc, ◌+◌, ◌-◌, ◌<◌, ◌≤◌, Bool, true, false, cond, List, [], ◌∷◌, length, drop, map, refl, sym, ap, subst, ◌∙◌, arith, inl, inr, ◌⊎◌, ⊎_elim, Option, Some, None, Result, Ok, Err}
+use Rattle.std.proofs.Common.{◌≡◌, ◌≢◌, ℕ, ◌+◌, ◌-◌, ◌<◌, ◌≤◌, Bool, true, false, cond, List, [], ◌∷◌, drop, map, refl, sym, ap, subst, ◌∙◌, arith, ⊎_elim, Option, Some, None, Ok, Err}
 use Rattle.std.specs.Prelude.{MatchOption, ◌&&◌, ◌==◌, nat_lt, option_map}
 use Rattle.std.specs.List.{AllByRecursion}
 use Rattle.std.proofs.lemmas.Bool.{cond_both, and_parts, ltb-true, ltb-false, eqb-true, eq-eqb}
@@ -7,7 +7,7 @@ use Rattle.raft_rules.specs.Log.{LogEnd}
 use Rattle.raft_rules.specs.Node as rules
 use Rattle.raft_rules.specs.Todo.{IsLogWrite}
 use Rattle.raft_rules.specs.NodeValues.{NodeValue, IsCoherent, node_of}
-use Rattle.raft_rules.specs.Compaction.{compacted, compacted_step}
+use Rattle.raft_rules.specs.Compaction.{compacted}
 use Rattle.raft_rules.proofs.NodeValues.{compacted_length}
 use Rattle.raft_vote.specs.declared.message.Snapshot.{Snapshot}
 use Rattle.raft_vote.specs.declared.message.What.{What}
@@ -25,19 +25,18 @@ use Rattle.disk_model.specs.Trait.{Text, Known}
 use Rattle.disk_model.proofs.Runs.{known_map}
 use Rattle.store_laws.specs.Names.{NodeFiles}
 use Rattle.store_laws.specs.Store.{Snap, Log, Kept, Loaded}
-use Rattle.store_laws.specs.Append.{with_batch}
 use Rattle.store_laws.specs.Meta.{with_vote}
-use Rattle.store_laws.specs.Snapshots.{Longer, IsLonger, with_snapshot}
+use Rattle.store_laws.specs.Snapshots.{IsLonger, with_snapshot}
 use Rattle.store_format.specs.NodeFormat.{node_format}
 use Rattle.segment_store.specs.Open.{Open}
 use Rattle.segment_store.specs.declared.fault.StoreFault.{StoreFault}
-use Rattle.segment_store.specs.Keeps.{folder, HasNew, OldOrNew}
+use Rattle.segment_store.specs.Keeps.{folder, OldOrNew}
 use Rattle.segment_store.specs.Keeping.{OldOrKept, snap_value}
 use Rattle.segment_store.specs.Loading.{kept_in}
 use Rattle.node_replica.specs.Terms.{HasTerm}
-use Rattle.node_replica.specs.Keeping.{kept_at, batch_from, log_from, voted, one_of, kept_snapshot, Has, Stores, KeepsLog}
+use Rattle.node_replica.specs.Keeping.{kept_at, log_from, voted, one_of, kept_snapshot, Has, Stores, KeepsLog}
 use Rattle.node_replica.specs.Replicas.{ReplicaValue, IsWhole, IsIntake, IsKept, kept_of, end_of, stepped, said, bytes_in, bytes_after}
-use Rattle.node_replica.specs.Stops.{votes_between, MayLoad, before, between, after, StopsIn, Stops}
+use Rattle.node_replica.specs.Stops.{votes_between, before, between, after, StopsIn, Stops}
 use Rattle.node_replica.specs.Letters.{letter, Carries, CarriesIn, Tells}
 use Rattle.node_replica.proofs.StepShapes.{step_has_term, step_speaks, IsFront, IsIntake as IsRuleIntake, SpeaksOf, SpeakOf}
 use Rattle.node_replica.proofs.KeptLogs.{Stepped, stepped_of, nothing_written, batch_fits, batch_written, snapshot_fits, snapshot_written}

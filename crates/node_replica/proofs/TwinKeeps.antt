@@ -1,5 +1,5 @@
 -- What twins keep.
-use Rattle.std.proofs.Common.{◌≡◌, ◌≤◌, ℕ, ◌+◌, suc, List, drop, refl, sym, ap, subst, ◌∙◌}
+use Rattle.std.proofs.Common.{◌≡◌, ◌≤◌, ◌+◌, suc, sym, ap, subst, ◌∙◌}
 use Rattle.raft_rules.specs.Node.{Node}
 use Rattle.raft_rules.specs.Compaction.{with_whole_log}
 use Rattle.raft_world.specs.Cuts.{Twin}
@@ -7,9 +7,8 @@ use Rattle.store_laws.specs.Store.{Kept, Loaded}
 use Rattle.store_laws.specs.Meta.{with_vote}
 use Rattle.store_laws.specs.Snapshots.{IsLonger}
 use Rattle.store_format.specs.NodeFormat.{node_format}
-use Rattle.segment_store.specs.Loading.{kept_in}
 use Rattle.node_replica.specs.Keeping.{kept_at}
-use Rattle.node_replica.specs.Stops.{MayLoad, before, between, after, votes_between}
+use Rattle.node_replica.specs.Stops.{before, between, after, votes_between}
 use Rattle.node_replica.specs.Twins.{TwinsKeep, TwinsStop}
 
 pub twins_keep : TwinsKeep

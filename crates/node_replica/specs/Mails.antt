@@ -1,5 +1,5 @@
 -- The mail of one event: of the Appends and Installs to one peer the last one is sent.
-use Rattle.std.specs.Prelude.{ℕ, suc, Bool, true, false, not, if◌then◌else◌, ◌==◌, nat_le, List, [], ◌∷◌, ◌++◌}
+use Rattle.std.specs.Prelude.{ℕ, suc, ◌<◌, Bool, true, false, not, if◌then◌else◌, ◌==◌, nat_le, List, [], ◌∷◌, ◌++◌}
 use Rattle.std.specs.List.{filter}
 use Rattle.raft_vote.specs.declared.message.What.{What}
 use Rattle.raft_vote.specs.declared.message.What.TheVariants as whats
@@ -49,3 +49,19 @@ no_mail = record { others = []; logs = [] }
 -- what is sent, in order
 abbrev pub sent : MailValue → List RaftMessage
 sent mail = mail.others ++ mail.logs
+
+-- ---- what holds of every mail
+
+-- each of these messages goes to a peer past this one
+abbrev pub AllPast : ℕ → List RaftMessage → Type 0
+AllPast to [] = Unit {0}
+AllPast to (m ∷ ms) = (to < m.to) × AllPast to ms
+
+-- no two go to one peer, and they ascend by peer
+abbrev pub Ascend : List RaftMessage → Type 0
+Ascend [] = Unit {0}
+Ascend (m ∷ ms) = AllPast m.to ms × Ascend ms
+
+-- Appends and Installs go one to a peer, ascending, whatever was posted.
+abbrev pub MailsAscend : Type 0
+MailsAscend = (messages : List RaftMessage) → Ascend (all_posted no_mail messages).logs

@@ -10,6 +10,6 @@ mod mail;
 mod queries;
 mod replica;
 
-pub use laws::twins_keep_alike;
+pub use laws::{mails_ascend, twins_keep_alike};
 pub use mail::Mail;
 pub use replica::{Moved, Replica};

@@ -1,8 +1,7 @@
-use Rattle.std.proofs.Common.{◌≡◌, ◌+◌, ◌<◌, ℕ, Bool, suc, List, [], ◌∷◌, ◌++◌, length, take, sym, ap, subst, ◌∙◌, arith}
+use Rattle.std.proofs.Common.{◌≡◌, ◌+◌, ◌<◌, Bool, suc, List, length, take, sym, subst, arith}
 use Rattle.std.specs.Prelude.{◌||◌}
 use Rattle.std.proofs.lemmas.List.{length-take-le}
 use Rattle.raft_rules.specs.Log.{Entry}
-use Rattle.raft_member.specs.Members.{Configurations}
 use Rattle.node_replica.specs.Following.{Joined}
 use Rattle.node_replica.proofs.Follows.{one_joined, one_more_taken}
 use Rattle.node_replica.proofs.following.join.Goals as goal

@@ -1,4 +1,4 @@
-use Rattle.std.proofs.Common.{◌≡◌, sym}
+use Rattle.std.proofs.Common.{◌≡◌}
 use Rattle.store_laws.specs.Store.{Log}
 use Rattle.store_laws.specs.Append.{CanAppend, with_batch}
 use Rattle.raft_rules.specs.NodeValues.{node_of}

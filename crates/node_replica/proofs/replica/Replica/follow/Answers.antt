@@ -1,4 +1,4 @@
-use Rattle.std.proofs.Common.{◌≡◌, ◌<◌, sym, subst, ◌∙◌}
+use Rattle.std.proofs.Common.{◌<◌, sym, subst, ◌∙◌}
 use Rattle.raft_member.specs.Members.{Configurations, last_index}
 use Rattle.node_replica.proofs.Follows.{cut_low, current_stays}
 use Rattle.node_replica.proofs.replica.Replica.follow.Goals as goal

@@ -1,9 +1,8 @@
-use Rattle.std.proofs.Common.{◌≡◌, ◌+◌, ◌-◌, ◌<◌, ◌≤◌, ℕ, suc, List, drop, refl, sym, ap, subst, ◌∙◌, arith, Ok, Err}
+use Rattle.std.proofs.Common.{◌≡◌, ◌+◌, ◌-◌, ◌<◌, ◌≤◌, ℕ, suc, List, drop, sym, ap, subst, ◌∙◌, arith, Ok, Err}
 use Rattle.std.proofs.lemmas.Result.{err_from_is_err_and}
 use Rattle.raft_rules.specs.Log.{LogEnd, term_at}
 use Rattle.raft_rules.specs.Node.{Node}
 use Rattle.raft_rules.specs.NodeValues.{node_of}
-use Rattle.raft_core.specs.Messages.{sendings_value}
 use Rattle.store_laws.specs.Store.{Snap, Log}
 use Rattle.segment_store.specs.declared.fault.StoreFault.{StoreFault}
 use Rattle.segment_store.specs.Keeping.{CanKeep, snap_value}

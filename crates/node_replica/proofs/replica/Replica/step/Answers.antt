@@ -1,15 +1,13 @@
-use Rattle.std.proofs.Common.{◌≡◌, ◌+◌, ℕ, refl, sym, ap, subst, ◌∙◌}
+use Rattle.std.proofs.Common.{◌≡◌, ◌+◌, refl, sym, ap, subst, ◌∙◌}
 use Rattle.std.proofs.lemmas.Result.{err_from_is_err_and}
 use Rattle.raft_rules.specs.NodeValues.{node_of}
-use Rattle.raft_core.specs.Events.{IsMeta, IsOffered, WritesLog}
-use Rattle.raft_core.specs.Messages.{IsBare, sendings_value}
-use Rattle.std.specs.List.{AllByRecursion}
+use Rattle.raft_core.specs.Messages.{sendings_value}
 use Rattle.segment_store.specs.Keeping.{snap_value}
 use Rattle.node_replica.specs.Keeping.{kept_at, one_of, writes_of, kept_snapshot, Has}
 use Rattle.node_replica.specs.Replicas.{ReplicaValue, IsWhole, IsKept, kept_of, stepped, said, bytes_after}
 use Rattle.node_replica.specs.Stops.{Stops}
 use Rattle.node_replica.specs.Letters.{Tells}
-use Rattle.node_replica.proofs.Steps.{Made, stops_none, stops_at_vote, stops_at_log, stops_at_end, stands, whole_after, bytes_kept, all_told, batch_past, install_past}
+use Rattle.node_replica.proofs.Steps.{Made, stops_none, stops_at_vote, stops_at_log, stops_at_end, stands, whole_after, bytes_kept, all_told}
 use Rattle.node_replica.proofs.replica.Replica.step.Goals as goal
 
 pub returns-in_err-meta-clause-stopped : goal.returns-in_err-meta-clause-stopped
