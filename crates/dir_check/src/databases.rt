@@ -1,17 +1,16 @@
 //! The databases that what a node has kept stands for.
 
-ghost use Rattle.std.specs.Prelude.{◌≡◌, ◌≢◌, drop, IfOk, OnOk};
+ghost use Rattle.std.specs.Prelude.{◌≡◌, drop, IfOk, OnOk};
 ghost use Rattle.std.specs.Option.{option_map};
 ghost use Rattle.page_apply.specs.Databases.{contents_of};
-ghost use Rattle.page_apply.specs.Restoring.{snapshot_of};
-ghost use Rattle.raft_vote.specs.Servers.{servers_of};
-ghost use Rattle.session_rules.specs.Seen.{entry_seen};
+ghost use Rattle.session_rules.specs.Seen.{HasSpelling};
+ghost use Rattle.node_state.specs.Content.{meaning};
 ghost use Rattle.store_format.specs.FilesRead.{snap_kept, HasIndex};
-ghost use Rattle.dir_check.specs.Files.{databases_in, place_in, databases_of, databases_at, after_entry, after_entries, entries_behind, done_by, IsFor, IsLow};
+ghost use Rattle.dir_check.specs.Files.{databases_of, databases_at, after_content, after_entry, after_entries, entries_behind};
 
-use frame_commands::{Command, CommandFault, read_command};
-use page_apply::{Machine, SnapFault};
-use raft_vote::{Entry, EntryKind, ServersFault, Snapshot, read_servers};
+use node_state::{Applied, Content, content_of};
+use page_apply::Machine;
+use raft_vote::{Entry, Snapshot};
 use std::alloc::{AllocError, Global};
 
 /// What is left of items behind so many; nothing where there are fewer.
@@ -23,59 +22,13 @@ fn rest<T>(items: &[T], count: usize) -> &[T]
 
 // ---- a node's snapshot
 
-/// Whether bytes begin with no configuration for want of memory: then it isn't known whether they do.
-fn no_servers(fault: ServersFault) -> Result<(), AllocError>
-    ensures { OnOk result (fault ≢ ServersFault.NoMemory) }
-{
-    match fault {
-        ServersFault::NoMemory => Err(AllocError),
-        _ => Ok(()),
-    }
-}
-
-/// The same of a machine's snapshot.
-fn no_machine(fault: SnapFault) -> Result<(), AllocError>
-    ensures { OnOk result (fault ≢ SnapFault.NoMemory) }
-{
-    match fault {
-        SnapFault::NoMemory => Err(AllocError),
-        _ => Ok(()),
-    }
-}
-
-/// The machine of a machine's snapshot, if the bytes are one.
-fn machine_in(alloc: Global, bytes: &[u8]) -> Result<Option<Machine>, AllocError>
-    ensures { IfOk result (λ machine. option_map contents_of machine ≡ databases_in (snapshot_of bytes.now)) }
-{
-    match Machine::from_snapshot(alloc, bytes) {
-        Ok(machine) => Ok(Some(machine)),
-        Err(fault) => {
-            no_machine(fault)?;
-            Ok(None)
-        }
-    }
-}
-
-/// The place behind the configuration with which bytes begin, if they begin with one.
-fn servers_end(alloc: Global, bytes: &[u8]) -> Result<Option<u64>, AllocError>
-    ensures { IfOk result (λ place. place ≡ place_in (servers_of bytes.now)) }
-{
-    match read_servers(alloc, bytes) {
-        Ok((_servers, place)) => Ok(Some(place)),
-        Err(fault) => {
-            no_servers(fault)?;
-            Ok(None)
-        }
-    }
-}
-
-/// The machine of a node's snapshot, if the bytes are one.
-#[tactic(auto, unfolding(crate::specs::Files::databases_of))]
-fn restored(alloc: Global, bytes: &[u8]) -> Result<Option<Machine>, AllocError>
+/// The machine of a node's snapshot of an index, if the bytes are one.
+fn restored(alloc: Global, index: u64, bytes: &[u8]) -> Result<Option<Machine>, AllocError>
     ensures { IfOk result (λ machine. option_map contents_of machine ≡ databases_of bytes.now) }
 {
-    match servers_end(alloc, bytes)? {
-        Some(place) => machine_in(alloc, rest(bytes, place as usize)),
+    let applied = Applied::from_snapshot(alloc, index, bytes)?;
+    match applied {
+        Some(applied) => Ok(Some(applied.machine)),
         None => Ok(None),
     }
 }
@@ -90,48 +43,21 @@ pub(crate) fn machine_at(
     ensures { IfOk result (λ machine. option_map contents_of machine ≡ databases_at (snap_kept snapshot.now)) }
 {
     match snapshot {
-        Some(snapshot) => restored(alloc, snapshot.bytes.as_slice()),
+        Some(snapshot) => restored(alloc, snapshot.index, snapshot.bytes.as_slice()),
         None => Ok(Some(Machine::new(alloc))),
     }
 }
 
 // ---- entries
 
-/// Whether a command didn't read for want of memory: then it isn't known to be none.
-fn no_command(fault: CommandFault) -> Result<(), AllocError>
-    ensures { OnOk result (fault ≢ CommandFault.NoMemory) }
+/// Does what an entry is for.
+fn perform(machine: &mut Machine, content: &Content) -> Result<(), AllocError>
+    requires { HasSpelling (meaning content.now) }
+    ensures { OnOk result (contents_of machine.new ≡ after_content (contents_of machine.old) (meaning content.now)) }
 {
-    match fault {
-        CommandFault::NoMemory => Err(AllocError),
-        _ => Ok(()),
-    }
-}
-
-/// The command of an entry, if it is one. Bytes that don't read as a command do nothing.
-fn command_of(alloc: Global, entry: &Entry) -> Result<Option<Command>, AllocError>
-    ensures does { IfOk result (λ command. IsFor command (entry_seen entry.now).content) }
-    ensures low { IfOk result IsLow }
-{
-    if entry.kind != EntryKind::Command {
-        return Ok(None);
-    }
-    match read_command(alloc, entry.bytes.as_slice()) {
-        Ok(command) => Ok(Some(command)),
-        Err(fault) => {
-            no_command(fault)?;
-            Ok(None)
-        }
-    }
-}
-
-/// Does what a command says, if there is one.
-fn perform(machine: &mut Machine, command: &Option<Command>) -> Result<(), AllocError>
-    requires { IsLow command.now }
-    ensures { OnOk result (contents_of machine.new ≡ done_by command.now (contents_of machine.old)) }
-{
-    match command {
-        Some(command) => machine.act(command),
-        None => Ok(()),
+    match content {
+        Content::Does(command) => machine.act(command),
+        Content::Configures(_) | Content::Other => Ok(()),
     }
 }
 
@@ -139,8 +65,8 @@ fn perform(machine: &mut Machine, command: &Option<Command>) -> Result<(), Alloc
 fn apply(alloc: Global, machine: &mut Machine, entry: &Entry) -> Result<(), AllocError>
     ensures { OnOk result (contents_of machine.new ≡ after_entry (contents_of machine.old) entry.now) }
 {
-    let command = command_of(alloc, entry)?;
-    perform(machine, &command)
+    let content = content_of(alloc, entry)?;
+    perform(machine, &content)
 }
 
 /// Does what entries say, one after the other.

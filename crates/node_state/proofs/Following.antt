@@ -1,5 +1,5 @@
 -- What is applied follows the front of a log, entry by entry.
-use Rattle.std.proofs.Common.{◌≡◌, ℕ, ◌+◌, cond, List, [], ◌∷◌, ◌++◌, length, Option, Some, None, Result, Ok, Err, refl, sym, ap, subst, ◌∙◌, arith, ◌&&◌}
+use Rattle.std.proofs.Common.{◌≡◌, ℕ, zero, suc, take, ◌+◌, cond, List, [], ◌∷◌, ◌++◌, length, Option, Some, None, Result, Ok, Err, refl, sym, ap, subst, ◌∙◌, arith, ◌&&◌}
 use Rattle.std.proofs.lemmas.List.{length_push, map-append}
 use Rattle.page_apply.specs.declared.database.Database.{Database}
 use Rattle.page_apply.specs.Machines.{IsMachine}
@@ -11,7 +11,7 @@ use Rattle.raft_rules.specs.Node.{Server}
 use Rattle.raft_vote.specs.Servers.{configuration_of}
 use Rattle.raft_world.specs.Members.{Setup, is_change, reads, servers_read, changes, configuration_from, configuration}
 use Rattle.raft_member.specs.Members.{read_setup}
-use Rattle.session_rules.specs.Entries.{Content, Does, Configures, Other}
+use Rattle.session_rules.specs.Entries.{Content, Does, Configures, Other, Entry}
 use Rattle.session_rules.specs.Machine.{Machine, machine_of, done, files}
 use Rattle.session_rules.specs.Restarts.{restarted}
 use Rattle.session_rules.specs.Seen.{command_seen, servers_seen, content_seen, entry_seen, log_seen}
@@ -19,6 +19,7 @@ use Rattle.session_rules.proofs.Following.{machines_follow_hold}
 use Rattle.session_rules.proofs.RestartedEvents.{commands_restart_hold}
 use Rattle.session_world.proofs.Files.{files_append}
 use Rattle.node_state.specs.declared.applied.Applied.{Applied}
+use Rattle.node_state.specs.Laws.{LivesAreShown}
 use Rattle.node_state.specs.Applied.{databases_after, servers_after, with_entry, ShowsFiles, HasApplied}
 
 -- ---- servers
@@ -90,3 +91,14 @@ pub nothing_applied : (servers : List Server) (ds : List Database) → ds ≡ []
 unfolding configuration files
 nothing_applied servers ds none = subst (λ (xs : List Database). HasApplied servers (λ name. 0) [] (record { machine = xs; servers = servers; index = 0 })) (sym none)
     (record { index = refl; servers = refl; databases = ((λ name. 0), refl) })
+
+-- ---- the databases of a life
+
+seen_front : (n : ℕ) (log : List raft.Entry) → log_seen (take n log) ≡ take n (log_seen log)
+seen_front zero log = refl
+seen_front (suc n) [] = refl
+seen_front (suc n) (e ∷ log) = ap (λ (es : List Entry). entry_seen e ∷ es) (seen_front n log)
+
+pub lives_are_shown_hold : LivesAreShown
+lives_are_shown_hold opening lacks log w a same h =
+    subst (λ (es : List Entry). ShowsFiles lacks (files es) a.machine) (seen_front w.applied log ∙ ap (take w.applied) (sym same)) h.databases

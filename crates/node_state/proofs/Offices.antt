@@ -110,7 +110,7 @@ due_plain serving m (effect.Committed name) waiting = by _
     by true = (tt, tt)
     by false = tt
 due_plain serving m effect.Configured waiting = tt
-due_plain serving m effect.Unmarked waiting = tt
+due_plain serving m effect.Other waiting = tt
 
 goes_on : (m : Meaning) (kind : EngineKind) (term : ℕ) (phase : Phase) (w : Life) (lacks : List ℕ → ℕ) (machine : List Database) (what : Effect) (waiting : List Entry) → InOffice (record { term = term; phase = phase }) w
     → ShowsFiles lacks (databases w) machine → GoesOn m kind (record { term = term; phase = phase }) w machine what waiting

@@ -16,14 +16,14 @@ meaning content.Other = seen.Other
 
 -- a command commits pages, or does nothing that is told
 abbrev pub effect_of_command : Command → Effect
-effect_of_command (OpenDb name) = effect.Unmarked
+effect_of_command (OpenDb name) = effect.Other
 effect_of_command (Frames name tx truncate true pages) = effect.Committed name
-effect_of_command (Frames name tx truncate false pages) = effect.Unmarked
-effect_of_command (Undo tx) = effect.Unmarked
-effect_of_command (Checkpoint name) = effect.Unmarked
+effect_of_command (Frames name tx truncate false pages) = effect.Other
+effect_of_command (Undo tx) = effect.Other
+effect_of_command (Checkpoint name) = effect.Other
 
 -- what is told of an entry that was applied
 abbrev pub effect_of : seen.Content → Effect
 effect_of (seen.Does command) = effect_of_command command
 effect_of (seen.Configures servers) = effect.Configured
-effect_of seen.Other = effect.Unmarked
+effect_of seen.Other = effect.Other

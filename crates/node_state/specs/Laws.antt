@@ -1,18 +1,30 @@
 -- What holds of a leader's office in each life, and of snapshots.
-use Rattle.std.specs.Prelude.{◌≡◌, ℕ, List, Some}
+use Rattle.std.specs.Prelude.{◌≡◌, ℕ, List, take, Some}
 use Rattle.wire_words.specs.Items.{AreBytes}
 use Rattle.sql_engine.specs.declared.kind.EngineKind.{EngineKind}
 use Rattle.sql_engine.specs.Meanings.{Meaning}
+use Rattle.raft_rules.specs.Log as raft
+use Rattle.raft_rules.specs.Node.{Server}
 use Rattle.session_rules.specs.Entries.{Entry}
 use Rattle.session_rules.specs.Machine.{machine_of}
+use Rattle.session_rules.specs.Seen.{log_seen}
 use Rattle.session_world.specs.Nodes.{Node as Life, databases}
 use Rattle.session_world.specs.Life.{Event, Connect, Hangup, Call, Apply, Lose, Lead, Serve, Append, Follow, AllFit, happens, run_from}
 use Rattle.page_apply.specs.declared.database.Database.{Database}
 use Rattle.node_state.specs.declared.effect.Effect.{Effect}
 use Rattle.node_state.specs.declared.office.Office.{Office}
-use Rattle.node_state.specs.Applied.{ShowsFiles}
+use Rattle.node_state.specs.declared.applied.Applied.{Applied}
+use Rattle.node_state.specs.Applied.{ShowsFiles, HasApplied}
 use Rattle.node_state.specs.Office.{InOffice, office_after, duties}
 use Rattle.node_state.specs.Snapshot.{NodeSnapshot, SpellsSnapshot, snapshot_in}
+
+-- ---- lives
+
+-- What a node has applied of its log shows the databases of its life.
+abbrev pub LivesAreShown : Type 0
+LivesAreShown =
+    (opening : List Server) (lacks : List ℕ → ℕ) (log : List raft.Entry) (w : Life) (a : Applied) →
+    w.log ≡ log_seen log → HasApplied opening lacks (take w.applied log) a → ShowsFiles lacks (databases w) a.machine
 
 -- ---- offices
 

@@ -44,7 +44,7 @@ undo_of (Some tx) = Does (Undo tx) ∷ []
 abbrev pub checkpoint_behind : Machine → Effect → List Entry → List Content
 checkpoint_behind m (effect.Committed name) waiting = checkpoint_due m name waiting
 checkpoint_behind m effect.Configured waiting = []
-checkpoint_behind m effect.Unmarked waiting = []
+checkpoint_behind m effect.Other waiting = []
 
 -- ---- what a leader owes when it has applied the entry of an index
 

@@ -123,7 +123,7 @@ impl Applied {
             }
             Content::Other => {
                 self.index += 1;
-                Ok(Effect::Unmarked)
+                Ok(Effect::Other)
             }
         }
     }
@@ -145,6 +145,17 @@ impl Applied {
         let _databases = self.machine.databases();
         let content = content_of(alloc, entry)?;
         self.apply_content(content)
+    }
+
+    /// Has the newest image of each database kept whole from then on, as `apply` does for those that it changes: what was read
+    /// from a snapshot isn't. Copies each image that isn't whole yet. `Err` is want of memory for the names.
+    pub fn keep_whole(&mut self) -> Result<(), AllocError>
+        ensures { self.new ≡ self.old }
+    {
+        for name in self.machine.names()? {
+            self.machine.keep_newest(name.as_str());
+        }
+        Ok(())
     }
 
     /// Whether it has each database of another by its name, as what a snapshot brings has to have each of the node's. Takes

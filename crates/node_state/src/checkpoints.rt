@@ -113,6 +113,6 @@ pub(crate) fn checkpoint_behind(
 {
     match effect {
         Effect::Committed(name) => checkpoint_due(alloc, term, machine, name, waiting),
-        Effect::Configured | Effect::Unmarked => Ok(Entries::new(Vec::new(alloc))),
+        Effect::Configured | Effect::Other => Ok(Entries::new(Vec::new(alloc))),
     }
 }

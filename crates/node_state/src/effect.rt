@@ -14,7 +14,7 @@ pub enum Effect {
     /// The servers are others now.
     Configured,
     /// None of these.
-    Unmarked,
+    Other,
 }
 
 /// What is told of a command. Moves its name; the pages are dropped.
@@ -27,6 +27,6 @@ pub(crate) fn effect_of(command: Command) -> Effect
             commit: true,
             ..
         } => Effect::Committed(name),
-        _ => Effect::Unmarked,
+        _ => Effect::Other,
     }
 }

@@ -1,8 +1,13 @@
 //! What holds of offices in every life, and of snapshots.
 
-ghost use Rattle.node_state.specs.Laws.{OfficesGoOn, OfficesStay, SnapshotsRead, SnapshotsAreSpelled};
+ghost use Rattle.node_state.specs.Laws.{LivesAreShown, OfficesGoOn, OfficesStay, SnapshotsRead, SnapshotsAreSpelled};
 
 use sql_engine::Engine;
+
+/// What a node has applied of its log shows the databases of its life, but for what counts lack since it began at a snapshot.
+pub fn lives_are_shown()
+    ensures { LivesAreShown }
+{}
 
 /// What a leader owes fits its life: where its life is that of a leader in an office, and it has applied an entry, then the
 /// events by which it appends what it owes and begins to serve may happen, and its life is that of a leader in the office

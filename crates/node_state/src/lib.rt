@@ -14,5 +14,5 @@ mod undoing;
 pub use applied::Applied;
 pub use content::{Content, content_of};
 pub use effect::Effect;
-pub use laws::{offices_go_on, offices_stay, snapshots_read_back};
+pub use laws::{lives_are_shown, offices_go_on, offices_stay, snapshots_read_back};
 pub use office::{Office, Phase};
