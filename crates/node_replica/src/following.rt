@@ -64,7 +64,8 @@ impl Replica {
     /// to which a snapshot has come. These servers are the snapshot's. `Err` is want of memory, or an index past 64 bits.
     pub fn members(&self, servers: Servers) -> Result<Members, AllocError>
         requires { IsWhole self.now }
-        ensures is { (opening : List ServerValue) (front : List EntryValue) → length front ≡ self.now.snap.index → configuration (read_setup opening) front ≡ servers →
+        ensures is { (opening : List ServerValue) (front : List EntryValue) → length front ≡ self.now.snap.index →
+            configuration (read_setup opening) front ≡ servers →
             IfOk result (λ members. IsOf (read_setup opening) (front ++ drop self.now.snap.index (node_of self.now.raft).log) members) }
     {
         let index = self.keeper.snapshot.index;

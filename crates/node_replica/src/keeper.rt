@@ -72,7 +72,8 @@ impl Keeper {
         entries: &[Entry],
     ) -> Result<(), StoreFault>
         ensures kept { (k : Kept) → CanAppend k (record { first = first; entries = entries.now }) →
-            Stores D.tells (D.states disk.old) (D.states disk.new) self.old.store self.new.store k (with_batch (record { first = first; entries = entries.now }) k) result }
+            Stores D.tells (D.states disk.old) (D.states disk.new) self.old.store self.new.store k
+            (with_batch (record { first = first; entries = entries.now }) k) result }
         ensures snapshot { self.new.snapshot ≡ self.old.snapshot }
         ensures counts { Counts 1 self.old.keeps self.new.keeps result }
         ensures cause { DiskCause (D.faults disk.old) (D.faults disk.new) result }
@@ -92,7 +93,8 @@ impl Keeper {
         rest: &[Entry],
     ) -> Result<(), StoreFault>
         ensures kept { (k : Kept) → CanKeep k (snap_value snapshot) (record { first = first; entries = rest.now }) →
-            StoresSnapshot D.tells (D.states disk.old) (D.states disk.new) self.old.store self.new.store k (snap_value snapshot) (record { first = first; entries = rest.now }) result }
+            StoresSnapshot D.tells (D.states disk.old) (D.states disk.new) self.old.store self.new.store k
+            (snap_value snapshot) (record { first = first; entries = rest.now }) result }
         ensures snapshot { OnOk result (self.new.snapshot ≡ snapshot) }
         ensures counts { Counts 1 self.old.keeps self.new.keeps result }
         ensures cause { DiskCause (D.faults disk.old) (D.faults disk.new) result }
@@ -112,7 +114,8 @@ impl Keeper {
         snapshot: Snapshot,
     ) -> Result<(), StoreFault>
         requires { raft.now.base ≤ snapshot.index }
-        ensures kept { (k : Kept) → KeepsLog D.tells (D.states disk.old) (D.states disk.new) self.old.store self.new.store k (node_of raft.now).log (Some snapshot) None result }
+        ensures kept { (k : Kept) →
+            KeepsLog D.tells (D.states disk.old) (D.states disk.new) self.old.store self.new.store k (node_of raft.now).log (Some snapshot) None result }
         ensures snapshot { OnOk result (self.new.snapshot ≡ snapshot) }
         ensures counts { Counts 1 self.old.keeps self.new.keeps result }
         ensures cause { DiskCause (D.faults disk.old) (D.faults disk.new) result }
@@ -131,7 +134,8 @@ impl Keeper {
     ) -> Result<(), StoreFault>
         requires batch { MatchOption batch (Unit {0}) (λ first. raft.now.base < first) }
         requires install { MatchOption install (Unit {0}) (λ snapshot. (raft.now.base ≤ snapshot.index) × (batch ≡ None)) }
-        ensures kept { (k : Kept) → KeepsLog D.tells (D.states disk.old) (D.states disk.new) self.old.store self.new.store k (node_of raft.now).log install batch result }
+        ensures kept { (k : Kept) →
+            KeepsLog D.tells (D.states disk.old) (D.states disk.new) self.old.store self.new.store k (node_of raft.now).log install batch result }
         ensures snapshot { OnOk result (self.new.snapshot ≡ kept_snapshot self.old.snapshot install) }
         ensures counts { Counts (writes_of install batch) self.old.keeps self.new.keeps result }
         ensures cause { DiskCause (D.faults disk.old) (D.faults disk.new) result }

@@ -10,7 +10,8 @@ ghost use Rattle.store_format.specs.FilesRead.{snap_kept};
 ghost use Rattle.segment_store.specs.Keeping.{snap_value};
 ghost use Rattle.segment_store.specs.Faults.{DiskCause};
 ghost use Rattle.node_replica.specs.Letters.{Tells};
-ghost use Rattle.node_replica.specs.Replicas.{CanStart, HasMoved, IsIntake, IsKept, IsWhole, bytes_after, kept_of, log_count, own_snap, said, snapped, stepped, stored_at};
+ghost use Rattle.node_replica.specs.Replicas.{CanStart, HasMoved, IsIntake, IsKept, IsWhole};
+ghost use Rattle.node_replica.specs.Replicas.{bytes_after, kept_of, log_count, own_snap, said, snapped, stepped, stored_at};
 ghost use Rattle.node_replica.specs.Stops.{Stops, votes_between};
 
 use crate::keeper::Keeper;
@@ -157,8 +158,10 @@ impl Replica {
         // The disk keeps what Raft is, before the step and after it.
         ensures kept { IsKept D.tells (D.states disk.old) self.old → OnOk result (IsKept D.tells (D.states disk.new) self.new) }
         ensures stopped { IsKept D.tells (D.states disk.old) self.old →
-            OnErr result (Stops D.tells (D.states disk.new) (node_of self.old.raft) (stepped self.old event) self.old.snap.bytes (bytes_after self.old event) self.old.keeps self.new.keeps) }
-        ensures keeps { IfOk result (λ moved. self.new.keeps ≡ self.old.keeps + votes_between (node_of self.old.raft) (stepped self.old event) + log_count moved.batch moved.installed) }
+            OnErr result (Stops D.tells (D.states disk.new) (node_of self.old.raft) (stepped self.old event)
+            self.old.snap.bytes (bytes_after self.old event) self.old.keeps self.new.keeps) }
+        ensures keeps { IfOk result (λ moved.
+            self.new.keeps ≡ self.old.keeps + votes_between (node_of self.old.raft) (stepped self.old event) + log_count moved.batch moved.installed) }
         ensures cause { DiskCause (D.faults disk.old) (D.faults disk.new) result }
     {
         let Todo {
@@ -213,7 +216,8 @@ impl Replica {
         ensures tells { IfOk result (λ messages. Tells (said self.old (snapped self.old index)) self.new.snap messages.items) }
         ensures kept { IsKept D.tells (D.states disk.old) self.old → OnOk result (IsKept D.tells (D.states disk.new) self.new) }
         ensures stopped { IsKept D.tells (D.states disk.old) self.old →
-            OnErr result (Stops D.tells (D.states disk.new) (node_of self.old.raft) (stepped self.old (snapped self.old index)) self.old.snap.bytes bytes self.old.keeps self.new.keeps) }
+            OnErr result (Stops D.tells (D.states disk.new) (node_of self.old.raft) (stepped self.old (snapped self.old index))
+            self.old.snap.bytes bytes self.old.keeps self.new.keeps) }
         ensures keeps { OnOk result (self.new.keeps ≡ suc self.old.keeps) }
         ensures cause { DiskCause (D.faults disk.old) (D.faults disk.new) result }
     {
