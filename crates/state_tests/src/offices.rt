@@ -1,0 +1,134 @@
+//! A leader from its barrier on: what it appends, and when it serves.
+
+use crate::entries::{CHECKPOINT, OPEN_DB, applies, entry_of, nobody};
+use dq_base::{Items, Name, NumberedPage, Page, PageSet};
+use frame_commands::{can_split, split, write_command};
+use node_state::{Applied, Effect, Office, Phase};
+use raft_vote::EntryKind;
+use std::alloc::{AllocError, Global};
+use std::test::Fail;
+
+/// The sizes page of a main file of so many pages.
+fn sizes(pages: u16) -> Page {
+    let mut bytes = [0; 4096];
+    let length = u64::from(pages) * 4096;
+    bytes[0] = (length % 256) as u8;
+    bytes[1] = (length / 256 % 256) as u8;
+    bytes[2] = (length / 65_536 % 256) as u8;
+    bytes[3] = (length / 16_777_216 % 256) as u8;
+    Page::from_slice(&bytes)
+}
+
+/// A set of transaction 7 of so many pages of a main file, and the sizes page.
+fn set_of(alloc: Global, pages: u16) -> Result<PageSet, AllocError> {
+    let mut set = Vec::new(alloc);
+    for k in 1..=pages {
+        set.push(NumberedPage {
+            number: 2 * u64::from(k),
+            page: Page::zeroed(),
+        })?;
+    }
+    set.push(NumberedPage {
+        number: 1,
+        page: sizes(pages),
+    })?;
+    Ok(PageSet {
+        tx: 7,
+        pages: Items::new(set),
+    })
+}
+
+/// A node that has applied the first so many commands of such a set for the database `d`, one after another.
+fn after(alloc: Global, pages: u16, commands: usize) -> Option<Applied> {
+    let mut applied = Applied::new(alloc, nobody(alloc));
+    let set = set_of(alloc, pages).ok()?;
+    if !can_split(&set) {
+        return None;
+    }
+    for command in split(alloc, "d", &set).ok()?.as_slice().iter().take(commands) {
+        let bytes = write_command(alloc, command).ok()?;
+        applies(alloc, &mut applied, EntryKind::Command, bytes.as_slice())?;
+    }
+    Some(applied)
+}
+
+/// How many entries an office appends when an entry was applied that was none of a kind, and the phase behind it.
+fn appends(alloc: Global, office: &mut Office, applied: &Applied) -> Option<(usize, Phase)> {
+    let entries = office
+        .on_applied(alloc, applied, &Effect::Other, &[])
+        .ok()?;
+    Some((entries.len(), office.phase))
+}
+
+/// What a leader appends at its barrier, where so many commands of a set of 65 pages were applied, of which the last stands
+/// for the barrier or the one before it.
+fn at_barrier(alloc: Global, commands: usize, barrier: u64) -> Option<(usize, Phase)> {
+    let applied = after(alloc, 64, commands)?;
+    appends(alloc, &mut Office::won(1, barrier), &applied)
+}
+
+/// Commands that were applied, the index of the barrier, how many Undos are appended, and the phase behind it.
+const BARRIERS: &[(usize, u64, usize, Phase)] = &[
+    (0, 1, 0, Phase::Barrier(1)),
+    (1, 1, 1, Phase::Undos(2)),
+    (2, 2, 0, Phase::Serving),
+    (2, 3, 0, Phase::Barrier(3)),
+];
+
+#[test]
+fn a_leader_undoes_what_is_pending(rt: HostRuntime) -> Result<(), Fail> {
+    for &(commands, barrier, undos, phase) in BARRIERS {
+        assert_eq!(rt; at_barrier(rt.alloc(), commands, barrier), Some((undos, phase)));
+    }
+    Ok(())
+}
+
+/// A leader with pages that are pending at its barrier: the phase once its Undo is applied, and what is pending then.
+fn after_undo(alloc: Global) -> Option<(usize, Phase, Option<u64>)> {
+    let mut applied = after(alloc, 64, 1)?;
+    let mut office = Office::won(1, 1);
+    let entries = office
+        .on_applied(alloc, &applied, &Effect::Other, &[])
+        .ok()?;
+    let undo = entries.as_slice().first()?;
+    applies(alloc, &mut applied, undo.kind, undo.bytes.as_slice())?;
+    let (more, phase) = appends(alloc, &mut office, &applied)?;
+    Some((more, phase, applied.machine.pending("d")))
+}
+
+#[test]
+fn a_leader_serves_behind_its_undos(rt: HostRuntime) -> Result<(), Fail> {
+    assert_eq!(rt; after_undo(rt.alloc()), Some((0, Phase::Serving, None)));
+    Ok(())
+}
+
+/// How many entries a serving leader appends behind a commit of so many pages and the sizes page, where this command waits.
+fn behind_commit(alloc: Global, pages: u16, waits: &[u8]) -> Option<usize> {
+    let applied = after(alloc, pages, 16)?;
+    let mut office = Office {
+        term: 1,
+        phase: Phase::Serving,
+    };
+    let name = Name::new(String::from_str(alloc, "d").ok()?)?;
+    let waiting = [entry_of(alloc, EntryKind::Command, waits).ok()?];
+    let entries = office
+        .on_applied(alloc, &applied, &Effect::Committed(name), &waiting)
+        .ok()?;
+    Some(entries.len())
+}
+
+/// Pages, the command that waits, and how many entries are appended.
+const COMMITS: &[(u16, &[u8], usize)] = &[
+    (998, &[], 0),
+    (999, &[], 1),
+    (999, OPEN_DB, 1),
+    (999, CHECKPOINT, 0),
+];
+
+#[test]
+fn checkpoints_come_behind_commits(rt: HostRuntime) -> Result<(), Fail> {
+    for &(pages, waits, appended) in COMMITS {
+        assert_eq!(rt; behind_commit(rt.alloc(), pages, waits), Some(appended));
+    }
+    Ok(())
+}
