@@ -8,7 +8,7 @@ use Rattle.raft_rules.specs.Node.{Server}
 use Rattle.raft_vote.specs.Servers.{configuration_of}
 use Rattle.raft_world.specs.Members.{is_change, reads, changes}
 use Rattle.raft_member.specs.declared.members.Change.{Change}
-use Rattle.raft_member.specs.Members.{Configurations, last_from, last_index, last_servers, with_read, configuration_in, changed, below, cut_at, read_setup, IsOf}
+use Rattle.raft_member.specs.Members.{Configurations, AllStand, last_from, last_index, last_servers, with_read, configuration_in, changed, below, cut_at, read_setup, IsOf}
 use Rattle.node_replica.specs.Following.{Joined}
 
 -- ---- the last change
@@ -57,6 +57,7 @@ none_joined m first l = record {
   is = λ opening log h e. subst (λ (es : List Entry). IsOf (read_setup opening) es m) (nil log) h;
   low = omega arith;
   stays = λ e. refl;
+  stand = λ h. h;
 }
   where
     nil : (log : List Entry) → log ≡ log ++ []
@@ -69,8 +70,9 @@ or_false false b e = (refl, e)
 
 pub one_joined : (old m new : Configurations) (first index : ℕ) (entries : List Entry) (e : Entry) (told one : Bool) → Joined old m first entries told → index ≡ first + length entries → one ≡ changes (read_setup []) e → new ≡ changed m index e
     → ((opening : List Server) (log : List Entry) → IsOf (read_setup opening) log m → index ≡ suc (length log) → IsOf (read_setup opening) (log ++ e ∷ []) new)
+    → (AllStand m → AllStand new)
     → Joined old new first (entries ++ e ∷ []) (one || told)
-one_joined old m new first index entries e told one j at c n is =
+one_joined old m new first index entries e told one j at c n is stand =
     let more = length-append entries (e ∷ []) in
     let low = j.low in
     let lt : last_index m < index = omega arith in
@@ -81,6 +83,7 @@ one_joined old m new first index entries e told one j at c n is =
           subst (λ (es : List Entry). IsOf (read_setup opening) es new) (append_assoc log entries (e ∷ [])) (is opening (log ++ entries) (j.is opening log h f) count);
       low = omega arith;
       stays = λ f. let both = or_false one told f in n ∙ unchanged m index e (sym c ∙ both.0) ∙ j.stays both.1;
+      stand = λ h. stand (j.stand h);
     }
 
 pub one_more_taken : (all : List Entry) (i : ℕ) (e : Entry) → i < length all → e ≡ slice_index_or all i e → take (i + 1) all ≡ take i all ++ e ∷ []

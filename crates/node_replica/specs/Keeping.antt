@@ -9,6 +9,7 @@ use Rattle.store_laws.specs.Store.{Snap, Log, Kept}
 use Rattle.store_laws.specs.Append.{CanAppend, with_batch}
 use Rattle.store_laws.specs.Meta.{with_vote}
 use Rattle.store_laws.specs.Snapshots.{with_snapshot}
+use Rattle.segment_store.specs.Faults.{StaysUnlessFailed}
 use Rattle.segment_store.specs.Open.{Open}
 use Rattle.segment_store.specs.Keeps.{folder, HasNew, OldOrNew}
 use Rattle.segment_store.specs.Keeping.{CanKeep, OldOrKept, snap_value}
@@ -77,3 +78,11 @@ writes_of (Some s) batch = 1
 -- the count went up by this number after Ok, and stayed after an Err
 abbrev pub Counts : {T E : Type 0} → ℕ → ℕ → ℕ → Result T E → Type 0
 Counts more before now result = OnOk result (now ≡ before + more) × OnErr result (now ≡ before)
+
+-- ---- where nothing was kept
+
+-- Where the count of keeps is the one that it was, the disk is as it was after Ok; after an Err it has failed, or has wanted memory, or is as it was. Its
+-- faults are counted before and after, and its wants.
+abbrev pub StaysUnlessKept : {D T E : Type 0} → ℕ → ℕ → D → D → ℕ → ℕ → ℕ → ℕ → Result T E → Type 0
+StaysUnlessKept count now_count was now faults faults_after wants wants_after result =
+    now_count ≡ count → OnOk result (now ≡ was) × StaysUnlessFailed was now faults faults_after wants wants_after result

@@ -4,7 +4,8 @@ ghost use Rattle.raft_rules.specs.Log.{Entry as EntryValue};
 ghost use Rattle.raft_rules.specs.Node.{Server as ServerValue};
 ghost use Rattle.raft_rules.specs.NodeValues.{node_of};
 ghost use Rattle.raft_world.specs.Members.{configuration};
-ghost use Rattle.raft_member.specs.Members.{IsOf, last_index, last_servers, read_setup};
+ghost use Rattle.raft_vote.specs.Servers.{IsConfiguration};
+ghost use Rattle.raft_member.specs.Members.{AllStand, IsOf, last_index, last_servers, read_setup};
 ghost use Rattle.node_replica.specs.Following.{Joined};
 ghost use Rattle.node_replica.specs.Replicas.{IsWhole};
 
@@ -53,6 +54,7 @@ impl Replica {
         // They are those of the whole log with this one's entries from the index on.
         ensures is { (opening : List ServerValue) (log : List EntryValue) → IsOf (read_setup opening) log members.old → first ≤ suc (length log) →
             OnOk result (IsOf (read_setup opening) (take (first - 1) log ++ drop (first - 1) (node_of self.now.raft).log) members.new) }
+        ensures stand { AllStand members.old → OnOk result (AllStand members.new) }
         ensures stays { IfOk result (λ told. told ≡ false → last_servers members.new ≡ last_servers members.old) }
     {
         let gone = members.cut_from(first);
@@ -67,6 +69,7 @@ impl Replica {
         ensures is { (opening : List ServerValue) (front : List EntryValue) → length front ≡ self.now.snap.index →
             configuration (read_setup opening) front ≡ servers →
             IfOk result (λ members. IsOf (read_setup opening) (front ++ drop self.now.snap.index (node_of self.now.raft).log) members) }
+        ensures stand { IsConfiguration servers → IfOk result (λ members. AllStand members) }
     {
         let index = self.keeper.snapshot.index;
         let mut members = Members::new(self.alloc, servers, index);

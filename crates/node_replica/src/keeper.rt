@@ -6,7 +6,7 @@ ghost use Rattle.store_laws.specs.Append.{CanAppend, with_batch};
 ghost use Rattle.store_laws.specs.Meta.{with_vote};
 ghost use Rattle.segment_store.specs.Faults.{DiskCause};
 ghost use Rattle.segment_store.specs.Keeping.{CanKeep, snap_value};
-ghost use Rattle.node_replica.specs.Keeping.{voted, one_of, writes_of, kept_snapshot, Counts, Stores, StoresSnapshot, KeepsLog};
+ghost use Rattle.node_replica.specs.Keeping.{voted, one_of, writes_of, kept_snapshot, Counts, StaysUnlessKept, Stores, StoresSnapshot, KeepsLog};
 
 use disk_model::Disk;
 use raft_core::RaftNode;
@@ -40,6 +40,8 @@ impl Keeper {
         ensures snapshot { self.new.snapshot ≡ self.old.snapshot }
         ensures counts { Counts 1 self.old.keeps self.new.keeps result }
         ensures cause { DiskCause (D.faults disk.old) (D.faults disk.new) result }
+        ensures stays { StaysUnlessKept self.old.keeps self.new.keeps disk.old disk.new (D.faults disk.old) (D.faults disk.new)
+            (D.wants disk.old) (D.wants disk.new) result }
     {
         let next = one_more(self.keeps)?;
         self.store.set_meta(disk, term, vote)?;
@@ -57,6 +59,8 @@ impl Keeper {
         ensures snapshot { self.new.snapshot ≡ self.old.snapshot }
         ensures counts { Counts (one_of meta) self.old.keeps self.new.keeps result }
         ensures cause { DiskCause (D.faults disk.old) (D.faults disk.new) result }
+        ensures stays { StaysUnlessKept self.old.keeps self.new.keeps disk.old disk.new (D.faults disk.old) (D.faults disk.new)
+            (D.wants disk.old) (D.wants disk.new) result }
     {
         match meta {
             None => Ok(()),
@@ -77,6 +81,8 @@ impl Keeper {
         ensures snapshot { self.new.snapshot ≡ self.old.snapshot }
         ensures counts { Counts 1 self.old.keeps self.new.keeps result }
         ensures cause { DiskCause (D.faults disk.old) (D.faults disk.new) result }
+        ensures stays { StaysUnlessKept self.old.keeps self.new.keeps disk.old disk.new (D.faults disk.old) (D.faults disk.new)
+            (D.wants disk.old) (D.wants disk.new) result }
     {
         let next = one_more(self.keeps)?;
         self.store.append(disk, first, entries)?;
@@ -98,6 +104,8 @@ impl Keeper {
         ensures snapshot { OnOk result (self.new.snapshot ≡ snapshot) }
         ensures counts { Counts 1 self.old.keeps self.new.keeps result }
         ensures cause { DiskCause (D.faults disk.old) (D.faults disk.new) result }
+        ensures stays { StaysUnlessKept self.old.keeps self.new.keeps disk.old disk.new (D.faults disk.old) (D.faults disk.new)
+            (D.wants disk.old) (D.wants disk.new) result }
     {
         let next = one_more(self.keeps)?;
         self.store.keep_snapshot(disk, &snapshot, first, rest)?;
@@ -119,6 +127,8 @@ impl Keeper {
         ensures snapshot { OnOk result (self.new.snapshot ≡ snapshot) }
         ensures counts { Counts 1 self.old.keeps self.new.keeps result }
         ensures cause { DiskCause (D.faults disk.old) (D.faults disk.new) result }
+        ensures stays { StaysUnlessKept self.old.keeps self.new.keeps disk.old disk.new (D.faults disk.old) (D.faults disk.new)
+            (D.wants disk.old) (D.wants disk.new) result }
     {
         let first = one_more(snapshot.index)?;
         self.keep_snapshot(disk, snapshot, first, raft.tail(first))
@@ -139,6 +149,8 @@ impl Keeper {
         ensures snapshot { OnOk result (self.new.snapshot ≡ kept_snapshot self.old.snapshot install) }
         ensures counts { Counts (writes_of install batch) self.old.keeps self.new.keeps result }
         ensures cause { DiskCause (D.faults disk.old) (D.faults disk.new) result }
+        ensures stays { StaysUnlessKept self.old.keeps self.new.keeps disk.old disk.new (D.faults disk.old) (D.faults disk.new)
+            (D.wants disk.old) (D.wants disk.new) result }
     {
         match install {
             Some(snapshot) => self.keep_install(disk, raft, snapshot),

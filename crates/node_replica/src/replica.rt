@@ -9,6 +9,7 @@ ghost use Rattle.raft_core.specs.Events.{EventFits};
 ghost use Rattle.store_format.specs.FilesRead.{snap_kept};
 ghost use Rattle.segment_store.specs.Keeping.{snap_value};
 ghost use Rattle.segment_store.specs.Faults.{DiskCause};
+ghost use Rattle.node_replica.specs.Keeping.{StaysUnlessKept};
 ghost use Rattle.node_replica.specs.Letters.{Tells};
 ghost use Rattle.node_replica.specs.Replicas.{CanStart, HasMoved, IsIntake, IsKept, IsWhole};
 ghost use Rattle.node_replica.specs.Replicas.{bytes_after, kept_of, log_count, own_snap, said, snapped, stepped, stored_at};
@@ -162,6 +163,9 @@ impl Replica {
             self.old.snap.bytes (bytes_after self.old event) self.old.keeps self.new.keeps) }
         ensures keeps { IfOk result (λ moved.
             self.new.keeps ≡ self.old.keeps + votes_between (node_of self.old.raft) (stepped self.old event) + log_count moved.batch moved.installed) }
+        // Where nothing was kept: want of the node's own memory leaves the disk as it was.
+        ensures stays { StaysUnlessKept self.old.keeps self.new.keeps disk.old disk.new (D.faults disk.old) (D.faults disk.new)
+            (D.wants disk.old) (D.wants disk.new) result }
         ensures cause { DiskCause (D.faults disk.old) (D.faults disk.new) result }
     {
         let Todo {
@@ -219,6 +223,9 @@ impl Replica {
             OnErr result (Stops D.tells (D.states disk.new) (node_of self.old.raft) (stepped self.old (snapped self.old index))
             self.old.snap.bytes bytes self.old.keeps self.new.keeps) }
         ensures keeps { OnOk result (self.new.keeps ≡ suc self.old.keeps) }
+        // Where nothing was kept: want of the node's own memory leaves the disk as it was.
+        ensures stays { StaysUnlessKept self.old.keeps self.new.keeps disk.old disk.new (D.faults disk.old) (D.faults disk.new)
+            (D.wants disk.old) (D.wants disk.new) result }
         ensures cause { DiskCause (D.faults disk.old) (D.faults disk.new) result }
     {
         let term = self.applied_term(index);

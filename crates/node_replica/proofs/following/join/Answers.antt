@@ -18,6 +18,6 @@ loop-entry-preserved c =
     let next : c.in_ok-index.index ≡ suc c.loop-entry.index = c.in_ok-index.ensures in (
       subst (λ (t : Bool). Joined c.args.members.now c.take_in.new.self c.args.first (take (i + 1) all) t) (sym c.either-told.ensures)
           (subst (λ (es : List Entry). Joined c.args.members.now c.take_in.new.self c.args.first es (c.in_ok-changes.changes || c.loop-entry.told)) (sym more)
-          (one_joined c.args.members.now c.loop-entry.members c.take_in.new.self c.args.first c.loop-entry.index (take i all) c.entry-item.result c.loop-entry.told c.in_ok-changes.changes j (omega arith) c.in_ok-changes.ensures.told c.in_ok-changes.ensures.taken c.in_ok-changes.ensures.is)),
+          (one_joined c.args.members.now c.loop-entry.members c.take_in.new.self c.args.first c.loop-entry.index (take i all) c.entry-item.result c.loop-entry.told c.in_ok-changes.changes j (omega arith) c.in_ok-changes.ensures.told c.in_ok-changes.ensures.taken c.in_ok-changes.ensures.is c.in_ok-changes.ensures.stand)),
       omega arith,
     )
