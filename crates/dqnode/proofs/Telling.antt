@@ -16,7 +16,7 @@ use Rattle.dqnode.specs.Checks.{fault_line, HaveFault, CheckTells, CheckEnds}
 
 module _ (before after : Disk Text → Type 0) (was now : Option (List ℕ)) where
   pub all_told : Checks before after was now ends.Done → CheckEnds before after was now 0
-  all_told c d b p = let x = c.each d b p in (x.0, record { done = λ e. x.1; fault = λ e. absurd cc; broken = λ e. absurd cc })
+  all_told c d b p = let x = c.each d b p in (x.0, record { done = λ e. (x.1.0, x.1.1.0, x.1.1.1); fault = λ e. absurd cc; broken = λ e. absurd cc })
 
   pub cut_told : Checks before after was now ends.WriteFault → CheckEnds before after was now 4
   cut_told c d b p = let x = c.each d b p in (x.0, record { done = λ e. absurd cc; fault = λ e. absurd cc; broken = λ e. (x.1.0, inl x.1.1.0, x.1.1.1) })
