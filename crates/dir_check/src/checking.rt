@@ -1,6 +1,7 @@
 //! A check of a stopped node.
 
 ghost use Rattle.std.specs.Prelude.{IfErr};
+ghost use Rattle.segment_store.specs.Loading.{LooksAt, LoadCause};
 ghost use Rattle.dir_check.specs.Checking.{Reports, IsEarly, Prints, Checks, StaysUnlessPrinted, EndCause, ReportCause};
 ghost use Rattle.dir_check.specs.declared.ends.CheckEnd.TheVariants.{DiskFault, WriteFault};
 
@@ -8,8 +9,16 @@ use crate::ends::CheckEnd;
 use crate::lines::lines_of;
 use disk_model::Disk;
 use dq_base::Sink;
-use segment_store::Store;
+use segment_store::{Kept, LoadFault, Store};
 use std::alloc::Global;
+
+// What the files stand for.
+fn look<D: Disk>(alloc: Global, disk: &mut D) -> Result<Kept, LoadFault>
+    ensures looks { LooksAt (D.states disk.old) (D.states disk.new) result }
+    ensures cause { LoadCause (D.faults disk.old) (D.faults disk.new) result }
+{
+    Store::look(alloc, disk)
+}
 
 // The lines of what the files stand for.
 fn report<D: Disk>(alloc: Global, disk: &mut D) -> Result<String, CheckEnd>
@@ -17,7 +26,7 @@ fn report<D: Disk>(alloc: Global, disk: &mut D) -> Result<String, CheckEnd>
     ensures early { IfErr result IsEarly }
     ensures cause { ReportCause (D.faults disk.old) (D.faults disk.new) result }
 {
-    let kept = Store::look(alloc, disk)?;
+    let kept = look(alloc, disk)?;
     lines_of(alloc, &kept)
 }
 

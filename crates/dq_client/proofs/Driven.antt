@@ -27,6 +27,7 @@ use Rattle.wire_msgs.specs.Reading.{response_of}
 use Rattle.dq_client.specs.Running.{event_of, message_event, Came, came_of, read_of, heard, heard_behind, goes_on, started, IsNamed, AreNamed, after_call, after_calls, Leads, HasLed, HaveDialled, EndHasCause, Counted, Made, is_done}
 use Rattle.dq_client.specs.Driving.{IsBegun, Goes, Stops, FineAt, DoneBy, Going, HaveNamed, HaveEnded, Drives}
 use Rattle.dq_client.proofs.Dials.{Gains, Stays, steps}
+use Rattle.dq_client.proofs.Failing.{failed_on, none_failed}
 
 -- ---- the calls
 
@@ -220,6 +221,7 @@ goes start old new first run to g o =
     let up : old.dialled ≤ new.dialled = grown start old new o.call o.made.counts in
     let all = called start old new run g.never_falls g.fine first g.same o.call o.made.counts in
     let here : Going start first new (after_call run o.call) = record {
+      failed = failed_on start old new o.call g.failed o.made;
       led = led_on first start.calls old.calls new.calls run o.call g.led o.made.told o.named;
       never_falls = omega arith;
       fine = all.fine;
@@ -239,6 +241,7 @@ begins start course b =
     = subst (λ (c : Course). Gains c.awaited events.Begin (HaveDialled start start) (start.dialled < start.dialled) c.tries) (sym b) tt in
     let s = steps (HaveDialled start start) (start.dialled < start.dialled) course events.Begin f g in
     record {
+      failed = none_failed start;
       led = none_led (started course) start.calls;
       never_falls = omega arith;
       fine = s.fine;

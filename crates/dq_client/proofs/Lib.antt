@@ -3,6 +3,7 @@ pub mod Elsewhere
 pub mod Heeded
 pub mod Sound
 pub mod Dials
+pub mod Failing
 pub mod Driven
 pub mod Noting
 pub mod Lines

@@ -11,7 +11,7 @@ use Rattle.dq_client.specs.declared.course.Course.{Course}
 use Rattle.dq_client.specs.declared.run.Run.{Run}
 use Rattle.dq_client.specs.declared.dialer.NetCall.{NetCall}
 use Rattle.dq_client.specs.Course.{begun}
-use Rattle.dq_client.specs.Net.{Net}
+use Rattle.dq_client.specs.Net.{Net, HaveFailed}
 use Rattle.dq_client.specs.Running.{Made, IsNamed, AreNamed, after_call, after_calls, HasLed, HaveDialled, EndHasCause}
 
 -- no step of the client was made
@@ -44,8 +44,9 @@ DoneBy dials link addresses (Done (client_ends.NoLeader n)) = dials (3 * address
 DoneBy dials link addresses (Done end) = link
 DoneBy dials link addresses does = Unit {0}
 
--- The calls since the start lead to this run, and they dialled enough for it.
+-- The calls since the start lead to this run, and they dialled enough for it; those that failed are counted.
 pub record Going (start : Net) (first : Run) (now : Net) (run : Run) : Type 0 where
+  pub failed : HaveFailed start now
   pub led : HasLed first start.calls now.calls run
   pub never_falls : start.dialled ≤ now.dialled
   pub fine : FineAt run.core.awaited (HaveDialled start now) (start.dialled < now.dialled) run.core.tries

@@ -1,5 +1,5 @@
 -- What a call does to a dialer.
-use Rattle.std.specs.Prelude.{◌≡◌, ◌≤◌, ◌<◌, ◌+◌, ℕ, Bool, true, false, List, [], ◌∷◌, ◌++◌, length, take, Option, Some, None, Result, Ok, Err, MatchResult, OnOk, IfOk}
+use Rattle.std.specs.Prelude.{◌≡◌, ◌≤◌, ◌<◌, ◌+◌, ◌⊎◌, ℕ, Bool, true, false, not, cond, List, [], ◌∷◌, ◌++◌, length, take, Option, Some, None, Result, Ok, Err, MatchResult, OnOk, IfOk}
 use Rattle.dq_base.specs.declared.faults.Failed.{Failed}
 use Rattle.dq_base.specs.Faults.{HasCause, one_more, last_count}
 use Rattle.dq_client.specs.declared.dialer.NetCall.{NetCall}
@@ -53,3 +53,28 @@ pub record Reads (old new : Net) (buffer : List ℕ) (result : Result ℕ Failed
   pub counts : SameDials old new
   pub fits : IfOk result (λ n. n ≤ length buffer)
   pub told : Tells old.calls new.calls (Read (read_bytes buffer result))
+
+-- whether a call failed
+abbrev pub has_failed : NetCall → Bool
+has_failed (Dial address linked) = not linked
+has_failed (Write bytes done) = not done
+has_failed (Read None) = true
+has_failed (Read (Some bytes)) = false
+
+-- how many of the calls failed
+abbrev pub failures : List NetCall → ℕ
+failures [] = 0
+failures (call ∷ calls) = cond (has_failed call) 1 0 + failures calls
+
+-- where the calls are told, the count of faults rose by as many at least as failed of those since then, or has come to its last value
+abbrev pub FailuresCount : ℕ → ℕ → Option (List NetCall) → Option (List NetCall) → Type 0
+FailuresCount faults_before faults_now before None = Unit {0}
+FailuresCount faults_before faults_now None (Some all) = ⊥
+FailuresCount faults_before faults_now (Some before) (Some all) =
+    (faults_before + failures all ≤ faults_now + failures before) ⊎ (last_count ≤ faults_now)
+
+-- The count of faults did not fall; and it rose once at least for each dial and each call that failed, or has come to its last value.
+pub record HaveFailed (start now : Net) : Type 0 where
+  pub never_falls : start.faults ≤ now.faults
+  pub dials : (start.faults + now.undialled ≤ now.faults + start.undialled) ⊎ (last_count ≤ now.faults)
+  pub calls : FailuresCount start.faults now.faults start.calls now.calls

@@ -1,7 +1,7 @@
 -- A client over a dialer: the calls that it makes, and the events that their answers make.
 use Rattle.std.specs.Prelude.{◌≡◌, ◌≤◌, ◌<◌, ◌+◌, ◌-◌, ◌*◌, ◌==◌, ℕ, Bool, true, false, List, [], ◌∷◌, ◌++◌, length, drop, nat_lt, Option, Some, None, Result, Ok, Err, MatchResult, if◌then◌else◌, ◌⊎◌, IfOk}
 use Rattle.std.specs.declared.alloc.AllocError.{AllocError}
-use Rattle.dq_base.specs.Faults.{last_count, one_more}
+use Rattle.dq_base.specs.Faults.{last_count, one_more, Rose}
 use Rattle.wire_words.specs.declared.message.Message.{Message}
 use Rattle.wire_words.specs.declared.message.Header.{Header}
 use Rattle.wire_words.specs.Message.{header_of}
@@ -20,7 +20,7 @@ use Rattle.dq_client.specs.declared.run.Run.{Run}
 use Rattle.dq_client.specs.declared.dialer.NetCall.{NetCall}
 use Rattle.dq_client.specs.declared.dialer.NetCall.TheVariants.{Dial, Write, Read}
 use Rattle.dq_client.specs.Course.{step, begun}
-use Rattle.dq_client.specs.Net.{Net, Tells}
+use Rattle.dq_client.specs.Net.{Net, Tells, has_failed}
 
 abbrev pub event_of : Result Response MsgFault → ClientEvent
 event_of (Ok response) = Got response
@@ -113,6 +113,8 @@ Counted old new call = (new.dialled ≡ old.dialled) × (new.undialled ≡ old.u
 pub record Made (old new : Net) (call : NetCall) : Type 0 where
   pub told : Tells old.calls new.calls call
   pub counts : Counted old new call
+  pub never_falls : old.faults ≤ new.faults
+  pub failed : has_failed call ≡ true → Rose old.faults new.faults
 
 -- an address was dialled, and this came of it
 abbrev pub DialMakes : Net → Net → List ℕ → ClientEvent → Type 0

@@ -3,6 +3,7 @@
 ghost use Rattle.std.specs.Prelude.{◌≡◌, ◌≤◌, false, length, IfOk, OnOk, OnErr};
 ghost use Rattle.dq_client.specs.declared.events.ClientDo.TheVariants.{Done};
 ghost use Rattle.dq_client.specs.Running.{is_done, started, goes_on};
+ghost use Rattle.dq_client.specs.Net.{HaveFailed};
 ghost use Rattle.dq_client.specs.Driving.{IsBegun, Goes, Stops, Drives};
 
 use crate::client::ClientCore;
@@ -92,7 +93,8 @@ fn drive_over<N: Dialer>(
 ) -> Result<ClientEnd, AllocError>
     requires begun { IsBegun core }
     requires room { 4096 ≤ length piece.old }
-    ensures { Drives (N.net net.old) (started core) (N.net net.new) result }
+    ensures run { Drives (N.net net.old) (started core) (N.net net.new) result }
+    ensures faults { HaveFailed (N.net net.old) (N.net net.new) }
 {
     let mut run = begin(alloc, core)?;
     'calls: for _ in 0..u64::MAX {
@@ -107,14 +109,15 @@ fn drive_over<N: Dialer>(
 /// Has a client that hasn't begun do over a dialer what it names, until it comes to its end. `Err` is want of memory, as it is where
 /// the end isn't there after 18,446,744,073,709,551,615 calls. It holds 4,096 bytes for what it reads, and the bytes of the
 /// message that comes.
-#[tactic(auto, using(crate::proofs::Driven::unmoved))]
+#[tactic(auto, using(crate::proofs::Driven::unmoved, crate::proofs::Failing::none_failed))]
 pub fn drive<N: Dialer>(
     alloc: Global,
     core: ClientCore,
     net: &mut N,
 ) -> Result<ClientEnd, AllocError>
     requires { IsBegun core }
-    ensures { Drives (N.net net.old) (started core) (N.net net.new) result }
+    ensures run { Drives (N.net net.old) (started core) (N.net net.new) result }
+    ensures faults { HaveFailed (N.net net.old) (N.net net.new) }
 {
     let mut piece = vec![in alloc; 0; PIECE_SIZE]?;
     drive_over(alloc, core, net, piece.as_mut_slice())

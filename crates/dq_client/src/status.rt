@@ -2,6 +2,7 @@
 
 ghost use Rattle.std.specs.Prelude.{◌≡◌, ◌≤◌};
 ghost use Rattle.dq_base.specs.Faults.{Rose};
+ghost use Rattle.dq_client.specs.Net.{HaveFailed};
 ghost use Rattle.dq_client.specs.Running.{started};
 ghost use Rattle.dq_client.specs.Driving.{IsBegun};
 ghost use Rattle.dq_client.specs.Status.{HasRun, HasPrinted, IsOf};
@@ -58,6 +59,7 @@ pub fn run_client<N: Dialer, K: Sink>(
 ) -> ClientStatus
     requires { IsBegun core }
     ensures run { HasRun (N.net net.old) (started core) (N.net net.new) result }
+    ensures faults { HaveFailed (N.net net.old) (N.net net.new) }
     ensures printed { HasPrinted (K.written sink.old) (K.written sink.new) result }
     ensures count { K.faults sink.old ≤ K.faults sink.new }
     ensures cause { result ≡ ClientStatus.WriteFault → Rose (K.faults sink.old) (K.faults sink.new) }

@@ -9,6 +9,7 @@ use Rattle.cluster_runner.specs.Run.{Fault, Line, Large, run, printed}
 use Rattle.sqlite_engine.specs.Any.{any_meaning}
 use Rattle.lone_node.proofs.Safety.{runs_are_safe_hold}
 use Rattle.cluster_runner.specs.Outcome.{MayFollow, Anything, IsAllowed, Completes, Refuses, StopsShort}
+use Rattle.cluster_runner.proofs.Running.{short_start}
 use Rattle.dqnode.specs.declared.status.Status.{Status}
 use Rattle.dqnode.specs.declared.status.Status.TheVariants as status
 use Rattle.dqnode.specs.Program.{line_error, large_error, fault_text, run_text, Faults, BreaksOff, RunsSafely}
@@ -83,3 +84,11 @@ module _ (kind : EngineKind) (journal : List Answer) (left left' : Option (List 
 
   pub breaks_safely : (written written' : Option (List ℕ)) → StopsShort kind journal Anything left left' written written' → RunsSafely kind journal left left'
   breaks_safely written written' h = safely h.read h.taken (λ more may. h.allowed more tt)
+
+-- Where nothing was read of a script, and its journal is empty, it breaks off at its beginning, and its run is safe.
+module _ (kind : EngineKind) (left written : Option (List ℕ)) where
+  pub unread_breaks : BreaksOff kind [] (MayFollow left) left left written written
+  unread_breaks = breaks_off kind [] (MayFollow left) left left written written (short_start kind left written)
+
+  pub unread_safely : RunsSafely kind [] left left
+  unread_safely = stops_safely kind [] left left written written (short_start kind left written)

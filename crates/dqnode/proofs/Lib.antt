@@ -1,2 +1,5 @@
 pub mod Endings
+pub mod Asked
+pub mod Telling
+pub mod Idle
 pub mod Deciding

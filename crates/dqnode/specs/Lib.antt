@@ -1,3 +1,6 @@
+pub mod Asks
 pub mod Program
 pub mod Status
+pub mod Statements
+pub mod Checks
 pub mod Deciding

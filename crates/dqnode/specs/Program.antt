@@ -1,37 +1,14 @@
 -- What the program does: its words, its input, what it writes and the status that it ends with.
-use Rattle.std.specs.Prelude.{◌≡◌, ◌⊎◌, ◌++◌, ℕ, List, [], ◌∷◌, map, codes, string_bytes, String, Option, Some, None}
-use Rattle.std.specs.declared.alloc.Global.{Global}
+use Rattle.std.specs.Prelude.{◌≡◌, ◌++◌, ℕ, List, [], codes, Option, Some, None}
 use Rattle.std.specs.Fmt.{decimal}
 use Rattle.std.specs.Io.KnownBytes.{Appends, Consumes}
 use Rattle.dq_base.specs.Sink.{AppendsFront}
 use Rattle.sql_engine.specs.declared.kind.EngineKind.{EngineKind}
-use Rattle.sql_engine.specs.declared.kind.EngineKind.TheVariants.{Sqlite, Cells}
 use Rattle.session_rules.specs.Engines.{Answer}
 use Rattle.sqlite_engine.specs.Any.{any_meaning}
 use Rattle.lone_node.specs.Safe.{Safe}
 use Rattle.cluster_runner.specs.Run.{Run, Fault, Line, Large, Unanswered, run, printed}
 use Rattle.cluster_runner.specs.Outcome.{MayFollow, IsAllowed}
-
--- the name of a kind of engine
-abbrev pub engine_word : EngineKind → List ℕ
-engine_word Sqlite = codes "sqlite"
-engine_word Cells = codes "cells"
-
--- three words that ask for a script to be run with an engine of this kind
-pub record AreWords (script option engine : List ℕ) (kind : EngineKind) : Type 0 where
-  pub script_is : script ≡ codes "script"
-  pub option_is : option ≡ codes "--engine"
-  pub engine_is : engine ≡ engine_word kind
-
--- the words ask for a script to be run with an engine of this kind, which is SQLite's where they name none
-abbrev pub AsksFor : List (String Global) → EngineKind → Type 0
-AsksFor words kind =
-    ((kind ≡ Sqlite) × (map string_bytes words ≡ codes "script" ∷ []))
-    ⊎ (map string_bytes words ≡ codes "script" ∷ codes "--engine" ∷ engine_word kind ∷ [])
-
--- the words ask for a script to be run
-abbrev pub IsScript : List (String Global) → Type 0
-IsScript words = (kind : EngineKind) × AsksFor words kind
 
 -- the line for words that ask for nothing
 abbrev pub words_error : List ℕ
@@ -71,10 +48,6 @@ pub record BreaksOff (kind : EngineKind) (journal : List Answer) (follows : List
   pub taken : Consumes left left' read
   pub text : (more : List ℕ) → follows more → AppendsFront written written' (run_text (run (read ++ more) journal))
   pub allowed : (more : List ℕ) → follows more → IsAllowed kind (run (read ++ more) journal)
-
--- the words ask for a script, and this holds of the kind of engine that they name
-abbrev pub RunsWith : List (String Global) → (EngineKind → Type 0) → Type 0
-RunsWith words holds = (kind : EngineKind) × AsksFor words kind × holds kind
 
 -- Whatever may follow the bytes read, each answer that the script's run takes off this journal is one that an engine of the
 -- kind may give, and the run is safe.

@@ -5,7 +5,8 @@ ghost use Rattle.std.specs.Prelude.{◌≡◌};
 /// How the program ends.
 #[derive(Clone, Copy, Debug, PartialEq, Eq)]
 pub enum Status {
-    /// The script was read to its end.
+    /// What was asked for was done: the script was read to its end, the statement was answered, the lines of the folder were
+    /// printed.
     Done,
     /// The words ask for nothing that the program does.
     Words,
@@ -15,10 +16,20 @@ pub enum Status {
     ReadFault,
     /// The output failed.
     WriteFault,
+    /// The folder failed.
+    DiskFault,
     /// There is not enough memory.
     NoMemory,
+    /// The files of the folder have a fault.
+    Files,
     /// The script has too many lines or events.
     Large,
+    /// A server refused the statement.
+    Refused,
+    /// No leader was found.
+    NoLeader,
+    /// The statement may have been run or not.
+    Unknown,
 }
 
 impl Status {
@@ -34,8 +45,13 @@ impl Status {
             Status::Script => 2,
             Status::ReadFault => 3,
             Status::WriteFault => 4,
+            Status::DiskFault => 5,
             Status::NoMemory => 7,
+            Status::Files => 8,
             Status::Large => 9,
+            Status::Refused => 11,
+            Status::NoLeader => 12,
+            Status::Unknown => 13,
         }
     }
 }

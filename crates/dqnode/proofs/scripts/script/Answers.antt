@@ -3,7 +3,7 @@ use Rattle.std.specs.Prelude.{map}
 use Rattle.engine_journal.specs.Noting.{answer_of}
 use Rattle.dqnode.proofs.Endings.{breaks_off, line_refused, large_refused, completes_safely, refuses_safely, stops_safely, breaks_safely}
 use Rattle.cluster_runner.specs.Run.{Line, Large}
-use Rattle.dqnode.proofs.program.script.Goals as goal
+use Rattle.dqnode.proofs.scripts.script.Goals as goal
 
 pub returns-in-Script-clause-ended : goal.returns-in-Script-clause-ended
 returns-in-Script-clause-ended g c =

@@ -1,0 +1,8 @@
+use Rattle.tcp_dialer.proofs.Counted.{moved, unmoved}
+use Rattle.tcp_dialer.proofs.dialer.TcpDialerDialer.read.Goals as goal
+
+pub returns-in-Ok : goal.returns-in-Ok
+returns-in-Ok g c = moved c.args.self.now c.read_link.new.self c.read_link.new.into c.in-Ok.count c.read_link.ensures.same c.in-Ok.ensures.fits
+
+pub returns-in-Err : goal.returns-in-Err
+returns-in-Err g c = unmoved c.args.self.now c.read_link.new.self c.fail.new.self c.read_link.new.into c.fail.result c.read_link.ensures.same c.fail.ensures.count c.fail.ensures.never_falls
