@@ -21,7 +21,7 @@ decimal_plain =
     decimal_by_steps (λ (n : ℕ) (digits : List ℕ). has_nul digits ≡ false) (λ n small. digit_plain n)
     (λ n digits some before. both_plain digits ((48 + n % 10) ∷ []) before (digit_plain (n % 10)))
 
-statement_plain : (number : ℕ) → has_nul (statement number) ≡ false
+pub statement_plain : (number : ℕ) → has_nul (statement number) ≡ false
 unfolding statement
 statement_plain number =
     let cell : has_nul (decimal (cell_of number)) ≡ false = decimal_plain (cell_of number) (omega arith) in

@@ -48,9 +48,9 @@ fn put_write<K: Sink>(
 /// 1,103,515,245 and 12,345 more, modulo 2^31, where `number` stands before the first; `a` is one more than its bits 16
 /// to 21, and `b` its remainder by 1,000. After each hundredth write node 3 crashes and is started again.
 ///
-/// An `Err` is a failure of the sink, which has counted it, or want of memory; a front of the script was written then. The
-/// lines of one write are held at a time, at most 121 bytes, with its message and that in hex, and go to the sink in one
-/// call; so there are `count` calls and one more.
+/// An `Err` is a failure of the sink, which has counted it, or want of memory; a front of the script was written then. Of the
+/// script the lines of one write are held at a time, at most 100 bytes, beside its message of 24 or 32 bytes and that in
+/// hex. They go to the sink in one call, so that it has `count` calls and one more.
 pub fn generate<K: Sink>(
     alloc: Global,
     number: u32,

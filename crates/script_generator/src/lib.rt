@@ -4,9 +4,11 @@
 
 mod fault;
 mod generating;
+mod laws;
 mod lines;
 mod numbers;
 mod requests;
 
 pub use fault::GenerateFault;
 pub use generating::generate;
+pub use laws::scripts_are_read;
