@@ -1,0 +1,88 @@
+-- What the words behind the program's name ask for.
+use Rattle.std.specs.Prelude.{◌≤◌, ◌<◌, Bool, true, false, not, ◌&&◌, cond, List, [], ◌∷◌, length, nat_le, codes, Option, Some, None}
+use Rattle.std.specs.List.{list_all}
+use Rattle.std.specs.Option.{option_map}
+use Rattle.std.specs.Str.{bytes_eq}
+use Rattle.clap.specs.Walk.{Row, Text, first_of, all_of}
+use Rattle.dq_base.specs.Names.{has_nul}
+use Rattle.wire_words.specs.Items.{HasNoNul}
+use Rattle.sql_engine.specs.declared.kind.EngineKind.{EngineKind}
+use Rattle.sql_engine.specs.declared.kind.EngineKind.TheVariants.{Sqlite, Cells}
+use Rattle.program_words.specs.declared.asked.Asked.{Asked}
+use Rattle.program_words.specs.declared.asked.Asked.TheVariants as asks
+use Rattle.program_words.specs.declared.asked.Statement.{Statement as StatementAsked}
+use Rattle.program_words.specs.declared.reading.Line.{Line}
+use Rattle.program_words.specs.declared.reading.Line.TheVariants as line
+use Rattle.program_words.specs.Commands.{script_app, statement_app, check_app, read_by}
+
+-- the kind of engine of a name; SQLite's, where none is named
+abbrev pub engine_named : Option Text → Option EngineKind
+engine_named None = Some Sqlite
+engine_named (Some name) = cond (bytes_eq name (codes "sqlite")) (Some Sqlite) (cond (bytes_eq name (codes "cells")) (Some Cells) None)
+
+-- behind `script`
+abbrev pub script_in : List Row → Option Asked
+script_in rows = option_map (λ kind. asks.Script kind) (engine_named (first_of (codes "engine") rows))
+
+-- an address is a text of 1 to 255 bytes
+abbrev pub is_address : Text → Bool
+is_address text = nat_le 1 (length text) && (nat_le (length text) 255 && not (has_nul text))
+
+-- 1 to 9 addresses
+abbrev pub are_addresses : List Text → Bool
+are_addresses texts = nat_le 1 (length texts) && (nat_le (length texts) 9 && list_all is_address texts)
+
+abbrev pub is_askable : Text → Text → List Text → Bool
+is_askable name sql addresses = not (has_nul name) && (not (has_nul sql) && are_addresses addresses)
+
+abbrev pub statement_with : Bool → Option Text → Option Text → Option (List Text) → Option Asked
+statement_with query (Some name) (Some sql) (Some addresses) =
+    cond (is_askable name sql addresses) (Some (asks.Statement (record { query = query; name = name; sql = sql; addresses = addresses }))) None
+statement_with query name sql addresses = None
+
+-- behind `exec` and `query`
+abbrev pub statement_in : Bool → List Row → Option Asked
+statement_in query rows = statement_with query (first_of (codes "NAME") rows) (first_of (codes "SQL") rows) (all_of (codes "ADDRESS") rows)
+
+abbrev pub script_found : Option (List Row) → Option Asked
+script_found (Some rows) = script_in rows
+script_found None = None
+
+abbrev pub statement_found : Bool → Option (List Row) → Option Asked
+statement_found query (Some rows) = statement_in query rows
+statement_found query None = None
+
+abbrev pub check_found : Option (List Row) → Option Asked
+check_found (Some rows) = Some asks.Check
+check_found None = None
+
+-- the first word says how the others are read
+abbrev pub line_of : Text → Option Line
+line_of word =
+    cond (bytes_eq word (codes "script")) (Some line.Script)
+    (cond (bytes_eq word (codes "exec")) (Some line.Exec)
+    (cond (bytes_eq word (codes "query")) (Some line.Query)
+    (cond (bytes_eq word (codes "check")) (Some line.Check) None)))
+
+abbrev pub asked_by : Option Line → List Text → Option Asked
+asked_by None words = None
+asked_by (Some line.Script) words = script_found (read_by script_app words)
+asked_by (Some line.Exec) words = statement_found false (read_by statement_app words)
+asked_by (Some line.Query) words = statement_found true (read_by statement_app words)
+asked_by (Some line.Check) words = check_found (read_by check_app words)
+
+-- what the words behind the program's name ask for, if they ask for something
+unfoldable pub asked_of : List Text → Option Asked
+asked_of [] = None
+asked_of (word ∷ words) = asked_by (line_of word) words
+
+-- a statement has 1 to 9 addresses, and no text that is sent holds a NUL
+pub record CanBeSent (statement : StatementAsked) : Type 0 where
+  pub some : 0 < length statement.addresses
+  pub few : length statement.addresses ≤ 9
+  pub name : HasNoNul statement.name
+  pub sql : HasNoNul statement.sql
+
+abbrev pub IsAskable : Option Asked → Type 0
+IsAskable (Some (asks.Statement statement)) = CanBeSent statement
+IsAskable asked = Unit {0}
