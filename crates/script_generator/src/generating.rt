@@ -44,13 +44,13 @@ fn put_write<K: Sink>(
 /// Writes the script that a number and a count of writes give, for an engine of cells at three nodes.
 ///
 /// The first six lines have node 1 elected and a client of it open a database. Then each write has two lines: the client
-/// sends `SET a b`, and 100 messages are delivered at most. The number of a write is that of the one before it times
-/// 1,103,515,245 and 12,345 more, modulo 2^31, where `number` stands before the first; `a` is one more than its bits 16
-/// to 21, and `b` its remainder by 1,000. After each hundredth write node 3 crashes and is started again.
+/// sends `SET a b`, and at most 100 messages are delivered. The number of a write is that of the write before it, or `number`
+/// for the first, times 1,103,515,245 and 12,345 more, modulo 2^31; `a` is one more than its bits 16 to 21, and `b` its
+/// remainder by 1,000. After each hundredth write node 3 crashes and is started again.
 ///
-/// An `Err` is a failure of the sink, which has counted it, or want of memory; a front of the script was written then. Of the
-/// script the lines of one write are held at a time, at most 100 bytes, beside its message of 24 or 32 bytes and that in
-/// hex. They go to the sink in one call, so that it has `count` calls and one more.
+/// An `Err` is a failure of the sink, which has counted it, or want of memory; a front of the script was written then. The
+/// first six lines go to the sink in one call, and so do those of each write, so that it has `count` calls and one more. At
+/// most 157 bytes of the script are held at a time, beside the bytes that the client sends in them, at most 48, and their hex.
 pub fn generate<K: Sink>(
     alloc: Global,
     number: u32,
