@@ -12,12 +12,7 @@ use std::alloc::Global;
 
 /// Writes the script of a number and a count of writes.
 #[tactic(auto, using(crate::proofs::Generated::written_whole, crate::proofs::Generated::written_in_part))]
-pub(crate) fn make_script<K: Sink>(
-    alloc: Global,
-    number: u32,
-    count: u32,
-    output: &mut K,
-) -> Status
+pub(crate) fn make_script<K: Sink>(alloc: Global, number: u32, count: u32, output: &mut K) -> Status
     ensures ended { GenerateEnds number count (K.written output.old) (K.written output.new) (status_code result) }
     ensures write_fault { result ≡ Status.WriteFault → Rose (K.faults output.old) (K.faults output.new) }
     ensures count { K.faults output.old ≤ K.faults output.new }
