@@ -1,7 +1,5 @@
 -- How it ends where a statement is asked for.
-use Rattle.std.proofs.Common.{◌≡◌, ◌≢◌, ◌⊎◌, inl, inr, ◌<◌, ◌*◌, ℕ, List, [], length, Option, Some, None, refl, sym, ap, subst, ◌∙◌}
-use Rattle.std.specs.Io.KnownBytes.{Appends}
-use Rattle.dq_base.specs.Sink.{AppendsFront}
+use Rattle.std.proofs.Common.{◌≡◌, ◌≢◌, ◌⊎◌, inl, inr, ◌*◌, ℕ, List, [], length, Option, Some, None, refl, sym, ap, subst, ◌∙◌}
 use Rattle.dq_base.proofs.ContentLaws.{AppendsFront-whole}
 use Rattle.dq_client.specs.declared.events.ClientEnd.{ClientEnd}
 use Rattle.dq_client.specs.declared.events.ClientEnd.TheVariants as ends
@@ -17,10 +15,9 @@ use Rattle.program_words.specs.declared.asked.Asked.{Asked}
 use Rattle.program_words.specs.declared.asked.Asked.TheVariants as asks
 use Rattle.program_words.specs.declared.asked.Statement.{Statement}
 use Rattle.dqnode.specs.Asks.{ForStatement}
-use Rattle.dqnode.specs.declared.status.Status.{Status}
 use Rattle.dqnode.specs.declared.status.Status.TheVariants as status
 use Rattle.dqnode.specs.Status.{status_code, IsStatementCode}
-use Rattle.dqnode.specs.Statements.{client_of, end_status, client_status, ComesTo, BreaksOff, StatementEnds, IsAnswered, HasLinked}
+use Rattle.dqnode.specs.Statements.{client_of, end_status, client_status, StatementEnds, IsAnswered, HasLinked}
 
 pub is_begun : (core : Course) (statement : Statement) → core ≡ client_of statement → IsBegun core
 is_begun core statement e = subst IsBegun (sym e) refl
@@ -65,6 +62,7 @@ statement_in other None = other
 statement_in other (Some (asks.Script kind)) = other
 statement_in other (Some (asks.Statement statement)) = statement
 statement_in other (Some asks.Check) = other
+statement_in other (Some (asks.Generate number count)) = other
 
 same_statement : (one other : Statement) → ForStatement other (Some (asks.Statement one)) → one ≡ other
 unfolding statement_in
@@ -97,12 +95,12 @@ end_linked start now n (ends.NoLeader tries) (inr (inr e)) h = absurd cc
 end_linked start now n ends.Unknown a h = h
 
 not_broken : (code : ℕ) → (code ≡ 4) ⊎ (code ≡ 7) → IsAnswered code → ⊥
-not_broken code (inl e) (inl f) = let bad : 4 ≡ 0 = sym e ∙ f in cc
-not_broken code (inl e) (inr (inl f)) = let bad : 4 ≡ 11 = sym e ∙ f in cc
-not_broken code (inl e) (inr (inr f)) = let bad : 4 ≡ 13 = sym e ∙ f in cc
-not_broken code (inr e) (inl f) = let bad : 7 ≡ 0 = sym e ∙ f in cc
-not_broken code (inr e) (inr (inl f)) = let bad : 7 ≡ 11 = sym e ∙ f in cc
-not_broken code (inr e) (inr (inr f)) = let bad : 7 ≡ 13 = sym e ∙ f in cc
+not_broken code (inl e) (inl f) = cc
+not_broken code (inl e) (inr (inl f)) = cc
+not_broken code (inl e) (inr (inr f)) = cc
+not_broken code (inr e) (inl f) = cc
+not_broken code (inr e) (inr (inl f)) = cc
+not_broken code (inr e) (inr (inr f)) = cc
 
 pub statement_linked : (statement : Statement) (start now : Net) (was is : Option (List ℕ)) (code : ℕ) → StatementEnds statement start now was is code → IsAnswered code → HasLinked start now
 statement_linked statement start now was is code (inl c) a = end_linked start now (length statement.addresses) c.end (subst IsAnswered c.code_is a) c.dialled
@@ -119,8 +117,8 @@ pub statement_unled : (statement : Statement) (start now : Net) (was is : Option
     → HaveDialled start now (3 * length statement.addresses)
 statement_unled statement start now was is code (inl c) e = end_unled start now (length statement.addresses) c.end (sym c.code_is ∙ e) c.dialled
 statement_unled statement start now was is code (inr b) e = elim b.cause [
-  | inl f ↦ let bad : 4 ≡ 12 = sym f ∙ e in cc
-  | inr f ↦ let bad : 7 ≡ 12 = sym f ∙ e in cc
+  | inl f ↦ cc
+  | inr f ↦ cc
 ]
 
 pub unled_for : (one : Statement) (start now : Net) (was is : Option (List ℕ)) (code : ℕ) → StatementEnds one start now was is code

@@ -1,5 +1,5 @@
 -- Two runs of one script over cells say the same.
-use Rattle.std.proofs.Common.{◌≡◌, ◌≢◌, ℕ, suc, ◌+◌, Bool, true, false, cond, List, [], ◌∷◌, ◌++◌, map, Option, Some, None, Result, Ok, Err, refl, sym, ap, ◌∙◌, subst, append_assoc}
+use Rattle.std.proofs.Common.{◌≡◌, ◌≢◌, ℕ, suc, ◌+◌, Bool, true, false, cond, List, [], ◌∷◌, ◌++◌, map, Option, Some, None, Ok, Err, refl, sym, ap, ◌∙◌, subst, append_assoc}
 use Rattle.std.specs.Prelude.{◌==◌, ◌&&◌, not, is_none, nat_lt, nat_le}
 use Rattle.std.specs.Option.{option_map}
 use Rattle.std.proofs.lemmas.List.{append-nil}
@@ -21,7 +21,7 @@ use Rattle.cluster_runner.specs.Grammar.{line_of}
 use Rattle.cluster_runner.specs.World.{World, fresh, with_node, with_known, say_of, gone_on, happens, is_unanswered, standing_of_voter, node_standing}
 use Rattle.cluster_runner.specs.Machines.{Fleet, applies}
 use Rattle.cluster_runner.specs.Scenes.{Scene, Nodes, Pages, plays, lacks_answer, turns_in, shown, all_shown}
-use Rattle.cluster_runner.specs.Run.{Place, Opening, Within, Fault, Line, Large, Unanswered, Next, idle_fleet, opened_at, after_event, after_show, line_step, said_step, step, Run, said_before, turns_at, stopped_at, onward, closing, ending, run_from, run}
+use Rattle.cluster_runner.specs.Run.{Place, Opening, Within, Fault, Line, Large, Unanswered, Next, idle_fleet, opened_at, after_event, after_show, line_step, said_step, step, turns_at, onward, closing, run_from}
 use Rattle.dqnode.specs.Deciding.{RunsOverCells, SaySame, CellsDecide}
 
 -- ---- worlds, scenes and places that are alike

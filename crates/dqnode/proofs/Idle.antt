@@ -1,6 +1,5 @@
 -- Where nothing is done, as there is not enough memory to read the words, or as something else is asked for.
-use Rattle.std.proofs.Common.{◌≡◌, ◌⊎◌, inl, inr, ℕ, List, [], Option, refl}
-use Rattle.std.specs.Io.KnownBytes.{Appends}
+use Rattle.std.proofs.Common.{inr, ℕ, List, [], Option, refl}
 use Rattle.dq_base.specs.Sink.{AppendsFront}
 use Rattle.dq_base.proofs.ContentLaws.{Appends-nothing, AppendsFront-nothing}
 use Rattle.disk_model.specs.Disk.{Disk}

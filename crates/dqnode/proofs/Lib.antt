@@ -3,3 +3,4 @@ pub mod Asked
 pub mod Telling
 pub mod Idle
 pub mod Deciding
+pub mod Generated

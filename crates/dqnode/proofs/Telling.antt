@@ -1,6 +1,5 @@
 -- How it ends where a check is asked for.
-use Rattle.std.proofs.Common.{◌≡◌, ◌⊎◌, inl, inr, ℕ, List, [], Option, refl, sym, ap, subst, ◌∙◌}
-use Rattle.std.specs.Prelude.{Err}
+use Rattle.std.proofs.Common.{◌≡◌, ◌⊎◌, inl, inr, ℕ, List, Option, refl, subst}
 use Rattle.std.specs.Io.KnownBytes.{Appends}
 use Rattle.dq_base.specs.Sink.{AppendsFront}
 use Rattle.disk_model.specs.Disk.{Disk}
@@ -12,7 +11,7 @@ use Rattle.dir_check.specs.Checking.{Checks, CheckShows}
 use Rattle.dqnode.specs.declared.status.Status.{Status}
 use Rattle.dqnode.specs.declared.status.Status.TheVariants as status
 use Rattle.dqnode.specs.Status.{status_code}
-use Rattle.dqnode.specs.Checks.{fault_line, HaveFault, CheckTells, CheckEnds}
+use Rattle.dqnode.specs.Checks.{fault_line, HaveFault, CheckEnds}
 
 module _ (before after : Disk Text → Type 0) (was now : Option (List ℕ)) where
   pub all_told : Checks before after was now ends.Done → CheckEnds before after was now 0

@@ -1,5 +1,5 @@
 -- What the program's words ask for, as clauses name it.
-use Rattle.std.specs.Prelude.{◌≡◌, List, Option, Some, None, map, string_bytes, String}
+use Rattle.std.specs.Prelude.{◌≡◌, ℕ, List, Option, Some, None, map, string_bytes, String}
 use Rattle.std.specs.declared.alloc.Global.{Global}
 use Rattle.sql_engine.specs.declared.kind.EngineKind.{EngineKind}
 use Rattle.program_words.specs.declared.asked.Asked.{Asked}
@@ -18,6 +18,10 @@ ForScript kind asked = asked ≡ Some (asks.Script kind)
 -- for this statement to be run
 abbrev pub ForStatement : Statement → Option Asked → Type 0
 ForStatement statement asked = asked ≡ Some (asks.Statement statement)
+
+-- for the script of a number and a count of writes to be made
+abbrev pub ForGenerated : ℕ → ℕ → Option Asked → Type 0
+ForGenerated number writes asked = asked ≡ Some (asks.Generate number writes)
 
 abbrev pub IsScript : Option Asked → Type 0
 IsScript asked = (kind : EngineKind) × ForScript kind asked

@@ -1,5 +1,5 @@
 -- With the engine of cells a script alone decides what is printed and how it ends.
-use Rattle.std.specs.Prelude.{◌≡◌, ◌≢◌, ℕ, List, Option, Some}
+use Rattle.std.specs.Prelude.{◌≡◌, ◌≢◌, ℕ, List, Some}
 use Rattle.session_rules.specs.Engines.{Answer}
 use Rattle.cell_runs.specs.Repeats.{AreOfCells}
 use Rattle.cluster_runner.specs.Run.{Run, Unanswered, run}

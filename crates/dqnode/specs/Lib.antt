@@ -3,4 +3,5 @@ pub mod Program
 pub mod Status
 pub mod Statements
 pub mod Checks
+pub mod Generating
 pub mod Deciding

@@ -3,6 +3,7 @@
 #![tactic(auto)]
 
 mod checks;
+mod generating;
 mod program;
 mod scripts;
 mod statements;

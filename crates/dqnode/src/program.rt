@@ -14,13 +14,15 @@ ghost use Rattle.cluster_runner.specs.Alike.{KeepsAlike};
 ghost use Rattle.program_words.specs.declared.asked.Statement.{Statement};
 ghost use Rattle.program_words.specs.Asking.{IsAskable};
 ghost use Rattle.dqnode.specs.Deciding.{CellsDecide};
-ghost use Rattle.dqnode.specs.Asks.{asks_for, ForStatement, IsScript, IsStatement, IsCheck, IsNothing, RunsWith};
+ghost use Rattle.dqnode.specs.Asks.{asks_for, ForStatement, ForGenerated, IsScript, IsStatement, IsCheck, IsNothing, RunsWith};
 ghost use Rattle.dqnode.specs.Program.{words_error, Faults, BreaksOff, RunsSafely, RunsAreSafe};
 ghost use Rattle.dqnode.specs.Status.{IsStatus, IsBroken};
 ghost use Rattle.dqnode.specs.Statements.{StatementEnds, IsAnswered, IsOfStatement, HasLinked};
 ghost use Rattle.dqnode.specs.Checks.{CheckEnds};
+ghost use Rattle.dqnode.specs.Generating.{GenerateEnds};
 
 use crate::checks::tell;
+use crate::generating::make_script;
 use crate::scripts::script;
 use crate::statements::ask;
 use crate::status::Status;
@@ -55,7 +57,7 @@ fn give_up(alloc: Global, journal: &mut Journal) -> Status
 }
 
 /// Does what is asked for.
-#[tactic(auto, using(crate::proofs::Asked::ends_for, crate::proofs::Asked::unled_for, crate::proofs::Asked::statement_linked, crate::proofs::Asked::statement_code, crate::proofs::Idle::no_call))]
+#[tactic(auto, using(crate::proofs::Asked::ends_for, crate::proofs::Asked::unled_for, crate::proofs::Asked::statement_linked, crate::proofs::Asked::statement_code, crate::proofs::Idle::no_call, crate::proofs::Generated::generated_for, crate::proofs::Generated::generated_code))]
 fn run<S: Source, K: Sink, D: Disk, N: Dialer>(
     alloc: Global,
     asked: Option<Asked>,
@@ -97,6 +99,7 @@ fn run<S: Source, K: Sink, D: Disk, N: Dialer>(
     ensures disk_fault { result ≡ 5 → IsCheck asked × Rose (D.faults disk.old) (D.faults disk.new) }
     ensures unprinted { IsCheck asked → (result ≡ 5) ⊎ (result ≡ 7) → output.new ≡ output.old }
     ensures disk { ¬ (IsCheck asked) → disk.new ≡ disk.old }
+    ensures generated { (number writes : ℕ) → ForGenerated number writes asked → GenerateEnds number writes (K.written output.old) (K.written output.new) result }
     ensures known { IsStatus result }
     ensures input_count { S.faults input.old ≤ S.faults input.new }
     ensures output_count { K.faults output.old ≤ K.faults output.new }
@@ -106,6 +109,7 @@ fn run<S: Source, K: Sink, D: Disk, N: Dialer>(
         Some(Asked::Script(engine)) => script(alloc, engine, input, output, journal),
         Some(Asked::Statement(statement)) => ask(alloc, statement, output, dialer),
         Some(Asked::Check) => tell(alloc, output, disk),
+        Some(Asked::Generate { number, count }) => make_script(alloc, number, count, output),
         None => refuse_words(output),
     };
     status.code()
@@ -119,6 +123,7 @@ fn run<S: Source, K: Sink, D: Disk, N: Dialer>(
 /// - `exec NAME SQL ADDRESS..` and `query NAME SQL ADDRESS..`: the leader of a cluster, one of whose servers is at one of the
 ///   addresses, runs a statement on the database NAME, and what came of it is printed.
 /// - `check`: what the files on the disk stand for is printed, where their node is stopped.
+/// - `gen NUMBER COUNT`: the script of a load of writes that these give is written.
 ///
 /// Other words give status 1 and the line `error words`. 4 is a fault of the output, an error line that could not be written
 /// included; 7 is want of memory.
@@ -144,7 +149,7 @@ fn run<S: Source, K: Sink, D: Disk, N: Dialer>(
 ///
 /// After words that ask for no script the input is as it was; so is the dialer where no statement is asked for, and the disk where no
 /// check is.
-#[tactic(auto, using(crate::proofs::Endings::unread_breaks, crate::proofs::Endings::unread_safely, crate::proofs::Idle::unasked, crate::proofs::Idle::unchecked, crate::proofs::Idle::no_call, crate::proofs::Idle::nothing_written))]
+#[tactic(auto, using(crate::proofs::Endings::unread_breaks, crate::proofs::Endings::unread_safely, crate::proofs::Idle::unasked, crate::proofs::Idle::unchecked, crate::proofs::Idle::no_call, crate::proofs::Idle::nothing_written, crate::proofs::Generated::ungenerated))]
 pub fn dqnode<S: Source, K: Sink, D: Disk, N: Dialer>(
     alloc: Global,
     words: &[String],
@@ -214,6 +219,10 @@ pub fn dqnode<S: Source, K: Sink, D: Disk, N: Dialer>(
     ensures unprinted { IsCheck (asks_for words.now) → (result ≡ 5) ⊎ (result ≡ 7) → output.new ≡ output.old }
     // Nothing else looks at the disk.
     ensures disk { ¬ (IsCheck (asks_for words.now)) → disk.new ≡ disk.old }
+    // The script of a number and a count of writes: with 0 it was written whole and nothing else; with 4 and 7, and there is no other
+    // status, a front of it.
+    ensures generated { (number writes : ℕ) → ForGenerated number writes (asks_for words.now) → GenerateEnds number writes (K.written output.old)
+        (K.written output.new) result }
     // There is no other status.
     ensures known { IsStatus result }
     ensures input_count { S.faults input.old ≤ S.faults input.new }

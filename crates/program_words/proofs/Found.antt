@@ -1,5 +1,5 @@
 -- What is read of words.
-use Rattle.std.proofs.Common.{◌≡◌, ◌≢◌, inl, inr, ◌≤◌, ◌&&◌, Bool, true, false, not, cond, List, [], ◌∷◌, length, codes, Option, Some, None, Result, Ok, Err, IfOk, refl, sym, ap, subst, ◌∙◌, arith}
+use Rattle.std.proofs.Common.{◌≡◌, ◌≢◌, inl, inr, ◌≤◌, ◌&&◌, ℕ, Bool, true, false, not, cond, List, [], ◌∷◌, length, codes, Option, Some, None, Result, Ok, Err, IfOk, refl, sym, ap, subst, ◌∙◌, arith}
 use Rattle.std.specs.Prelude.{nat_le, option_map}
 use Rattle.std.proofs.lemmas.Bool.{leb-true}
 use Rattle.std.specs.declared.alloc.AllocError.{AllocError}
@@ -11,8 +11,8 @@ use Rattle.clap.specs.declared.error.Error.{Error}
 use Rattle.clap.specs.declared.error.kind.ErrorKind.{ErrorKind}
 use Rattle.clap.specs.declared.error.kind.ErrorKind.TheVariants as kind
 use Rattle.clap.specs.declared.parser.matches.ArgMatches.{ArgMatches}
-use Rattle.program_words.specs.Commands.{script_app, statement_app, check_app, unless_refused, read_by}
-use Rattle.program_words.specs.Asking.{engine_named, are_addresses, is_askable, statement_with, script_found, statement_found, check_found, asked_by, CanBeSent, IsAskable}
+use Rattle.program_words.specs.Commands.{script_app, statement_app, check_app, generate_app, unless_refused, read_by}
+use Rattle.program_words.specs.Asking.{engine_named, are_addresses, is_askable, statement_with, script_found, statement_found, check_found, number_in, generate_with, generate_found, asked_by, CanBeSent, IsAskable}
 use Rattle.program_words.specs.declared.asked.Asked.{Asked}
 use Rattle.program_words.specs.declared.asked.Asked.TheVariants as asks
 use Rattle.program_words.specs.declared.reading.Line.{Line}
@@ -95,6 +95,15 @@ statement_fits : (query : Bool) (o : Option (List Row)) → IsAskable (statement
 statement_fits query None = tt
 statement_fits query (Some rows) = with_fits query (first_of (codes "NAME") rows) (first_of (codes "SQL") rows) (all_of (codes "ADDRESS") rows)
 
+numbers_fit : (number count : Option ℕ) → IsAskable (generate_with number count)
+numbers_fit None count = tt
+numbers_fit (Some number) None = tt
+numbers_fit (Some number) (Some count) = tt
+
+generate_fits : (o : Option (List Row)) → IsAskable (generate_found o)
+generate_fits None = tt
+generate_fits (Some rows) = numbers_fit (number_in 0 2147483647 (first_of (codes "NUMBER") rows)) (number_in 1 2000 (first_of (codes "COUNT") rows))
+
 kind_fits : (o : Option EngineKind) → IsAskable (option_map (λ (kind : EngineKind). asks.Script kind) o)
 kind_fits None = tt
 kind_fits (Some kind) = tt
@@ -113,6 +122,7 @@ fits (Some line.Script) words = script_fits (read_by script_app words)
 fits (Some line.Exec) words = statement_fits false (read_by statement_app words)
 fits (Some line.Query) words = statement_fits true (read_by statement_app words)
 fits (Some line.Check) words = check_fits (read_by check_app words)
+fits (Some line.Generate) words = generate_fits (read_by generate_app words)
 
 pub askable : (l : Option Line) (words : List Text) (r : Result (Option Asked) AllocError) → IfOk r (λ (asked : Option Asked). asked ≡ asked_by l words) → IfOk r IsAskable
 askable l words (Err f) h = tt

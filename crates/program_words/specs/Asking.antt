@@ -1,10 +1,11 @@
 -- What the words behind the program's name ask for.
-use Rattle.std.specs.Prelude.{◌≤◌, ◌<◌, Bool, true, false, not, ◌&&◌, cond, List, [], ◌∷◌, length, nat_le, codes, Option, Some, None}
+use Rattle.std.specs.Prelude.{◌≤◌, ◌<◌, ◌^◌, ℕ, Bool, true, false, not, ◌&&◌, cond, List, [], ◌∷◌, length, nat_le, codes, Option, Some, None}
 use Rattle.std.specs.List.{list_all}
 use Rattle.std.specs.Option.{option_map}
 use Rattle.std.specs.Str.{bytes_eq}
 use Rattle.clap.specs.Walk.{Row, Text, first_of, all_of}
 use Rattle.dq_base.specs.Names.{has_nul}
+use Rattle.dq_base.specs.Decimal.{number_below}
 use Rattle.wire_words.specs.Items.{HasNoNul}
 use Rattle.sql_engine.specs.declared.kind.EngineKind.{EngineKind}
 use Rattle.sql_engine.specs.declared.kind.EngineKind.TheVariants.{Sqlite, Cells}
@@ -13,7 +14,7 @@ use Rattle.program_words.specs.declared.asked.Asked.TheVariants as asks
 use Rattle.program_words.specs.declared.asked.Statement.{Statement as StatementAsked}
 use Rattle.program_words.specs.declared.reading.Line.{Line}
 use Rattle.program_words.specs.declared.reading.Line.TheVariants as line
-use Rattle.program_words.specs.Commands.{script_app, statement_app, check_app, read_by}
+use Rattle.program_words.specs.Commands.{script_app, statement_app, check_app, generate_app, read_by}
 
 -- the kind of engine of a name; SQLite's, where none is named
 abbrev pub engine_named : Option Text → Option EngineKind
@@ -44,6 +45,26 @@ statement_with query name sql addresses = None
 abbrev pub statement_in : Bool → List Row → Option Asked
 statement_in query rows = statement_with query (first_of (codes "NAME") rows) (first_of (codes "SQL") rows) (all_of (codes "ADDRESS") rows)
 
+abbrev pub is_within : ℕ → ℕ → ℕ → Bool
+is_within least most number = nat_le least number && nat_le number most
+
+abbrev pub within : ℕ → ℕ → Option ℕ → Option ℕ
+within least most None = None
+within least most (Some number) = cond (is_within least most number) (Some number) None
+
+-- a number in decimal, not less than the one and not more than the other
+abbrev pub number_in : ℕ → ℕ → Option Text → Option ℕ
+number_in least most None = None
+number_in least most (Some word) = within least most (number_below (2 ^ 32) word)
+
+abbrev pub generate_with : Option ℕ → Option ℕ → Option Asked
+generate_with (Some number) (Some count) = Some (asks.Generate number count)
+generate_with number count = None
+
+-- behind `gen`
+abbrev pub generate_in : List Row → Option Asked
+generate_in rows = generate_with (number_in 0 2147483647 (first_of (codes "NUMBER") rows)) (number_in 1 2000 (first_of (codes "COUNT") rows))
+
 abbrev pub script_found : Option (List Row) → Option Asked
 script_found (Some rows) = script_in rows
 script_found None = None
@@ -56,13 +77,18 @@ abbrev pub check_found : Option (List Row) → Option Asked
 check_found (Some rows) = Some asks.Check
 check_found None = None
 
+abbrev pub generate_found : Option (List Row) → Option Asked
+generate_found (Some rows) = generate_in rows
+generate_found None = None
+
 -- the first word says how the others are read
 abbrev pub line_of : Text → Option Line
 line_of word =
     cond (bytes_eq word (codes "script")) (Some line.Script)
     (cond (bytes_eq word (codes "exec")) (Some line.Exec)
     (cond (bytes_eq word (codes "query")) (Some line.Query)
-    (cond (bytes_eq word (codes "check")) (Some line.Check) None)))
+    (cond (bytes_eq word (codes "check")) (Some line.Check)
+    (cond (bytes_eq word (codes "gen")) (Some line.Generate) None))))
 
 abbrev pub asked_by : Option Line → List Text → Option Asked
 asked_by None words = None
@@ -70,6 +96,7 @@ asked_by (Some line.Script) words = script_found (read_by script_app words)
 asked_by (Some line.Exec) words = statement_found false (read_by statement_app words)
 asked_by (Some line.Query) words = statement_found true (read_by statement_app words)
 asked_by (Some line.Check) words = check_found (read_by check_app words)
+asked_by (Some line.Generate) words = generate_found (read_by generate_app words)
 
 -- what the words behind the program's name ask for, if they ask for something
 unfoldable pub asked_of : List Text → Option Asked

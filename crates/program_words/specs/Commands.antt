@@ -34,6 +34,10 @@ statement_app = plain_app (codes "statement") (one_rule (codes "NAME") ∷ one_r
 abbrev pub check_app : App
 check_app = plain_app (codes "check") []
 
+-- NUMBER COUNT
+abbrev pub generate_app : App
+generate_app = plain_app (codes "gen") (one_rule (codes "NUMBER") ∷ one_rule (codes "COUNT") ∷ [])
+
 -- what was found, unless there is a reason to refuse
 abbrev pub unless_refused : Kinds → List Row → Option (List Row)
 unless_refused [] rows = Some rows

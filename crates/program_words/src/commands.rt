@@ -3,7 +3,7 @@
 ghost use Rattle.std.specs.Prelude.{◌≡◌, ◌≢◌, [], true, false, None, IfOk, map, string_bytes};
 ghost use Rattle.std.specs.Option.{option_map};
 ghost use Rattle.clap.specs.Words.{app_of, rule_of, found_of, rows_of, first_of, all_of, is_simple_and_free, kind_of};
-ghost use Rattle.program_words.specs.Commands.{plain_app, option_rule, one_rule, several_rule, script_app, statement_app, check_app, read_by};
+ghost use Rattle.program_words.specs.Commands.{plain_app, option_rule, one_rule, several_rule, script_app, statement_app, check_app, generate_app, read_by};
 
 use clap::error::ErrorKind;
 use clap::{Arg, ArgAction, ArgMatches, Command, Error};
@@ -66,6 +66,15 @@ pub(crate) fn check_command<'a>(alloc: Global) -> Command<'a>
     ensures { app_of result ≡ check_app }
 {
     plain(alloc, "check")
+}
+
+/// The command of the words behind `gen`.
+pub(crate) fn generate_command<'a>(alloc: Global) -> Result<Command<'a>, AllocError>
+    ensures { IfOk result (λ command. app_of command ≡ generate_app) }
+{
+    plain(alloc, "gen")
+        .arg(one(alloc, "NUMBER"))?
+        .arg(one(alloc, "COUNT"))
 }
 
 /// Nothing where an error refuses the words. `Err` where it is want of memory.

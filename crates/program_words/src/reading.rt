@@ -1,16 +1,16 @@
 ghost use Rattle.std.specs.Prelude.{◌≡◌, Some, IfOk, map, string_bytes, codes};
 ghost use Rattle.std.specs.Option.{option_map};
 ghost use Rattle.clap.specs.Words.{found_of, rows_of};
-ghost use Rattle.program_words.specs.Commands.{script_app, statement_app, check_app, read_by};
-ghost use Rattle.program_words.specs.Asking.{engine_named, script_in, statement_with, statement_in, script_found, statement_found, check_found, line_of, asked_by, asked_of, IsAskable};
+ghost use Rattle.program_words.specs.Commands.{script_app, statement_app, check_app, generate_app, read_by};
+ghost use Rattle.program_words.specs.Asking.{engine_named, script_in, statement_with, statement_in, script_found, statement_found, check_found, is_within, number_in, generate_in, generate_found, line_of, asked_by, asked_of, IsAskable};
 
 use crate::addresses::{is_askable, text, texts};
 use crate::asked::{Asked, Statement};
 use crate::commands::{
-    check_command, matches_by, script_command, statement_command, value, values,
+    check_command, generate_command, matches_by, script_command, statement_command, value, values,
 };
 use clap::ArgMatches;
-use dq_base::Items;
+use dq_base::{Items, decimal_u32};
 use sql_engine::EngineKind;
 use std::alloc::{AllocError, Global};
 
@@ -21,6 +21,7 @@ pub(crate) enum Line {
     Exec,
     Query,
     Check,
+    Generate,
 }
 
 fn line_of(word: &str) -> Option<Line>
@@ -37,6 +38,9 @@ fn line_of(word: &str) -> Option<Line>
     }
     if word == "check" {
         return Some(Line::Check);
+    }
+    if word == "gen" {
+        return Some(Line::Generate);
     }
     None
 }
@@ -145,6 +149,47 @@ fn read_check(alloc: Global, words: &[String]) -> Result<Option<Asked>, AllocErr
     }
 }
 
+/// Whether a number is not less than the one and not more than the other.
+fn is_within(least: u32, most: u32, number: u32) -> bool
+    ensures { result ≡ is_within least most number }
+{
+    least <= number && number <= most
+}
+
+/// The number that a word is in decimal, without sign or leading zeros, if it is not less than the one and not more than the other.
+fn number_in(least: u32, most: u32, word: Option<&str>) -> Option<u32>
+    ensures { result ≡ number_in least most (option_map (λ word. word.now) word.entry) }
+{
+    let Some(word) = word else {
+        return None;
+    };
+    let Some(number) = decimal_u32(word.as_bytes()) else {
+        return None;
+    };
+    if is_within(least, most, number) {
+        return Some(number);
+    }
+    None
+}
+
+fn generate_in(matches: &ArgMatches<'_>) -> Option<Asked>
+    ensures { result ≡ generate_in (rows_of (found_of matches.now)) }
+{
+    let number = number_in(0, 2_147_483_647, value(matches, "NUMBER"))?;
+    let count = number_in(1, 2_000, value(matches, "COUNT"))?;
+    Some(Asked::Generate { number, count })
+}
+
+/// The words behind `gen`.
+fn read_generate(alloc: Global, words: &[String]) -> Result<Option<Asked>, AllocError>
+    ensures { IfOk result (λ asked. asked ≡ generate_found (read_by generate_app (map string_bytes words.now))) }
+{
+    match matches_by(generate_command(alloc)?, words)? {
+        Some(matches) => Ok(generate_in(&matches)),
+        None => Ok(None),
+    }
+}
+
 /// The words behind the first, by what that says.
 fn read_by(alloc: Global, line: Line, words: &[String]) -> Result<Option<Asked>, AllocError>
     ensures { IfOk result (λ asked. asked ≡ asked_by (Some line) (map string_bytes words.now)) }
@@ -154,15 +199,17 @@ fn read_by(alloc: Global, line: Line, words: &[String]) -> Result<Option<Asked>,
         Line::Exec => read_statement(alloc, false, words),
         Line::Query => read_statement(alloc, true, words),
         Line::Check => read_check(alloc, words),
+        Line::Generate => read_generate(alloc, words),
     }
 }
 
 /// Reads what the words behind the program's name ask for; nothing where they ask for nothing that the program does. `Err` is want
 /// of memory.
 ///
-/// The first word is `script`, `exec`, `query` or `check`. Behind `script` an engine may be named once, as `--engine E` or
+/// The first word is `script`, `exec`, `query`, `check` or `gen`. Behind `script` an engine may be named once, as `--engine E` or
 /// `--engine=E`, where E is `sqlite`, which is taken where none is named, or `cells`. Behind `exec` and `query` stand the name of a
-/// database, a text of SQL and 1 to 9 addresses of 1 to 255 bytes. Behind `check` stands nothing. No text may hold a NUL. The word
+/// database, a text of SQL and 1 to 9 addresses of 1 to 255 bytes. Behind `check` stands nothing. Behind `gen`
+/// stand a number of 0 to 2,147,483,647 and one of 1 to 2,000, in decimal without sign or leading zeros. No text may hold a NUL. The word
 /// `--` ends the options, and before it a longer word that begins with `-` is an option; there is no help.
 #[tactic(auto, unfolding(crate::specs::Asking::asked_of))]
 pub fn read_words(alloc: Global, words: &[String]) -> Result<Option<Asked>, AllocError>

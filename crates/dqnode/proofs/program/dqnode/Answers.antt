@@ -1,4 +1,4 @@
-use Rattle.std.proofs.Common.{subst}
+use Rattle.std.proofs.Common.{◌∙◌, subst}
 use Rattle.sqlite_engine.specs.Any.{any_meaning}
 use Rattle.lone_node.proofs.Safety.{runs_are_safe_hold}
 use Rattle.cluster_runner.specs.Run.{run}
@@ -13,6 +13,9 @@ returns-in-Ok-clause-words_input g c = λ other. c.run.ensures.words_input (λ (
 
 pub returns-in-Ok-clause-words_journal : goal.returns-in-Ok-clause-words_journal
 returns-in-Ok-clause-words_journal g c = λ other. c.run.ensures.words_journal (λ (s : IsScript c.in-Ok.asked). other (subst IsScript c.in-Ok.ensures.asked s))
+
+pub returns-in-Ok-clause-generated : goal.returns-in-Ok-clause-generated
+returns-in-Ok-clause-generated g c = λ number writes asked. c.run.ensures.generated number writes (c.in-Ok.ensures.asked ∙ asked)
 
 runs_are_safe : RunsAreSafe
 runs_are_safe = λ kind script journal allowed. runs_are_safe_hold (any_meaning kind) kind (run script journal).turns allowed

@@ -1,0 +1,50 @@
+-- How it ends where a script is made.
+use Rattle.std.proofs.Common.{◌≡◌, ◌⊎◌, inl, inr, ℕ, List, Option, Some, refl, sym, ap, subst, ◌∙◌}
+use Rattle.std.specs.Io.KnownBytes.{Appends}
+use Rattle.dq_base.specs.Sink.{AppendsFront}
+use Rattle.dq_base.proofs.ContentLaws.{AppendsFront-nothing}
+use Rattle.program_words.specs.declared.asked.Asked.{Asked}
+use Rattle.program_words.specs.declared.asked.Asked.TheVariants as asks
+use Rattle.script_generator.specs.Generated.{script_text}
+use Rattle.dqnode.specs.Status.{IsScriptCode}
+use Rattle.dqnode.specs.Asks.{ForGenerated}
+use Rattle.dqnode.specs.Generating.{GenerateEnds}
+
+pub written_whole : (number writes : ℕ) (a b : Option (List ℕ)) → Appends a b (script_text number writes) → GenerateEnds number writes a b 0
+written_whole number writes a b h = record {
+  known = inl refl;
+  whole = λ e. h;
+  front = λ f. elim f [ inl e ↦ cc | inr e ↦ cc ];
+}
+
+pub written_in_part : (number writes code : ℕ) (a b : Option (List ℕ)) → (code ≡ 4) ⊎ (code ≡ 7) → AppendsFront a b (script_text number writes) → GenerateEnds number writes a b code
+written_in_part number writes code a b broken h = record {
+  known = inr broken;
+  whole = λ e. elim broken [ inl f ↦ let bad : 4 ≡ 0 = sym f ∙ e in cc | inr f ↦ let bad : 7 ≡ 0 = sym f ∙ e in cc ];
+  front = λ f. h;
+}
+
+-- where nothing is done, as there is not enough memory to read the words
+pub ungenerated : (number writes : ℕ) (written : Option (List ℕ)) → GenerateEnds number writes written written 7
+ungenerated number writes written = written_in_part number writes 7 written written (inr refl) (AppendsFront-nothing written (script_text number writes))
+
+-- the script that was asked for
+number_in : ℕ → Option Asked → ℕ
+number_in other (Some (asks.Generate number count)) = number
+number_in other asked = other
+
+count_in : ℕ → Option Asked → ℕ
+count_in other (Some (asks.Generate number count)) = count
+count_in other asked = other
+
+pub generated_for : (one many : ℕ) (a b : Option (List ℕ)) (code : ℕ) → GenerateEnds one many a b code
+    → (number writes : ℕ) → ForGenerated number writes (Some (asks.Generate one many)) → GenerateEnds number writes a b code
+unfolding count_in number_in
+generated_for one many a b code h number writes e =
+    subst (λ (n : ℕ). GenerateEnds n writes a b code) (ap (number_in one) e) (subst (λ (n : ℕ). GenerateEnds one n a b code) (ap (count_in many) e) h)
+
+pub generated_code : (number writes : ℕ) (a b : Option (List ℕ)) (code : ℕ) → GenerateEnds number writes a b code → IsScriptCode code
+generated_code number writes a b code h = elim h.known [
+  | inl e ↦ inl e
+  | inr f ↦ elim f [ inl e ↦ inr (inr (inr (inl e))) | inr e ↦ inr (inr (inr (inr (inl e)))) ]
+]
