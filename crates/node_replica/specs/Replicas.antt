@@ -78,12 +78,6 @@ log_count batch true = 1
 log_count None false = 0
 log_count (Some first) false = 1
 
--- What a load answers, and a node may start with: its log begins at 1 or later, at most one past the snapshot, and reaches at least that far.
-pub record CanStart (k : Kept) : Type 0 where
-  pub first : 0 < k.log.first
-  pub low : k.log.first ≤ suc k.snap.index
-  pub within : k.snap.index < k.log.first + length k.log.entries
-
 -- what the rules' node has stored then: of what is cut off only the number is known, and the term of the last one
 abbrev pub stored_at : Kept → Stored
 stored_at k = record {

@@ -7,11 +7,12 @@ ghost use Rattle.raft_rules.specs.NodeValues.{node_of};
 ghost use Rattle.raft_vote.specs.Servers.{IsConfiguration};
 ghost use Rattle.raft_core.specs.Events.{EventFits};
 ghost use Rattle.store_format.specs.FilesRead.{snap_kept};
+ghost use Rattle.store_format.specs.Starts.{CanStart};
 ghost use Rattle.segment_store.specs.Keeping.{snap_value};
 ghost use Rattle.segment_store.specs.Faults.{DiskCause};
 ghost use Rattle.node_replica.specs.Keeping.{StaysUnlessKept};
 ghost use Rattle.node_replica.specs.Letters.{Tells};
-ghost use Rattle.node_replica.specs.Replicas.{CanStart, HasMoved, IsIntake, IsKept, IsWhole};
+ghost use Rattle.node_replica.specs.Replicas.{HasMoved, IsIntake, IsKept, IsWhole};
 ghost use Rattle.node_replica.specs.Replicas.{bytes_after, kept_of, log_count, own_snap, said, snapped, stepped, stored_at};
 ghost use Rattle.node_replica.specs.Stops.{Stops, votes_between};
 
@@ -83,7 +84,7 @@ impl Replica {
     /// Starts over what a load of the disk has answered: a follower that has applied its snapshot alone, and was told these
     /// servers, which are those of its log. All that is kept is moved into it. `Err` is want of memory.
     ///
-    /// Conditions: the servers may stand together; the log is one that a load answers.
+    /// Conditions: the servers may stand together; what was kept is what a load answers.
     pub fn start(
         alloc: Global,
         id: u64,

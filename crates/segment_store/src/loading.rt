@@ -10,6 +10,7 @@ ghost use Rattle.disk_model.specs.Trait.{Known, MakesCalls};
 ghost use Rattle.store_laws.specs.Names.{Segment};
 ghost use Rattle.store_format.specs.FilesRead.{nothing_read};
 ghost use Rattle.store_format.specs.SegmentLog.{FitsNumber};
+ghost use Rattle.store_format.specs.Starts.{CanStart};
 ghost use Rattle.segment_store.specs.FileNames.{file_name};
 ghost use Rattle.segment_store.specs.Faults.{DiskCause};
 ghost use Rattle.segment_store.specs.Grow.{IsFree};
@@ -186,6 +187,8 @@ impl Store {
     pub fn load<D: Disk>(alloc: Global, disk: &mut D) -> Result<(Store, Kept), LoadFault>
         ensures loads { Loads (D.states disk.old) (D.states disk.new) result }
         ensures begins { IfOk result (λ loaded. loaded.0.size ≡ None) }
+        // A node may start with it, whatever the disk tells.
+        ensures starts { IfOk result (λ loaded. CanStart loaded.1) }
         ensures cause { LoadCause (D.faults disk.old) (D.faults disk.new) result }
         ensures count { LoadCounts (D.states disk.old) (D.made disk.old) (D.made disk.new) result }
     {
@@ -199,6 +202,7 @@ impl Store {
     /// What the files of a node stand for. Only lists and reads: the disk stays as it is. Its faults are those of `load`.
     pub fn look<D: Disk>(alloc: Global, disk: &mut D) -> Result<Kept, LoadFault>
         ensures looks { LooksAt (D.states disk.old) (D.states disk.new) result }
+        ensures starts { IfOk result (λ kept. CanStart kept) }
         ensures cause { LoadCause (D.faults disk.old) (D.faults disk.new) result }
         ensures count { Counts (λ d. look_count (folder d).read) (D.states disk.old) (D.made disk.old) (D.made disk.new) result }
     {

@@ -12,3 +12,4 @@ pub mod Terms
 pub mod Newer
 pub mod Positive
 pub mod Segments
+pub mod Starting

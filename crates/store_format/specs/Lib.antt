@@ -10,3 +10,4 @@ pub mod BatchesWritten
 pub mod BatchesTaken
 pub mod SegmentLog
 pub mod FilesRead
+pub mod Starts

@@ -1,4 +1,4 @@
-ghost use Rattle.std.specs.Prelude.{◌≡◌, ◌≤◌, ◌<◌, ◌+◌, ◌-◌, ◌==◌, ◌&&◌, length, IfOk, MatchOption};
+ghost use Rattle.std.specs.Prelude.{◌≡◌, ◌≤◌, ◌<◌, ◌+◌, ◌-◌, ◌==◌, ◌&&◌, length, IfOk, IsTrue, MatchOption};
 ghost use Rattle.std.specs.Str.{bytes_eq};
 ghost use Rattle.wire_words.specs.Reading.{Finds};
 ghost use Rattle.byteorder.specs.Endian.{little_bytes};
@@ -78,7 +78,8 @@ fn read_body(alloc: Global, words: &mut Words<'_>) -> Result<Body, WordFault>
 fn is_sound(format: u64, bytes: &[u8], body: &Body, end: usize) -> bool
     requires room { sums_size format + end ≤ length bytes.now }
     requires header { body.now.header ≤ end }
-    ensures { result ≡ is_sound format bytes.now body.now end }
+    ensures is { result ≡ is_sound format bytes.now body.now end }
+    ensures some { IsTrue result → 0 < body.now.first }
 {
     let size = sum_size(format);
     let (first_sum, behind) = bytes.split_at(size);
@@ -99,6 +100,7 @@ pub fn read_batch(
 ) -> Result<Option<FoundBatch>, AllocError>
     ensures found { IfOk result (λ found. read_of_found found ≡ batch_in format bytes.now) }
     ensures some { IfOk result (λ found. MatchOption found (Unit {0}) (λ batch. 0 < batch.size)) }
+    ensures begins { IfOk result (λ found. MatchOption found (Unit {0}) (λ batch. 0 < batch.first)) }
 {
     let size = sum_size(format) * 2;
     if bytes.len() < size {

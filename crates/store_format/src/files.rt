@@ -1,11 +1,12 @@
 ghost use Rattle.std.specs.Prelude.{◌≡◌, ◌<◌, ◌≤◌, ◌+◌, ◌^◌, cond, suc, nat_lt, length, take, drop, OnOk, Some, None};
-ghost use Rattle.store_laws.specs.Store.{newest};
+ghost use Rattle.store_laws.specs.Store.{Loaded, newest};
 ghost use Rattle.store_laws.specs.Meta.{next_stamp};
 ghost use Rattle.store_laws.specs.WholeLoad.{is_stale};
 ghost use Rattle.store_format.specs.Metadata.{meta_in, meta_of_found};
 ghost use Rattle.store_format.specs.Snapshots.{snap_of, IsNewer};
 ghost use Rattle.store_format.specs.NodeFormat.{node_format};
 ghost use Rattle.store_format.specs.SegmentLog.{with_segment, FitsNumber};
+ghost use Rattle.store_format.specs.Starts.{CanStart};
 ghost use Rattle.store_format.specs.FilesRead.{nothing_read, snap_kept, with_meta, with_snap, with_segment_read, lacks, judged, kept_by, Judges};
 
 use crate::fault::FilesFault;
@@ -228,9 +229,10 @@ impl FilesRead {
         }
     }
 
-    /// What is kept, where the files stand for a state. No entry is copied. Takes no memory.
-    pub fn into_kept(self) -> Kept
-        ensures { result ≡ kept_by self }
+    // What is kept, whether or not the files stand for it.
+    fn into_unjudged(self) -> Kept
+        ensures is { result ≡ kept_by self }
+        ensures begins { 0 < result.log.first }
     {
         let (term, vote) = match self.metadata {
             Some(metadata) => (metadata.term, metadata.vote),
@@ -246,5 +248,13 @@ impl FilesRead {
             first,
             entries,
         }
+    }
+
+    /// What is kept, where the files stand for a state: a node may start with it then. No entry is copied. Takes no memory.
+    pub fn into_kept(self) -> Kept
+        ensures is { result ≡ kept_by self }
+        ensures starts { judged self ≡ Loaded (kept_by self) → CanStart result }
+    {
+        self.into_unjudged()
     }
 }

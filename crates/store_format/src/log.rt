@@ -14,11 +14,15 @@ pub struct BatchLog {
 }
 
 impl Model for BatchLog {
+    ghost use Rattle.std.specs.Prelude.{◌<◌};
     ghost use Rattle.store_laws.specs.Store.{Log};
 
     ghost Value = { Log };
 
     ghost view = { λ l. record { first = l.first; entries = l.entries.items } };
+
+    // Indices begin at 1.
+    ghost invariant = { λ l. 0 < l.first };
 }
 
 // The term of the entry at a place.
@@ -72,6 +76,7 @@ impl BatchLog {
     }
 
     fn become_batch(&mut self, first: u64, entries: Vec<Entry>)
+        requires { 0 < first }
         ensures { self.new ≡ record { first = first; entries = entries.items } }
     {
         self.first = first;
@@ -82,6 +87,7 @@ impl BatchLog {
     /// else becomes the whole log. No entry is copied. `Err` is want of memory, after which nothing is said of the log.
     #[tactic(auto, unfolding(store_laws::specs::Store::put_batch))]
     pub fn put(&mut self, first: u64, entries: Entries) -> Result<(), AllocError>
+        requires { 0 < first }
         ensures { OnOk result (self.new ≡ put_batch self.old (record { first = first; entries = entries })) }
     {
         let entries = entries.into_vec();
@@ -143,6 +149,7 @@ impl BatchLog {
     /// Its parts: the index of the first entry, and the entries.
     pub fn into_parts(self) -> (u64, Entries)
         ensures first { result.0 ≡ self.first }
+        ensures begins { 0 < result.0 }
         ensures entries { result.1 ≡ self.entries }
     {
         (self.first, Entries::new(self.entries))

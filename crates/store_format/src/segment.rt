@@ -12,7 +12,8 @@ use std::alloc::{AllocError, Global};
 // The batch that bytes begin with, if any. It has some bytes.
 #[tactic(auto, using(crate::proofs::Runs::found_or_none))]
 fn next_batch(alloc: Global, format: u64, bytes: &[u8]) -> Result<Option<FoundBatch>, AllocError>
-    ensures { IfOk result (λ found. MatchOption found ((batch_in format bytes.now).size ≡ 0) (λ b. (batch_in format bytes.now ≡ record { batch = record { first = b.first; entries = b.entries }; size = b.size }) × (0 < b.size))) }
+    ensures found { IfOk result (λ found. MatchOption found ((batch_in format bytes.now).size ≡ 0) (λ b. (batch_in format bytes.now ≡ record { batch = record { first = b.first; entries = b.entries }; size = b.size }) × (0 < b.size))) }
+    ensures begins { IfOk result (λ found. MatchOption found (Unit {0}) (λ b. 0 < b.first)) }
 {
     read_batch(alloc, format, bytes)
 }

@@ -13,5 +13,5 @@ overflow_add-place c =
     let size : (batch_in c.args.format rest).size ≤ length rest = (is_lawful.batches c.args.format).size_within rest in
     let left : length (drop place bytes) ≡ length bytes - place = length-drop place bytes in
     let long : length rest ≡ length bytes - place = length-take-le (length bytes - place) (drop place bytes) (omega (arith, left)) in
-    let is : (batch_in c.args.format rest).size ≡ c.in-Some.batch.size = found_size c.in_ok-batch.field-0 c.in-Some.batch (batch_in c.args.format rest) c.in_ok-batch.ensures c.in-Some.is in
+    let is : (batch_in c.args.format rest).size ≡ c.in-Some.batch.size = found_size c.in_ok-batch.field-0 c.in-Some.batch (batch_in c.args.format rest) c.in_ok-batch.ensures.found c.in-Some.is in
     omega (arith, size, long, is, c.requires)

@@ -17,7 +17,7 @@ returns-in_err-store-clause-loads g c =
     rw p.1 (subst (λ (f : LoadFault). Loads (g.D.Disk.states c.args.disk.now) (g.D.Disk.states c.settle.new.disk) (Err f)) (sym p.2) (loads_failed _ _ _ c.read_folder.new.read _ _ _ c.in_ok-list.ensures.told c.in_ok-check.ensures c.in_err-store.ensures.settles))
 
 pub returns-clause-loads : goal.returns-clause-loads
-returns-clause-loads g c = loads_opened _ _ _ c.read_folder.new.read _ c.in_ok-store.store c.into_kept.result _ c.in_ok-list.ensures.told c.in_ok-check.ensures c.in_ok-store.ensures.settles c.into_kept.ensures
+returns-clause-loads g c = loads_opened _ _ _ c.read_folder.new.read _ c.in_ok-store.store c.into_kept.result _ c.in_ok-list.ensures.told c.in_ok-check.ensures c.in_ok-store.ensures.settles c.into_kept.ensures.is
 
 pub returns-in_err-list-clause-count : goal.returns-in_err-list-clause-count
 returns-in_err-list-clause-count g c =

@@ -18,7 +18,7 @@ returns-in_err-check-clause-looks g c =
     rw p.1 (subst (λ (f : LoadFault). LooksAt (g.D.Disk.states c.args.disk.now) (g.D.Disk.states c.read_folder.new.disk) (Err f)) (sym p.2) (looks_refused _ _ c.read_folder.new.read _ _ c.in_ok-read_folder.ensures.told c.in_err-check.ensures))
 
 pub returns-clause-looks : goal.returns-clause-looks
-returns-clause-looks g c = looks_shown _ _ c.read_folder.new.read _ c.into_kept.result _ c.in_ok-read_folder.ensures.told c.in_ok-check.ensures c.into_kept.ensures
+returns-clause-looks g c = looks_shown _ _ c.read_folder.new.read _ c.into_kept.result _ c.in_ok-read_folder.ensures.told c.in_ok-check.ensures c.into_kept.ensures.is
 
 pub returns-in_err-read_folder-clause-count : goal.returns-in_err-read_folder-clause-count
 returns-in_err-read_folder-clause-count g c =
