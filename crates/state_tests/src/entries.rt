@@ -1,6 +1,5 @@
 //! Entries that are applied, one after another.
 
-
 ghost use Rattle.raft_vote.specs.Servers.{IsConfiguration};
 
 use dq_base::Items;
@@ -25,13 +24,14 @@ pub(crate) const CHECKPOINT: &[u8] = &[1, 4, 0, 0, 0, 0, 0, 0, 100, 0, 0, 0, 0, 
 
 /// The configuration of one voter, 1 at `n`.
 pub(crate) const ONE_VOTER: &[u8] = &[
-    1, 0, 0, 0, 0, 0, 0, 0, 1, 0, 0, 0, 0, 0, 0, 0, 110, 0, 0, 0, 0, 0, 0, 0, 0, 0, 0, 0, 0, 0, 0, 0,
+    1, 0, 0, 0, 0, 0, 0, 0, 1, 0, 0, 0, 0, 0, 0, 0, 110, 0, 0, 0, 0, 0, 0, 0, 0, 0, 0, 0, 0, 0, 0,
+    0,
 ];
 
 /// The same, and one byte more.
 const BYTE_MORE: &[u8] = &[
-    1, 0, 0, 0, 0, 0, 0, 0, 1, 0, 0, 0, 0, 0, 0, 0, 110, 0, 0, 0, 0, 0, 0, 0, 0, 0, 0, 0, 0, 0, 0, 0,
-    0,
+    1, 0, 0, 0, 0, 0, 0, 0, 1, 0, 0, 0, 0, 0, 0, 0, 110, 0, 0, 0, 0, 0, 0, 0, 0, 0, 0, 0, 0, 0, 0,
+    0, 0,
 ];
 
 /// An entry, what is told of it, and how many databases and servers there are after it and those above it, with its index.

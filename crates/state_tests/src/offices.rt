@@ -45,7 +45,12 @@ fn after(alloc: Global, pages: u16, commands: usize) -> Option<Applied> {
     if !can_split(&set) {
         return None;
     }
-    for command in split(alloc, "d", &set).ok()?.as_slice().iter().take(commands) {
+    for command in split(alloc, "d", &set)
+        .ok()?
+        .as_slice()
+        .iter()
+        .take(commands)
+    {
         let bytes = write_command(alloc, command).ok()?;
         applies(alloc, &mut applied, EntryKind::Command, bytes.as_slice())?;
     }
@@ -54,9 +59,7 @@ fn after(alloc: Global, pages: u16, commands: usize) -> Option<Applied> {
 
 /// How many entries an office appends when an entry was applied that was none of a kind, and the phase behind it.
 fn appends(alloc: Global, office: &mut Office, applied: &Applied) -> Option<(usize, Phase)> {
-    let entries = office
-        .on_applied(alloc, applied, &Effect::Other, &[])
-        .ok()?;
+    let entries = office.on_applied(alloc, applied, &Effect::Other, &[]).ok()?;
     Some((entries.len(), office.phase))
 }
 
@@ -78,7 +81,10 @@ const BARRIERS: &[(usize, u64, usize, Phase)] = &[
 #[test]
 fn a_leader_undoes_what_is_pending(rt: HostRuntime) -> Result<(), Fail> {
     for &(commands, barrier, undos, phase) in BARRIERS {
-        assert_eq!(rt; at_barrier(rt.alloc(), commands, barrier), Some((undos, phase)));
+        assert_eq!(rt;
+            at_barrier(rt.alloc(), commands, barrier),
+            Some((undos, phase))
+        );
     }
     Ok(())
 }
