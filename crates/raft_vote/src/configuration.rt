@@ -12,10 +12,10 @@ use std::alloc::{AllocError, Global};
 use wire_words::{WireBytes, WireText, Words, Writer};
 
 /// The most servers of a configuration.
-const MOST_SERVERS: usize = 9;
+pub const MOST_SERVERS: usize = 9;
 
 /// The most bytes of a server's address.
-const LONGEST_ADDRESS: usize = 255;
+pub const LONGEST_ADDRESS: usize = 255;
 
 /// The id of the last server; 0 where there is none.
 fn last_id(servers: &[Server]) -> u64
@@ -36,7 +36,7 @@ fn vote_of(server: &Server) -> usize
 }
 
 /// How many of the servers vote.
-fn voter_count(servers: &[Server]) -> usize
+pub fn voter_count(servers: &[Server]) -> usize
     ensures { result ≡ length (voters servers.now) }
 {
     let mut count = 0;

@@ -17,7 +17,7 @@ mod shared;
 mod votes;
 mod writing;
 
-pub use configuration::{read_servers, write_servers};
+pub use configuration::{LONGEST_ADDRESS, MOST_SERVERS, read_servers, voter_count, write_servers};
 pub use entries::{
     EntryHead, read_entry_contents, read_entry_heads, write_entry_contents, write_entry_heads,
 };
@@ -31,5 +31,5 @@ pub use reading::read_message;
 pub use server::{Server, ServerRole, Servers};
 pub use servers_fault::ServersFault;
 pub use shared::SharedBytes;
-pub use votes::VoteCore;
+pub use votes::{MOST_VOTERS, VoteCore};
 pub use writing::write_message;
