@@ -1,6 +1,7 @@
 pub mod Names
 pub mod Images
 pub mod Touched
+pub mod Asked
 pub mod Keeping
 pub mod Following
 pub mod Seeing

@@ -1,6 +1,5 @@
 -- What a request asks for, once it has passed the refusals that come before the engine, in their order.
-use Rattle.std.specs.Prelude.{ℕ, Bool, not, ◌&&◌, ◌||◌, ◌==◌, nat_lt, nat_le, List, [], ◌∷◌, ◌++◌, length, map, codes, Option, Some, None, Result, Ok, Err, if◌then◌else◌}
-use Rattle.std.specs.List.{list_any}
+use Rattle.std.specs.Prelude.{ℕ, ◌/◌, ◌%◌, ◌^◌, Bool, true, false, not, ◌&&◌, ◌||◌, ◌==◌, nat_lt, nat_le, List, [], ◌∷◌, ◌++◌, length, map, codes, Option, Some, None, Result, Ok, Err, if◌then◌else◌}
 use Rattle.dq_base.specs.declared.images.Image.{Image}
 use Rattle.wire_words.specs.declared.value.Value.{Value}
 use Rattle.wire_msgs.specs.declared.request.Request.{Request}
@@ -17,22 +16,23 @@ use Rattle.sql_scan.specs.declared.heading.WordKind.TheVariants as words
 use Rattle.sql_scan.specs.Statements.{scan_of}
 use Rattle.sql_engine.specs.Replies.{Statement}
 use Rattle.raft_rules.specs.Node.{Server, among, voters}
-use Rattle.session_rules.specs.Causes.{Cause, NotLeader, DatabaseOpen, ChangeInFlight, NoDatabase, NoStatement, NotAllowed, OneStatementWanted, WrongParameters, InTransaction, NoTransaction, BadName, BadNode, BadFormat, TargetBehind, TooManyStatements, TooManyDatabases, LogFull, AnswerTooBig, scan_cause}
+use Rattle.session_rules.specs.Causes.{Cause, NotLeader, DatabaseOpen, ChangeInFlight, NoDatabase, NoStatement, NotAllowed, OneStatementWanted, WrongParameters, InTransaction, NoTransaction, BadName, BadNode, BadRole, BadFormat, TargetBehind, TransferFirst, TooManyVoters, TooManyStatements, TooManyDatabases, LogFull, AnswerTooBig, scan_cause}
 use Rattle.session_rules.specs.Machine.{Machine, is_named}
 use Rattle.session_rules.specs.Sessions.{Prepared, Session, Gateway, View, Effect, HandsOver, JoinsPeer, Weighs, in_tx}
+use Rattle.session_rules.specs.Servers.{has_server, server_of, with_server, with_role, without_server}
 use Rattle.session_rules.specs.Statements.{prepared_from, any_barred, is_left_out, wrong_params, with_params, with_all, prepared_at, prepared_count}
 use Rattle.session_rules.specs.Limits.{change_in_flight, one_too_many, log_full}
 
 -- What is asked for: nothing, as it is refused; a response, and nothing else; an effect beside the sessions; a database
--- that is there, or a new one; a statement to be prepared, with the place of the rest of its text where that is told, or to be
+-- that is there, or a new one (either with barrier reads, or without); a statement to be prepared, with the place of the rest of its text where that is told, or to be
 -- let go; a transaction to begin (at once with the write turn, or not) or to end; other servers of the cluster; statements
 -- to run, or one whose rows are told.
 pub data Asked : Type 0 where
   Never : (cause : Cause) → Asked
   Tells : (response : Response) → Asked
   Sets : (effect : Effect) → Asked
-  Opens : (name : List ℕ) → Asked
-  Creates : (name : List ℕ) → Asked
+  Opens : (name : List ℕ) (barriers : Bool) → Asked
+  Creates : (name : List ℕ) (barriers : Bool) → Asked
   Prepares : (prepared : Prepared) (tail : Option ℕ) → Asked
   Drops : (id : ℕ) → Asked
   Begins : (at_once : Bool) → Asked
@@ -44,10 +44,15 @@ pub data Asked : Type 0 where
 
 -- ---- what needs no database
 
--- the leader that the node knows; id 0 and no address where it knows none
-abbrev pub leader_known : Option Server → Response
-leader_known None = responses.Server 0 []
-leader_known (Some server) = responses.Server server.id server.address
+-- a server as the leader; id 0 and no address where there is none
+abbrev pub told_leader : Option Server → Response
+told_leader None = responses.Server 0 []
+told_leader (Some server) = responses.Server server.id server.address
+
+-- the leader that the node knows, where it is one of the servers
+abbrev pub leader_known : List Server → Option ℕ → Response
+leader_known servers None = told_leader None
+leader_known servers (Some id) = told_leader (server_of servers id)
 
 abbrev pub asks_describe : ℕ → ℕ → Asked
 asks_describe weight format = if format == 0 then Tells (responses.Metadata 0 weight) else Never BadFormat
@@ -61,7 +66,7 @@ asks_cluster v format = if nat_le format 1 then Tells (responses.Servers (map (i
 
 -- the node is another one of the configuration
 abbrev pub is_other_node : View → ℕ → Bool
-is_other_node v id = not (id == v.id) && list_any (λ (server : Server). server.id == id) v.servers
+is_other_node v id = not (id == v.id) && has_server v.servers id
 
 abbrev pub asks_connect : View → ℕ → Asked
 asks_connect v id = if v.links && is_other_node v id then Sets (JoinsPeer id) else Never BadNode
@@ -73,9 +78,45 @@ may_take_over v id = (id == v.id) || among v.even id
 abbrev pub asks_transfer : View → ℕ → Asked
 asks_transfer v id = if among (voters v.servers) id then (if may_take_over v id then Sets (HandsOver id) else Never TargetBehind) else Never BadNode
 
--- The servers can't be changed yet; the request is refused where it would be looked at.
-abbrev pub asks_change : Gateway → Asked
-asks_change g = if change_in_flight g then Never ChangeInFlight else Never BadNode
+-- ---- other servers
+
+-- one change at a time
+abbrev pub if_settled : Gateway → Asked → Asked
+if_settled g asked = if change_in_flight g then Never ChangeInFlight else asked
+
+-- The node can't join: its id is 0, above 9 or there already, its address has more than 255 bytes, or there are 9 servers.
+abbrev pub is_barred_node : List Server → ℕ → List ℕ → Bool
+is_barred_node servers id address = (id == 0) || nat_lt 9 id || has_server servers id || nat_lt 255 (length address) || nat_le 9 (length servers)
+
+-- a node joins as a spare
+abbrev pub asks_add : List Server → ℕ → List ℕ → Asked
+asks_add servers id address = if is_barred_node servers id address then Never BadNode else Changes (with_server (record { id = id; address = address; role = 2 }) servers)
+
+-- another server than this node, which would have to hand over its leadership first
+abbrev pub of_other : View → ℕ → Asked → Asked
+of_other v id asked = if id == v.id then Never TransferFirst else asked
+
+-- the server isn't a voter yet, and is to be one
+abbrev pub is_promotion : List Server → ℕ → ℕ → Bool
+is_promotion servers id role = (role == 0) && not (among (voters servers) id)
+
+-- there are at most 7 voters, and each joins them with all of the log
+abbrev pub asks_role : View → ℕ → ℕ → Asked
+asks_role v id role =
+    if is_promotion v.servers id role && nat_le 7 (length (voters v.servers)) then Never TooManyVoters
+    else if is_promotion v.servers id role && not (among v.even id) then Never TargetBehind
+    else Changes (with_role id role v.servers)
+
+abbrev pub asks_assign : View → ℕ → ℕ → Asked
+asks_assign v id role =
+    if not (has_server v.servers id) then Never BadNode
+    else if nat_lt 2 role then Never BadRole
+    else of_other v id (asks_role v id role)
+
+abbrev pub asks_remove : View → ℕ → Asked
+asks_remove v id = if has_server v.servers id then of_other v id (Changes (without_server id v.servers)) else Never BadNode
+
+-- ---- files
 
 -- the two files of a database
 abbrev pub files_of : List ℕ → Image → Response
@@ -101,15 +142,19 @@ has_database s = nat_lt 0 (length s.database)
 abbrev pub is_name : List ℕ → Bool
 is_name name = nat_le 1 (length name) && nat_le (length name) 255
 
-abbrev pub asks_new : View → Machine → Gateway → List ℕ → Asked
-asks_new v m g name = if one_too_many m g name then Never TooManyDatabases else if log_full v then Never LogFull else Creates name
+-- bit 32 of an OPEN's flags asks for barrier reads
+abbrev pub barriers_asked : ℕ → Bool
+barriers_asked flags = flags / 2 ^ 32 % 2 == 1
 
-abbrev pub asks_open : View → Machine → Gateway → Session → List ℕ → Asked
-asks_open v m g s name =
+abbrev pub asks_new : View → Machine → Gateway → List ℕ → Bool → Asked
+asks_new v m g name barriers = if one_too_many m g name then Never TooManyDatabases else if log_full v then Never LogFull else Creates name barriers
+
+abbrev pub asks_open : View → Machine → Gateway → Session → List ℕ → Bool → Asked
+asks_open v m g s name barriers =
     if has_database s then Never DatabaseOpen
     else if not (is_name name) then Never BadName
-    else if is_named m.names name then Opens name
-    else asks_new v m g name
+    else if is_named m.names name then Opens name barriers
+    else asks_new v m g name barriers
 
 -- the number is not that of the session's database
 abbrev pub no_database : Session → ℕ → Bool
@@ -219,9 +264,9 @@ at_leader v asked = if v.serving then asked else Never NotLeader
 -- a change of the cluster while one is in flight; no such database or statement; a text, statement, parameters, name,
 -- node or format that may not be; a limit on statements, databases or the log.
 unfoldable pub asked_by : View → Machine → Gateway → Session → Request → Asked
-asked_by v m g s requests.Leader = Tells (leader_known v.leader)
+asked_by v m g s requests.Leader = Tells (leader_known v.servers v.leader)
 asked_by v m g s (requests.Client id) = Tells (responses.Welcome 15000)
-asked_by v m g s (requests.Open name flags vfs) = at_leader v (asks_open v m g s name)
+asked_by v m g s (requests.Open name flags vfs) = at_leader v (asks_open v m g s name (barriers_asked flags))
 asked_by v m g s (requests.Prepare db sql wide) = at_leader v (in_database s db (asks_prepare s sql wide (scan_of sql)))
 asked_by v m g s (requests.Exec db id params wide) = at_leader v (in_database s db (asks_exec (in_tx s) (prepared_at s.statements id) params))
 asked_by v m g s (requests.Query db id params wide) = at_leader v (in_database s db (asks_prepared_query (prepared_at s.statements id) params))
@@ -230,9 +275,9 @@ asked_by v m g s (requests.ExecSql db sql params wide) = at_leader v (in_databas
 asked_by v m g s (requests.QuerySql db sql params wide) = at_leader v (in_database s db (asks_rows sql (scan_of sql) params))
 asked_by v m g s (requests.Interrupt db) = in_database s db (Tells responses.Empty)
 asked_by v m g s (requests.Connect id address) = asks_connect v id
-asked_by v m g s (requests.Add id address) = at_leader v (asks_change g)
-asked_by v m g s (requests.Assign id role) = at_leader v (asks_change g)
-asked_by v m g s (requests.Remove id) = at_leader v (asks_change g)
+asked_by v m g s (requests.Add id address) = at_leader v (if_settled g (asks_add v.servers id address))
+asked_by v m g s (requests.Assign id role) = at_leader v (if_settled g (asks_assign v id role))
+asked_by v m g s (requests.Remove id) = at_leader v (if_settled g (asks_remove v id))
 asked_by v m g s (requests.Dump name) = asks_dump m name
 asked_by v m g s (requests.Cluster format) = asks_cluster v format
 asked_by v m g s (requests.Transfer id) = at_leader v (asks_transfer v id)
@@ -242,3 +287,12 @@ asked_by v m g s (requests.Weight weight) = Sets (Weighs weight)
 -- the same of a connection's session
 abbrev pub asked : View → Machine → Gateway → ℕ → Request → Asked
 asked v m g conn request = asked_by v m g (g.session conn) request
+
+-- The request asks neither for other servers nor for barrier reads. A node without others, without readers and without these
+-- requests has no query that is answered apart from its request.
+unfoldable pub fits_one_voter : Request → Bool
+fits_one_voter (requests.Open name flags vfs) = not (barriers_asked flags)
+fits_one_voter (requests.Add id address) = false
+fits_one_voter (requests.Assign id role) = false
+fits_one_voter (requests.Remove id) = false
+fits_one_voter request = true

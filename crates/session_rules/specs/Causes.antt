@@ -19,7 +19,7 @@ pub data Cause : Type 0 where
   NoDatabase NoStatement : Cause
   OpenQuote OpenComment NamedParameter BadParameterNumber : Cause
   NotAllowed OneStatementWanted WrongParameters InTransaction NoTransaction : Cause
-  BadName BadNode BadRole BadFormat TargetBehind : Cause
+  BadName BadNode BadRole BadFormat TargetBehind TransferFirst TooManyVoters : Cause
   TooManyStatements TooManyDatabases LogFull : Cause
   ConstraintFailed SqlError NotADatabase FloatColumn NotUtf8 OutOfMemory : Cause
   NulInText AnswerTooBig : Cause
@@ -49,6 +49,8 @@ code BadNode = 1
 code BadRole = 1
 code BadFormat = 1
 code TargetBehind = 1
+code TransferFirst = 1
+code TooManyVoters = 1
 code TooManyStatements = 13
 code TooManyDatabases = 13
 code LogFull = 13
@@ -88,6 +90,8 @@ message BadNode = codes "bad node"
 message BadRole = codes "bad role"
 message BadFormat = codes "bad format"
 message TargetBehind = codes "target behind"
+message TransferFirst = codes "transfer first"
+message TooManyVoters = codes "too many voters"
 message TooManyStatements = codes "too many statements"
 message TooManyDatabases = codes "too many databases"
 message LogFull = codes "log is full"

@@ -7,6 +7,7 @@ pub use Rattle.page_changes.specs.Touched.{no_pages}
 use Rattle.sql_engine.specs.declared.answer.Ran.{Ran}
 use Rattle.sql_engine.specs.declared.kind.EngineKind.{EngineKind}
 use Rattle.sql_engine.specs.declared.fault.EngineFault.{EngineFault}
+use Rattle.sql_engine.specs.declared.fault.EngineFault.TheVariants as engine_faults
 use Rattle.sql_engine.specs.Replies.{Statement}
 use Rattle.sql_engine.specs.Meanings.{Meaning, Faults}
 use Rattle.sql_engine.specs.Meanings.{Answers as MayAnswer}
@@ -27,6 +28,16 @@ pub data Ending : Type 0 where
   TooLarge : (answer : Ran) → Ending
   Stopped : (fault : EngineFault) → Ending
   Ended : (to : Image) (answer : Ran) → Ending
+
+-- the engine gave the statement up, as it took too many steps
+abbrev pub is_cut : EngineFault → Bool
+is_cut engine_faults.Constraint = false
+is_cut engine_faults.Sql = false
+is_cut (engine_faults.Float row column) = false
+is_cut (engine_faults.NotText row column) = false
+is_cut engine_faults.Unopened = false
+is_cut engine_faults.Cut = true
+is_cut engine_faults.NoMemory = false
 
 -- the answer where no statement ran
 abbrev pub no_answer : Ran

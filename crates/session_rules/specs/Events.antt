@@ -1,9 +1,9 @@
 -- What the node tells its sessions: connections that come and go, entries that are applied, leadership that is lost.
-use Rattle.std.specs.Prelude.{ℕ, Bool, true, not, ◌&&◌, ◌==◌, nat_lt, nat_le, List, [], ◌∷◌, ◌++◌, length, map, Option, Some, None, if◌then◌else◌}
+use Rattle.std.specs.Prelude.{ℕ, Bool, true, not, ◌&&◌, ◌||◌, ◌==◌, nat_lt, nat_le, List, [], ◌∷◌, ◌++◌, length, map, Option, Some, None, if◌then◌else◌}
 use Rattle.std.specs.List.{filter, flat_map}
 use Rattle.session_rules.specs.Causes.{LeadershipLost}
-use Rattle.session_rules.specs.Sessions.{Reply, Refusal, result, empty, db, Kind, Opening, Configuring, Writing, Committing, Flight, Session, Gateway, absent, fresh, is_busy}
-use Rattle.session_rules.specs.Requests.{with_tx, with_flight, with_database}
+use Rattle.session_rules.specs.Sessions.{Reply, Refusal, result, empty, db, Kind, Opening, Configuring, Writing, Committing, Querying, Flight, Later, Due, Lent, Session, Gateway, absent, fresh, is_flying, is_due}
+use Rattle.session_rules.specs.Requests.{with_tx, with_flight, with_database, with_later}
 
 -- only connections that have a session are searched
 unfoldable pub tidy : Gateway → (ℕ → Session) → Gateway
@@ -17,6 +17,7 @@ landed s f Opening = with_database s f.name
 landed s f Configuring = with_flight s None
 landed s f (Writing reply) = with_flight s None
 landed s f Committing = with_flight (with_tx s None) None
+landed s f (Querying statement) = with_later (with_flight s None) (Some (Due statement))
 
 abbrev pub settled_by : ℕ → Session → Option Flight → Session
 settled_by index s None = s
@@ -26,16 +27,21 @@ settled_by index s (Some f) = if f.last == index then (if s.hung then absent els
 unfoldable pub on_applied : ℕ → Gateway → Gateway
 on_applied index g = tidy g (λ conn. settled_by index (g.session conn) (g.session conn).flight)
 
--- the reply to a proposal that is done
-abbrev pub landed_reply : Kind → Reply
-landed_reply Opening = db
-landed_reply Configuring = empty
-landed_reply (Writing reply) = reply
-landed_reply Committing = result 0
+-- the reply to a proposal that is done; the query behind a barrier is yet to be run
+abbrev pub landed_reply : Kind → Option Reply
+landed_reply Opening = Some db
+landed_reply Configuring = Some empty
+landed_reply (Writing reply) = Some reply
+landed_reply Committing = Some (result 0)
+landed_reply (Querying statement) = None
+
+abbrev pub told_to : ℕ → Option Reply → List (ℕ × Reply)
+told_to conn None = []
+told_to conn (Some reply) = (conn, reply) ∷ []
 
 abbrev pub told_by : ℕ → ℕ → Session → Option Flight → List (ℕ × Reply)
 told_by index conn s None = []
-told_by index conn s (Some f) = if f.last == index then (if s.hung then [] else (conn, landed_reply f.kind) ∷ []) else []
+told_by index conn s (Some f) = if f.last == index then (if s.hung then [] else told_to conn (landed_reply f.kind)) else []
 
 -- who is answered when the entry of the index is applied
 unfoldable pub told_applied : ℕ → Gateway → List (ℕ × Reply)
@@ -43,9 +49,15 @@ told_applied index g = flat_map (λ (conn : ℕ). told_by index conn (g.session 
 
 -- ---- leadership is lost
 
+-- a query behind a barrier ends; a reader goes on
+abbrev pub still_lent : Option Later → Option Later
+still_lent None = None
+still_lent (Some (Due statement)) = None
+still_lent (Some (Lent statement)) = Some (Lent statement)
+
 -- proposals and transactions end; databases and statements stay
 abbrev pub lost : Session → Session
-lost s = if s.hung then absent else with_flight (with_tx s None) None
+lost s = if s.hung then absent else with_later (with_flight (with_tx s None) None) (still_lent s.later)
 
 unfoldable pub on_lost : Gateway → Gateway
 on_lost g = tidy g (λ conn. lost (g.session conn))
@@ -64,11 +76,11 @@ abbrev pub last_of : Option Flight → ℕ
 last_of None = 0
 last_of (Some f) = f.last
 
--- a client waits for a proposal
+-- a client waits for a proposal, or for a query that is run next
 abbrev pub waits : Session → Bool
-waits s = not s.hung && is_busy s
+waits s = not s.hung && (is_flying s || is_due s.later)
 
--- Each client that waits is told so, ascending by the last index of its proposal.
+-- Each client that waits is told so, ascending by the last index of its proposal, of which a query that is run next has none.
 unfoldable pub told_lost : Gateway → List (ℕ × Reply)
 told_lost g = map (λ (conn : ℕ). (conn, Refusal LeadershipLost)) (ordered (λ (conn : ℕ). last_of (g.session conn).flight) (filter (λ (conn : ℕ). waits (g.session conn)) g.conns))
 
@@ -76,7 +88,7 @@ told_lost g = map (λ (conn : ℕ). (conn, Refusal LeadershipLost)) (ordered (λ
 
 abbrev pub left : Session → Option Flight → Session
 left s None = absent
-left s (Some f) = record { there = s.there; hung = true; database = s.database; statements = s.statements; tx = s.tx; flight = s.flight }
+left s (Some f) = record { there = s.there; hung = true; database = s.database; barriers = s.barriers; later = s.later; statements = s.statements; tx = s.tx; flight = s.flight }
 
 -- The client goes. A proposal in flight, and the write turn with it, stays until it is applied or lost.
 unfoldable pub on_hangup : Gateway → ℕ → Gateway

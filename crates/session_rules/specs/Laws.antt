@@ -3,26 +3,22 @@ use Rattle.std.specs.Prelude.{◌≡◌, ◌⊎◌, ℕ, List, [], ◌∷◌, Op
 use Rattle.dq_base.specs.declared.images.Image.{Image}
 use Rattle.dq_base.specs.Changes.{changed}
 use Rattle.wire_msgs.specs.declared.request.Request.{Request}
-use Rattle.wire_msgs.specs.declared.response.Response.{Response}
-use Rattle.wire_msgs.specs.declared.response.Response.TheVariants as responses
 use Rattle.frame_commands.specs.declared.command.Command.{Command}
 use Rattle.frame_commands.specs.declared.command.Command.TheVariants.{OpenDb}
 use Rattle.raft_rules.specs.Node.{Server}
+use Rattle.sql_engine.specs.Replies.{Statement}
 use Rattle.page_apply.specs.declared.database.Database.{Database}
 use Rattle.page_apply.specs.Machines.{IsMachine}
 use Rattle.page_apply.specs.Databases.{act as act_on_databases}
-use Rattle.session_rules.specs.Entries.{Content, Does, Configures}
+use Rattle.session_rules.specs.Entries.{Content, Does, Configures, Other}
 use Rattle.session_rules.specs.Machine.{Machine, machine_of, act}
 use Rattle.session_rules.specs.Engines.{Answer, Handed}
-use Rattle.session_rules.specs.Sessions.{Reply, Refusal, Single, Rows, Gateway, View, Note, Nothing, Began, Inside, Outside, Turned, Refused, Lacks, Answers, Proposes, Affects}
-use Rattle.session_rules.specs.Requests.{change_of, on_request, handed}
+use Rattle.session_rules.specs.Sessions.{Reply, Refusal, Single, Rows, Gateway, View, Job, Note, Nothing, Began, Inside, Outside, Turned, Refused, Lacks, Answers, Proposes, Lends, Affects}
+use Rattle.session_rules.specs.Allowed.{IsFailure}
+use Rattle.session_rules.specs.Requests.{change_of, on_request, handed, on_later, handed_later}
 use Rattle.session_rules.specs.Outcomes.{gateway_after, reply_at_once, proposed_by}
 
 -- ---- refusals
-
-abbrev pub IsFailure : Response → Type 0
-IsFailure (responses.Failure code message) = Unit {0}
-IsFailure response = ⊥
 
 -- the reply is told as a FAILURE
 abbrev pub IsRefusal : Reply → Type 0
@@ -56,11 +52,17 @@ NoteTells (Some handed) Began = ⊥
 NoteTells (Some handed) (Inside name ss) = ss ≡ handed.statements
 NoteTells (Some handed) (Outside name ss) = ss ≡ handed.statements
 
+-- a reader runs what was handed over, over the same image
+abbrev pub LendsHanded : Option Handed → Job → Type 0
+LendsHanded None job = ⊥
+LendsHanded (Some handed) job = (job.image ≡ handed.image) × (job.statement ∷ [] ≡ handed.statements)
+
 abbrev pub TurnedTells : Option Handed → Turned → Type 0
 TurnedTells handed (Refused cause) = Unit {0}
 TurnedTells handed Lacks = Unit {0}
 TurnedTells handed (Answers s reply note) = NoteTells handed note
 TurnedTells handed (Proposes s contents note) = NoteTells handed note
+TurnedTells handed (Lends s job) = LendsHanded handed job
 TurnedTells handed (Affects effect) = handed ≡ None
 
 -- What is noted of an answered request is all that it handed to the engine.
@@ -76,20 +78,32 @@ pub record IsChange (v : View) (contents : List Content) : Type 0 where
   pub to : Image
   pub is : contents ≡ change_of v name (changed from to)
 
--- the entry is a new database, or other servers of the cluster
+-- the entry is a new database, other servers of the cluster, or a barrier
 abbrev pub IsSole : List Content → Type 0
-IsSole contents = ((name : List ℕ) × (contents ≡ Does (OpenDb name) ∷ [])) ⊎ ((servers : List Server) × (contents ≡ Configures servers ∷ []))
+IsSole contents = ((name : List ℕ) × (contents ≡ Does (OpenDb name) ∷ [])) ⊎ (((servers : List Server) × (contents ≡ Configures servers ∷ [])) ⊎ (contents ≡ Other ∷ []))
 
 abbrev pub ProposalIs : View → Turned → Type 0
 ProposalIs v (Refused cause) = Unit {0}
 ProposalIs v Lacks = Unit {0}
 ProposalIs v (Answers s reply note) = Unit {0}
 ProposalIs v (Proposes s contents note) = IsChange v contents ⊎ IsSole contents
+ProposalIs v (Lends s job) = Unit {0}
 ProposalIs v (Affects effect) = Unit {0}
 
 -- What a request proposes is a split change of pages, or one entry: never a statement.
 abbrev pub ProposesPages : Type 0
 ProposesPages = (v : View) (m : Machine) (g : Gateway) (conn : ℕ) (request : Request) (answers : List Answer) → ProposalIs v (on_request v m g conn request answers)
+
+-- ---- queries that are run later than they were asked
+
+-- The same of a query that the node runs behind its barrier, or as a reader gave it back.
+pub record LaterKeeps (v : View) (m : Machine) (g : Gateway) (conn : ℕ) (statement : Statement) (answers : List Answer) : Type 0 where
+  pub refusals : IsRefused (reply_at_once (on_later v m g conn statement answers)) → NothingDone g conn (on_later v m g conn statement answers)
+  pub notes : TurnedTells (handed_later v m g conn statement) (on_later v m g conn statement answers)
+  pub proposes : ProposalIs v (on_later v m g conn statement answers)
+
+abbrev pub LatersKeep : Type 0
+LatersKeep = (v : View) (m : Machine) (g : Gateway) (conn : ℕ) (statement : Statement) (answers : List Answer) → LaterKeeps v m g conn statement answers
 
 -- ---- machines
 

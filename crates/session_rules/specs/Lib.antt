@@ -4,9 +4,11 @@ pub mod Machine
 pub mod Engines
 pub mod Sessions
 pub mod Touched
+pub mod Servers
 pub mod Statements
 pub mod Limits
 pub mod Asking
+pub mod Allowed
 pub mod Requests
 pub mod Events
 pub mod Outcomes

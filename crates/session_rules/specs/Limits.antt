@@ -7,7 +7,7 @@ use Rattle.dq_base.specs.Images.{page_count}
 use Rattle.session_rules.specs.Causes.{Cause, Locked, OutOfDate, DatabaseFull}
 use Rattle.session_rules.specs.Machine.{Machine, is_named, with_name}
 use Rattle.session_rules.specs.Engines.{takes}
-use Rattle.session_rules.specs.Sessions.{Kind, Opening, Configuring, Writing, Committing, Flight, Transaction, Session, Gateway, View}
+use Rattle.session_rules.specs.Sessions.{Kind, Opening, Configuring, Writing, Committing, Querying, Flight, Transaction, Session, Gateway, View}
 
 -- ---- the write turn
 
@@ -17,6 +17,7 @@ is_write Opening = false
 is_write Configuring = false
 is_write (Writing reply) = true
 is_write Committing = true
+is_write (Querying statement) = false
 
 abbrev pub writes_to : Option Flight → List ℕ → Bool
 writes_to None name = false
@@ -41,6 +42,7 @@ configures Opening = false
 configures Configuring = true
 configures (Writing reply) = false
 configures Committing = false
+configures (Querying statement) = false
 
 abbrev pub is_configuring : Option Flight → Bool
 is_configuring None = false
@@ -57,6 +59,7 @@ opens Opening name = name ∷ []
 opens Configuring name = []
 opens (Writing reply) name = []
 opens Committing name = []
+opens (Querying statement) name = []
 
 -- the new database of a proposal
 abbrev pub opened_by : Option Flight → List (List ℕ)

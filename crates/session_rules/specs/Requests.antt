@@ -1,5 +1,5 @@
 -- What comes of a request at a session, with the answers of an engine to the statements that it is handed.
-use Rattle.std.specs.Prelude.{ℕ, suc, ◌+◌, Bool, true, false, not, ◌&&◌, ◌||◌, ◌==◌, List, [], ◌∷◌, ◌++◌, length, map, Option, Some, None, Result, Ok, Err, if◌then◌else◌}
+use Rattle.std.specs.Prelude.{ℕ, suc, ◌+◌, Bool, true, false, not, ◌&&◌, ◌||◌, ◌==◌, List, [], ◌∷◌, ◌++◌, length, map, is_none, Option, Some, None, Result, Ok, Err, if◌then◌else◌}
 use Rattle.dq_base.specs.declared.images.Image.{Image}
 use Rattle.dq_base.specs.declared.pages.NumberedPage.{NumberedPage}
 use Rattle.dq_base.specs.Images.{page_count}
@@ -14,11 +14,11 @@ use Rattle.frame_commands.specs.Splitting.{split}
 use Rattle.sql_engine.specs.declared.answer.Ran.{Ran}
 use Rattle.sql_engine.specs.Replies.{Statement}
 use Rattle.page_apply.specs.Files.{empty_image}
-use Rattle.session_rules.specs.Causes.{Cause, NulInText, AnswerTooBig, OutOfMemory, Locked, LogFull, DatabaseFull, NoTransaction, engine_cause}
-use Rattle.session_rules.specs.Entries.{Content, Does, Configures, tx_of}
+use Rattle.session_rules.specs.Causes.{Cause, NotLeader, NulInText, AnswerTooBig, OutOfMemory, Locked, LogFull, DatabaseFull, NoTransaction, engine_cause}
+use Rattle.session_rules.specs.Entries.{Content, Does, Configures, Other, tx_of}
 use Rattle.session_rules.specs.Machine.{Base, Machine}
-use Rattle.session_rules.specs.Engines.{Answer, no_pages, Ending, Lacking, TooLarge, Stopped, Ended, no_answer, runs, Handed}
-use Rattle.session_rules.specs.Sessions.{Reply, Single, Rows, result, empty, db, Prepared, Kind, Opening, Configuring, Writing, Committing, Flight, Transaction, Session, Gateway, View, Nothing, Began, Inside, Outside, Effect, HandsOver, JoinsPeer, Weighs, Turned, Refused, Lacks, Answers, Proposes, Affects}
+use Rattle.session_rules.specs.Engines.{Answer, no_pages, Ending, Lacking, TooLarge, Stopped, Ended, is_cut, no_answer, runs, Handed}
+use Rattle.session_rules.specs.Sessions.{Reply, Refusal, Single, Rows, result, empty, db, Prepared, Kind, Opening, Configuring, Writing, Committing, Querying, Flight, Transaction, Later, Lent, Session, Gateway, View, Job, Nothing, Began, Inside, Outside, Effect, HandsOver, JoinsPeer, Weighs, Turned, Refused, Lacks, Answers, Proposes, Lends, Affects}
 use Rattle.session_rules.specs.Statements.{free_id, with_prepared, without_prepared}
 use Rattle.session_rules.specs.Limits.{other_holds, pages_full, log_full, first_cause, hindrance}
 use Rattle.session_rules.specs.Touched.{numbers_of}
@@ -27,17 +27,26 @@ use Rattle.session_rules.specs.Asking.{Asked, Never, Tells, Sets, Opens, Creates
 -- ---- the session after it
 
 abbrev pub with_tx : Session → Option Transaction → Session
-with_tx s tx = record { there = s.there; hung = s.hung; database = s.database; statements = s.statements; tx = tx; flight = s.flight }
+with_tx s tx = record { there = s.there; hung = s.hung; database = s.database; barriers = s.barriers; later = s.later; statements = s.statements; tx = tx; flight = s.flight }
 
+-- the session with this proposal, or none
 abbrev pub with_flight : Session → Option Flight → Session
-with_flight s flight = record { there = s.there; hung = s.hung; database = s.database; statements = s.statements; tx = s.tx; flight = flight }
+with_flight s flight = record { there = s.there; hung = s.hung; database = s.database; barriers = s.barriers; later = s.later; statements = s.statements; tx = s.tx; flight = flight }
 
 abbrev pub with_statements : Session → List (Option Prepared) → Session
-with_statements s statements = record { there = s.there; hung = s.hung; database = s.database; statements = statements; tx = s.tx; flight = s.flight }
+with_statements s statements = record { there = s.there; hung = s.hung; database = s.database; barriers = s.barriers; later = s.later; statements = statements; tx = s.tx; flight = s.flight }
 
 -- the session with this database, and no proposal
 abbrev pub with_database : Session → List ℕ → Session
-with_database s name = record { there = s.there; hung = s.hung; database = name; statements = s.statements; tx = s.tx; flight = None }
+with_database s name = record { there = s.there; hung = s.hung; database = name; barriers = s.barriers; later = s.later; statements = s.statements; tx = s.tx; flight = None }
+
+-- the session that asks for barrier reads, or doesn't
+abbrev pub with_barriers : Session → Bool → Session
+with_barriers s barriers = record { there = s.there; hung = s.hung; database = s.database; barriers = barriers; later = s.later; statements = s.statements; tx = s.tx; flight = s.flight }
+
+-- the session with a query that is yet to be answered, or none
+abbrev pub with_later : Session → Option Later → Session
+with_later s later = record { there = s.there; hung = s.hung; database = s.database; barriers = s.barriers; later = later; statements = s.statements; tx = s.tx; flight = s.flight }
 
 -- a transaction over the newest image of a database
 abbrev pub begun_over : List ℕ → Base → Bool → Transaction
@@ -141,6 +150,54 @@ abbrev pub commit_in : View → Machine → Gateway → ℕ → Session → Opti
 commit_in v m g conn s None = Refused NoTransaction
 commit_in v m g conn s (Some x) = committed v m g conn s x
 
+-- ---- barrier reads
+
+-- a query waits for a barrier: outside a transaction, where the connection asks for it
+abbrev pub waits_first : Session → Bool
+waits_first s = s.barriers && is_none s.tx
+
+-- the barrier is proposed
+abbrev pub barrier_first : View → Session → Statement → Turned
+barrier_first v s statement = if log_full v then Refused LogFull else Proposes (flying v s [] (Other ∷ []) 0 (Querying statement)) (Other ∷ []) Nothing
+
+-- ---- queries that readers run
+
+-- a query of the session's database, over the newest image
+abbrev pub job_of : Machine → Session → Statement → Job
+job_of m s statement = record { name = s.database; image = (m.base s.database).image; statement = statement }
+
+-- the engine cut the query off, as it took too many steps
+abbrev pub was_cut : Ending → Bool
+was_cut Lacking = false
+was_cut (TooLarge answer) = false
+was_cut (Stopped fault) = is_cut fault
+was_cut (Ended to answer) = false
+
+-- outside a transaction a query that was cut is lent to a reader, where there are readers
+abbrev pub read_outside : View → Machine → Gateway → ℕ → Session → Statement → Ending → Turned
+read_outside v m g conn s statement end = if v.readers && was_cut end then Lends (with_later s (Some (Lent statement))) (job_of m s statement) else outside v m g conn s (statement ∷ []) true end
+
+abbrev pub read_in : View → Machine → Gateway → ℕ → Session → Option Transaction → Statement → List Answer → Turned
+read_in v m g conn s None statement answers = read_outside v m g conn s statement (runs (m.base s.database).image no_answer (statement ∷ []) answers)
+read_in v m g conn s (Some x) statement answers = run_in v m g conn s (Some x) (statement ∷ []) true answers
+
+-- a statement whose rows are told
+abbrev pub reads : View → Machine → Gateway → ℕ → Session → Statement → List Answer → Turned
+reads v m g conn s statement answers = if waits_first s then barrier_first v s statement else read_in v m g conn s s.tx statement answers
+
+-- rows as they are told, or why they can't be
+abbrev pub rows_or : Option Cause → Ran → Reply
+rows_or None answer = Rows answer
+rows_or (Some cause) answer = Refusal cause
+
+-- What a reader tells, by the engine's answer to its job; nothing where that lacks, and where the query would change pages: then
+-- it goes back to the node.
+unfoldable pub job_reply : Job → Ending → Option Reply
+job_reply job Lacking = None
+job_reply job (TooLarge answer) = None
+job_reply job (Stopped fault) = Some (Refusal (engine_cause fault))
+job_reply job (Ended to answer) = if no_pages (changed job.image to) then Some (rows_or (rows_cause (parts_of answer.columns answer.rows)) answer) else None
+
 -- ---- requests
 
 -- a new database is proposed, where it has room
@@ -158,8 +215,8 @@ unfoldable pub does : View → Machine → Gateway → ℕ → Session → Asked
 does v m g conn s (Never cause) answers = Refused cause
 does v m g conn s (Tells response) answers = Answers s (Single response) Nothing
 does v m g conn s (Sets effect) answers = Affects effect
-does v m g conn s (Opens name) answers = Answers (with_database s name) db Nothing
-does v m g conn s (Creates name) answers = creates v m g s name
+does v m g conn s (Opens name barriers) answers = Answers (with_barriers (with_database s name) barriers) db Nothing
+does v m g conn s (Creates name barriers) answers = creates v m g (with_barriers s barriers) name
 does v m g conn s (Prepares p tail) answers = Answers (with_statements s (with_prepared p s.statements)) (Single (responses.Stmt 0 (free_id s.statements) p.params tail)) Nothing
 does v m g conn s (Drops id) answers = Answers (with_statements s (without_prepared id s.statements)) empty Nothing
 does v m g conn s (Begins at_once) answers = begins m g conn s at_once
@@ -167,7 +224,7 @@ does v m g conn s Commits answers = commit_in v m g conn s s.tx
 does v m g conn s RollsBack answers = Answers (with_tx s None) (result 0) Nothing
 does v m g conn s (Changes servers) answers = if log_full v then Refused LogFull else Proposes (flying v s [] (Configures servers ∷ []) 0 Configuring) (Configures servers ∷ []) Nothing
 does v m g conn s (Runs ss) answers = run_in v m g conn s s.tx ss false answers
-does v m g conn s (Reads statement) answers = run_in v m g conn s s.tx (statement ∷ []) true answers
+does v m g conn s (Reads statement) answers = reads v m g conn s statement answers
 
 -- A request at a session that is there, is not hung up and has no proposal in flight.
 unfoldable pub on_request : View → Machine → Gateway → ℕ → Request → List Answer → Turned
@@ -180,18 +237,39 @@ handed_over image ss = Some (record { image = image; statements = ss })
 
 abbrev pub handed_for : Machine → Session → Asked → Option Handed
 handed_for m s (Runs ss) = handed_over (ground m s s.tx) ss
-handed_for m s (Reads statement) = handed_over (ground m s s.tx) (statement ∷ [])
+handed_for m s (Reads statement) = if waits_first s then None else handed_over (ground m s s.tx) (statement ∷ [])
 handed_for m s asked = None
+
+-- the statements that it asks for, be they handed over now or later
+abbrev pub statements_asked : Asked → List Statement
+statements_asked (Runs ss) = ss
+statements_asked (Reads statement) = statement ∷ []
+statements_asked asked = []
 
 -- The image and the statements that a request hands to the engine, which runs those that it comes to.
 unfoldable pub handed : View → Machine → Gateway → ℕ → Request → Option Handed
 handed v m g conn request = handed_for m (g.session conn) (asked v m g conn request)
+
+-- ---- a query that was yet to be answered
+
+-- What comes of it where the node runs it after all, at its session without it: as if it was asked now, but with no barrier and
+-- no reader any more.
+unfoldable pub on_later : View → Machine → Gateway → ℕ → Statement → List Answer → Turned
+on_later v m g conn statement answers = if v.serving then run_in v m g conn (g.session conn) (g.session conn).tx (statement ∷ []) true answers else Refused NotLeader
+
+-- what it hands to the engine
+unfoldable pub handed_later : View → Machine → Gateway → ℕ → Statement → Option Handed
+handed_later v m g conn statement = if v.serving then handed_over (ground m (g.session conn) (g.session conn).tx) (statement ∷ []) else None
 
 -- ---- the gateway after it
 
 -- the gateway with another session of a connection
 unfoldable pub with_session : Gateway → ℕ → Session → Gateway
 with_session g conn s = record { conns = g.conns; session = λ other. if other == conn then s else g.session other; weight = g.weight }
+
+-- the gateway where no query of the connection is yet to be answered: it is run now, or a reader has told its reply
+abbrev pub without_later : Gateway → ℕ → Gateway
+without_later g conn = with_session g conn (with_later (g.session conn) None)
 
 -- the gateway after an effect beside the sessions
 abbrev pub affected_by : Gateway → Effect → Gateway

@@ -8,21 +8,24 @@ use Rattle.wire_msgs.specs.declared.request.Request.{Request}
 use Rattle.frame_commands.specs.declared.command.Command.TheVariants.{Checkpoint}
 use Rattle.sql_engine.specs.declared.kind.EngineKind.{EngineKind}
 use Rattle.sql_engine.specs.Meanings.{Meaning}
+use Rattle.sql_engine.specs.Replies.{Statement}
 use Rattle.session_rules.specs.Entries.{Does, Other, Entry, entries_of}
 use Rattle.session_rules.specs.Machine.{files, base_at, act}
 use Rattle.session_rules.specs.Engines.{Answer}
-use Rattle.session_rules.specs.Sessions.{Flight, Turned, Refused, Lacks, Answers, Proposes, Affects, may_ask}
+use Rattle.session_rules.specs.Sessions.{Reply, Flight, later_query, lent_query, Turned, Refused, Lacks, Answers, Proposes, Lends, Affects, may_ask}
 use Rattle.session_rules.specs.Asking.{Asked, Never, Tells, Sets, Opens, Creates, Prepares, Drops, Begins, Commits, RollsBack, Changes, Runs, Reads, asked_by}
 use Rattle.session_rules.specs.Requests.{does, on_request}
 use Rattle.session_rules.specs.Events.{connects}
 use Rattle.session_world.specs.Woven.{Woven}
 use Rattle.session_world.specs.Nodes.{Said, Trail, Node, Standing, databases, view_of, started}
-use Rattle.session_world.specs.Life.{Event, Connect, Hangup, Call, Apply, Lose, Lead, Serve, Append, Follow, called, happens, run_from, Fits, AllFit, ArePlain}
+use Rattle.session_world.specs.Life.{Event, Connect, Hangup, Call, Resume, Done, Apply, Lose, Lead, Serve, Append, Follow, undue, outcome_later, resumed, told_at, read_by, read, called, happens, run_from, Fits, AllFit, ArePlain}
 use Rattle.session_world.specs.Replies.{AllSaid}
 use Rattle.session_world.specs.Alone.{Turn, Timeout, Join, Leave, Ask, applies, settling, due, settled, checkpointed, takes_turn, alone_from, alone, events_of, AllowsTurn, AllowsTurns, AloneIsSafe, AllIn, SaysInTime, TurnsSay, NoneJoins, TurnsSee, script_turns, ScriptsAreSafe}
 use Rattle.session_world.proofs.Invariant.{FlightIs, NodeOk}
 use Rattle.session_world.proofs.Asks.{IsIdle, request_idle}
 use Rattle.session_world.proofs.Moves.{no}
+use Rattle.session_world.proofs.Laters.{resumed_both}
+use Rattle.session_world.proofs.Plains.{absent_plain, not_busy}
 use Rattle.session_world.proofs.Lives.{happens_ok, run_ok, started_ok}
 use Rattle.session_world.specs.Laws.{AllHere, NoneComes}
 use Rattle.session_world.proofs.Lasts.{run_append, step_here}
@@ -64,11 +67,27 @@ called_same w c (Refused why) = record { leads = refl; serving = refl; applied =
 called_same w c Lacks = same_refl w
 called_same w c (Answers s r note) = record { leads = refl; serving = refl; applied = refl; term = refl }
 called_same w c (Affects effect) = record { leads = refl; serving = refl; applied = refl; term = refl }
+called_same w c (Lends s job) = record { leads = refl; serving = refl; applied = refl; term = refl }
 called_same w c (Proposes s contents note) = record { leads = refl; serving = refl; applied = refl; term = refl }
 
 pub call_same : (w : Node) (c : ℕ) (standing : Standing) (r : Request) (answers : List Answer) → Same w (happens w (Call c standing r answers))
 unfolding happens
 call_same w c standing r answers = cond_both (may_ask (w.gate.session c)) _ w (Same w) (λ e. called_same w c _) (λ e. same_refl w)
+
+pub resumed_same : (w : Node) (c : ℕ) (standing : Standing) (answers : List Answer) (o : Option Statement) → Same w (resumed w c standing answers o)
+resumed_same w c standing answers None = same_refl w
+resumed_same w c standing answers (Some s) =
+    let t = outcome_later w c standing s answers in
+    let a = called_same (undue w c) c t in
+    resumed_both (Same w) w c t (same_refl w) (record { leads = a.leads; serving = a.serving; applied = a.applied; term = a.term })
+
+told_same : (w : Node) (c : ℕ) (s : Statement) (o : Option Reply) → Same w (read_by w c s o)
+told_same w c s None = same_refl w
+told_same w c s (Some reply) = record { leads = refl; serving = refl; applied = refl; term = refl }
+
+pub read_same : (w : Node) (c : ℕ) (answers : List Answer) (o : Option Statement) → Same w (read w c answers o)
+read_same w c answers None = same_refl w
+read_same w c answers (Some s) = told_same w c s (told_at w c s answers)
 
 apply_log : (w : Node) → (happens w Apply).log ≡ w.log
 unfolding happens
@@ -88,8 +107,8 @@ unfolding does
 idle_log w c standing (Never cause) answers h = refl
 idle_log w c standing (Tells response) answers h = refl
 idle_log w c standing (Sets effect) answers h = refl
-idle_log w c standing (Opens name) answers h = absurd h
-idle_log w c standing (Creates name) answers h = absurd h
+idle_log w c standing (Opens name barriers) answers h = absurd h
+idle_log w c standing (Creates name barriers) answers h = absurd h
 idle_log w c standing (Prepares p tail) answers h = absurd h
 idle_log w c standing (Drops id) answers h = refl
 idle_log w c standing (Begins at_once) answers h = absurd h
@@ -161,13 +180,13 @@ lone_due : (ns : List (List ℕ)) → AllContents (map (λ (n : List ℕ). Does 
 lone_due [] = tt
 lone_due (n ∷ ns) = (tt, lone_due ns)
 
-lone_turn : (w : Node) (t : Turn) → AllLone (events_of w t)
-lone_turn w Timeout = cond_both w.leads [] _ AllLone (λ e. tt) (λ e. (tt, ((tt, tt), (tt, (tt, tt)))))
-lone_turn w (Join c) = (tt, tt)
-lone_turn w (Leave c) = (tt, tt)
-lone_turn w (Ask c standing r answers) = cond_both w.leads _ _ AllLone
-    (λ e. (tt, lone_append (settling (happens w (Call c standing r answers))) _ (lone_applies _) (lone_due _, lone_applies _)))
-    (λ e. (tt, tt))
+lone_turn : (mean : Meaning) (kind : EngineKind) (w : Node) (t : Turn) → AllowsTurn mean kind w t → AllLone (events_of w t)
+lone_turn mean kind w Timeout h = cond_both w.leads [] _ AllLone (λ e. tt) (λ e. (tt, ((tt, tt), (tt, (tt, tt)))))
+lone_turn mean kind w (Join c) h = (tt, tt)
+lone_turn mean kind w (Leave c) h = (tt, tt)
+lone_turn mean kind w (Ask c standing r answers) h = cond_both w.leads _ _ AllLone
+    (λ e. ((h.0, h.1), lone_append (settling (happens w (Call c standing r answers))) _ (lone_applies _) (lone_due _, lone_applies _)))
+    (λ e. ((h.0, h.1), tt))
 
 -- what neither begins nor ends a node's leadership
 abbrev IsSteady : Event → Type 0
@@ -209,6 +228,8 @@ unfolding happens
 steady_event w (Connect c) h = steady_same w (happens w (Connect c)) (join_same w c).0
 steady_event w (Hangup c) h = record { applied = omega arith; term = refl; leads = refl }
 steady_event w (Call c standing r answers) h = steady_same w (happens w (Call c standing r answers)) (call_same w c standing r answers)
+steady_event w (Resume c standing answers) h = steady_same w (resumed w c standing answers (later_query (w.gate.session c).later)) (resumed_same w c standing answers (later_query (w.gate.session c).later))
+steady_event w (Done c answers) h = steady_same w (read w c answers (lent_query (w.gate.session c).later)) (read_same w c answers (lent_query (w.gate.session c).later))
 steady_event w Apply h = record { applied = omega arith; term = refl; leads = refl }
 steady_event w (Lose t) h = absurd h
 steady_event w (Lead t) h = absurd h
@@ -301,7 +322,8 @@ module _ (mean : Meaning) (kind : EngineKind) where
       let long = length-append w.log (entries_of 1 (Other ∷ [])) in
       let all = a.all in
       let full : suc w.applied ≡ length (w.log ++ entries_of 1 (Other ∷ [])) = omega arith in
-      (off, ((refl, (tt, tt)), (omega arith, ((refl, full, λ n. no_pending w.log w.applied n empty none), tt))))
+      let low : w.term ≡ 0 = a.term ∙ ap (λ (b : Bool). if b then 1 else 0) off in
+      ((off, omega arith), ((refl, (tt, tt)), (omega arith, ((refl, full, λ n. no_pending w.log w.applied n empty none), tt))))
 
   elected : (w : Node) → w.leads ≡ false → Rests mean w → Rests mean (run_from w (Lead 1 ∷ Append (Other ∷ []) ∷ Apply ∷ Serve ∷ []))
   unfolding happens
@@ -322,8 +344,8 @@ module _ (mean : Meaning) (kind : EngineKind) where
   turn_ok w (Join c) h a = let s = join_same w c in still_rests w (happens w (Connect c)) a (happens_ok mean kind w (Connect c) tt a.node) s.0 s.1
   turn_ok w (Leave c) h a = let s = leave_same w c in still_rests w (happens w (Hangup c)) a (happens_ok mean kind w (Hangup c) tt a.node) s.0 s.1
   turn_ok w (Ask c standing r answers) h a = cond_both w.leads _ (Call c standing r answers ∷ []) (λ es. Rests mean (run_from w es))
-      (λ e. rests_of _ (ask_leading w c standing r answers h (record { node = a.node; leads = e; serves = sym a.same ∙ e; term = a.term ∙ cond-true w.leads 1 0 e })))
-      (λ e. still_rests w (happens w (Call c standing r answers)) a (happens_ok mean kind w (Call c standing r answers) h a.node) (call_same w c standing r answers) (call_log w c standing r answers (sym a.same ∙ e)))
+      (λ e. rests_of _ (ask_leading w c standing r answers h.2 (record { node = a.node; leads = e; serves = sym a.same ∙ e; term = a.term ∙ cond-true w.leads 1 0 e })))
+      (λ e. still_rests w (happens w (Call c standing r answers)) a (happens_ok mean kind w (Call c standing r answers) h.2 a.node) (call_same w c standing r answers) (call_log w c standing r answers (sym a.same ∙ e)))
 
   turns_ok : (ts : List Turn) (w : Node) → AllowsTurns mean kind w ts → Rests mean w → Rests mean (alone_from w ts)
   turns_ok [] w h a = a
@@ -350,8 +372,8 @@ module _ (mean : Meaning) (kind : EngineKind) where
   turn_fits w (Join c) h a = (tt, tt)
   turn_fits w (Leave c) h a = (tt, tt)
   turn_fits w (Ask c standing r answers) h a = cond_both w.leads _ (Call c standing r answers ∷ []) (AllFit mean kind w)
-      (λ e. ask_fits w c standing r answers h (record { node = a.node; leads = e; serves = sym a.same ∙ e; term = a.term ∙ cond-true w.leads 1 0 e }))
-      (λ e. (h, tt))
+      (λ e. ask_fits w c standing r answers h.2 (record { node = a.node; leads = e; serves = sym a.same ∙ e; term = a.term ∙ cond-true w.leads 1 0 e }))
+      (λ e. (h.2, tt))
 
   -- what steady events say
   steady_tells : (es : List Event) (w : Node) → AllSteady es → AllFit mean kind w es → NodeOk mean w → SaysInTime w (run_from w es) × Steady w (run_from w es)
@@ -398,11 +420,11 @@ module _ (mean : Meaning) (kind : EngineKind) where
 
   mild_turns : (ts : List Turn) (w : Node) → AllowsTurns mean kind w ts → Rests mean w → Mild w → Mild (alone_from w ts)
   mild_turns [] w h a m = m
-  mild_turns (t ∷ ts) w h a m = mild_turns ts (takes_turn w t) h.1 (turn_ok w t h.0 a) (mild_run mean kind w (events_of w t) (lone_turn w t) (turn_fits w t h.0 a) a.node m)
+  mild_turns (t ∷ ts) w h a m = mild_turns ts (takes_turn w t) h.1 (turn_ok w t h.0 a) (mild_run mean kind w (events_of w t) (lone_turn mean kind w t h.0) (turn_fits w t h.0 a) a.node m)
 
   mild_alone : (ts : List Turn) → AllowsTurns mean kind (started [] 0 0) ts → Mild (alone ts)
   unfolding alone
-  mild_alone ts h = mild_turns ts (started [] 0 0) h (rests_alone [] tt) (record { servers = tt; kept = tt })
+  mild_alone ts h = mild_turns ts (started [] 0 0) h (rests_alone [] tt) (record { servers = tt; kept = tt; plain = λ c. absent_plain })
 
   no_flight : (log : List Entry) (applied term : ℕ) (t : Trail) (o : Option Flight) → applied ≡ length log → FlightIs mean log applied term t o → o ≡ None
   no_flight log applied term t None e a = refl
@@ -422,7 +444,7 @@ module _ (mean : Meaning) (kind : EngineKind) where
         kept = mild.kept;
         serves = sym r.same;
         term = r.term;
-        answered = λ c. no_flight w.log w.applied w.term (w.trail c) (w.gate.session c).flight r.all (r.node.sessions c).flight;
+        answered = λ c. not_busy (w.gate.session c) (no_flight w.log w.applied w.term (w.trail c) (w.gate.session c).flight r.all (r.node.sessions c).flight) (mild.plain c).later;
       }
 
   pub scripts_are_safe_hold : ScriptsAreSafe mean kind

@@ -19,7 +19,7 @@ use Rattle.session_rules.specs.Causes.{Cause}
 use Rattle.session_rules.specs.Entries.{Content, Entry, entries_of, tx_of}
 use Rattle.session_rules.specs.Machine.{Machine, base_at, image_at}
 use Rattle.session_rules.specs.Engines.{takes, no_answer}
-use Rattle.session_rules.specs.Sessions.{Reply, Kind, Transaction, Session, Gateway, Note, Nothing, Began, Inside, Outside, Turned, Refused, Answers, Proposes}
+use Rattle.session_rules.specs.Sessions.{Reply, Kind, Transaction, Session, Gateway, Job, Note, Nothing, Began, Inside, Outside, Turned, Refused, Answers, Proposes, Lends}
 use Rattle.session_rules.specs.Limits.{writes_to, is_write, other_holds, too_full, first_cause, hindrance, log_full}
 use Rattle.session_rules.specs.Requests.{flying, unless, rows_cause, or_cause, row_cause, reply_of, with_session}
 use Rattle.session_rules.proofs.Names.{is_name, one_or_other}
@@ -108,6 +108,7 @@ module _ (mean : Meaning) (standing : Standing) (w : Node) (a : NodeOk mean w) (
     calm = a.calm;
     listed = a.listed;
     absent = a.absent;
+    gone = a.gone;
     sole = a.sole;
     woven = a.woven;
     said = said_append mean (take w.applied w.log) w.said _ a.said (record { rows = tt; query = tt; commit = tt; ends = tt; entry = λ h. absurd (omega (arith, h)) }, tt);
@@ -123,6 +124,7 @@ module _ (mean : Meaning) (standing : Standing) (w : Node) (a : NodeOk mean w) (
     calm = λ x n. ⊎_elim (λ (k : Calm n w.applied w.log). inl k) (λ (k : Held w.gate.session n). inr (cond_held w c n s free k)) (a.calm x n);
     listed = λ d. cond_both (d == c) s (w.gate.session d) (λ y. y.there ≡ true → among w.gate.conns d ≡ true) (λ e z. subst (λ k. among w.gate.conns k ≡ true) (sym (eqb-true d c e)) (a.listed c here)) (λ e z. a.listed d z);
     absent = λ d. cond_both (d == c) s (w.gate.session d) (λ y. y.there ≡ false → Bare y) (λ e z. no (sym z ∙ there)) (λ e. a.absent d);
+    gone = λ d. cond_both (d == c) s (w.gate.session d) (λ y. y.there ≡ false → y.later ≡ None) (λ e z. no (sym z ∙ there)) (λ e. a.gone d);
     sole = sole_with w.gate.conns w.gate.session c s there a.sole;
     woven = a.woven;
     said = said_append mean (take w.applied w.log) w.said _ a.said (record { rows = rows_by w.applied (w.trail c) r note; query = query; commit = tt; ends = tt; entry = λ h. absurd (omega (arith, h)) }, tt);
@@ -146,10 +148,28 @@ module _ (mean : Meaning) (standing : Standing) (w : Node) (a : NodeOk mean w) (
             (turn n);
         listed = λ d. cond_both (d == c) s (w.gate.session d) (λ y. y.there ≡ true → among w.gate.conns d ≡ true) (λ e z. subst (λ k. among w.gate.conns k ≡ true) (sym (eqb-true d c e)) (a.listed c here)) (λ e z. a.listed d z);
         absent = λ d. cond_both (d == c) s (w.gate.session d) (λ y. y.there ≡ false → Bare y) (λ e z. no (sym z ∙ there)) (λ e. a.absent d);
+        gone = λ d. cond_both (d == c) s (w.gate.session d) (λ y. y.there ≡ false → y.later ≡ None) (λ e z. no (sym z ∙ there)) (λ e. a.gone d);
         sole = sole_with w.gate.conns w.gate.session c s there a.sole;
         woven = weaves;
         said = subst (λ l. AllSaid mean l w.said) (sym (take-append-le w.applied w.log es a.applied)) a.said;
       }
+
+  -- a query is lent
+  pub lends_ok : (s : Session) (job : Job) → s.flight ≡ None → s.there ≡ true → w.serving ≡ true → SessionOk mean w.log w.applied w.term s (proposed_trail w.applied (w.trail c) (Outside job.name (job.statement ∷ []))) → NodeOk mean (called w c (Lends s job))
+  unfolding with_session
+  lends_ok s job off there serves ok = record {
+    applied = a.applied;
+    leads = a.leads;
+    sessions = λ d. two_cond (d == c) (SessionOk mean w.log w.applied w.term) s (w.gate.session d) (proposed_trail w.applied (w.trail c) (Outside job.name (job.statement ∷ []))) (w.trail d) (λ e. ok) (λ e. a.sessions d);
+    idle = λ x. no (sym x ∙ serves);
+    calm = λ x n. ⊎_elim (λ (k : Calm n w.applied w.log). inl k) (λ (k : Held w.gate.session n). inr (cond_held w c n s free k)) (a.calm x n);
+    listed = λ d. cond_both (d == c) s (w.gate.session d) (λ y. y.there ≡ true → among w.gate.conns d ≡ true) (λ e z. subst (λ k. among w.gate.conns k ≡ true) (sym (eqb-true d c e)) (a.listed c here)) (λ e z. a.listed d z);
+    absent = λ d. cond_both (d == c) s (w.gate.session d) (λ y. y.there ≡ false → Bare y) (λ e z. no (sym z ∙ there)) (λ e. a.absent d);
+    gone = λ d. cond_both (d == c) s (w.gate.session d) (λ y. y.there ≡ false → y.later ≡ None) (λ e z. no (sym z ∙ there)) (λ e. a.gone d);
+    sole = sole_with w.gate.conns w.gate.session c s there a.sole;
+    woven = a.woven;
+    said = a.said;
+  }
 
   -- a session's parts that stay
 

@@ -27,7 +27,7 @@ use Rattle.session_rules.specs.Entries.{tx_of}
 use Rattle.session_rules.specs.Events.{tidy, on_applied, told_applied, on_lost, told_lost, on_hangup, connects, connected}
 use Rattle.session_rules.specs.Limits.{holds, other_holds, change_in_flight, all_names, one_too_many, flown, pages_with, too_full, hindrance}
 use Rattle.session_rules.specs.Machine.{with_commit, framed, act, files}
-use Rattle.session_rules.specs.Requests.{row_cause, outside_write, outside, inside, committed, does, on_request, handed, with_session}
+use Rattle.session_rules.specs.Requests.{row_cause, outside_write, outside, inside, committed, does, job_reply, on_request, on_later, handed, with_session}
 use Rattle.session_rules.specs.Sessions.{may_ask}
 use Rattle.session_world.specs.Life.{happens}
 use Rattle.dq_base.specs.Decimal.{number_below}
@@ -38,7 +38,7 @@ use Rattle.sql_engine.specs.Cells.{cell_page, with_page, with_cell, wiped, outco
 use Rattle.std.specs.Prelude.{codes, Option, Some, None, Ok}
 use Rattle.std.specs.Fmt.{digits}
 use Rattle.std.specs.List.{AllByRecursion}
-use Rattle.session_world.specs.Examples.{two_open, after, transaction, one, set_text, set_on, got_on, TransactionFits, WriteWaits, OldImages, TurnEnds, ProposalStays, LeadershipGoes}
+use Rattle.session_world.specs.Examples.{two_open, after, transaction, one, set_text, set_on, got_on, TransactionFits, WriteWaits, OldImages, TurnEnds, ProposalStays, LeadershipGoes, BarrierWaits, ReadersTell}
 
 pub write_waits_holds : WriteWaits
 unfolding is_space is_digit is_letter is_word_start is_word_part is_sigil is_quote is_in_line has_end kind_of quoted starred decimal in_range parameter solid extended finished statements_from scan_of sigil_token dash_token slash_token sign_token token_of tokens_past is_write is_left_out keyword_of followed_by kind_so_far parts_of first_count cut first_nul zeros resized page_from sizes_page page_at stated_main stated_side replaced put_pages applied is_sizes order_fault length_fault fault_before changed_from changed at_name change_first split_from asked_by takes runs tx_of tidy on_applied told_applied on_lost told_lost on_hangup connects connected holds other_holds change_in_flight all_names one_too_many flown pages_with too_full hindrance with_commit framed act files row_cause outside_write outside inside committed does on_request handed with_session may_ask happens cell_page with_page with_cell wiped outcome_of two_open after transaction
@@ -59,6 +59,14 @@ proposal_stays_holds = refl
 pub leadership_goes_holds : LeadershipGoes
 unfolding is_space is_digit is_letter is_word_start is_word_part is_sigil is_quote is_in_line has_end kind_of quoted starred decimal in_range parameter solid extended finished statements_from scan_of sigil_token dash_token slash_token sign_token token_of tokens_past is_write is_left_out keyword_of followed_by kind_so_far parts_of first_count cut first_nul zeros resized page_from sizes_page page_at stated_main stated_side replaced put_pages applied is_sizes order_fault length_fault fault_before changed_from changed at_name change_first split_from asked_by takes runs tx_of tidy on_applied told_applied on_lost told_lost on_hangup connects connected holds other_holds change_in_flight all_names one_too_many flown pages_with too_full hindrance with_commit framed act files row_cause outside_write outside inside committed does on_request handed with_session may_ask happens cell_page with_page with_cell wiped outcome_of two_open after transaction
 leadership_goes_holds = record { told = refl; image = refl }
+
+pub barrier_waits_holds : BarrierWaits
+unfolding is_space is_digit is_letter is_word_start is_word_part is_sigil is_quote is_in_line has_end kind_of quoted starred decimal in_range parameter solid extended finished statements_from scan_of sigil_token dash_token slash_token sign_token token_of tokens_past is_write is_left_out keyword_of followed_by kind_so_far parts_of first_count cut first_nul zeros resized page_from sizes_page page_at stated_main stated_side replaced put_pages applied is_sizes order_fault length_fault fault_before changed_from changed at_name change_first split_from asked_by takes runs tx_of tidy on_applied told_applied on_lost told_lost on_hangup connects connected holds other_holds change_in_flight all_names one_too_many flown pages_with too_full hindrance with_commit framed act files row_cause outside_write outside inside committed does on_request on_later handed with_session may_ask happens cell_page with_page with_cell wiped outcome_of two_open after transaction
+barrier_waits_holds = record { waits = refl; reads = refl; lost = refl }
+
+pub readers_tell_holds : ReadersTell
+unfolding is_space is_digit is_letter is_word_start is_word_part is_sigil is_quote is_in_line has_end kind_of quoted starred decimal in_range parameter solid extended finished statements_from scan_of sigil_token dash_token slash_token sign_token token_of tokens_past is_write is_left_out keyword_of followed_by kind_so_far parts_of first_count cut first_nul zeros resized page_from sizes_page page_at stated_main stated_side replaced put_pages applied is_sizes order_fault length_fault fault_before changed_from changed at_name change_first split_from asked_by takes runs tx_of tidy on_applied told_applied on_lost told_lost on_hangup connects connected holds other_holds change_in_flight all_names one_too_many flown pages_with too_full hindrance with_commit framed act files row_cause outside_write outside inside committed does on_request on_later job_reply handed with_session may_ask happens cell_page with_page with_cell wiped outcome_of two_open after transaction
+readers_tell_holds = record { lent = refl; given_back = refl; refused = refl }
 
 -- the engine may answer so
 
@@ -112,4 +120,4 @@ may_get = record {
 
 pub transaction_fits : TransactionFits
 unfolding is_space is_digit is_letter is_word_start is_word_part is_sigil is_quote is_in_line has_end kind_of quoted starred decimal in_range parameter solid extended finished statements_from scan_of sigil_token dash_token slash_token sign_token token_of tokens_past is_write is_left_out keyword_of followed_by kind_so_far parts_of first_count cut first_nul zeros resized page_from sizes_page page_at stated_main stated_side replaced put_pages applied is_sizes order_fault length_fault fault_before changed_from changed at_name change_first split_from asked_by takes runs tx_of tidy on_applied told_applied on_lost told_lost on_hangup connects connected holds other_holds change_in_flight all_names one_too_many flown pages_with too_full hindrance with_commit framed act files row_cause outside_write outside inside committed does on_request handed with_session may_ask happens cell_page with_page with_cell wiped outcome_of two_open after transaction number_below halves statement_of fault_in
-transaction_fits = (refl, ((refl, (tt, tt)), (omega arith, ((refl, refl, λ n. refl), (tt, (tt, ((λ h. tt), (omega arith, ((λ h. tt), ((λ h. tt), ((λ h. ((0, may_set), tt)), ((λ h. tt), (omega arith, ((λ h. ((0, may_get), tt)), tt))))))))))))))
+transaction_fits = ((refl, omega arith), ((refl, (tt, tt)), (omega arith, ((refl, refl, λ n. refl), (tt, (tt, ((λ h. tt), (omega arith, ((λ h. tt), ((λ h. tt), ((λ h. ((0, may_set), tt)), ((λ h. tt), (omega arith, ((λ h. ((0, may_get), tt)), tt))))))))))))))

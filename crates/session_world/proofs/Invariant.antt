@@ -14,7 +14,7 @@ use Rattle.session_rules.specs.Causes.{LeadershipLost}
 use Rattle.session_rules.specs.Entries.{Content, Does, Configures, Entry}
 use Rattle.session_rules.specs.Machine.{base_at, image_at}
 use Rattle.session_rules.specs.Engines.{no_pages}
-use Rattle.session_rules.specs.Sessions.{Reply, Refusal, Single, Rows, result, empty, db, Kind, Opening, Configuring, Writing, Committing, Flight, Transaction, Session}
+use Rattle.session_rules.specs.Sessions.{Reply, Refusal, Single, Rows, result, empty, db, Kind, Opening, Configuring, Writing, Committing, Querying, Flight, Later, Due, Lent, is_due, later_query, Transaction, Session}
 use Rattle.session_rules.specs.Limits.{writes_to, is_write}
 use Rattle.session_rules.proofs.Names.{name_is, same_name}
 use Rattle.session_world.specs.Woven.{Woven}
@@ -52,6 +52,7 @@ KindOk mean log t f Opening = Unit {0}
 KindOk mean log t f Configuring = Unit {0}
 KindOk mean log t f (Writing reply) = WriteOk mean log t f × QueryIs mean log (query_for reply f.name t.at [] t.ran t.seen)
 KindOk mean log t f Committing = WriteOk mean log t f
+KindOk mean log t f (Querying statement) = Unit {0}
 
 -- rows, or how many rows were changed
 pub record IsResult (reply : Reply) : Type 0 where
@@ -68,6 +69,7 @@ IsOf Opening name content = content ≡ Does (OpenDb name)
 IsOf Configuring name content = (servers : List Server) × (content ≡ Configures servers)
 IsOf (Writing reply) name content = IsResult reply
 IsOf Committing name content = Unit {0}
+IsOf (Querying statement) name content = Unit {0}
 
 -- the last entry of a flight stands in the log
 pub record LastOk (log : List Entry) (f : Flight) : Type 0 where
@@ -92,10 +94,35 @@ ApartBy Opening o = Unit {0}
 ApartBy Configuring o = Unit {0}
 ApartBy (Writing reply) o = o ≡ None
 ApartBy Committing o = Unit {0}
+ApartBy (Querying statement) o = Unit {0}
 
 abbrev pub Apart : Option Flight → Option Transaction → Type 0
 Apart None o = Unit {0}
 Apart (Some f) o = ApartBy f.kind o
+
+-- where a query is yet to be answered, nothing is in flight; one that a reader runs is over an image that is no older than what its
+-- connection has seen
+abbrev pub IsFree : ℕ → ℕ → Option Later → Option Flight → Type 0
+IsFree seen at None o = Unit {0}
+IsFree seen at (Some (Due statement)) o = o ≡ None
+IsFree seen at (Some (Lent statement)) o = (o ≡ None) × (seen ≤ at)
+
+pub free_when : (seen at : ℕ) (d : Option Later) (o : Option Flight) → d ≡ None → IsFree seen at d o
+free_when seen at d o e = subst (λ x. IsFree seen at x o) (sym e) tt
+
+pub free_flies : (seen at : ℕ) (d : Option Later) (f : Flight) → IsFree seen at d (Some f) → d ≡ None
+free_flies seen at None f h = refl
+free_flies seen at (Some (Due statement)) f h = absurd cc
+free_flies seen at (Some (Lent statement)) f h = absurd (flies h.0)
+  where
+    flies : Some f ≡ None → ⊥
+    flies e = cc
+
+-- nothing is in flight where a query is yet to be answered
+pub free_later : (seen at : ℕ) (d : Option Later) (o : Option Flight) (s : Statement) → later_query d ≡ Some s → IsFree seen at d o → o ≡ None
+free_later seen at None o s e h = absurd cc
+free_later seen at (Some (Due statement)) o s e h = h
+free_later seen at (Some (Lent statement)) o s e h = h.0
 
 pub record SessionOk (mean : Meaning) (log : List Entry) (applied term : ℕ) (s : Session) (t : Trail) : Type 0 where
   pub at : t.at ≤ applied
@@ -103,10 +130,12 @@ pub record SessionOk (mean : Meaning) (log : List Entry) (applied term : ℕ) (s
   pub tx : TxIs mean log t s.tx
   pub flight : FlightIs mean log applied term t s.flight
   pub apart : Apart s.flight s.tx
+  pub free : IsFree t.seen t.at s.later s.flight
 
 pub record Bare (s : Session) : Type 0 where
   pub tx : s.tx ≡ None
   pub flight : s.flight ≡ None
+  pub due : is_due s.later ≡ false
 
 -- some session writes to the database
 pub record Held (session : ℕ → Session) (name : List ℕ) : Type 0 where
@@ -131,6 +160,7 @@ pub record NodeOk (mean : Meaning) (w : Node) : Type 0 where
   pub calm : w.serving ≡ true → (name : List ℕ) → Calm name w.applied w.log ⊎ Held w.gate.session name
   pub listed : (c : ℕ) → (w.gate.session c).there ≡ true → among w.gate.conns c ≡ true
   pub absent : (c : ℕ) → (w.gate.session c).there ≡ false → Bare (w.gate.session c)
+  pub gone : (c : ℕ) → (w.gate.session c).there ≡ false → (w.gate.session c).later ≡ None
   pub sole : Sole w.gate.conns w.gate.session
   pub woven : Woven w.log
   pub said : AllSaid mean (take w.applied w.log) w.said
@@ -228,6 +258,7 @@ module _ (mean : Meaning) where
   kind_grown log es t f Configuring h x a = tt
   kind_grown log es t f (Writing reply) h x a = (write_grown log es t f h (x refl) a.0, query_is_grown log es (query_for reply f.name t.at [] t.ran t.seen) a.1)
   kind_grown log es t f Committing h x a = write_grown log es t f h (x refl) a
+  kind_grown log es t f (Querying statement) h x a = tt
 
   flight_grown : (log es : List Entry) (applied term : ℕ) (t : Trail) (o : Option Flight) → ((n : List ℕ) → writes_to o n ≡ true → Free n es) → FlightIs mean log applied term t o → FlightIs mean (log ++ es) applied term t o
   flight_grown log es applied term t None x a = tt
@@ -246,16 +277,18 @@ module _ (mean : Meaning) where
     tx = tx_grown log es t s.tx (omega (arith, a.at)) a.tx;
     flight = flight_grown log es applied term t s.flight x a.flight;
     apart = a.apart;
+    free = a.free;
   }
 
   -- a session without transaction and proposal
-  pub bare_ok : (log : List Entry) (applied term : ℕ) (s : Session) (t : Trail) → Bare s → t.at ≤ applied → t.seen ≤ applied → SessionOk mean log applied term s t
-  bare_ok log applied term s t b at seen = record {
+  pub bare_ok : (log : List Entry) (applied term : ℕ) (s : Session) (t : Trail) → Bare s → IsFree t.seen t.at s.later s.flight → t.at ≤ applied → t.seen ≤ applied → SessionOk mean log applied term s t
+  bare_ok log applied term s t b free at seen = record {
     at = at;
     seen = seen;
     tx = subst (TxIs mean log t) (sym b.tx) tt;
     flight = subst (FlightIs mean log applied term t) (sym b.flight) tt;
     apart = subst (λ o. Apart o s.tx) (sym b.flight) tt;
+    free = free;
   }
 
   pub write_of : (log : List Entry) (t : Trail) (f : Flight) (k : Kind) → KindOk mean log t f k → is_write k ≡ true → WriteOk mean log t f
@@ -263,3 +296,4 @@ module _ (mean : Meaning) where
   write_of log t f Configuring a e = absurd (true≢false (sym e))
   write_of log t f (Writing reply) a e = a.0
   write_of log t f Committing a e = a
+  write_of log t f (Querying statement) a e = absurd (true≢false (sym e))

@@ -7,7 +7,9 @@ pub mod Weaves
 pub mod Applies
 pub mod Wrotes
 pub mod Calls
+pub mod Ways
 pub mod Asks
+pub mod Laters
 pub mod Lives
 pub mod Lasts
 pub mod Sees
@@ -16,7 +18,10 @@ mod Outcomes
 pub mod Replying
 pub mod Undos
 pub mod Commits
+pub mod Plains
 pub mod Milds
 pub mod Alones
 pub mod Turns
 pub mod Examples
+pub mod Flying
+pub mod Opened

@@ -1,46 +1,40 @@
 -- What no request brings about: other servers, and the refusal of a lost leadership.
-use Rattle.std.proofs.Common.{◌≡◌, ◌≢◌, ℕ, Bool, true, false, cond, not, List, [], ◌∷◌, ◌++◌, map, Option, Some, None, Result, Ok, Err, subst, rules}
+use Rattle.std.proofs.Common.{◌≡◌, ◌≢◌, ℕ, suc, Bool, true, false, true≢false, not, List, [], ◌∷◌, ◌++◌, map, Option, Some, None, Result, Ok, Err, refl, sym, ap, ◌∙◌, subst}
 use Rattle.std.specs.Prelude.{◌==◌, ◌&&◌}
 use Rattle.std.proofs.lemmas.Bool.{cond_both}
 use Rattle.dq_base.specs.declared.images.Image.{Image}
 use Rattle.dq_base.specs.declared.pages.NumberedPage.{NumberedPage}
 use Rattle.dq_base.specs.Changes.{changed}
-use Rattle.wire_words.specs.declared.value.Value.{Value}
 use Rattle.wire_rows.specs.declared.fault.RowFault.{RowFault}
 use Rattle.wire_rows.specs.declared.fault.RowFault.TheVariants as row_faults
 use Rattle.wire_rows.specs.Answering.{parts_of}
 use Rattle.wire_msgs.specs.declared.request.Request.{Request}
 use Rattle.wire_msgs.specs.declared.response.Response.{Response}
-use Rattle.wire_msgs.specs.declared.request.Request.TheVariants as requests
 use Rattle.frame_commands.specs.declared.command.Command.{Command}
 use Rattle.page_apply.specs.Files.{empty_image}
-use Rattle.sql_scan.specs.declared.pieces.Piece.{Piece}
-use Rattle.sql_scan.specs.declared.fault.ScanFault.{ScanFault}
-use Rattle.sql_scan.specs.declared.fault.ScanFault.TheVariants as scan_faults
-use Rattle.sql_scan.specs.declared.heading.WordKind.{WordKind}
-use Rattle.sql_scan.specs.declared.heading.WordKind.TheVariants as words
-use Rattle.sql_scan.specs.Statements.{scan_of}
 use Rattle.sql_engine.specs.declared.answer.Ran.{Ran}
 use Rattle.sql_engine.specs.declared.fault.EngineFault.{EngineFault}
 use Rattle.sql_engine.specs.declared.fault.EngineFault.TheVariants as engine_faults
 use Rattle.sql_engine.specs.Replies.{Statement}
 use Rattle.sql_engine.specs.declared.kind.EngineKind.{EngineKind}
 use Rattle.sql_engine.specs.Meanings.{Meaning}
-use Rattle.session_rules.specs.Causes.{Cause, scan_cause, engine_cause, LeadershipLost, NotLeader, NoDatabase, LogFull, DatabaseFull, NotAllowed, WrongParameters, OneStatementWanted, Locked, OutOfDate}
+use Rattle.session_rules.specs.Causes.{Cause, engine_cause, LeadershipLost, LogFull, DatabaseFull, Locked, OutOfDate}
 use Rattle.session_rules.specs.Entries.{Content, Does, Entry, entries_of}
 use Rattle.session_rules.specs.Engines.{Answer, no_pages, Ending, Lacking, TooLarge, Stopped, Ended}
 use Rattle.session_rules.specs.Limits.{log_full, pages_full, other_holds, first_cause, hindrance, too_full}
 use Rattle.session_rules.specs.Machine.{Machine}
-use Rattle.session_rules.specs.Sessions.{Prepared, Refusal, Single, Kind, Opening, Configuring, Writing, Committing, Flight, Transaction, Session, Gateway, View, Note, Nothing, Inside, Outside, Turned, Refused, Lacks, Answers, Proposes, Affects, in_tx, may_ask}
-use Rattle.session_rules.specs.Statements.{prepared_from, prepared_at, is_left_out, any_barred, wrong_params, with_params, with_all}
-use Rattle.session_rules.specs.Asking as asking
-use Rattle.session_rules.specs.Asking.{Asked, Never, Tells, Sets, Opens, Creates, Prepares, Drops, Begins, Commits, RollsBack, Changes, Runs, Reads, asked_by}
-use Rattle.session_rules.specs.Requests.{unless, rows_cause, or_cause, row_cause, reply_of, change_of, worked, outside, outside_write, inside, run_in, has_nothing, committed, commit_in, does, on_request}
-use Rattle.session_rules.specs.Events.{connects}
-use Rattle.session_world.specs.Nodes.{Said, Trail, Node, databases, view_of}
-use Rattle.session_world.specs.Life.{Event, Connect, Hangup, Call, Apply, Lose, Lead, Serve, Append, Follow, called, said_landed, said_by, said_applied, happens, run_from, AllFit}
+use Rattle.session_rules.specs.Sessions.{Refusal, Single, Kind, Opening, Configuring, Writing, Committing, Querying, Flight, Transaction, Session, Gateway, View, Note, Nothing, Inside, Outside, Turned, Refused, Lacks, Answers, Proposes, Lends, Affects, Effect, HandsOver, JoinsPeer, Weighs, Later, later_query, lent_query, fresh, may_ask}
+use Rattle.session_rules.specs.Asking.{Asked, Never, Tells, Sets, Opens, Creates, Prepares, Drops, Begins, Commits, RollsBack, Changes, Runs, Reads, fits_one_voter, asked_by}
+use Rattle.session_rules.specs.Requests.{unless, rows_cause, or_cause, row_cause, reply_of, change_of, worked, outside, outside_write, inside, run_in, has_nothing, committed, commit_in, does, on_request, with_session, affected_by}
+use Rattle.session_rules.specs.Allowed.{IsEarlyCause, IsAllowed}
+use Rattle.session_rules.proofs.Asked.{all_allowed}
+use Rattle.session_rules.specs.Events.{left, on_applied, on_hangup, tidy, connects, connected}
+use Rattle.session_world.specs.Nodes.{Said, Trail, Node, Standing, databases, view_of}
+use Rattle.session_world.specs.Life.{Event, Connect, Hangup, Call, Resume, Done, Apply, Lose, Lead, Serve, Append, Follow, resumed, read, called, said_landed, said_by, said_applied, happens, run_from, AllFit}
 use Rattle.session_world.specs.Alone.{KeepsServers, SameServers, NoneLost}
 use Rattle.session_world.proofs.Invariant.{FlightIs, IsOf, NodeOk}
+use Rattle.session_world.proofs.Ways.{read_in_both, barrier_both, reads_both}
+use Rattle.session_world.proofs.Plains.{Plain, TurnedPlain, request_plain, fresh_plain, settled_plain, left_plain}
 use Rattle.session_world.proofs.Lives.{happens_ok}
 
 -- ---- causes
@@ -50,12 +44,10 @@ abbrev NotLost : Cause → Type 0
 NotLost LeadershipLost = ⊥
 NotLost cause = Unit {0}
 
-scan_mild : (fault : ScanFault) → NotLost (scan_cause fault)
-scan_mild (scan_faults.OpenQuote at) = tt
-scan_mild (scan_faults.OpenComment at) = tt
-scan_mild (scan_faults.Named at) = tt
-scan_mild (scan_faults.Number at) = tt
-scan_mild scan_faults.NoMemory = tt
+-- what is found before an engine runs is another cause
+early_mild : (cause : Cause) → IsEarlyCause cause → NotLost cause
+early_mild LeadershipLost h = h
+early_mild cause h = tt
 
 engine_mild : (fault : EngineFault) → NotLost (engine_cause fault)
 engine_mild engine_faults.Constraint = tt
@@ -102,8 +94,8 @@ abbrev IsMild : Asked → Type 0
 IsMild (Never cause) = NotLost cause
 IsMild (Tells response) = Unit {0}
 IsMild (Sets effect) = Unit {0}
-IsMild (Opens name) = Unit {0}
-IsMild (Creates name) = Unit {0}
+IsMild (Opens name barriers) = Unit {0}
+IsMild (Creates name barriers) = Unit {0}
 IsMild (Prepares p tail) = Unit {0}
 IsMild (Drops id) = Unit {0}
 IsMild (Begins at_once) = Unit {0}
@@ -113,114 +105,24 @@ IsMild (Changes servers) = ⊥
 IsMild (Runs ss) = Unit {0}
 IsMild (Reads s) = Unit {0}
 
-either : (b : Bool) (x y : Asked) → IsMild x → IsMild y → IsMild (cond b x y)
-either true x y a b = a
-either false x y a b = b
+-- a request that one voter takes asks for no other servers
+mild_of : (v : View) (g : Gateway) (s : Session) (r : Request) (x : Asked) → fits_one_voter r ≡ true → IsAllowed v g s r x → IsMild x
+mild_of v g s r (Never cause) fits h = early_mild cause h
+mild_of v g s r (Tells response) fits h = tt
+mild_of v g s r (Sets effect) fits h = tt
+mild_of v g s r (Opens name barriers) fits h = tt
+mild_of v g s r (Creates name barriers) fits h = tt
+mild_of v g s r (Prepares p tail) fits h = tt
+mild_of v g s r (Drops id) fits h = tt
+mild_of v g s r (Begins at_once) fits h = tt
+mild_of v g s r Commits fits h = tt
+mild_of v g s r RollsBack fits h = tt
+mild_of v g s r (Changes servers) fits h = absurd (true≢false (sym fits ∙ h.2))
+mild_of v g s r (Runs ss) fits h = tt
+mild_of v g s r (Reads st) fits h = tt
 
-kind_mild : (active : Bool) (word : WordKind) (s : Statement) → IsMild (asking.asks_kind active word s)
-kind_mild true (words.Begin at_once) s = tt
-kind_mild false (words.Begin at_once) s = tt
-kind_mild true words.Commit s = tt
-kind_mild false words.Commit s = tt
-kind_mild true words.Rollback s = tt
-kind_mild false words.Rollback s = tt
-kind_mild active words.Write s = tt
-kind_mild active words.LeftOut s = tt
-kind_mild active words.Other s = tt
-
-one_mild : (active : Bool) (p : Prepared) (params : List Value) → IsMild (asking.asks_one active p params)
-one_mild active p params =
-    either (is_left_out p.word) (Never NotAllowed) (cond (wrong_params (p ∷ []) params) (Never WrongParameters) (asking.asks_kind active p.word (with_all p params))) tt
-    (either (wrong_params (p ∷ []) params) (Never WrongParameters) (asking.asks_kind active p.word (with_all p params)) tt (kind_mild active p.word (with_all p params)))
-
-several_mild : (ps : List Prepared) (params : List Value) → IsMild (asking.asks_several ps params)
-several_mild ps params =
-    either (any_barred ps) (Never NotAllowed) (cond (wrong_params ps params) (Never WrongParameters) (Runs (with_params ps params))) tt
-    (either (wrong_params ps params) (Never WrongParameters) (Runs (with_params ps params)) tt tt)
-
-statements_mild : (active : Bool) (ps : List Prepared) (params : List Value) → IsMild (asking.asks_statements active ps params)
-statements_mild active [] params = several_mild [] params
-statements_mild active (p ∷ []) params = one_mild active p params
-statements_mild active (p ∷ q ∷ ps) params = several_mild (p ∷ q ∷ ps) params
-
-text_mild : (active : Bool) (sql : List ℕ) (r : Result (List Piece) ScanFault) (params : List Value) → IsMild (asking.asks_text active sql r params)
-text_mild active sql (Err fault) params = scan_mild fault
-text_mild active sql (Ok pieces) params = statements_mild active (map (prepared_from sql) pieces) params
-
-query_mild : (p : Prepared) (params : List Value) → IsMild (asking.asks_query p params)
-query_mild p params =
-    either (any_barred (p ∷ [])) (Never NotAllowed) (cond (wrong_params (p ∷ []) params) (Never WrongParameters) (Reads (with_all p params))) tt
-    (either (wrong_params (p ∷ []) params) (Never WrongParameters) (Reads (with_all p params)) tt tt)
-
-not_one_mild : (ps : List Prepared) → IsMild (asking.not_one ps)
-not_one_mild ps = either (any_barred ps) (Never NotAllowed) (Never OneStatementWanted) tt tt
-
-sole_mild : (ps : List Prepared) (params : List Value) → IsMild (asking.asks_sole ps params)
-sole_mild [] params = not_one_mild []
-sole_mild (p ∷ []) params = query_mild p params
-sole_mild (p ∷ q ∷ ps) params = not_one_mild (p ∷ q ∷ ps)
-
-told_mild : (sql : List ℕ) (r : Result (List Piece) ScanFault) (params : List Value) → IsMild (asking.asks_rows sql r params)
-told_mild sql (Err fault) params = scan_mild fault
-told_mild sql (Ok pieces) params = sole_mild (map (prepared_from sql) pieces) params
-
-exec_mild : (active : Bool) (o : Option Prepared) (params : List Value) → IsMild (asking.asks_exec active o params)
-exec_mild active None params = tt
-exec_mild active (Some p) params = one_mild active p params
-
-prepared_mild : (o : Option Prepared) (params : List Value) → IsMild (asking.asks_prepared_query o params)
-prepared_mild None params = tt
-prepared_mild (Some p) params = query_mild p params
-
-finalize_mild : (o : Option Prepared) (id : ℕ) → IsMild (asking.asks_finalize o id)
-finalize_mild None id = tt
-finalize_mild (Some p) id = tt
-
-room_mild : (s : Session) (p : Prepared) (tail : Option ℕ) → IsMild (asking.with_room s p tail)
-room_mild s p tail = search (rules, either)
-
-pieces_mild : (s : Session) (sql : List ℕ) (wide : Bool) (pieces : List Piece) → IsMild (asking.asks_prepare_pieces s sql wide pieces)
-pieces_mild s sql wide [] = tt
-pieces_mild s sql wide (p ∷ []) = either (is_left_out p.word) (Never NotAllowed) (asking.with_room s (prepared_from sql p) (asking.tail_of wide p)) tt (room_mild s (prepared_from sql p) (asking.tail_of wide p))
-pieces_mild s sql wide (p ∷ q ∷ ps) =
-    either (any_barred (map (prepared_from sql) (p ∷ q ∷ ps))) (Never NotAllowed) (cond wide (asking.with_room s (prepared_from sql p) (asking.tail_of wide p)) (Never OneStatementWanted)) tt
-    (either wide (asking.with_room s (prepared_from sql p) (asking.tail_of wide p)) (Never OneStatementWanted) (room_mild s (prepared_from sql p) (asking.tail_of wide p)) tt)
-
-prepare_mild : (s : Session) (sql : List ℕ) (wide : Bool) (r : Result (List Piece) ScanFault) → IsMild (asking.asks_prepare s sql wide r)
-prepare_mild s sql wide (Err fault) = scan_mild fault
-prepare_mild s sql wide (Ok pieces) = pieces_mild s sql wide pieces
-
-module _ (v : View) (s : Session) where
-  in_mild : (db : ℕ) (x : Asked) → IsMild x → IsMild (asking.in_database s db x)
-  in_mild db x a = either (asking.no_database s db) (Never NoDatabase) x tt a
-
-  at_mild : (x : Asked) → IsMild x → IsMild (asking.at_leader v x)
-  at_mild x a = either v.serving x (Never NotLeader) a tt
-
-  served : (db : ℕ) (x : Asked) → IsMild x → IsMild (asking.at_leader v (asking.in_database s db x))
-  served db x a = at_mild (asking.in_database s db x) (in_mild db x a)
-
-request_mild : (v : View) (m : Machine) (g : Gateway) (s : Session) (r : Request) → IsMild (asked_by v m g s r)
-unfolding asked_by
-request_mild v m g s requests.Leader = tt
-request_mild v m g s (requests.Client id) = tt
-request_mild v m g s (requests.Open name flags vfs) = search (rules, either)
-request_mild v m g s (requests.Prepare db sql wide) = served v s db (asking.asks_prepare s sql wide (scan_of sql)) (prepare_mild s sql wide (scan_of sql))
-request_mild v m g s (requests.Exec db id params wide) = served v s db (asking.asks_exec (in_tx s) (prepared_at s.statements id) params) (exec_mild (in_tx s) (prepared_at s.statements id) params)
-request_mild v m g s (requests.Query db id params wide) = served v s db (asking.asks_prepared_query (prepared_at s.statements id) params) (prepared_mild (prepared_at s.statements id) params)
-request_mild v m g s (requests.Finalize db id) = in_mild v s db (asking.asks_finalize (prepared_at s.statements id) id) (finalize_mild (prepared_at s.statements id) id)
-request_mild v m g s (requests.ExecSql db sql params wide) = served v s db (asking.asks_text (in_tx s) sql (scan_of sql) params) (text_mild (in_tx s) sql (scan_of sql) params)
-request_mild v m g s (requests.QuerySql db sql params wide) = served v s db (asking.asks_rows sql (scan_of sql) params) (told_mild sql (scan_of sql) params)
-request_mild v m g s (requests.Interrupt db) = search (rules, either)
-request_mild v m g s (requests.Connect id address) = search (rules, either)
-request_mild v m g s (requests.Add id address) = search (rules, either)
-request_mild v m g s (requests.Assign id role) = search (rules, either)
-request_mild v m g s (requests.Remove id) = search (rules, either)
-request_mild v m g s (requests.Dump name) = search (rules, either)
-request_mild v m g s (requests.Cluster format) = search (rules, either)
-request_mild v m g s (requests.Transfer id) = search (rules, either)
-request_mild v m g s (requests.Describe format) = search (rules, either)
-request_mild v m g s (requests.Weight weight) = tt
+request_mild : (v : View) (m : Machine) (g : Gateway) (s : Session) (r : Request) → fits_one_voter r ≡ true → IsMild (asked_by v m g s r)
+request_mild v m g s r fits = mild_of v g s r (asked_by v m g s r) fits (all_allowed v m g s r)
 
 -- ---- what comes of it
 
@@ -237,6 +139,7 @@ TurnedMild (Refused cause) = NotLost cause
 TurnedMild Lacks = Unit {0}
 TurnedMild (Answers s reply note) = reply ≢ Refusal LeadershipLost
 TurnedMild (Proposes s contents note) = AllContents contents
+TurnedMild (Lends s job) = Unit {0}
 TurnedMild (Affects effect) = Unit {0}
 
 unless_mild : (o : Option Cause) (t : Turned) → NoneOrMild o → TurnedMild t → TurnedMild (unless o t)
@@ -301,8 +204,8 @@ module _ (v : View) (m : Machine) (g : Gateway) (c : ℕ) (s : Session) where
   does_mild (Never cause) answers h = h
   does_mild (Tells response) answers h = single_mild response
   does_mild (Sets effect) answers h = tt
-  does_mild (Opens name) answers h = single_mild _
-  does_mild (Creates name) answers h = cond_both (pages_full m g name empty_image) _ _ TurnedMild (λ e. tt) (λ e. (tt, tt))
+  does_mild (Opens name barriers) answers h = single_mild _
+  does_mild (Creates name barriers) answers h = cond_both (pages_full m g name empty_image) _ _ TurnedMild (λ e. tt) (λ e. (tt, tt))
   does_mild (Prepares p tail) answers h = single_mild _
   does_mild (Drops id) answers h = single_mild _
   does_mild (Begins at_once) answers h = cond_both (at_once && other_holds g c s.database) _ _ TurnedMild (λ e. tt) (λ e. single_mild _)
@@ -310,17 +213,20 @@ module _ (v : View) (m : Machine) (g : Gateway) (c : ℕ) (s : Session) where
   does_mild RollsBack answers h = single_mild _
   does_mild (Changes servers) answers h = absurd h
   does_mild (Runs ss) answers h = run_mild s.tx ss false answers
-  does_mild (Reads st) answers h = run_mild s.tx (st ∷ []) true answers
+  does_mild (Reads st) answers h = reads_both TurnedMild v m g c s st answers
+      (λ e. barrier_both TurnedMild v m g c s st tt (tt, tt))
+      (λ e. read_in_both TurnedMild v m g c s st s.tx answers (λ o q. tt) (run_mild s.tx (st ∷ []) true answers))
 
-turned_mild : (v : View) (m : Machine) (g : Gateway) (c : ℕ) (r : Request) (answers : List Answer) → TurnedMild (on_request v m g c r answers)
+turned_mild : (v : View) (m : Machine) (g : Gateway) (c : ℕ) (r : Request) (answers : List Answer) → fits_one_voter r ≡ true → TurnedMild (on_request v m g c r answers)
 unfolding on_request
-turned_mild v m g c r answers = does_mild v m g c (g.session c) (asked_by v m g (g.session c) r) answers (request_mild v m g (g.session c) r)
+turned_mild v m g c r answers fits = does_mild v m g c (g.session c) (asked_by v m g (g.session c) r) answers (request_mild v m g (g.session c) r fits)
 
 -- ---- events
 
 pub record Mild (w : Node) : Type 0 where
   pub servers : SameServers w.log
   pub kept : NoneLost w.said
+  pub plain : (c : ℕ) → Plain (w.gate.session c)
 
 servers_append : (xs ys : List Entry) → SameServers xs → SameServers ys → SameServers (xs ++ ys)
 servers_append [] ys a b = b
@@ -340,24 +246,36 @@ refusal_mild cause h e = subst NotLost (same_cause e) h
     same_cause : {x y : Cause} → Refusal x ≡ Refusal y → x ≡ y
     same_cause q = cc
 
-called_mild : (w : Node) (c : ℕ) (t : Turned) → TurnedMild t → Mild w → Mild (called w c t)
-called_mild w c (Refused cause) h a = record { servers = a.servers; kept = lost_append w.said _ a.kept (refusal_mild cause h, tt) }
-called_mild w c Lacks h a = a
-called_mild w c (Answers s r note) h a = record { servers = a.servers; kept = lost_append w.said _ a.kept (h, tt) }
-called_mild w c (Proposes s contents note) h a = record { servers = servers_append w.log _ a.servers (servers_of w.term contents h); kept = a.kept }
-called_mild w c (Affects effect) h a = record { servers = a.servers; kept = lost_append w.said _ a.kept (single_mild _, tt) }
+plain_with : (w : Node) (c : ℕ) (s : Session) → Plain s → ((d : ℕ) → Plain (w.gate.session d)) → (d : ℕ) → Plain ((with_session w.gate c s).session d)
+unfolding with_session
+plain_with w c s p a d = cond_both (d == c) s (w.gate.session d) Plain (λ e. p) (λ e. a d)
 
-landed_kept : (c : ℕ) (t : Trail) (f : Flight) (k : Kind) (content : Content) → IsOf k f.name content → (said_landed c t f k).reply ≢ Refusal LeadershipLost
-landed_kept c t f Opening content h = single_mild _
-landed_kept c t f Configuring content h = single_mild _
-landed_kept c t f (Writing reply) content h = h.not_lost
-landed_kept c t f Committing content h = single_mild _
+affects_plain : (w : Node) (effect : Effect) → ((d : ℕ) → Plain (w.gate.session d)) → (d : ℕ) → Plain ((affected_by w.gate effect).session d)
+affects_plain w (HandsOver id) a d = a d
+affects_plain w (JoinsPeer id) a d = a d
+affects_plain w (Weighs weight) a d = a d
+
+called_mild : (w : Node) (c : ℕ) (t : Turned) → TurnedMild t → TurnedPlain t → Mild w → Mild (called w c t)
+called_mild w c (Refused cause) h p a = record { servers = a.servers; kept = lost_append w.said _ a.kept (refusal_mild cause h, tt); plain = a.plain }
+called_mild w c Lacks h p a = a
+called_mild w c (Answers s r note) h p a = record { servers = a.servers; kept = lost_append w.said _ a.kept (h, tt); plain = plain_with w c s p a.plain }
+called_mild w c (Proposes s contents note) h p a = record { servers = servers_append w.log _ a.servers (servers_of w.term contents h); kept = a.kept; plain = plain_with w c s p a.plain }
+called_mild w c (Lends s job) h p a = absurd p
+called_mild w c (Affects effect) h p a = record { servers = a.servers; kept = lost_append w.said _ a.kept (single_mild _, tt); plain = affects_plain w effect a.plain }
+
+landed_kept : (c : ℕ) (t : Trail) (f : Flight) (k : Kind) (content : Content) → IsOf k f.name content → NoneLost (said_landed c t f k)
+landed_kept c t f Opening content h = (single_mild _, tt)
+landed_kept c t f Configuring content h = (single_mild _, tt)
+landed_kept c t f (Writing reply) content h = (h.not_lost, tt)
+landed_kept c t f Committing content h = (single_mild _, tt)
+landed_kept c t f (Querying statement) content h = tt
 
 -- what one voter does by itself
 abbrev pub IsLone : Event → Type 0
 IsLone (Lose term) = ⊥
 IsLone (Follow entries) = ⊥
 IsLone (Append contents) = AllContents contents
+IsLone (Call conn standing request answers) = (fits_one_voter request ≡ true) × (standing.readers ≡ false)
 IsLone e = Unit {0}
 
 abbrev pub AllLone : List Event → Type 0
@@ -367,22 +285,30 @@ AllLone (e ∷ es) = IsLone e × AllLone es
 module _ (mean : Meaning) (kind : EngineKind) where
   by_kept : (log : List Entry) (before index term c : ℕ) (t : Trail) (hung : Bool) (o : Option Flight) → FlightIs mean log before term t o → NoneLost (said_by index c t hung o)
   by_kept log before index term c t hung None a = tt
-  by_kept log before index term c t hung (Some f) a = cond_both (f.last == index) _ _ NoneLost (λ e. cond_both hung _ _ NoneLost (λ z. tt) (λ z. (landed_kept c t f f.kind a.entry.content a.entry.of, tt))) (λ e. tt)
+  by_kept log before index term c t hung (Some f) a = cond_both (f.last == index) _ _ NoneLost (λ e. cond_both hung _ _ NoneLost (λ z. tt) (λ z. landed_kept c t f f.kind a.entry.content a.entry.of)) (λ e. tt)
 
   applied_kept : (w : Node) (index : ℕ) (cs : List ℕ) → NodeOk mean w → NoneLost (said_applied index w.trail w.gate.session cs)
   applied_kept w index [] a = tt
   applied_kept w index (c ∷ cs) a = lost_append _ _ (by_kept w.log w.applied index w.term c (w.trail c) (w.gate.session c).hung (w.gate.session c).flight (a.sessions c).flight) (applied_kept w index cs a)
 
-  mild_event : (w : Node) (e : Event) → IsLone e → NodeOk mean w → Mild w → Mild (happens w e)
+  later_none : (w : Node) (c : ℕ) (standing : Standing) (answers : List Answer) → Mild w → (happens w (Resume c standing answers) ≡ w) × (happens w (Done c answers) ≡ w)
   unfolding happens
-  mild_event w (Connect c) h a m = cond_both (connects w.gate c) _ w Mild (λ e. record { servers = m.servers; kept = m.kept }) (λ e. m)
-  mild_event w (Hangup c) h a m = record { servers = m.servers; kept = m.kept }
-  mild_event w (Call c standing r answers) h a m = cond_both (may_ask (w.gate.session c)) _ w Mild (λ e. called_mild w c _ (turned_mild (view_of w standing) (databases w) w.gate c r answers) m) (λ e. m)
-  mild_event w Apply h a m = record { servers = m.servers; kept = lost_append w.said _ m.kept (applied_kept w _ w.gate.conns a) }
+  later_none w c standing answers m =
+      let none = (m.plain c).later in
+      (ap (λ (d : Option Later). resumed w c standing answers (later_query d)) none, ap (λ (d : Option Later). read w c answers (lent_query d)) none)
+
+  mild_event : (w : Node) (e : Event) → IsLone e → NodeOk mean w → Mild w → Mild (happens w e)
+  unfolding happens connected on_applied on_hangup tidy
+  mild_event w (Connect c) h a m = cond_both (connects w.gate c) _ w Mild (λ e. record { servers = m.servers; kept = m.kept; plain = λ d. cond_both (d == c) fresh (w.gate.session d) Plain (λ z. fresh_plain) (λ z. m.plain d) }) (λ e. m)
+  mild_event w (Hangup c) h a m = record { servers = m.servers; kept = m.kept; plain = λ d. cond_both (d == c) (left (w.gate.session c) (w.gate.session c).flight) (w.gate.session d) Plain (λ z. left_plain (w.gate.session c) (w.gate.session c).flight (m.plain c)) (λ z. m.plain d) }
+  mild_event w (Call c standing r answers) h a m = cond_both (may_ask (w.gate.session c)) _ w Mild (λ e. called_mild w c _ (turned_mild (view_of w standing) (databases w) w.gate c r answers h.0) (request_plain (view_of w standing) (databases w) w.gate c r answers (m.plain c) h.0 h.1) m) (λ e. m)
+  mild_event w (Resume c standing answers) h a m = subst Mild (sym (later_none w c standing answers m).0) m
+  mild_event w (Done c answers) h a m = subst Mild (sym (later_none w c (record { id = 0; leader = None; servers = []; links = false; readers = false; even = [] }) answers m).1) m
+  mild_event w Apply h a m = record { servers = m.servers; kept = lost_append w.said _ m.kept (applied_kept w _ w.gate.conns a); plain = λ d. settled_plain (suc w.applied) (w.gate.session d) (w.gate.session d).flight refl (m.plain d) }
   mild_event w (Lose t) h a m = absurd h
-  mild_event w (Lead t) h a m = record { servers = m.servers; kept = m.kept }
-  mild_event w Serve h a m = record { servers = m.servers; kept = m.kept }
-  mild_event w (Append contents) h a m = record { servers = servers_append w.log _ m.servers (servers_of w.term contents h); kept = m.kept }
+  mild_event w (Lead t) h a m = record { servers = m.servers; kept = m.kept; plain = m.plain }
+  mild_event w Serve h a m = record { servers = m.servers; kept = m.kept; plain = m.plain }
+  mild_event w (Append contents) h a m = record { servers = servers_append w.log _ m.servers (servers_of w.term contents h); kept = m.kept; plain = m.plain }
   mild_event w (Follow es) h a m = absurd h
 
   pub mild_run : (w : Node) (es : List Event) → AllLone es → AllFit mean kind w es → NodeOk mean w → Mild w → Mild (run_from w es)

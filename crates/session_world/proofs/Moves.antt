@@ -11,14 +11,15 @@ use Rattle.session_rules.specs.Entries.{Content, Does, Configures, Other, Entry,
 use Rattle.session_rules.specs.Machine.{base_at}
 use Rattle.session_rules.specs.Sessions.{Refusal, Flight, Session, Gateway, absent, fresh}
 use Rattle.session_rules.specs.Limits.{writes_to}
+use Rattle.session_rules.specs.Requests.{with_later, with_session}
 use Rattle.session_rules.specs.Events.{lost, left, on_lost, told_lost, on_hangup, connects, connected, tidy}
 use Rattle.session_world.specs.Woven.{Woven}
 use Rattle.session_world.specs.Nodes.{Trail, Node, unseen}
-use Rattle.session_world.specs.Life.{Connect, Hangup, Lose, Lead, Serve, Append, Follow, told_all, ArePlain, happens}
+use Rattle.session_world.specs.Life.{Connect, Hangup, Lose, Lead, Serve, Append, Follow, told_all, undue, ArePlain, happens}
 use Rattle.session_world.specs.Replies.{AllSaid}
 use Rattle.session_world.proofs.Files.{Free}
 use Rattle.session_world.proofs.Invariant.{Calm, SessionOk, Bare, Held, NodeOk, calm_grown, session_grown, bare_ok, bare_writes, two_cond, said_append}
-use Rattle.session_world.proofs.Tables.{among_filter, among_append, among_last, absent_bare, lost_bare, lost_there, sole_tidy, sole_joined}
+use Rattle.session_world.proofs.Tables.{among_filter, among_append, among_last, absent_bare, lost_bare, lost_free, lost_gone, lost_there, sole_tidy, sole_joined, sole_with}
 
 pub no : {A : Type 0} → false ≡ true → A
 no e = absurd (true≢false (sym e))
@@ -33,7 +34,7 @@ plain_free t (Configures servers ∷ cs) n a = (refl, plain_free t cs n a.1)
 plain_free t (Other ∷ cs) n a = (refl, plain_free t cs n a.1)
 
 fresh_bare : Bare fresh
-fresh_bare = record { tx = refl; flight = refl }
+fresh_bare = record { tx = refl; flight = refl; due = refl }
 
 pub cond_held : (w : Node) (c : ℕ) (n : List ℕ) (s : Session) → (w.gate.session c).flight ≡ None → Held w.gate.session n → Held (λ d. cond (d == c) s (w.gate.session d)) n
 cond_held w c n s none k = record {
@@ -47,11 +48,15 @@ left_there s (Some f) e = e
 
 left_bare : (s : Session) (o : Option Flight) → Bare s → Bare (left s o)
 left_bare s None b = absent_bare
-left_bare s (Some f) b = record { tx = b.tx; flight = b.flight }
+left_bare s (Some f) b = record { tx = b.tx; flight = b.flight; due = b.due }
 
 left_absent : (s : Session) (o : Option Flight) → (s.there ≡ false → Bare s) → (left s o).there ≡ false → Bare (left s o)
 left_absent s None h e = absent_bare
-left_absent s (Some f) h e = record { tx = (h e).tx; flight = (h e).flight }
+left_absent s (Some f) h e = record { tx = (h e).tx; flight = (h e).flight; due = (h e).due }
+
+left_gone : (s : Session) (o : Option Flight) → (s.there ≡ false → s.later ≡ None) → (left s o).there ≡ false → (left s o).later ≡ None
+left_gone s None h e = refl
+left_gone s (Some f) h e = h e
 
 left_writes : (s : Session) (o : Option Flight) (n : List ℕ) → s.flight ≡ o → writes_to o n ≡ true → writes_to (left s o).flight n ≡ true
 left_writes s None n e w = no w
@@ -72,11 +77,12 @@ module _ (mean : Meaning) where
   lose_ok w t a = record {
     applied = a.applied;
     leads = λ e. no e;
-    sessions = λ c. bare_ok mean w.log w.applied t (lost (w.gate.session c)) (w.trail c) (lost_bare (w.gate.session c)) (a.sessions c).at (a.sessions c).seen;
+    sessions = λ c. bare_ok mean w.log w.applied t (lost (w.gate.session c)) (w.trail c) (lost_bare (w.gate.session c)) (lost_free (w.trail c).seen (w.trail c).at (w.gate.session c) (a.sessions c).free) (a.sessions c).at (a.sessions c).seen;
     idle = λ e c. lost_bare (w.gate.session c);
     calm = λ e n. no e;
     listed = λ c e. among_filter (λ d. (lost (w.gate.session d)).there) w.gate.conns c (a.listed c (lost_there (w.gate.session c) e)) e;
     absent = λ c e. lost_bare (w.gate.session c);
+    gone = λ c. lost_gone (w.gate.session c) (a.gone c);
     sole = sole_tidy w.gate.conns (λ c. lost (w.gate.session c)) a.sole.once;
     woven = a.woven;
     said = said_append mean (take w.applied w.log) w.said _ a.said (lost_said (take w.applied w.log) w.gate);
@@ -93,11 +99,12 @@ module _ (mean : Meaning) where
       record {
         applied = a.applied;
         leads = λ x. no x;
-        sessions = λ c. bare_ok mean w.log w.applied t (w.gate.session c) (w.trail c) (a.idle off c) (a.sessions c).at (a.sessions c).seen;
+        sessions = λ c. bare_ok mean w.log w.applied t (w.gate.session c) (w.trail c) (a.idle off c) (a.sessions c).free (a.sessions c).at (a.sessions c).seen;
         idle = λ x c. a.idle off c;
         calm = λ x n. no x;
         listed = a.listed;
         absent = a.absent;
+        gone = a.gone;
         sole = a.sole;
         woven = a.woven;
         said = a.said;
@@ -113,6 +120,7 @@ module _ (mean : Meaning) where
     calm = λ x n. inl (record { free = subst (Free n) (sym (drop_all w.applied w.log (omega arith))) tt; still = p n });
     listed = a.listed;
     absent = a.absent;
+    gone = a.gone;
     sole = a.sole;
     woven = a.woven;
     said = a.said;
@@ -133,6 +141,7 @@ module _ (mean : Meaning) where
         calm = λ e n. ⊎_elim (λ (k : Calm n w.applied w.log). inl (calm_grown n w.applied w.log es a.applied (free e n) k)) (λ (k : Held w.gate.session n). inr k) (a.calm e n);
         listed = a.listed;
         absent = a.absent;
+        gone = a.gone;
         sole = a.sole;
         woven = weaves;
         said = subst (λ l. AllSaid mean l w.said) (sym (take-append-le w.applied w.log es a.applied)) a.said;
@@ -147,11 +156,12 @@ module _ (mean : Meaning) where
       record {
         applied = omega (arith, length-append (take w.applied w.log) es);
         leads = a.leads;
-        sessions = λ c. bare_ok mean (take w.applied w.log ++ es) w.applied w.term (w.gate.session c) (w.trail c) (a.idle off c) (a.sessions c).at (a.sessions c).seen;
+        sessions = λ c. bare_ok mean (take w.applied w.log ++ es) w.applied w.term (w.gate.session c) (w.trail c) (a.idle off c) (a.sessions c).free (a.sessions c).at (a.sessions c).seen;
         idle = a.idle;
         calm = λ x n. no (sym off ∙ x);
         listed = a.listed;
         absent = a.absent;
+        gone = a.gone;
         sole = a.sole;
         woven = weaves;
         said = subst (λ l. AllSaid mean l w.said) (sym same) a.said;
@@ -166,11 +176,12 @@ module _ (mean : Meaning) where
       record {
         applied = a.applied;
         leads = a.leads;
-        sessions = λ d. two_cond (d == c) (SessionOk mean w.log w.applied w.term) fresh (w.gate.session d) unseen (w.trail d) (λ y. bare_ok mean w.log w.applied w.term fresh unseen fresh_bare (omega arith) (omega arith)) (λ y. a.sessions d);
+        sessions = λ d. two_cond (d == c) (SessionOk mean w.log w.applied w.term) fresh (w.gate.session d) unseen (w.trail d) (λ y. bare_ok mean w.log w.applied w.term fresh unseen fresh_bare tt (omega arith) (omega arith)) (λ y. a.sessions d);
         idle = λ x d. cond_both (d == c) fresh (w.gate.session d) Bare (λ y. fresh_bare) (λ y. a.idle x d);
         calm = λ x n. ⊎_elim (λ (k : Calm n w.applied w.log). inl k) (λ (k : Held w.gate.session n). inr (cond_held w c n fresh b.flight k)) (a.calm x n);
         listed = λ d. cond_both (d == c) fresh (w.gate.session d) (λ s. s.there ≡ true → among (w.gate.conns ++ c ∷ []) d ≡ true) (λ y z. subst (λ k. among (w.gate.conns ++ c ∷ []) k ≡ true) (sym (eqb-true d c y)) (among_last w.gate.conns c)) (λ y z. among_append w.gate.conns (c ∷ []) d (a.listed d z));
         absent = λ d. cond_both (d == c) fresh (w.gate.session d) (λ s. s.there ≡ false → Bare s) (λ y z. fresh_bare) (λ y z. a.absent d z);
+        gone = λ d. cond_both (d == c) fresh (w.gate.session d) (λ s. s.there ≡ false → s.later ≡ None) (λ y z. refl) (λ y z. a.gone d z);
         sole = sole_joined w.gate.conns w.gate.session c fresh refl (not-true _ (and_parts _ _ e).0) a.sole;
         woven = a.woven;
         said = a.said;
@@ -178,8 +189,8 @@ module _ (mean : Meaning) where
       (λ e. a)
 
   left_ok : (log : List Entry) (applied term : ℕ) (s : Session) (t : Trail) (o : Option Flight) → s.flight ≡ o → SessionOk mean log applied term s t → SessionOk mean log applied term (left s o) t
-  left_ok log applied term s t None e a = bare_ok mean log applied term absent t absent_bare a.at a.seen
-  left_ok log applied term s t (Some f) e a = record { at = a.at; seen = a.seen; tx = a.tx; flight = a.flight; apart = a.apart }
+  left_ok log applied term s t None e a = bare_ok mean log applied term absent t absent_bare tt a.at a.seen
+  left_ok log applied term s t (Some f) e a = record { at = a.at; seen = a.seen; tx = a.tx; flight = a.flight; apart = a.apart; free = a.free }
 
   pub hangup_ok : (w : Node) (c : ℕ) → NodeOk mean w → NodeOk mean (happens w (Hangup c))
   unfolding happens on_hangup tidy
@@ -200,7 +211,30 @@ module _ (mean : Meaning) where
             (a.calm x n);
         listed = λ d e. among_filter (λ k. (cond (k == c) gone (w.gate.session k)).there) w.gate.conns d (a.listed d (cond_both (d == c) gone (w.gate.session d) (λ s. s.there ≡ true → (w.gate.session d).there ≡ true) (λ y z. subst (λ k. (w.gate.session k).there ≡ true) (sym (eqb-true d c y)) (left_there (w.gate.session c) (w.gate.session c).flight z)) (λ y z. z) e)) e;
         absent = λ d. cond_both (d == c) gone (w.gate.session d) (λ s. s.there ≡ false → Bare s) (λ y. left_absent (w.gate.session c) (w.gate.session c).flight (a.absent c)) (λ y. a.absent d);
+        gone = λ d. cond_both (d == c) gone (w.gate.session d) (λ s. s.there ≡ false → s.later ≡ None) (λ y. left_gone (w.gate.session c) (w.gate.session c).flight (a.gone c)) (λ y. a.gone d);
         sole = sole_tidy w.gate.conns (λ d. cond (d == c) gone (w.gate.session d)) a.sole.once;
+        woven = a.woven;
+        said = a.said;
+      }
+
+  -- a query that was due is taken from its session
+  pub undue_ok : (w : Node) (c : ℕ) → (w.gate.session c).there ≡ true → (w.gate.session c).flight ≡ None → NodeOk mean w → NodeOk mean (undue w c)
+  unfolding with_session
+  undue_ok w c here none a =
+      let s = with_later (w.gate.session c) None in
+      let k = a.sessions c in
+      record {
+        applied = a.applied;
+        leads = a.leads;
+        sessions = λ d. cond_both (d == c) s (w.gate.session d) (λ x. SessionOk mean w.log w.applied w.term x (w.trail d))
+            (λ y. subst (λ i. SessionOk mean w.log w.applied w.term s (w.trail i)) (sym (eqb-true d c y)) (record { at = k.at; seen = k.seen; tx = k.tx; flight = k.flight; apart = k.apart; free = tt }))
+            (λ y. a.sessions d);
+        idle = λ x d. cond_both (d == c) s (w.gate.session d) Bare (λ y. record { tx = (a.idle x c).tx; flight = (a.idle x c).flight; due = refl }) (λ y. a.idle x d);
+        calm = λ x n. ⊎_elim (λ (y : Calm n w.applied w.log). inl y) (λ (y : Held w.gate.session n). inr (cond_held w c n s none y)) (a.calm x n);
+        listed = λ d. cond_both (d == c) s (w.gate.session d) (λ x. x.there ≡ true → among w.gate.conns d ≡ true) (λ y z. subst (λ i. among w.gate.conns i ≡ true) (sym (eqb-true d c y)) (a.listed c here)) (λ y z. a.listed d z);
+        absent = λ d. cond_both (d == c) s (w.gate.session d) (λ x. x.there ≡ false → Bare x) (λ y z. no (sym z ∙ here)) (λ y. a.absent d);
+        gone = λ d. cond_both (d == c) s (w.gate.session d) (λ x. x.there ≡ false → x.later ≡ None) (λ y z. refl) (λ y. a.gone d);
+        sole = sole_with w.gate.conns w.gate.session c s here a.sole;
         woven = a.woven;
         said = a.said;
       }

@@ -7,12 +7,14 @@ use Rattle.raft_rules.specs.Node.{among}
 use Rattle.sql_engine.specs.declared.kind.EngineKind.{EngineKind}
 use Rattle.sql_engine.specs.Replies.{Statement}
 use Rattle.sql_engine.specs.Meanings.{Meaning}
-use Rattle.session_rules.specs.Sessions.{Reply, Refusal, Single, Rows, Kind, Opening, Configuring, Writing, Committing, Flight, Session, Note, Nothing, Began, Inside, Outside, Turned, Refused, Lacks, Answers, Proposes, Affects, may_ask}
+use Rattle.session_rules.specs.Sessions.{Reply, Refusal, Single, Rows, Kind, Opening, Configuring, Writing, Committing, Querying, Flight, later_query, lent_query, Session, Note, Nothing, Began, Inside, Outside, Turned, Refused, Lacks, Answers, Proposes, Lends, Affects, may_ask}
+use Rattle.session_rules.specs.Engines.{Answer}
 use Rattle.session_rules.specs.Events.{connects, told_lost}
-use Rattle.session_world.specs.Nodes.{Query, Commit, Said, Trail, Node, started, unseen}
-use Rattle.session_world.specs.Life.{Event, Connect, Hangup, Call, Apply, Lose, Lead, Serve, Append, Follow, query_for, query_by, answered_trail, proposed_trail, tells, called, said_landed, said_by, said_applied, landed_trail, trail_by, told_all, joined, happens, run_from, AllFit}
+use Rattle.session_world.specs.Nodes.{Query, Commit, Said, Trail, Node, Standing, started, unseen}
+use Rattle.session_world.specs.Life.{Event, Connect, Hangup, Call, Resume, Done, Apply, Lose, Lead, Serve, Append, Follow, undue, outcome_later, resumed, told_at, said_read, read_trail, read_by, read, query_for, query_by, answered_trail, proposed_trail, tells, called, said_landed, said_by, said_applied, landed_trail, trail_by, told_all, joined, happens, run_from, AllFit}
 use Rattle.session_world.specs.Laws.{EachTo, QueryUpTo, CommitUpTo, RestsUpTo, HadSeen, SeeEarlier, NoneComes, Sees, LivesSee}
 use Rattle.session_world.proofs.Invariant.{Once, NodeOk}
+use Rattle.session_world.proofs.Laters.{resumed_both}
 use Rattle.session_world.proofs.Lives.{happens_ok, run_ok, started_ok}
 use Rattle.session_world.proofs.Lasts.{run_append, fit_parts}
 
@@ -133,6 +135,8 @@ called_steps w c d Lacks = steps_none c w w refl refl
 called_steps w c d (Affects effect) = (_, refl, told_step c (w.trail c).seen d _)
 called_steps w c d (Proposes s contents note) = steps_none c w (called w d (Proposes s contents note)) refl
     (cond_both (c == d) (proposed_trail w.applied (w.trail d) note) (w.trail c) (λ t. t.seen ≡ (w.trail c).seen) (λ e. proposed_same w.applied (w.trail d) note ∙ ap (λ k. (w.trail k).seen) (sym (eqb-true c d e))) (λ e. refl))
+called_steps w c d (Lends s job) = steps_none c w (called w d (Lends s job)) refl
+    (cond_both (c == d) (proposed_trail w.applied (w.trail d) (Outside job.name (job.statement ∷ []))) (w.trail c) (λ t. t.seen ≡ (w.trail c).seen) (λ e. ap (λ k. (w.trail k).seen) (sym (eqb-true c d e))) (λ e. refl))
 called_steps w c d (Answers s r note) = (
   _,
   refl,
@@ -147,17 +151,43 @@ called_steps w c d (Answers s r note) = (
     reply : Said
     reply = record { conn = d; reply = r; query = query_by w.applied (w.trail d) r note; commit = None; opened = None; index = 0; term = 0 }
 
+resumed_steps : (w : Node) (c d : ℕ) (standing : Standing) (answers : List Answer) (o : Option Statement) → Steps c w (resumed w d standing answers o)
+resumed_steps w c d standing answers None = steps_none c w w refl refl
+resumed_steps w c d standing answers (Some s) = let t = outcome_later w d standing s answers in resumed_both (Steps c w) w d t (steps_none c w w refl refl) (called_steps (undue w d) c d t)
+
+-- a reader tells a reply
+told_steps : (w : Node) (c d : ℕ) (s : Statement) (o : Option Reply) → Steps c w (read_by w d s o)
+told_steps w c d s None = steps_none c w w refl refl
+told_steps w c d s (Some r) = (
+  _,
+  refl,
+  cond_both (c == d) (read_trail (w.trail d)) (w.trail c) (λ t. Step c (w.trail c).seen t.seen (said_read w d s r ∷ []))
+      (λ e.
+      let same : (w.trail d).seen ≡ (w.trail c).seen = ap (λ k. (w.trail k).seen) (sym (eqb-true c d e)) in
+      step_one c (w.trail c).seen (read_trail (w.trail d)).seen (said_read w d s r) (omega arith)
+      (λ z. (
+        record { query = up_query r (w.gate.session d).database (w.trail d).at [] (s ∷ []) (w.trail d).seen (read_trail (w.trail d)).seen (omega arith); commit = tt },
+        subst (λ n. Counts n (said_read w d s r).query) same (at_query r (w.gate.session d).database (w.trail d).at [] (s ∷ []) (w.trail d).seen),
+      )))
+      (λ e. step_one c (w.trail c).seen (w.trail c).seen (said_read w d s r) (omega arith) (λ z. absurd (true≢false (sym (eq-eqb c d (sym z)) ∙ e)))),
+)
+
+read_steps : (w : Node) (c d : ℕ) (answers : List Answer) (o : Option Statement) → Steps c w (read w d answers o)
+read_steps w c d answers None = steps_none c w w refl refl
+read_steps w c d answers (Some s) = told_steps w c d s (told_at w d s answers)
+
 -- ---- an entry is applied
 
-landed_not : (c d : ℕ) (t : Trail) (f : Flight) (k : Kind) → d ≢ c → (said_landed d t f k).conn ≡ c → ⊥
-landed_not c d t f Opening h e = h e
-landed_not c d t f Configuring h e = h e
-landed_not c d t f (Writing reply) h e = h e
-landed_not c d t f Committing h e = h e
+landed_not : (c d : ℕ) (t : Trail) (f : Flight) (k : Kind) → d ≢ c → NotTo c (said_landed d t f k)
+landed_not c d t f Opening h = (h, tt)
+landed_not c d t f Configuring h = (h, tt)
+landed_not c d t f (Writing reply) h = (h, tt)
+landed_not c d t f Committing h = (h, tt)
+landed_not c d t f (Querying statement) h = tt
 
 by_not : (index c d : ℕ) (t : Trail) (hung : Bool) (o : Option Flight) → d ≢ c → NotTo c (said_by index d t hung o)
 by_not index c d t hung None h = tt
-by_not index c d t hung (Some f) h = cond_both (f.last == index) _ _ (NotTo c) (λ e. cond_both hung _ _ (NotTo c) (λ z. tt) (λ z. (landed_not c d t f f.kind h, tt))) (λ e. tt)
+by_not index c d t hung (Some f) h = cond_both (f.last == index) _ _ (NotTo c) (λ e. cond_both hung _ _ (NotTo c) (λ z. tt) (λ z. landed_not c d t f f.kind h)) (λ e. tt)
 
 applied_not : (index c : ℕ) (trail : ℕ → Trail) (session : ℕ → Session) (cs : List ℕ) → among cs c ≡ false → NotTo c (said_applied index trail session cs)
 applied_not index c trail session [] e = tt
@@ -167,17 +197,19 @@ applied_not index c trail session (d ∷ cs) e =
     (by_not index c d (trail d) (session d).hung (session d).flight (λ z. true≢false (sym (eq-eqb d c z) ∙ p.0)))
     (applied_not index c trail session cs p.1)
 
-landed_step : (index c : ℕ) (t : Trail) (f : Flight) (k : Kind) → f.last ≡ index → t.at ≤ index → Step c t.seen (landed_trail index t k).seen (said_landed c t f k ∷ [])
+landed_step : (index c : ℕ) (t : Trail) (f : Flight) (k : Kind) → f.last ≡ index → t.at ≤ index → Step c t.seen (landed_trail index t k).seen (said_landed c t f k)
 landed_step index c t f Opening e h = step_one c t.seen t.seen _ (omega arith) (λ z. (record { query = tt; commit = tt }, tt))
 landed_step index c t f Configuring e h = step_one c t.seen t.seen _ (omega arith) (λ z. (record { query = tt; commit = tt }, tt))
 landed_step index c t f (Writing reply) e h = step_one c t.seen (max t.seen index) _ (omega arith) (λ z. (record { query = up_query reply f.name t.at [] t.ran t.seen (max t.seen index) (omega arith); commit = omega arith }, at_query reply f.name t.at [] t.ran t.seen))
 landed_step index c t f Committing e h = step_one c t.seen (max t.seen index) _ (omega arith) (λ z. (record { query = tt; commit = omega arith }, tt))
+landed_step index c t f (Querying statement) e h = step_none c t.seen
 
 landed_more : (index : ℕ) (t : Trail) (k : Kind) → t.seen ≤ (landed_trail index t k).seen
 landed_more index t Opening = omega arith
 landed_more index t Configuring = omega arith
 landed_more index t (Writing reply) = omega arith
 landed_more index t Committing = omega arith
+landed_more index t (Querying statement) = omega arith
 
 trail_more : (index : ℕ) (t : Trail) (o : Option Flight) → t.seen ≤ (trail_by index t o).seen
 trail_more index t None = omega arith
@@ -189,9 +221,9 @@ nothing c n m h = record { more = h; up = tt; at = tt; see = tt }
 by_step : (index c : ℕ) (t : Trail) (hung : Bool) (o : Option Flight) → t.at ≤ index → Step c t.seen (trail_by index t o).seen (said_by index c t hung o)
 by_step index c t hung None h = step_none c t.seen
 by_step index c t hung (Some f) h =
-    two (f.last == index) (λ e. cond_both hung [] (said_landed c t f f.kind ∷ []) (Step c t.seen (landed_trail index t f.kind).seen) (λ z. nothing c t.seen (landed_trail index t f.kind).seen (landed_more index t f.kind)) (λ z. landed_step index c t f f.kind (eqb-true f.last index e) h))
+    two (f.last == index) (λ e. cond_both hung [] (said_landed c t f f.kind) (Step c t.seen (landed_trail index t f.kind).seen) (λ z. nothing c t.seen (landed_trail index t f.kind).seen (landed_more index t f.kind)) (λ z. landed_step index c t f f.kind (eqb-true f.last index e) h))
   where
-    two : (b : Bool) → (b ≡ true → Step c t.seen (landed_trail index t f.kind).seen (cond hung [] (said_landed c t f f.kind ∷ []))) → Step c t.seen (cond b (landed_trail index t f.kind) t).seen (cond b (cond hung [] (said_landed c t f f.kind ∷ [])) [])
+    two : (b : Bool) → (b ≡ true → Step c t.seen (landed_trail index t f.kind).seen (cond hung [] (said_landed c t f f.kind))) → Step c t.seen (cond b (landed_trail index t f.kind) t).seen (cond b (cond hung [] (said_landed c t f f.kind)) [])
     two true k = k refl
     two false k = step_none c t.seen
 
@@ -277,6 +309,8 @@ module _ (mean : Meaning) (kind : EngineKind) where
   steps c w (Connect d) h a = cond_both (connects w.gate d) _ w (Steps c w) (λ e. steps_none c w (joined w d) refl (cond_both (c == d) unseen (w.trail c) (λ t. t.seen ≡ (w.trail c).seen) (λ z. absurd (h (ap (λ k. Connect k) (sym (eqb-true c d z))))) (λ z. refl))) (λ e. steps_none c w w refl refl)
   steps c w (Hangup d) h a = steps_none c w (happens w (Hangup d)) refl refl
   steps c w (Call d standing r answers) h a = cond_both (may_ask (w.gate.session d)) _ w (Steps c w) (λ e. called_steps w c d _) (λ e. steps_none c w w refl refl)
+  steps c w (Resume d standing answers) h a = resumed_steps w c d standing answers (later_query (w.gate.session d).later)
+  steps c w (Done d answers) h a = read_steps w c d answers (lent_query (w.gate.session d).later)
   steps c w Apply h a = let low = (a.sessions c).at in (_, refl, applied_step (suc w.applied) c w.trail w.gate.session w.gate.conns (omega arith) a.sole.once)
   steps c w (Lose t) h a = (_, refl, lost_step c (w.trail c).seen (told_lost w.gate))
   steps c w (Lead t) h a = steps_none c w (happens w (Lead t)) refl refl

@@ -4,10 +4,10 @@ use Rattle.std.specs.Prelude.{◌==◌, ◌&&◌, ◌||◌, not, Option, Some, N
 use Rattle.std.specs.List.{list_any, filter}
 use Rattle.std.proofs.lemmas.Bool.{cond_both, cases_Bool, eqb-true, or_cases, or_left, or_right, or_parts, and_cases, and_parts, ne_eqb, eq-eqb, eqb-false, not-true, not_from_false}
 use Rattle.raft_rules.specs.Node.{among}
-use Rattle.session_rules.specs.Sessions.{Session, Gateway, Flight, Kind, Opening, Configuring, Writing, Committing, absent}
+use Rattle.session_rules.specs.Sessions.{Session, Gateway, Flight, Kind, Opening, Configuring, Writing, Committing, Querying, Later, Due, Lent, is_due, absent}
 use Rattle.session_rules.specs.Limits.{holds, other_holds, writes_to}
-use Rattle.session_rules.specs.Events.{settled_by, landed, lost}
-use Rattle.session_world.proofs.Invariant.{Bare, Once, Sole}
+use Rattle.session_rules.specs.Events.{settled_by, landed, still_lent, lost}
+use Rattle.session_world.proofs.Invariant.{Bare, IsFree, Once, Sole}
 
 pub among_append : (xs : List ℕ) (ys : List ℕ) (c : ℕ) → among xs c ≡ true → among (xs ++ ys) c ≡ true
 among_append [] ys c e = absurd (true≢false (sym e))
@@ -90,7 +90,7 @@ holds_writes s n h = (or_parts _ _ h).0
 -- what is left of sessions
 
 pub absent_bare : Bare absent
-absent_bare = record { tx = refl; flight = refl }
+absent_bare = record { tx = refl; flight = refl; due = refl }
 
 pub settled_bare : (i : ℕ) (s : Session) → Bare s → Bare (settled_by i s s.flight)
 settled_bare i s b = subst (λ o. Bare (settled_by i s o)) (sym b.flight) b
@@ -100,6 +100,7 @@ landed_there s f Opening = refl
 landed_there s f Configuring = refl
 landed_there s f (Writing reply) = refl
 landed_there s f Committing = refl
+landed_there s f (Querying statement) = refl
 
 pub settled_there : (i : ℕ) (s : Session) (o : Option Flight) → (settled_by i s o).there ≡ true → s.there ≡ true
 settled_there i s None e = e
@@ -118,8 +119,32 @@ settled_absent i s (Some f) q h e =
     (λ p. cond_both s.hung absent (landed s f f.kind) (λ x. x.there ≡ false → Bare x) (λ r z. absent_bare) (λ r z. absurd (none_some (h (sym (landed_there s f f.kind) ∙ z)).flight q)))
     (λ p z. h z) e
 
+still_not_due : (d : Option Later) → is_due (still_lent d) ≡ false
+still_not_due None = refl
+still_not_due (Some (Due statement)) = refl
+still_not_due (Some (Lent statement)) = refl
+
 pub lost_bare : (s : Session) → Bare (lost s)
-lost_bare s = cond_both s.hung absent _ Bare (λ e. absent_bare) (λ e. record { tx = refl; flight = refl })
+lost_bare s = cond_both s.hung absent _ Bare (λ e. absent_bare) (λ e. record { tx = refl; flight = refl; due = still_not_due s.later })
+
+-- a reader's job stays
+pub lost_free : (seen at : ℕ) (s : Session) → IsFree seen at s.later s.flight → IsFree seen at (lost s).later (lost s).flight
+lost_free seen at s h = cond_both s.hung absent _ (λ x. IsFree seen at x.later x.flight) (λ e. tt) (λ e. by s.later h)
+  where
+    by : (d : Option Later) → IsFree seen at d s.flight → IsFree seen at (still_lent d) None
+    by None x = tt
+    by (Some (Due statement)) x = tt
+    by (Some (Lent statement)) x = (refl, x.1)
+
+pub lost_gone : (s : Session) → (s.there ≡ false → s.later ≡ None) → (lost s).there ≡ false → (lost s).later ≡ None
+lost_gone s h = cond_both s.hung absent _ (λ x. x.there ≡ false → x.later ≡ None) (λ e z. refl) (λ e z. ap still_lent (h z))
+
+pub settled_gone : (i : ℕ) (s : Session) (o : Option Flight) → s.flight ≡ o → (s.there ≡ false → Bare s) → (s.there ≡ false → s.later ≡ None) → (settled_by i s o).there ≡ false → (settled_by i s o).later ≡ None
+settled_gone i s None q b h e = h e
+settled_gone i s (Some f) q b h e =
+    cond_both (f.last == i) (cond s.hung absent (landed s f f.kind)) s (λ x. x.there ≡ false → x.later ≡ None)
+    (λ p. cond_both s.hung absent (landed s f f.kind) (λ x. x.there ≡ false → x.later ≡ None) (λ r z. refl) (λ r z. absurd (none_some (b (sym (landed_there s f f.kind) ∙ z)).flight q)))
+    (λ p z. h z) e
 
 pub lost_there : (s : Session) → (lost s).there ≡ true → s.there ≡ true
 lost_there s = cond_both s.hung absent _ (λ x. x.there ≡ true → s.there ≡ true) (λ e z. absurd (true≢false (sym z))) (λ e z. z)

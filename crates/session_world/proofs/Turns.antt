@@ -13,28 +13,30 @@ use Rattle.wire_msgs.specs.declared.response.Response.TheVariants as responses
 use Rattle.sql_engine.specs.declared.kind.EngineKind.{EngineKind}
 use Rattle.sql_engine.specs.Replies.{Statement}
 use Rattle.sql_engine.specs.Meanings.{Meaning}
-use Rattle.session_rules.specs.Causes.{Cause, DatabaseFull, LogFull, Locked, NoTransaction, engine_cause}
-use Rattle.session_rules.specs.Entries.{Content, Does, Configures, Entry, entries_of, tx_of}
+use Rattle.session_rules.specs.Causes.{Cause, NotLeader, DatabaseFull, LogFull, Locked, NoTransaction, engine_cause}
+use Rattle.session_rules.specs.Entries.{Content, Does, Configures, Other, Entry, entries_of, tx_of}
 use Rattle.session_rules.specs.Machine.{base_at, image_at}
 use Rattle.session_rules.specs.Engines.{Answer, no_pages, Ending, Lacking, TooLarge, Stopped, Ended}
-use Rattle.session_rules.specs.Sessions.{Reply, Single, result, empty, db, Kind, Opening, Configuring, Writing, Committing, Flight, Transaction, Session, absent, fresh, may_ask, Began, Nothing, Inside, Outside, Note, Effect, HandsOver, JoinsPeer, Weighs, Refused, Answers, Proposes, Affects}
+use Rattle.session_rules.specs.Sessions.{Reply, Single, result, empty, db, Kind, Opening, Configuring, Writing, Committing, Querying, Flight, Lent, later_query, lent_query, Transaction, Session, Job, absent, fresh, may_ask, Began, Nothing, Inside, Outside, Note, Effect, HandsOver, JoinsPeer, Weighs, Refused, Answers, Proposes, Lends, Affects}
 use Rattle.session_rules.specs.Statements.{free_id, with_prepared, without_prepared}
 use Rattle.session_rules.specs.Limits.{writes_to, has_turn, holds, other_holds, is_write, pages_full, first_cause, hindrance, log_full}
 use Rattle.session_rules.specs.Asking.{Asked, Never, Tells, Sets, Opens, Creates, Prepares, Drops, Begins, Commits, RollsBack, Changes, Runs, Reads, asked}
-use Rattle.session_rules.specs.Requests.{with_tx, with_statements, with_database, begun, worked, flying, row_cause, reply_of, outside_write, outside, inside, run_in, has_nothing, committed, commit_in, does, on_request, with_session}
+use Rattle.session_rules.specs.Requests.{with_tx, with_statements, with_database, with_barriers, with_later, begun, worked, flying, row_cause, reply_of, outside_write, outside, inside, run_in, job_of, has_nothing, committed, commit_in, does, on_request, on_later, with_session}
 use Rattle.session_rules.specs.Events.{tidy, settled_by, landed, on_applied, left, on_hangup, connects, connected}
 use Rattle.session_rules.proofs.Images.{unchanged, changed_same}
 use Rattle.session_rules.proofs.Names.{name_is, is_name, same_name}
 use Rattle.session_world.specs.Nodes.{Node, Standing, databases, view_of, started}
-use Rattle.session_world.specs.Life.{Event, Connect, Hangup, Call, Apply, Lose, Lead, Serve, Append, Follow, ArePlain, called, happens, run_from, Fits, AllFit}
+use Rattle.session_world.specs.Life.{Event, Connect, Hangup, Call, Resume, Done, Apply, Lose, Lead, Serve, Append, Follow, ArePlain, undue, outcome_later, resumed, told_at, read_by, read, called, happens, run_from, Fits, AllFit}
 use Rattle.session_world.specs.Laws.{Starts, life, OneTurn, ChangesTakeTurns, CommitsPass}
 use Rattle.session_world.proofs.Files.{Free, touches, alike_between, base_append, split_free}
-use Rattle.session_world.proofs.Invariant.{Calm, Apart, ApartBy, Bare, NodeOk, calm_grown}
+use Rattle.session_world.proofs.Invariant.{Calm, Apart, ApartBy, free_later, Bare, NodeOk, calm_grown}
 use Rattle.session_world.proofs.Tables.{none_holds, others_none}
 use Rattle.session_world.proofs.Applies.{calm_next}
-use Rattle.session_world.proofs.Moves.{no, plain_free}
+use Rattle.session_world.proofs.Moves.{no, plain_free, undue_ok}
 use Rattle.session_world.proofs.Wrotes.{block_for}
 use Rattle.session_world.proofs.Calls.{unless_ok, first_none, row_none, Unhindered, hindrance_none, calm_here}
+use Rattle.session_world.proofs.Laters.{resumed_both, undue_here, later_there}
+use Rattle.session_world.proofs.Ways.{read_in_both, barrier_both, reads_both, later_both}
 use Rattle.session_world.proofs.Lives.{none_is, happens_ok, run_ok, started_ok}
 use Rattle.session_world.proofs.Alones.{call_same}
 
@@ -98,6 +100,7 @@ turn_landed log applied s f Opening e q p a = turn_next log applied s.flight Non
 turn_landed log applied s f Configuring e q p a = turn_next log applied s.flight None s.tx (λ n w. ap (λ o. writes_to o n) q ∙ ap (λ k. is_write k && bytes_eq f.name n) e) a
 turn_landed log applied s f (Writing reply) e q p a = subst (TurnIs log (suc applied) None) (sym p) tt
 turn_landed log applied s f Committing e q p a = tt
+turn_landed log applied s f (Querying statement) e q p a = turn_next log applied s.flight None s.tx (λ n w. ap (λ o. writes_to o n) q ∙ ap (λ k. is_write k && bytes_eq f.name n) e) a
 
 turn_settled : (log : List Entry) (applied index : ℕ) (s : Session) (o : Option Flight) → s.flight ≡ o → Apart o s.tx → TurnIs log applied s.flight s.tx → TurnIs log (suc applied) (settled_by index s o).flight (settled_by index s o).tx
 turn_settled log applied index s None q p a = turn_next log applied s.flight s.flight s.tx (λ n w. w) a
@@ -112,6 +115,7 @@ landed_holds s f Opening n e = or_right (writes_to s.flight n) (has_turn s.tx n)
 landed_holds s f Configuring n e = or_right (writes_to s.flight n) (has_turn s.tx n) e
 landed_holds s f (Writing reply) n e = or_right (writes_to s.flight n) (has_turn s.tx n) e
 landed_holds s f Committing n e = no e
+landed_holds s f (Querying statement) n e = or_right (writes_to s.flight n) (has_turn s.tx n) e
 
 settled_holds : (i : ℕ) (s : Session) (o : Option Flight) (n : List ℕ) → holds (settled_by i s o) n ≡ true → holds s n ≡ true
 unfolding holds
@@ -261,15 +265,15 @@ module _ (mean : Meaning) (standing : Standing) (w : Node) (a : NodeOk mean w) (
   run_turn (Some x) ss rows answers serves is = inside_turn x ss rows _ serves is
 
   -- a proposal without pages
-  other_turn : (name : List ℕ) (content : Content) (kind : Kind) → is_write kind ≡ false → ((n : List ℕ) → touches n content ≡ false) → WTurn (called w c (Proposes (flying (view_of w standing) (w.gate.session c) name (content ∷ []) 0 kind) (content ∷ []) Nothing))
+  other_turn : (s : Session) (name : List ℕ) (content : Content) (kind : Kind) → s.tx ≡ (w.gate.session c).tx → is_write kind ≡ false → ((n : List ℕ) → touches n content ≡ false) → WTurn (called w c (Proposes (flying (view_of w standing) s name (content ∷ []) 0 kind) (content ∷ []) Nothing))
   unfolding holds
-  other_turn name content kind quiet none =
+  other_turn s name content kind same quiet none =
       let f : Flight = record { name = name; first = suc (length w.log); last = length w.log + 1; term = w.term; pages = 0; kind = kind } in
-      proposes (flying (view_of w standing) (w.gate.session c) name (content ∷ []) 0 kind) (content ∷ []) Nothing
+      proposes (flying (view_of w standing) s name (content ∷ []) 0 kind) (content ∷ []) Nothing
       (λ d n ne h. (none n, tt))
-      (λ d n ne x y. ⊎_elim (λ (z : (is_write kind && bytes_eq name n) ≡ true). no (sym quiet ∙ (and_parts _ _ z).0)) (λ (z : has_turn (w.gate.session c).tx n ≡ true). t.single c d n (λ q. ne (sym q)) (or_right (writes_to (w.gate.session c).flight n) (has_turn (w.gate.session c).tx n) z) y) (or_cases (is_write kind && bytes_eq name n) (has_turn (w.gate.session c).tx n) x))
-      (turn_flight (w.log ++ entries_of w.term (content ∷ [])) w.applied (w.gate.session c).flight _ (w.gate.session c).tx (λ n z. off n)
-      (turn_grown w.log (entries_of w.term (content ∷ [])) w.applied (w.gate.session c).flight (w.gate.session c).tx a.applied (λ n h. (none n, tt)) (t.each c)))
+      (λ d n ne x y. ⊎_elim (λ (z : (is_write kind && bytes_eq name n) ≡ true). no (sym quiet ∙ (and_parts _ _ z).0)) (λ (z : has_turn s.tx n ≡ true). t.single c d n (λ q. ne (sym q)) (or_right (writes_to (w.gate.session c).flight n) (has_turn (w.gate.session c).tx n) (subst (λ o. has_turn o n ≡ true) same z)) y) (or_cases (is_write kind && bytes_eq name n) (has_turn s.tx n) x))
+      (turn_flight (w.log ++ entries_of w.term (content ∷ [])) w.applied (w.gate.session c).flight _ s.tx (λ n z. off n)
+      (turn_grown w.log (entries_of w.term (content ∷ [])) w.applied (w.gate.session c).flight s.tx a.applied (λ n h. (none n, tt)) (subst (TurnIs w.log w.applied (w.gate.session c).flight) (sym same) (t.each c))))
 
   plain : (s : Session) (r : Reply) → s.flight ≡ None → s.tx ≡ (w.gate.session c).tx → WTurn (called w c (Answers s r Nothing))
   unfolding holds
@@ -286,21 +290,30 @@ module _ (mean : Meaning) (standing : Standing) (w : Node) (a : NodeOk mean w) (
   affects_turn (JoinsPeer id) = t
   affects_turn (Weighs weight) = record { single = t.single; each = t.each }
 
+  lent_turn : (s : Statement) (job : Job) → WTurn (called w c (Lends (with_later (w.gate.session c) (Some (Lent s))) job))
+  unfolding with_session holds
+  lent_turn s job = put_turn w.log w.applied w.gate.session c (with_later (w.gate.session c) (Some (Lent s))) t.single (λ d n ne x y. t.single c d n (λ z. ne (sym z)) x y) (λ d ne. t.each d) (t.each c)
+
   does_turn : (x : Asked) (answers : List Answer) → w.serving ≡ true → WTurn (called w c (does (view_of w standing) (databases w) w.gate c (w.gate.session c) x answers))
   unfolding does
   does_turn (Never why) answers serves = refuse why
   does_turn (Tells response) answers serves = plain (w.gate.session c) (Single response) free refl
   does_turn (Sets effect) answers serves = affects_turn effect
-  does_turn (Opens name) answers serves = plain (with_database (w.gate.session c) name) db refl refl
-  does_turn (Creates name) answers serves = cond_both (pages_full (databases w) w.gate name empty_image) _ _ (λ y. WTurn (called w c y)) (λ e. refuse DatabaseFull) (λ e. other_turn name (Does (OpenDb name)) Opening refl (λ n. refl))
+  does_turn (Opens name barriers) answers serves = plain (with_barriers (with_database (w.gate.session c) name) barriers) db refl refl
+  does_turn (Creates name barriers) answers serves = cond_both (pages_full (databases w) w.gate name empty_image) _ _ (λ y. WTurn (called w c y)) (λ e. refuse DatabaseFull) (λ e. other_turn (with_barriers (w.gate.session c) barriers) name (Does (OpenDb name)) Opening refl refl (λ n. refl))
   does_turn (Prepares p tail) answers serves = plain (with_statements (w.gate.session c) (with_prepared p (w.gate.session c).statements)) (Single (responses.Stmt 0 (free_id (w.gate.session c).statements) p.params tail)) free refl
   does_turn (Drops id) answers serves = plain (with_statements (w.gate.session c) (without_prepared id (w.gate.session c).statements)) empty free refl
   does_turn (Begins now) answers serves = cond_both (now && other_holds w.gate c (w.gate.session c).database) _ _ (λ y. WTurn (called w c y)) (λ e. refuse Locked) (λ e. begin_turn now serves e)
   does_turn Commits answers serves = commit_turn (w.gate.session c).tx refl
   does_turn RollsBack answers serves = rolls
-  does_turn (Changes servers) answers serves = cond_both (log_full (view_of w standing)) _ _ (λ y. WTurn (called w c y)) (λ e. refuse LogFull) (λ e. other_turn [] (Configures servers) Configuring refl (λ n. refl))
+  does_turn (Changes servers) answers serves = cond_both (log_full (view_of w standing)) _ _ (λ y. WTurn (called w c y)) (λ e. refuse LogFull) (λ e. other_turn (w.gate.session c) [] (Configures servers) Configuring refl refl (λ n. refl))
   does_turn (Runs ss) answers serves = run_turn (w.gate.session c).tx ss false answers serves refl
-  does_turn (Reads s) answers serves = run_turn (w.gate.session c).tx (s ∷ []) true answers serves refl
+  does_turn (Reads s) answers serves = reads_both (λ y. WTurn (called w c y)) (view_of w standing) (databases w) w.gate c (w.gate.session c) s answers
+      (λ e. barrier_both (λ y. WTurn (called w c y)) (view_of w standing) (databases w) w.gate c (w.gate.session c) s (refuse LogFull) (other_turn (w.gate.session c) [] Other (Querying s) refl refl (λ n. refl)))
+      (λ e. read_in_both (λ y. WTurn (called w c y)) (view_of w standing) (databases w) w.gate c (w.gate.session c) s (w.gate.session c).tx answers (λ o r. lent_turn s (job_of (databases w) (w.gate.session c) s)) (run_turn (w.gate.session c).tx (s ∷ []) true answers serves refl))
+
+  later_turn : (s : Statement) (answers : List Answer) → WTurn (called w c (on_later (view_of w standing) (databases w) w.gate c s answers))
+  later_turn s answers = later_both (λ y. WTurn (called w c y)) (view_of w standing) (databases w) w.gate c s answers (refuse NotLeader) (λ e. run_turn (w.gate.session c).tx (s ∷ []) true answers e refl)
 
 module _ (mean : Meaning) (kind : EngineKind) where
   -- where the node does not serve, no session has the turn
@@ -316,9 +329,44 @@ module _ (mean : Meaning) (kind : EngineKind) where
   call_serving : (w : Node) (c : ℕ) (standing : Standing) (r : Request) (answers : List Answer) → NodeOk mean w → WTurn w → w.serving ≡ true → WTurn (happens w (Call c standing r answers))
   unfolding happens may_ask
   call_serving w c standing r answers a t serves =
-      cond_both ((w.gate.session c).there && not (w.gate.session c).hung && is_none (w.gate.session c).flight) _ w WTurn
-      (λ e. let p = and_parts _ _ e in request_turn w c standing r answers a t (none_is (w.gate.session c).flight p.1) (and_parts _ _ p.0).0 serves)
+      cond_both ((w.gate.session c).there && not (w.gate.session c).hung && is_none (w.gate.session c).flight && is_none (w.gate.session c).later) _ w WTurn
+      (λ e. let p = and_parts _ _ (and_parts _ _ e).0 in request_turn w c standing r answers a t (none_is (w.gate.session c).flight p.1) (and_parts _ _ p.0).0 serves)
       (λ e. t)
+
+  -- a session whose query isn't to be answered any more has the turn as before
+  free_turn : (w : Node) (c : ℕ) → WTurn w → TurnOk w.log w.applied (λ d. cond (d == c) (with_later (w.gate.session c) None) (w.gate.session d))
+  unfolding holds
+  free_turn w c t = put_turn w.log w.applied w.gate.session c (with_later (w.gate.session c) None) t.single (λ d n ne x y. t.single c d n (λ z. ne (sym z)) x y) (λ d ne. t.each d) (t.each c)
+
+  undue_turn : (w : Node) (c : ℕ) → WTurn w → WTurn (undue w c)
+  unfolding with_session
+  undue_turn w c t = free_turn w c t
+
+  resume_turn : (w : Node) (c : ℕ) (standing : Standing) (answers : List Answer) (o : Option Statement) → later_query (w.gate.session c).later ≡ o → NodeOk mean w → WTurn w → WTurn (resumed w c standing answers o)
+  resume_turn w c standing answers None is a t = t
+  resume_turn w c standing answers (Some s) is a t =
+      let here = later_there mean w c s is a in
+      let none = free_later (w.trail c).seen (w.trail c).at (w.gate.session c).later (w.gate.session c).flight s is (a.sessions c).free in
+      let same = undue_here w c in
+      resumed_both WTurn w c (outcome_later w c standing s answers) t
+      (later_turn mean standing (undue w c) (undue_ok mean w c here none a) (undue_turn w c t) c (ap (λ (x : Session). x.flight) same ∙ none) (ap (λ (x : Session). x.there) same ∙ here) s answers)
+
+  resume_happens : (w : Node) (c : ℕ) (standing : Standing) (answers : List Answer) → NodeOk mean w → WTurn w → WTurn (happens w (Resume c standing answers))
+  unfolding happens
+  resume_happens w c standing answers a t = resume_turn w c standing answers (later_query (w.gate.session c).later) refl a t
+
+  told_turn : (w : Node) (c : ℕ) (s : Statement) (o : Option Reply) → WTurn w → WTurn (read_by w c s o)
+  unfolding with_session
+  told_turn w c s None t = t
+  told_turn w c s (Some reply) t = free_turn w c t
+
+  read_turn : (w : Node) (c : ℕ) (answers : List Answer) (o : Option Statement) → WTurn w → WTurn (read w c answers o)
+  read_turn w c answers None t = t
+  read_turn w c answers (Some s) t = told_turn w c s (told_at w c s answers) t
+
+  done_turn : (w : Node) (c : ℕ) (answers : List Answer) → WTurn w → WTurn (happens w (Done c answers))
+  unfolding happens
+  done_turn w c answers t = read_turn w c answers (lent_query (w.gate.session c).later) t
 
   apply_turn : (w : Node) → NodeOk mean w → WTurn w → WTurn (happens w Apply)
   unfolding happens on_applied tidy
@@ -373,6 +421,8 @@ module _ (mean : Meaning) (kind : EngineKind) where
   turn_happens w (Connect c) h a t = connect_turn w c t
   turn_happens w (Hangup c) h a t = hangup_turn w c t
   turn_happens w (Call c standing r answers) h a t = ⊎_elim (λ (s : w.serving ≡ true). call_serving w c standing r answers a t s) (λ (s : w.serving ≡ false). call_bare w c standing r answers t a h s) (cases_Bool w.serving)
+  turn_happens w (Resume c standing answers) h a t = resume_happens w c standing answers a t
+  turn_happens w (Done c answers) h a t = done_turn w c answers t
   turn_happens w Apply h a t = apply_turn w a t
   turn_happens w (Lose u) h a t = idle_turn (happens w (Lose u)) (happens_ok mean kind w (Lose u) h a) (lose_idle w u)
   turn_happens w (Lead u) h a t = idle_turn (happens w (Lead u)) (happens_ok mean kind w (Lead u) h a) (lead_idle w u)

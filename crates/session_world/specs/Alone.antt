@@ -1,16 +1,17 @@
 -- One voter that never stops: what is proposed is applied in the same step. Its run, turn by turn, and that of a script with
 -- its journal.
-use Rattle.std.specs.Prelude.{◌≡◌, ◌≢◌, ℕ, zero, suc, ◌-◌, ◌<◌, ◌≤◌, Bool, true, false, ◌&&◌, nat_le, List, [], ◌∷◌, ◌++◌, length, drop, map, None, if◌then◌else◌}
+use Rattle.std.specs.Prelude.{◌≡◌, ◌≢◌, ℕ, zero, suc, ◌-◌, ◌<◌, ◌≤◌, Bool, true, false, ◌&&◌, nat_le, List, [], ◌∷◌, ◌++◌, length, drop, map, if◌then◌else◌}
 use Rattle.std.specs.List.{filter}
 use Rattle.wire_msgs.specs.declared.request.Request.{Request}
 use Rattle.frame_commands.specs.declared.command.Command.TheVariants.{Checkpoint}
 use Rattle.sql_engine.specs.declared.kind.EngineKind.{EngineKind}
 use Rattle.sql_engine.specs.Meanings.{Meaning}
+use Rattle.session_rules.specs.Asking.{fits_one_voter}
 use Rattle.session_rules.specs.Causes.{LeadershipLost}
 use Rattle.session_rules.specs.Entries.{Content, Does, Configures, Other, Entry}
 use Rattle.session_rules.specs.Machine.{Machine}
 use Rattle.session_rules.specs.Engines.{Answer, used_for, AllowsFor}
-use Rattle.session_rules.specs.Sessions.{Refusal, Turned, Refused, Lacks, Answers, Proposes, Affects, may_ask}
+use Rattle.session_rules.specs.Sessions.{Refusal, Turned, Refused, Lacks, Answers, Proposes, Lends, Affects, is_busy, may_ask}
 use Rattle.session_rules.specs.Requests.{on_request, handed}
 use Rattle.session_world.specs.Woven.{Woven}
 use Rattle.session_world.specs.Nodes.{Said, Node, Standing, databases, view_of, started}
@@ -65,12 +66,13 @@ alone_from w (t ∷ ts) = alone_from (takes_turn w t) ts
 unfoldable pub alone : List Turn → Node
 alone ts = alone_from (started [] 0 0) ts
 
--- each answer of a turn is one that the engine may give to what the turn's request hands it
+-- The turn's request is one that a voter takes who has no others and no readers; each answer is one that the engine may give to
+-- what the request hands it.
 abbrev pub AllowsTurn : Meaning → EngineKind → Node → Turn → Type 0
 AllowsTurn m kind w Timeout = Unit {0}
 AllowsTurn m kind w (Join conn) = Unit {0}
 AllowsTurn m kind w (Leave conn) = Unit {0}
-AllowsTurn m kind w (Ask conn standing request answers) = may_ask (w.gate.session conn) ≡ true → AllowsFor m kind (handed (view_of w standing) (databases w) w.gate conn request) answers
+AllowsTurn m kind w (Ask conn standing request answers) = (fits_one_voter request ≡ true) × (standing.readers ≡ false) × (may_ask (w.gate.session conn) ≡ true → AllowsFor m kind (handed (view_of w standing) (databases w) w.gate conn request) answers)
 
 abbrev pub AllowsTurns : Meaning → EngineKind → Node → List Turn → Type 0
 AllowsTurns m kind w [] = Unit {0}
@@ -101,7 +103,7 @@ pub record SafeAlone (m : Meaning) (w : Node) : Type 0 where
   pub woven : Woven w.log
   pub servers : SameServers w.log
   pub kept : NoneLost w.said
-  pub answered : (conn : ℕ) → (w.gate.session conn).flight ≡ None
+  pub answered : (conn : ℕ) → is_busy (w.gate.session conn) ≡ false
   pub serves : w.serving ≡ w.leads
   pub term : w.term ≡ (if w.leads then 1 else 0)
 
@@ -149,6 +151,7 @@ lacks (Refused cause) = false
 lacks Lacks = true
 lacks (Answers s reply note) = false
 lacks (Proposes s contents note) = false
+lacks (Lends s job) = false
 lacks (Affects effect) = false
 
 -- what a line of a script asks of the node

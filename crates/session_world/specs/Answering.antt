@@ -5,22 +5,19 @@ use Rattle.sql_engine.specs.declared.kind.EngineKind.{EngineKind}
 use Rattle.sql_engine.specs.Meanings.{Meaning}
 use Rattle.sql_engine.specs.Replies.{Statement}
 use Rattle.session_rules.specs.Entries.{Entry}
-use Rattle.session_rules.specs.Engines.{Answer, Handed}
-use Rattle.session_rules.specs.Sessions.{Session, in_tx, is_busy, may_ask, Note, Nothing, Began, Inside, Outside, Turned, Refused, Lacks, Answers, Proposes, Affects}
-use Rattle.session_rules.specs.Requests.{on_request, handed}
+use Rattle.session_rules.specs.Asking.{asked}
+use Rattle.session_rules.specs.Engines.{Answer}
+use Rattle.session_rules.specs.Sessions.{later_query, Session, in_tx, is_busy, may_ask, Note, Nothing, Began, Inside, Outside, Turned, Refused, Lacks, Answers, Proposes, Lends, Affects}
+use Rattle.session_rules.specs.Requests.{statements_asked, on_request}
 use Rattle.session_world.specs.Nodes.{Query, Commit, Said, Node, Standing, databases, view_of, started}
-use Rattle.session_world.specs.Life.{Event, Connect, Hangup, Call, Apply, Lose, Lead, Serve, Append, Follow, happens, run_from, AllFit}
+use Rattle.session_world.specs.Life.{Event, Connect, Hangup, Call, Resume, Done, Apply, Lose, Lead, Serve, Append, Follow, outcome_later, happens, run_from, AllFit}
 use Rattle.session_world.specs.Laws.{life, Starts, NoneComes}
 
 -- ---- statements
 
-abbrev pub statements_in : Option Handed → List Statement
-statements_in None = []
-statements_in (Some handed) = handed.statements
-
--- the statements that a request hands to the engine
-abbrev pub handed_by : Node → ℕ → Standing → Request → List Statement
-handed_by w conn standing request = statements_in (handed (view_of w standing) (databases w) w.gate conn request)
+-- the statements that a request asks an engine to run
+abbrev pub asks_for : Node → ℕ → Standing → Request → List Statement
+asks_for w conn standing request = statements_asked (asked (view_of w standing) (databases w) w.gate conn request)
 
 -- what comes of a request
 abbrev pub outcome : Node → ℕ → Standing → Request → List Answer → Turned
@@ -43,12 +40,20 @@ ran_by ran own (Refused cause) = ran
 ran_by ran own Lacks = ran
 ran_by ran own (Answers session reply note) = runs_on ran own note
 ran_by ran own (Proposes session contents note) = ran
+ran_by ran own (Lends session job) = ran
 ran_by ran own (Affects effect) = ran
 
+-- and a query that is run later
+abbrev pub ran_later : List Statement → Node → ℕ → Standing → List Answer → Option Statement → List Statement
+ran_later ran w conn standing answers None = ran
+ran_later ran w conn standing answers (Some statement) = ran_by ran (statement ∷ []) (outcome_later w conn standing statement answers)
+
 abbrev pub ran_after : ℕ → Node → Event → List Statement
-ran_after conn w (Call other standing request answers) = if other == conn && may_ask (w.gate.session other) then ran_by (transaction_ran w other) (handed_by w other standing request) (outcome w other standing request answers) else transaction_ran w conn
+ran_after conn w (Call other standing request answers) = if other == conn && may_ask (w.gate.session other) then ran_by (transaction_ran w other) (asks_for w other standing request) (outcome w other standing request answers) else transaction_ran w conn
 ran_after conn w (Connect other) = transaction_ran w conn
 ran_after conn w (Hangup other) = transaction_ran w conn
+ran_after conn w (Resume other standing answers) = if other == conn then ran_later (transaction_ran w other) w other standing answers (later_query (w.gate.session other).later) else transaction_ran w conn
+ran_after conn w (Done other answers) = transaction_ran w conn
 ran_after conn w Apply = transaction_ran w conn
 ran_after conn w (Lose term) = transaction_ran w conn
 ran_after conn w (Lead term) = transaction_ran w conn
@@ -56,14 +61,14 @@ ran_after conn w Serve = transaction_ran w conn
 ran_after conn w (Append contents) = transaction_ran w conn
 ran_after conn w (Follow entries) = transaction_ran w conn
 
--- A transaction's statements are those that its requests hand to the engine, in order, but for requests that are refused. BEGIN,
--- COMMIT and END hand over none.
+-- A transaction's statements are those that its requests ask for, in order, but for requests that are refused. BEGIN, COMMIT and
+-- END ask for none.
 abbrev pub TransactionsRun : Type 0
 TransactionsRun = (w : Node) (conn : ℕ) (e : Event) → transaction_ran (happens w e) conn ≡ (if in_tx ((happens w e).gate.session conn) then ran_after conn w e else [])
 
 -- ---- requests that are handled
 
--- A request that is handled: the statements that the open transaction had run before it, and those that it hands over itself.
+-- A request that is handled: the statements that the open transaction had run before it, and those that it asks for itself.
 pub record Handled : Type 0 where
   pub request : Request
   pub before : List Statement
@@ -75,13 +80,16 @@ comes (Refused cause) = true
 comes Lacks = false
 comes (Answers session reply note) = true
 comes (Proposes session contents note) = true
+comes (Lends session job) = true
 comes (Affects effect) = true
 
 -- the request of the connection that is handled by this event, if one is
 abbrev pub handled_by : ℕ → Node → Event → List Handled
-handled_by conn w (Call other standing request answers) = if other == conn && (may_ask (w.gate.session other) && comes (outcome w other standing request answers)) then record { request = request; before = transaction_ran w other; own = handed_by w other standing request } ∷ [] else []
+handled_by conn w (Call other standing request answers) = if other == conn && (may_ask (w.gate.session other) && comes (outcome w other standing request answers)) then record { request = request; before = transaction_ran w other; own = asks_for w other standing request } ∷ [] else []
 handled_by conn w (Connect other) = []
 handled_by conn w (Hangup other) = []
+handled_by conn w (Resume other standing answers) = []
+handled_by conn w (Done other answers) = []
 handled_by conn w Apply = []
 handled_by conn w (Lose term) = []
 handled_by conn w (Lead term) = []
@@ -122,9 +130,9 @@ ArePaired [] hs owed = hs ≡ owed
 ArePaired (x ∷ xs) [] owed = ⊥
 ArePaired (x ∷ xs) (h ∷ hs) owed = IsReplyTo h x × ArePaired xs hs owed
 
--- a reply is owed exactly where a proposal is in flight
+-- a reply is owed exactly where a proposal is in flight, or a query is yet to be answered
 abbrev pub Owes : Session → List Handled → Type 0
-Owes s [] = s.flight ≡ None
+Owes s [] = is_busy s ≡ false
 Owes s (h ∷ []) = is_busy s ≡ true
 Owes s (h ∷ k ∷ hs) = ⊥
 
@@ -142,9 +150,9 @@ pub record RepliesTo (conn : ℕ) (w : Node) (es : List Event) : Type 0 where
   pub paired : ArePaired (said_to conn more) (handled_in conn w es) owed
   pub owes : Owes ((run_from w es).gate.session conn) owed
 
--- So it is from each moment at which none of its proposals is in flight, as the one at which it came, up to each at which it is
+-- So it is from each moment at which it is owed nothing, as the one at which it came, up to each at which it is
 -- still open.
 abbrev pub RequestsAreAnswered : Meaning → EngineKind → Type 0
 RequestsAreAnswered m kind =
     (log : List Entry) (applied term : ℕ) (es fs : List Event) (conn : ℕ) → Starts log applied → AllFit m kind (started log applied term) (es ++ fs) → NoneComes conn fs →
-    ((life log applied term es).gate.session conn).flight ≡ None → IsOpen ((life log applied term (es ++ fs)).gate.session conn) → RepliesTo conn (life log applied term es) fs
+    is_busy ((life log applied term es).gate.session conn) ≡ false → IsOpen ((life log applied term (es ++ fs)).gate.session conn) → RepliesTo conn (life log applied term es) fs

@@ -1,19 +1,20 @@
 -- Small lives that are computed: what the laws speak of happens.
-use Rattle.std.specs.Prelude.{◌≡◌, ℕ, ◌+◌, false, List, [], ◌∷◌, ◌++◌, map, codes, None, Ok}
+use Rattle.std.specs.Prelude.{◌≡◌, ℕ, ◌+◌, true, false, List, [], ◌∷◌, ◌++◌, map, codes, None, Ok, Err}
 use Rattle.dq_base.specs.declared.images.Image.{Image}
 use Rattle.dq_base.specs.Images.{page_at}
 use Rattle.dq_base.specs.Changes.{changed}
 use Rattle.wire_msgs.specs.declared.request.Request.TheVariants.{Open, ExecSql, QuerySql}
 use Rattle.sql_engine.specs.declared.answer.Ran.{Ran}
+use Rattle.sql_engine.specs.declared.fault.EngineFault.TheVariants as engine_faults
 use Rattle.sql_engine.specs.declared.kind.EngineKind.TheVariants.{Cells}
 use Rattle.sql_engine.specs.Cells.{with_cell, cell_rows, cells}
 use Rattle.page_apply.specs.Files.{empty_image}
-use Rattle.session_rules.specs.Causes.{NotLeader, LeadershipLost, Locked, OutOfDate}
+use Rattle.session_rules.specs.Causes.{NotLeader, LeadershipLost, Locked, OutOfDate, OutOfMemory}
 use Rattle.session_rules.specs.Entries.{Other}
 use Rattle.session_rules.specs.Machine.{image_at}
 use Rattle.session_rules.specs.Sessions.{Reply, Refusal, Rows, result, db}
 use Rattle.session_world.specs.Nodes.{Said, Node, Standing, started}
-use Rattle.session_world.specs.Life.{Event, Connect, Hangup, Call, Apply, Lose, Lead, Serve, Append, Follow, run_from, AllFit}
+use Rattle.session_world.specs.Life.{Event, Connect, Hangup, Call, Resume, Done, Apply, Lose, Lead, Serve, Append, Follow, run_from, AllFit}
 
 -- ---- the engine of cells, of which cell 1 is set and read
 
@@ -35,7 +36,7 @@ got_on image = record { after = record { tx = 0; pages = [] }; affected = 0; col
 -- ---- events
 
 abbrev pub alone_here : Standing
-alone_here = record { id = 1; address = codes "n1"; leader = None; servers = []; links = false; readers = false; even = [] }
+alone_here = record { id = 1; leader = None; servers = []; links = false; readers = false; even = [] }
 
 abbrev pub opens : ℕ → Event
 opens conn = Call conn alone_here (Open (codes "d") 0 (codes "volatile")) []
@@ -104,6 +105,32 @@ ProposalStays =
 pub record LeadershipGoes : Type 0 where
   pub told : replies (sets 1 empty_image 5 ∷ Lose 2 ∷ Follow (record { term = 2; content = Other } ∷ []) ∷ Apply ∷ sets 1 empty_image 5 ∷ []) ≡ opened ((1, Refusal LeadershipLost) ∷ (1, Refusal NotLeader) ∷ [])
   pub image : image_at (after (sets 1 empty_image 5 ∷ Lose 2 ∷ Follow (record { term = 2; content = Other } ∷ []) ∷ Apply ∷ [])).log 3 (codes "d") ≡ empty_image
+
+-- a connection that opens the database with barrier reads
+abbrev pub opens_fresh : ℕ → Event
+opens_fresh conn = Call conn alone_here (Open (codes "d") 4294967296 (codes "volatile")) []
+
+-- A query with barrier reads waits for its barrier, and reads what was proposed before it; or it is refused as leadership is
+-- lost before.
+pub record BarrierWaits : Type 0 where
+  pub waits : replies (Connect 3 ∷ opens_fresh 3 ∷ sets 1 empty_image 9 ∷ gets 3 empty_image ∷ Apply ∷ []) ≡ opened ((3, db) ∷ (1, result 1) ∷ [])
+  pub reads : replies (Connect 3 ∷ opens_fresh 3 ∷ sets 1 empty_image 9 ∷ gets 3 empty_image ∷ Apply ∷ Apply ∷ Resume 3 alone_here (Ok (got_on (one 9)) ∷ []) ∷ []) ≡ opened ((3, db) ∷ (1, result 1) ∷ (3, Rows (got_on (one 9))) ∷ [])
+  pub lost : replies (Connect 3 ∷ opens_fresh 3 ∷ gets 3 empty_image ∷ Lose 2 ∷ []) ≡ opened ((3, db) ∷ (3, Refusal LeadershipLost) ∷ [])
+
+-- the same node with readers beside it
+abbrev pub with_readers : Standing
+with_readers = record alone_here { readers = true }
+
+-- the cell is read, and the engine gives up as that takes too many steps
+abbrev pub gets_long : ℕ → Event
+gets_long conn = Call conn with_readers (QuerySql 0 (codes "GET 1") [] false) (Err engine_faults.Cut ∷ [])
+
+-- A query that is cut is lent to a reader, who tells what it read in the image of that moment: others write meanwhile, and the
+-- connection handles nothing else. Without readers, and inside a transaction, it is refused.
+pub record ReadersTell : Type 0 where
+  pub lent : replies (gets_long 1 ∷ sets 2 empty_image 9 ∷ Apply ∷ says_so 1 (codes "BEGIN") ∷ Done 1 (Ok (got_on empty_image) ∷ []) ∷ gets 1 (one 9) ∷ []) ≡ opened ((2, result 1) ∷ (1, Rows (got_on empty_image)) ∷ (1, Rows (got_on (one 9))) ∷ [])
+  pub given_back : replies (gets_long 1 ∷ sets 2 empty_image 9 ∷ Apply ∷ Resume 1 with_readers (Ok (got_on (one 9)) ∷ []) ∷ []) ≡ opened ((2, result 1) ∷ (1, Rows (got_on (one 9))) ∷ [])
+  pub refused : replies (says_so 1 (codes "BEGIN") ∷ gets_long 1 ∷ Call 2 alone_here (QuerySql 0 (codes "GET 1") [] false) (Err engine_faults.Cut ∷ []) ∷ []) ≡ opened ((1, result 0) ∷ (1, Refusal OutOfMemory) ∷ (2, Refusal OutOfMemory) ∷ [])
 
 -- The life of a transaction with a write and its commit, which all read then: each event fits, under the engine of cells.
 unfoldable pub transaction : List Event

@@ -1,13 +1,14 @@
 -- What holds of each life of a node.
-use Rattle.std.specs.Prelude.{◌≡◌, ◌≢◌, ◌⊎◌, ℕ, suc, ◌<◌, ◌≤◌, true, false, List, [], ◌∷◌, ◌++◌, length, Option, Some, None}
+use Rattle.std.specs.Prelude.{◌≡◌, ◌≢◌, ◌⊎◌, ℕ, suc, ◌<◌, ◌≤◌, Bool, true, false, List, [], ◌∷◌, ◌++◌, length, Option, Some, None, IsSome}
 use Rattle.dq_base.specs.Changes.{changed}
 use Rattle.sql_engine.specs.declared.kind.EngineKind.{EngineKind}
 use Rattle.sql_engine.specs.Meanings.{Meaning}
 use Rattle.session_rules.specs.Causes.{LeadershipLost}
 use Rattle.session_rules.specs.Entries.{Entry}
 use Rattle.session_rules.specs.Engines.{no_pages}
-use Rattle.session_rules.specs.Sessions.{Refusal, Flight, Transaction}
+use Rattle.session_rules.specs.Sessions.{is_due, Refusal, Kind, Opening, Configuring, Writing, Committing, Querying, Flight, Due, Transaction, Session}
 use Rattle.session_rules.specs.Limits.{is_write, holds, other_holds}
+use Rattle.session_rules.specs.Asking.{has_database}
 use Rattle.session_world.specs.Woven.{Woven}
 use Rattle.session_world.specs.Nodes.{Query, Commit, Said, Node, databases, started, applied_entries}
 use Rattle.session_world.specs.Life.{Event, Connect, Apply, Lose, commit_of, happens, run_from, AllFit}
@@ -57,13 +58,24 @@ abbrev pub SaidTo : ℕ → (Said → Type 0) → List Said → Type 0
 SaidTo conn P [] = ⊥
 SaidTo conn P (x ∷ xs) = ((x.conn ≡ conn) × P x) ⊎ SaidTo conn P xs
 
--- A proposal in flight whose client is there is answered where its last entry is applied, and with a refusal where leadership
--- is lost before.
+-- A proposal is answered where its last entry is applied; where it is a barrier its query is due then.
+abbrev pub Lands : Node → ℕ → Flight → Kind → Type 0
+Lands w conn f Opening = SaidTo conn (λ x. x.index ≡ f.last) (happens w Apply).said
+Lands w conn f Configuring = SaidTo conn (λ x. x.index ≡ f.last) (happens w Apply).said
+Lands w conn f (Writing reply) = SaidTo conn (λ x. x.index ≡ f.last) (happens w Apply).said
+Lands w conn f Committing = SaidTo conn (λ x. x.index ≡ f.last) (happens w Apply).said
+Lands w conn f (Querying statement) = ((happens w Apply).gate.session conn).later ≡ Some (Due statement)
+
+-- So it is with a proposal in flight whose client is there; and it is answered with a refusal where leadership is lost before.
 abbrev pub IsAnswered : Node → ℕ → Flight → Type 0
-IsAnswered w conn f = (f.last ≡ suc w.applied → SaidTo conn (λ x. x.index ≡ f.last) (happens w Apply).said) × ((term : ℕ) → SaidTo conn (λ x. x.reply ≡ Refusal LeadershipLost) (happens w (Lose term)).said)
+IsAnswered w conn f = (f.last ≡ suc w.applied → Lands w conn f f.kind) × ((term : ℕ) → SaidTo conn (λ x. x.reply ≡ Refusal LeadershipLost) (happens w (Lose term)).said)
+
+-- A query that is due, whose client is there, is answered with a refusal where leadership is lost.
+abbrev pub DueIsTold : Node → ℕ → Type 0
+DueIsTold w conn = is_due (w.gate.session conn).later ≡ true → (w.gate.session conn).hung ≡ false → (term : ℕ) → SaidTo conn (λ x. x.reply ≡ Refusal LeadershipLost) (happens w (Lose term)).said
 
 abbrev pub AnswersCome : Meaning → EngineKind → Type 0
-AnswersCome m kind = OfLives m kind (λ w. (conn : ℕ) (f : Flight) → (w.gate.session conn).flight ≡ Some f → (w.gate.session conn).hung ≡ false → IsAnswered w conn f)
+AnswersCome m kind = OfLives m kind (λ w. (conn : ℕ) → ((f : Flight) → (w.gate.session conn).flight ≡ Some f → (w.gate.session conn).hung ≡ false → IsAnswered w conn f) × DueIsTold w conn)
 
 -- each reply to this connection is such as the test says
 abbrev pub EachTo : ℕ → (Said → Type 0) → List Said → Type 0
@@ -111,6 +123,17 @@ pub record Sees (conn : ℕ) (w v : Node) : Type 0 where
 abbrev pub LivesSee : Meaning → EngineKind → Type 0
 LivesSee m kind = (log : List Entry) (applied term : ℕ) (es fs : List Event) (conn : ℕ) → Starts log applied → AllFit m kind (started log applied term) (es ++ fs) → NoneComes conn fs → Sees conn (life log applied term es) (life log applied term (es ++ fs))
 
+-- no transaction is open at the session, nothing is in flight, and no query is due
+pub record HasNothingOpen (s : Session) : Type 0 where
+  pub tx : s.tx ≡ None
+  pub flight : s.flight ≡ None
+  pub due : is_due s.later ≡ false
+
+-- So it is with each session wherever the node doesn't serve. Between a lost leadership and the next service none begins a
+-- transaction, so a machine that comes in a snapshot meanwhile has no marks to carry over.
+abbrev pub IdleIsEmpty : Meaning → EngineKind → Type 0
+IdleIsEmpty m kind = OfLives m kind (λ w. w.serving ≡ false → (conn : ℕ) → HasNothingOpen (w.gate.session conn))
+
 -- The log of each life is woven.
 abbrev pub LivesWeave : Meaning → EngineKind → Type 0
 LivesWeave m kind = OfLives m kind (λ w. Woven w.log)
@@ -141,3 +164,27 @@ pub record Stands (m : Meaning) (w : Node) (conn : ℕ) (f : Flight) : Type 0 wh
 
 abbrev pub FlightsStand : Meaning → EngineKind → Type 0
 FlightsStand m kind = OfLives m kind (λ w. (conn : ℕ) (f : Flight) → (w.gate.session conn).flight ≡ Some f → is_write f.kind ≡ true → Stands m w conn f)
+
+-- ---- queries that are yet to be answered
+
+abbrev pub is_barrier : Kind → Bool
+is_barrier Opening = false
+is_barrier Configuring = false
+is_barrier (Writing reply) = false
+is_barrier Committing = false
+is_barrier (Querying statement) = true
+
+-- the barrier before a query is in flight
+abbrev pub awaits_barrier : Option Flight → Bool
+awaits_barrier None = false
+awaits_barrier (Some f) = is_barrier f.kind
+
+-- The session has opened a database where a query of it is yet to be answered: behind its barrier, to be run next, or at a reader.
+pub record HasOpened (s : Session) : Type 0 where
+  pub awaits : awaits_barrier s.flight ≡ true → has_database s ≡ true
+  pub later : IsSome s.later → has_database s ≡ true
+
+-- So it is with each session after any list of events, whatever the engine answers: a query that is run later than it was asked has
+-- a database to run over.
+abbrev pub QueriesHaveDatabases : Type 0
+QueriesHaveDatabases = (log : List Entry) (applied term : ℕ) (es : List Event) (conn : ℕ) → HasOpened ((life log applied term es).gate.session conn)

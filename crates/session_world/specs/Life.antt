@@ -1,5 +1,5 @@
 -- The life of a node since it was started: what may happen at it, and what is said then.
-use Rattle.std.specs.Prelude.{◌≡◌, ℕ, suc, ◌<◌, max, Bool, true, false, ◌==◌, List, [], ◌∷◌, ◌++◌, length, take, map, Option, Some, None, if◌then◌else◌}
+use Rattle.std.specs.Prelude.{◌≡◌, ℕ, suc, ◌<◌, ◌≤◌, max, Bool, true, false, ◌==◌, List, [], ◌∷◌, ◌++◌, length, take, map, Option, Some, None, if◌then◌else◌}
 use Rattle.frame_commands.specs.declared.command.Command.{Command}
 use Rattle.frame_commands.specs.declared.command.Command.TheVariants.{OpenDb, Frames, Undo, Checkpoint}
 use Rattle.wire_msgs.specs.declared.request.Request.{Request}
@@ -7,21 +7,24 @@ use Rattle.sql_engine.specs.declared.kind.EngineKind.{EngineKind}
 use Rattle.sql_engine.specs.Replies.{Statement}
 use Rattle.sql_engine.specs.Meanings.{Meaning}
 use Rattle.session_rules.specs.Entries.{Content, Does, Configures, Other, Entry, entries_of}
-use Rattle.session_rules.specs.Machine.{base_at}
-use Rattle.session_rules.specs.Engines.{Answer, AllowsFor}
-use Rattle.session_rules.specs.Sessions.{Reply, Refusal, Single, Rows, result, empty, db, Kind, Opening, Configuring, Writing, Committing, Flight, Session, may_ask, Note, Nothing, Began, Inside, Outside, Turned, Refused, Lacks, Answers, Proposes, Affects}
-use Rattle.session_rules.specs.Requests.{on_request, handed, with_session, affected_by}
+use Rattle.session_rules.specs.Machine.{base_at, image_at}
+use Rattle.session_rules.specs.Engines.{Answer, no_answer, runs, AllowsAll, AllowsFor}
+use Rattle.session_rules.specs.Sessions.{Reply, Refusal, Single, Rows, result, empty, db, Kind, Opening, Configuring, Writing, Committing, Querying, Flight, later_query, lent_query, Session, may_ask, Job, Note, Nothing, Began, Inside, Outside, Turned, Refused, Lacks, Answers, Proposes, Lends, Affects}
+use Rattle.session_rules.specs.Requests.{job_reply, on_request, handed, on_later, handed_later, with_session, without_later, affected_by}
 use Rattle.session_rules.specs.Events.{on_applied, on_lost, told_lost, on_hangup, connects, connected}
 use Rattle.session_world.specs.Nodes.{Query, Commit, Said, Trail, Node, Standing, databases, view_of, unseen}
 use Rattle.session_world.specs.Woven.{Woven}
 
--- What may happen: a connection comes, or goes; a request is handled, with the answers of an engine; the next entry is
--- applied; leadership is lost, or won, in a term; the node begins to serve; a leader appends entries of its own, as its first
+-- What may happen: a connection comes, or goes; a request is handled, with the answers of an engine; a query that is yet to be
+-- answered is run, behind its barrier or as a reader gave it back; a reader has run one, with the engine's answer; the next entry
+-- is applied; leadership is lost, or won, in a term; the node begins to serve; a leader appends entries of its own, as its first
 -- one, an Undo or a Checkpoint; and where others lead they change the log past what is applied.
 pub data Event : Type 0 where
   Connect : (conn : ℕ) → Event
   Hangup : (conn : ℕ) → Event
   Call : (conn : ℕ) (standing : Standing) (request : Request) (answers : List Answer) → Event
+  Resume : (conn : ℕ) (standing : Standing) (answers : List Answer) → Event
+  Done : (conn : ℕ) (answers : List Answer) → Event
   Apply : Event
   Lose : (term : ℕ) → Event
   Lead : (term : ℕ) → Event
@@ -84,6 +87,10 @@ called w conn (Proposes s contents note) = record w {
   gate = with_session w.gate conn s;
   trail = λ other. if other == conn then proposed_trail w.applied (w.trail conn) note else w.trail other;
 }
+called w conn (Lends s job) = record w {
+  gate = with_session w.gate conn s;
+  trail = λ other. if other == conn then proposed_trail w.applied (w.trail conn) (Outside job.name (job.statement ∷ [])) else w.trail other;
+}
 called w conn (Affects effect) = record w { gate = affected_by w.gate effect; said = w.said ++ tells conn empty ∷ [] }
 
 -- ---- entries that are applied
@@ -92,15 +99,16 @@ abbrev pub commit_of : Flight → List Statement → Commit
 commit_of f ss = record { name = f.name; first = f.first; last = f.last; term = f.term; statements = ss }
 
 -- what is said when a proposal's last entry is applied
-abbrev pub said_landed : ℕ → Trail → Flight → Kind → Said
-said_landed conn t f Opening = record { conn = conn; reply = db; query = None; commit = None; opened = Some f.name; index = f.last; term = f.term }
-said_landed conn t f Configuring = record { conn = conn; reply = empty; query = None; commit = None; opened = None; index = f.last; term = f.term }
-said_landed conn t f (Writing reply) = record { conn = conn; reply = reply; query = query_for reply f.name t.at [] t.ran t.seen; commit = Some (commit_of f t.ran); opened = None; index = f.last; term = f.term }
-said_landed conn t f Committing = record { conn = conn; reply = result 0; query = None; commit = Some (commit_of f t.ran); opened = None; index = f.last; term = f.term }
+abbrev pub said_landed : ℕ → Trail → Flight → Kind → List Said
+said_landed conn t f Opening = record { conn = conn; reply = db; query = None; commit = None; opened = Some f.name; index = f.last; term = f.term } ∷ []
+said_landed conn t f Configuring = record { conn = conn; reply = empty; query = None; commit = None; opened = None; index = f.last; term = f.term } ∷ []
+said_landed conn t f (Writing reply) = record { conn = conn; reply = reply; query = query_for reply f.name t.at [] t.ran t.seen; commit = Some (commit_of f t.ran); opened = None; index = f.last; term = f.term } ∷ []
+said_landed conn t f Committing = record { conn = conn; reply = result 0; query = None; commit = Some (commit_of f t.ran); opened = None; index = f.last; term = f.term } ∷ []
+said_landed conn t f (Querying statement) = []
 
 abbrev pub said_by : ℕ → ℕ → Trail → Bool → Option Flight → List Said
 said_by index conn t hung None = []
-said_by index conn t hung (Some f) = if f.last == index then (if hung then [] else said_landed conn t f f.kind ∷ []) else []
+said_by index conn t hung (Some f) = if f.last == index then (if hung then [] else said_landed conn t f f.kind) else []
 
 abbrev pub said_applied : ℕ → (ℕ → Trail) → (ℕ → Session) → List ℕ → List Said
 said_applied index trail session [] = []
@@ -111,10 +119,70 @@ landed_trail index t Opening = t
 landed_trail index t Configuring = t
 landed_trail index t (Writing reply) = record t { seen = max t.seen index }
 landed_trail index t Committing = record t { seen = max t.seen index }
+landed_trail index t (Querying statement) = t
 
 abbrev pub trail_by : ℕ → Trail → Option Flight → Trail
 trail_by index t None = t
 trail_by index t (Some f) = if f.last == index then landed_trail index t f.kind else t
+
+-- ---- a query that is yet to be answered
+
+-- the node where the connection has none
+abbrev pub undue : Node → ℕ → Node
+undue w conn = record w { gate = without_later w.gate conn }
+
+-- what comes of the query where the node runs it, over the newest image
+abbrev pub outcome_later : Node → ℕ → Standing → Statement → List Answer → Turned
+outcome_later w conn standing statement answers = on_later (view_of w standing) (databases w) (undue w conn).gate conn statement answers
+
+-- the node after it; where an answer lacks, the query waits on
+abbrev pub resumed_by : Node → ℕ → Turned → Node
+resumed_by w conn (Refused cause) = called (undue w conn) conn (Refused cause)
+resumed_by w conn Lacks = w
+resumed_by w conn (Answers s reply note) = called (undue w conn) conn (Answers s reply note)
+resumed_by w conn (Proposes s contents note) = called (undue w conn) conn (Proposes s contents note)
+resumed_by w conn (Lends s job) = called (undue w conn) conn (Lends s job)
+resumed_by w conn (Affects effect) = called (undue w conn) conn (Affects effect)
+
+abbrev pub resumed : Node → ℕ → Standing → List Answer → Option Statement → Node
+resumed w conn standing answers None = w
+resumed w conn standing answers (Some statement) = resumed_by w conn (outcome_later w conn standing statement answers)
+
+-- what a reader has: the query, over the image of the index at which it was lent
+abbrev pub job_at : Node → ℕ → Statement → Job
+job_at w conn statement = record { name = (w.gate.session conn).database; image = image_at w.log (w.trail conn).at (w.gate.session conn).database; statement = statement }
+
+-- what it tells
+abbrev pub told_at : Node → ℕ → Statement → List Answer → Option Reply
+told_at w conn statement answers = job_reply (job_at w conn statement) (runs (job_at w conn statement).image no_answer (statement ∷ []) answers)
+
+-- a reader's reply rests on that image, which its connection has seen then
+abbrev pub said_read : Node → ℕ → Statement → Reply → Said
+said_read w conn statement reply = record {
+  conn = conn;
+  reply = reply;
+  query = query_for reply (w.gate.session conn).database (w.trail conn).at [] (statement ∷ []) (w.trail conn).seen;
+  commit = None;
+  opened = None;
+  index = 0;
+  term = 0;
+}
+
+abbrev pub read_trail : Trail → Trail
+read_trail t = record t { seen = max t.seen t.at }
+
+-- the node after a reader told a reply, or gave its job back without one
+abbrev pub read_by : Node → ℕ → Statement → Option Reply → Node
+read_by w conn statement None = w
+read_by w conn statement (Some reply) = record w {
+  gate = without_later w.gate conn;
+  trail = λ other. if other == conn then read_trail (w.trail conn) else w.trail other;
+  said = w.said ++ said_read w conn statement reply ∷ [];
+}
+
+abbrev pub read : Node → ℕ → List Answer → Option Statement → Node
+read w conn answers None = w
+read w conn answers (Some statement) = read_by w conn statement (told_at w conn statement answers)
 
 -- ---- events
 
@@ -130,6 +198,8 @@ unfoldable pub happens : Node → Event → Node
 happens w (Connect conn) = if connects w.gate conn then joined w conn else w
 happens w (Hangup conn) = record w { gate = on_hangup w.gate conn }
 happens w (Call conn standing request answers) = if may_ask (w.gate.session conn) then called w conn (on_request (view_of w standing) (databases w) w.gate conn request answers) else w
+happens w (Resume conn standing answers) = resumed w conn standing answers (later_query (w.gate.session conn).later)
+happens w (Done conn answers) = read w conn answers (lent_query (w.gate.session conn).later)
 happens w Apply = record w {
   applied = suc w.applied;
   gate = on_applied (suc w.applied) w.gate;
@@ -164,15 +234,27 @@ abbrev pub ArePlain : Bool → List Content → Type 0
 ArePlain serving [] = Unit {0}
 ArePlain serving (content ∷ contents) = IsPlain serving content × ArePlain serving contents
 
+-- the answers are ones that the engine may give to a query that is run later than it was asked
+abbrev pub AllowsLater : Meaning → EngineKind → Node → ℕ → Standing → List Answer → Option Statement → Type 0
+AllowsLater m kind w conn standing answers None = Unit {0}
+AllowsLater m kind w conn standing answers (Some statement) = AllowsFor m kind (handed_later (view_of w standing) (databases w) (undue w conn).gate conn statement) answers
+
+-- the same of a reader's answers
+abbrev pub AllowsRead : Meaning → EngineKind → Node → ℕ → List Answer → Option Statement → Type 0
+AllowsRead m kind w conn answers None = Unit {0}
+AllowsRead m kind w conn answers (Some statement) = AllowsAll m kind (job_at w conn statement).image (statement ∷ []) answers
+
 -- What the node sees to, and what is asked of the engine and of others' entries. A node begins to serve when all of its log
 -- is applied and no pages are pending.
 abbrev pub Fits : Meaning → EngineKind → Node → Event → Type 0
 Fits m kind w (Connect conn) = Unit {0}
 Fits m kind w (Hangup conn) = Unit {0}
 Fits m kind w (Call conn standing request answers) = may_ask (w.gate.session conn) ≡ true → AllowsFor m kind (handed (view_of w standing) (databases w) w.gate conn request) answers
+Fits m kind w (Resume conn standing answers) = AllowsLater m kind w conn standing answers (later_query (w.gate.session conn).later)
+Fits m kind w (Done conn answers) = AllowsRead m kind w conn answers (lent_query (w.gate.session conn).later)
 Fits m kind w Apply = w.applied < length w.log
-Fits m kind w (Lose term) = Unit {0}
-Fits m kind w (Lead term) = w.leads ≡ false
+Fits m kind w (Lose term) = w.term < term
+Fits m kind w (Lead term) = (w.leads ≡ false) × (w.term ≤ term)
 Fits m kind w Serve = (w.leads ≡ true) × (w.applied ≡ length w.log) × ((name : List ℕ) → (base_at w.log w.applied name).pending ≡ None)
 Fits m kind w (Append contents) = (w.leads ≡ true) × ArePlain w.serving contents
 Fits m kind w (Follow entries) = (w.leads ≡ false) × Woven (take w.applied w.log ++ entries)

@@ -61,8 +61,7 @@ pub record Node : Type 0 where
 -- with it
 pub record Standing : Type 0 where
   pub id : ℕ
-  pub address : List ℕ
-  pub leader : Option Server
+  pub leader : Option ℕ
   pub servers : List Server
   pub links : Bool
   pub readers : Bool
@@ -76,7 +75,6 @@ databases w = files (take w.applied w.log)
 abbrev pub view_of : Node → Standing → View
 view_of w standing = record {
   id = standing.id;
-  address = standing.address;
   leader = standing.leader;
   serving = w.serving;
   term = w.term;

@@ -11,6 +11,8 @@ ghost use Rattle.session_world.specs.Examples.{
   TurnEnds,
   ProposalStays,
   LeadershipGoes,
+  BarrierWaits,
+  ReadersTell,
   TransactionFits,
 };
 ghost use Rattle.session_world.specs.Laws.{
@@ -23,7 +25,9 @@ ghost use Rattle.session_world.specs.Laws.{
   ChangesTakeTurns,
   CommitsPass,
   FlightsStand,
+  IdleIsEmpty,
   LivesSee,
+  QueriesHaveDatabases,
 };
 ghost use Rattle.session_world.specs.Logs.{OneCommit, CommitsApply, OnlyCommits, UndosClear};
 
@@ -84,6 +88,12 @@ pub fn commits_pass<E: Engine>()
     ensures { (kind : _) → CommitsPass (E.meaning kind) kind }
 {}
 
+/// Where a node doesn't serve, no session has a transaction, a proposal in flight or a query that is due: so none begins between a
+/// lost leadership and the next service, and a machine that comes in a snapshot meanwhile has no marks to carry over.
+pub fn idle_is_empty<E: Engine>()
+    ensures { (kind : _) → IdleIsEmpty (E.meaning kind) kind }
+{}
+
 /// The log of each life is woven: the entries of each transaction stand in one piece.
 pub fn lives_weave<E: Engine>()
     ensures { (kind : _) → LivesWeave (E.meaning kind) kind }
@@ -108,6 +118,12 @@ pub fn flights_stand<E: Engine>()
     ensures { (kind : _) → FlightsStand (E.meaning kind) kind }
 {}
 
+/// A session with a query that is yet to be answered has opened a database: while the query's barrier is in flight, once it is due,
+/// and while a reader has it. So it is after any list of events, whatever an engine answers.
+pub fn queries_have_databases()
+    ensures { QueriesHaveDatabases }
+{}
+
 /// One voter that never stops: after each turn all of its log is applied, each reply is right by it, its log is woven, and
 /// no request waits; a reply that waited for an entry is said in the turn that applies this entry; and what a connection has
 /// seen is not below what its earlier replies rest on. The same of the lines of a script with one journal, of which each
@@ -121,12 +137,15 @@ pub fn alone_is_safe<E: Engine>()
 
 /// Small lives under the engine of cells, computed: a write is answered when it is applied, a transaction reads its own image
 /// and can't write over an old one, a hang-up ends the write turn and leaves a proposal, a leader that is deposed refuses
-/// what it proposed. And a life in which a transaction is committed and read, each event of which fits. So no law is empty.
+/// what it proposed, a query with barrier reads waits for its barrier, and one that is cut is lent to a reader. And a life in
+/// which a transaction is committed and read, each event of which fits. So no law is empty.
 pub fn lives_are_made()
     ensures write { WriteWaits }
     ensures old_images { OldImages }
     ensures turn { TurnEnds }
     ensures proposal { ProposalStays }
     ensures lost { LeadershipGoes }
+    ensures barrier { BarrierWaits }
+    ensures readers { ReadersTell }
     ensures fits { TransactionFits }
 {}

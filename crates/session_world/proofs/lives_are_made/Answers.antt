@@ -1,4 +1,4 @@
-use Rattle.session_world.proofs.Examples.{write_waits_holds, old_images_hold, turn_ends_holds, proposal_stays_holds, leadership_goes_holds, transaction_fits}
+use Rattle.session_world.proofs.Examples.{write_waits_holds, old_images_hold, turn_ends_holds, proposal_stays_holds, leadership_goes_holds, barrier_waits_holds, readers_tell_holds, transaction_fits}
 use Rattle.session_world.proofs.lives_are_made.Goals as goal
 
 pub returns-clause-write : goal.returns-clause-write
@@ -18,3 +18,9 @@ returns-clause-lost c = leadership_goes_holds
 
 pub returns-clause-fits : goal.returns-clause-fits
 returns-clause-fits c = transaction_fits
+
+pub returns-clause-barrier : goal.returns-clause-barrier
+returns-clause-barrier c = barrier_waits_holds
+
+pub returns-clause-readers : goal.returns-clause-readers
+returns-clause-readers c = readers_tell_holds
