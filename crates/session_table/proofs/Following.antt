@@ -5,17 +5,21 @@ use Rattle.std.specs.List.{AllByRecursion, filter}
 use Rattle.std.proofs.lemmas.Bool.{cases_Bool, eqb-true}
 use Rattle.page_apply.specs.declared.database.Database.{Database}
 use Rattle.page_apply.specs.Pins.{Pinning, IsPinned}
-use Rattle.session_rules.specs.Sessions.{Kind, Opening, Configuring, Writing, Committing, Flight, Transaction as RuleTransaction, Session as RuleSession, Gateway, absent}
+use Rattle.session_rules.specs.Sessions.{Kind, Opening, Configuring, Writing, Committing, Querying, Flight, Transaction as RuleTransaction, Session as RuleSession, Gateway, absent}
 use Rattle.session_rules.specs.Requests.{with_tx, with_session}
 use Rattle.session_rules.specs.Events as events
 use Rattle.session_rules.specs.Events.{tidy, on_applied, on_lost, on_hangup}
+use Rattle.session_rules.specs.Sessions.{Due, Later as RuleLater}
+use Rattle.session_table.specs.Named.{later_named}
+use Rattle.session_table.specs.declared.session.Later.{Later}
+use Rattle.session_table.specs.declared.session.Later.TheVariants as laters
 use Rattle.session_table.specs.declared.session.Session.{Session}
 use Rattle.session_table.specs.declared.session.Transaction.{Transaction}
 use Rattle.session_table.specs.declared.sweep.Event.{Event}
 use Rattle.session_table.specs.declared.sweep.Event.TheVariants.{Applied, Lost, Left, Ended}
 use Rattle.session_table.specs.Table.{database_of, image_pinned, transaction_of, session_of, session_at, table_of, AreApart, mark_of, pin_of, pins_of}
 use Rattle.session_table.specs.Marks.{IsNoneOf, AreMarks, Released}
-use Rattle.session_table.specs.Sweeping.{ended, stopped, done, kept_applied, kept_left, kept, all_kept, all_freed, after}
+use Rattle.session_table.specs.Sweeping.{still_lent, lost, stopped, done, kept_applied, kept_left, kept, all_kept, all_freed, after}
 use Rattle.session_table.proofs.Releasing.{all_front, all_back, AreBeside}
 use Rattle.session_table.proofs.Parting.{of_kept, kept_beside}
 use Rattle.session_table.proofs.Found.{IsFound, all_found}
@@ -45,7 +49,7 @@ same_pins gone old new (s ∷ ss) released beside live = (
 )
 
 pub same_session : (old new : List Database) (s : Session) → IsSame old new s.transaction → session_of new s ≡ session_of old s
-same_session old new s same = ap (λ (tx : Option RuleTransaction). record { there = true; hung = s.hung; database = database_of s.database; statements = s.statements.items; tx = tx; flight = s.flight }) same
+same_session old new s same = ap (λ (tx : Option RuleTransaction). record { there = true; hung = s.hung; database = database_of s.database; barriers = s.barriers; later = option_map later_named s.later; statements = s.statements.items; tx = tx; flight = s.flight }) same
 
 -- ---- one session
 
@@ -54,10 +58,11 @@ module _ (old new : List Database) where
   AreSame ss = AllByRecursion (λ (s : Session). IsSame old new s.transaction) ss
 
   done_fits : (s : Session) (f : Flight) (kind : Kind) → AreSame (done s f.name kind ∷ []) → Fits new s.conn (events.landed (session_of old s) f kind) (done s f.name kind ∷ [])
-  done_fits s f Opening same = (refl, ap (λ (tx : Option RuleTransaction). record { there = true; hung = s.hung; database = f.name; statements = s.statements.items; tx = tx; flight = None }) same.0)
-  done_fits s f Configuring same = (refl, ap (λ (tx : Option RuleTransaction). record { there = true; hung = s.hung; database = database_of s.database; statements = s.statements.items; tx = tx; flight = None }) same.0)
-  done_fits s f (Writing reply) same = (refl, ap (λ (tx : Option RuleTransaction). record { there = true; hung = s.hung; database = database_of s.database; statements = s.statements.items; tx = tx; flight = None }) same.0)
+  done_fits s f Opening same = (refl, ap (λ (tx : Option RuleTransaction). record { there = true; hung = s.hung; database = f.name; barriers = s.barriers; later = option_map later_named s.later; statements = s.statements.items; tx = tx; flight = None }) same.0)
+  done_fits s f Configuring same = (refl, ap (λ (tx : Option RuleTransaction). record { there = true; hung = s.hung; database = database_of s.database; barriers = s.barriers; later = option_map later_named s.later; statements = s.statements.items; tx = tx; flight = None }) same.0)
+  done_fits s f (Writing reply) same = (refl, ap (λ (tx : Option RuleTransaction). record { there = true; hung = s.hung; database = database_of s.database; barriers = s.barriers; later = option_map later_named s.later; statements = s.statements.items; tx = tx; flight = None }) same.0)
   done_fits s f Committing same = (refl, refl)
+  done_fits s f (Querying statement) same = (refl, ap (λ (tx : Option RuleTransaction). record { there = true; hung = s.hung; database = database_of s.database; barriers = s.barriers; later = Some (Due statement); statements = s.statements.items; tx = tx; flight = None }) same.0)
 
   applied_fits : (index : ℕ) (s : Session) (flight : Option Flight) → AreSame (kept_applied index s flight) → Fits new s.conn (events.settled_by index (session_of old s) flight) (kept_applied index s flight)
   applied_fits index s None same = (refl, same_session old new s same.0)
@@ -70,14 +75,22 @@ module _ (old new : List Database) where
   ]) same
 
   lost_fits : (s : Session) → Fits new s.conn (events.lost (session_of old s)) (kept Lost s)
-  lost_fits s = elim s.hung as (λ (h : Bool). Fits new s.conn (cond h absent (record { there = true; hung = s.hung; database = database_of s.database; statements = s.statements.items; tx = None; flight = None })) (cond h [] (ended s ∷ []))) [
+  lost_fits s = elim s.hung as (λ (h : Bool). Fits new s.conn (cond h absent (lost_session (events.still_lent (option_map later_named s.later)))) (cond h [] (lost s ∷ []))) [
     | true ↦ refl
-    | false ↦ (refl, refl)
+    | false ↦ (refl, ap lost_session (same_lent s.later))
   ]
+    where
+      lost_session : Option RuleLater → RuleSession
+      lost_session later = record { there = true; hung = s.hung; database = database_of s.database; barriers = s.barriers; later = later; statements = s.statements.items; tx = None; flight = None }
+
+      same_lent : (l : Option Later) → option_map later_named (still_lent l) ≡ events.still_lent (option_map later_named l)
+      same_lent None = refl
+      same_lent (Some (laters.Due query)) = refl
+      same_lent (Some (laters.Lent query)) = refl
 
   gone_fits : (s : Session) (flight : Option Flight) → s.flight ≡ flight → AreSame (kept_left s flight) → Fits new s.conn (events.left (session_of old s) flight) (kept_left s flight)
   gone_fits s None is same = refl
-  gone_fits s (Some f) is same = (refl, ap (λ (tx : Option RuleTransaction). record { there = true; hung = true; database = database_of s.database; statements = s.statements.items; tx = tx; flight = s.flight }) same.0)
+  gone_fits s (Some f) is same = (refl, ap (λ (tx : Option RuleTransaction). record { there = true; hung = true; database = database_of s.database; barriers = s.barriers; later = option_map later_named s.later; statements = s.statements.items; tx = tx; flight = s.flight }) same.0)
 
   -- what becomes of the session of a connection whose client goes
   abbrev pub leaves : ℕ → ℕ → RuleSession → RuleSession

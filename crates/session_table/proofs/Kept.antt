@@ -4,12 +4,12 @@ use Rattle.std.specs.Prelude.{◌==◌}
 use Rattle.std.specs.List.{AllByRecursion}
 use Rattle.std.proofs.lemmas.List.{length-append}
 use Rattle.page_apply.specs.Pins.{Pinning}
-use Rattle.session_rules.specs.Sessions.{Kind, Opening, Configuring, Writing, Committing, Flight}
+use Rattle.session_rules.specs.Sessions.{Kind, Opening, Configuring, Writing, Committing, Querying, Flight}
 use Rattle.session_table.specs.declared.session.Session.{Session}
 use Rattle.session_table.specs.declared.sweep.Event.{Event}
 use Rattle.session_table.specs.declared.sweep.Event.TheVariants.{Applied, Lost, Left, Ended}
 use Rattle.session_table.specs.Table.{AreApart, IsTable, pins_of}
-use Rattle.session_table.specs.Sweeping.{stopped, ended, done, kept_applied, kept_left, kept, all_kept, all_said}
+use Rattle.session_table.specs.Sweeping.{stopped, lost, done, kept_applied, kept_left, kept, all_kept, all_said}
 use Rattle.session_table.proofs.Releasing.{all_both}
 use Rattle.session_table.proofs.Parting.{pins_append}
 
@@ -24,6 +24,7 @@ done_of s name Opening = refl
 done_of s name Configuring = refl
 done_of s name (Writing reply) = refl
 done_of s name Committing = refl
+done_of s name (Querying statement) = refl
 
 applied_of : (index : ℕ) (s : Session) (flight : Option Flight) → IsOf s.conn (kept_applied index s flight)
 applied_of index s None = refl
@@ -38,7 +39,7 @@ left_of s (Some f) = refl
 
 kept_of : (event : Event) (s : Session) → IsOf s.conn (kept event s)
 kept_of (Applied index) s = applied_of index s s.flight
-kept_of Lost s = elim s.hung as (λ (h : Bool). IsOf s.conn (cond h [] (ended s ∷ []))) [ true ↦ tt | false ↦ refl ]
+kept_of Lost s = elim s.hung as (λ (h : Bool). IsOf s.conn (cond h [] (lost s ∷ []))) [ true ↦ tt | false ↦ refl ]
 kept_of (Left conn) s = elim (s.conn == conn) as (λ (b : Bool). IsOf s.conn (cond b (kept_left s s.flight) (s ∷ []))) [ true ↦ left_of s s.flight | false ↦ refl ]
 kept_of (Ended conn) s = elim (s.conn == conn) as (λ (b : Bool). IsOf s.conn (cond b (stopped s ∷ []) (s ∷ []))) [ true ↦ refl | false ↦ refl ]
 
@@ -101,5 +102,5 @@ pub lost_unmarked : (ss : List Session) → pins_of (all_kept Lost ss) ≡ []
 lost_unmarked [] = refl
 lost_unmarked (s ∷ ss) =
     pins_append (kept Lost s) (all_kept Lost ss)
-    ∙ ap (λ (pins : List Pinning). pins ++ pins_of (all_kept Lost ss)) (elim s.hung as (λ (h : Bool). pins_of (cond h [] (ended s ∷ [])) ≡ []) [ true ↦ refl | false ↦ refl ])
+    ∙ ap (λ (pins : List Pinning). pins ++ pins_of (all_kept Lost ss)) (elim s.hung as (λ (h : Bool). pins_of (cond h [] (lost s ∷ [])) ≡ []) [ true ↦ refl | false ↦ refl ])
     ∙ lost_unmarked ss

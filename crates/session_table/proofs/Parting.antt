@@ -6,13 +6,13 @@ use Rattle.std.proofs.lemmas.List.{append_assoc, append-nil}
 use Rattle.std.proofs.lemmas.List.Elements.{Contains-append_cases, Contains-append_left, Contains-append_right}
 use Rattle.page_apply.specs.declared.database.Database.{Database}
 use Rattle.page_apply.specs.Pins.{Pinning, IsPinned}
-use Rattle.session_rules.specs.Sessions.{Kind, Opening, Configuring, Writing, Committing, Flight}
+use Rattle.session_rules.specs.Sessions.{Kind, Opening, Configuring, Writing, Committing, Querying, Flight}
 use Rattle.session_table.specs.declared.session.Session.{Session}
 use Rattle.session_table.specs.declared.sweep.Event.{Event}
 use Rattle.session_table.specs.declared.sweep.Event.TheVariants.{Applied, Lost, Left, Ended}
 use Rattle.session_table.specs.Table.{pin_of, pins_of}
 use Rattle.session_table.specs.Marks.{IsNoneOf, AreDifferent, AreMarks, Released}
-use Rattle.session_table.specs.Sweeping.{stopped, done, kept_applied, kept_left, kept, all_kept, freed_done, freed_applied, freed_left, freed, all_freed}
+use Rattle.session_table.specs.Sweeping.{lost, stopped, done, kept_applied, kept_left, kept, all_kept, freed_done, freed_applied, freed_left, freed, all_freed}
 use Rattle.session_table.proofs.Releasing.{all_front, all_back, all_both, all_also, AreBeside, beside_nothing, beside_turned, beside_more, different_front, different_back, different_beside, different_both, stay_live}
 
 -- the marks of a session are kept, or let go
@@ -24,6 +24,7 @@ parts_done s name Opening = inl (append-nil (pin_of s.transaction), refl)
 parts_done s name Configuring = inl (append-nil (pin_of s.transaction), refl)
 parts_done s name (Writing reply) = inl (append-nil (pin_of s.transaction), refl)
 parts_done s name Committing = inr (refl, refl)
+parts_done s name (Querying statement) = inl (append-nil (pin_of s.transaction), refl)
 
 parts_applied : (index : ℕ) (s : Session) (flight : Option Flight) → Parts (pin_of s.transaction) (pins_of (kept_applied index s flight)) (freed_applied index s flight)
 parts_applied index s None = inl (append-nil (pin_of s.transaction), refl)
@@ -41,7 +42,7 @@ parts_left s (Some f) = inl (append-nil (pin_of s.transaction), refl)
 
 pub parts : (event : Event) (s : Session) → Parts (pin_of s.transaction) (pins_of (kept event s)) (freed event s)
 parts (Applied index) s = parts_applied index s s.flight
-parts Lost s = elim s.hung as (λ (h : Bool). Parts (pin_of s.transaction) (pins_of (cond h [] (record { conn = s.conn; hung = s.hung; database = s.database; statements = s.statements; transaction = None; flight = None } ∷ []))) (pin_of s.transaction)) [
+parts Lost s = elim s.hung as (λ (h : Bool). Parts (pin_of s.transaction) (pins_of (cond h [] (lost s ∷ []))) (pin_of s.transaction)) [
   | true ↦ inr (refl, refl)
   | false ↦ inr (refl, refl)
 ]

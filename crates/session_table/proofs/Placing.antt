@@ -208,7 +208,7 @@ unfolding table_of
 session_there databases ss weight conn place d apart at = ap (session_at databases ss) (sym (at.own d)) ∙ stands databases ss place d apart at.within
 
 module _ (ss : List Session) (place conn : ℕ) (apart : AreApart ss) (at : StandsAt conn ss place) (s to : Session) (is : s ≡ get_or ss place s) (same_conn : to.conn ≡ s.conn) where
-  its_own : get_or ss place to ≡ s
+  pub its_own : get_or ss place to ≡ s
   its_own = get_or_default ss place to s at.within ∙ sym is
 
   pub was_own : (get_or ss place to).conn ≡ to.conn

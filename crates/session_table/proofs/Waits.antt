@@ -1,6 +1,7 @@
 -- Clients that wait, in the order in which they are told that leadership is lost.
 use Rattle.std.proofs.Common.{◌≡◌, ℕ, suc, ◌≤◌, Bool, true, false, cond, List, [], ◌∷◌, ◌++◌, length, map, insert, Option, Some, None, refl, sym, ap, ◌∙◌, arith}
-use Rattle.std.specs.Prelude.{nat_le, ◌==◌}
+use Rattle.std.specs.Prelude.{nat_le, ◌==◌, ◌&&◌, ◌||◌, not, is_none}
+use Rattle.std.specs.Option.{option_map}
 use Rattle.std.specs.List.{AllByRecursion, filter, flat_map}
 use Rattle.std.proofs.lemmas.List.{append-nil, append_assoc}
 use Rattle.wire_msgs.specs.declared.response.Response.{Response}
@@ -9,11 +10,15 @@ use Rattle.session_rules.specs.Causes.{LeadershipLost, failure}
 use Rattle.session_rules.specs.Sessions.{Reply, Refusal, Flight, Session as RuleSession}
 use Rattle.session_rules.specs.Events.{placed, ordered, last_of, told_by, told_applied, told_lost}
 use Rattle.session_rules.specs.Events as events
+use Rattle.session_rules.specs.Sessions as rules
+use Rattle.session_table.specs.Named.{later_named}
+use Rattle.session_table.specs.declared.session.Later.{Later}
+use Rattle.session_table.specs.declared.session.Later.TheVariants as laters
 use Rattle.session_table.specs.declared.session.Session.{Session}
 use Rattle.session_table.specs.declared.sweep.Event.TheVariants.{Applied}
 use Rattle.session_table.specs.Table.{session_of, session_at, table_of, AreApart}
-use Rattle.session_table.specs.Sweeping.{told_in, all_told, said_applied, all_said}
-use Rattle.session_table.specs.Waiting.{waits, place_for, placed_in, waiting_in, told_lost_to}
+use Rattle.session_table.specs.Sweeping.{told_in, all_told, told_landed, said_applied, all_said}
+use Rattle.session_table.specs.Waiting.{is_due, waits, place_for, placed_in, waiting_in, told_lost_to}
 use Rattle.session_table.proofs.Found.{IsFound, all_found}
 
 pub place_within : (last : ℕ) (ws : List (ℕ × ℕ)) → place_for last ws ≤ length ws
@@ -63,6 +68,15 @@ module _ (databases : List Database) (all : List Session) where
   abbrev waits_there : ℕ → Bool
   waits_there conn = events.waits (session_at databases all conn)
 
+  -- the rules see it wait too
+  waits_same : (s : Session) → events.waits (session_of databases s) ≡ waits s
+  waits_same s = ap (λ (b : Bool). not s.hung && (not (is_none s.flight) || b)) (same_due s.later)
+    where
+      same_due : (l : Option Later) → rules.is_due (option_map later_named l) ≡ is_due l
+      same_due None = refl
+      same_due (Some (laters.Due query)) = refl
+      same_due (Some (laters.Lent query)) = refl
+
   waiting_keys : (ss : List Session) → AllByRecursion (IsFound databases all) ss → AllByRecursion (HasKey key) (waiting_in ss)
   waiting_keys [] found = tt
   waiting_keys (s ∷ ss) found = elim (waits s) as (λ (b : Bool). AllByRecursion (HasKey key) (cond b (placed_in (last_of s.flight, s.conn) (waiting_in ss)) (waiting_in ss))) [
@@ -78,6 +92,7 @@ module _ (databases : List Database) (all : List Session) where
         | true ↦ placed_conns key (last_of s.flight, s.conn) (waiting_in ss) (sym (ap (λ (r : RuleSession). last_of r.flight) found.0)) (waiting_keys ss found.1) ∙ ap (placed key s.conn) (waiting_conns ss found.1)
         | false ↦ waiting_conns ss found.1
       ])
+      ∙ ap (λ (b : Bool). ordered key (cond b (s.conn ∷ others) others)) (sym (waits_same s))
       ∙ sym (ap (λ (r : RuleSession). ordered key (cond (events.waits r) (s.conn ∷ others) others)) found.0)
 
 lost_told : (ws : List (ℕ × ℕ)) → told_lost_to ws ≡ all_told (map (λ (conn : ℕ). (conn, Refusal LeadershipLost)) (map (λ (w : ℕ × ℕ). w.1) ws))
@@ -97,12 +112,16 @@ flat_both : (xs ys : List (ℕ × Reply)) → all_told (xs ++ ys) ≡ all_told x
 flat_both [] ys = refl
 flat_both (x ∷ xs) ys = ap (λ (told : List (ℕ × Response)). told_in x ++ told) (flat_both xs ys) ∙ sym (append_assoc (told_in x) (all_told xs) (all_told ys))
 
+one_told : (conn : ℕ) (reply : Option Reply) → all_told (events.told_to conn reply) ≡ told_landed conn reply
+one_told conn None = refl
+one_told conn (Some reply) = append-nil (told_in (conn, reply))
+
 said_one : (index : ℕ) (databases : List Database) (s : Session) (flight : Option Flight) → all_told (told_by index s.conn (session_of databases s) flight) ≡ said_applied index s flight
 said_one index databases s None = refl
-said_one index databases s (Some f) = elim (f.last == index) as (λ (b : Bool). all_told (cond b (cond s.hung [] ((s.conn, events.landed_reply f.kind) ∷ [])) []) ≡ cond b (cond s.hung [] (told_in (s.conn, events.landed_reply f.kind))) []) [
-  | true ↦ elim s.hung as (λ (h : Bool). all_told (cond h [] ((s.conn, events.landed_reply f.kind) ∷ [])) ≡ cond h [] (told_in (s.conn, events.landed_reply f.kind))) [
+said_one index databases s (Some f) = elim (f.last == index) as (λ (b : Bool). all_told (cond b (cond s.hung [] (events.told_to s.conn (events.landed_reply f.kind))) []) ≡ cond b (cond s.hung [] (told_landed s.conn (events.landed_reply f.kind))) []) [
+  | true ↦ elim s.hung as (λ (h : Bool). all_told (cond h [] (events.told_to s.conn (events.landed_reply f.kind))) ≡ cond h [] (told_landed s.conn (events.landed_reply f.kind))) [
     | true ↦ refl
-    | false ↦ append-nil (told_in (s.conn, events.landed_reply f.kind))
+    | false ↦ one_told s.conn (events.landed_reply f.kind)
   ]
   | false ↦ refl
 ]

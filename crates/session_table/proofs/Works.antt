@@ -12,14 +12,14 @@ use Rattle.page_apply.specs.declared.database.Database.{Database}
 use Rattle.page_apply.specs.Databases.{has_name, named}
 use Rattle.page_apply.specs.ImageNumbers.{number_of}
 use Rattle.session_rules.specs.Machine.{machine_of, base_of}
-use Rattle.session_rules.specs.Sessions.{Kind, Opening, Configuring, Writing, Committing, Flight}
+use Rattle.session_rules.specs.Sessions.{Kind, Opening, Configuring, Writing, Committing, Querying, Flight}
 use Rattle.session_table.specs.declared.session.Session.{Session}
 use Rattle.session_table.specs.declared.session.Transaction.{Transaction}
 use Rattle.session_table.specs.declared.change.Change.{Change}
 use Rattle.session_table.specs.declared.sweep.Event.{Event}
 use Rattle.session_table.specs.declared.sweep.Event.TheVariants.{Applied, Lost, Left, Ended}
 use Rattle.session_table.specs.Changing.{FreshFor, with_transaction}
-use Rattle.session_table.specs.Sweeping.{ended, stopped, done, kept_applied, kept_left, kept, all_kept}
+use Rattle.session_table.specs.Sweeping.{lost, stopped, done, kept_applied, kept_left, kept, all_kept}
 use Rattle.session_table.specs.Working.{with_number, work_of, works_of, work_made, AreAmong, IsNewest}
 use Rattle.session_table.proofs.Gaining.{some_same, none_found}
 use Rattle.session_table.proofs.Releasing.{all_front, all_back, all_both, all_also}
@@ -56,6 +56,7 @@ module _ (P : Known → Type 0) where
   done_works s name Configuring so = alone s so
   done_works s name (Writing reply) so = alone s so
   done_works s name Committing so = tt
+  done_works s name (Querying statement) so = alone s so
 
   applied_works : (index : ℕ) (s : Session) (flight : Option Flight) → AllByRecursion P (work_of s.transaction) → AllByRecursion P (works_of (kept_applied index s flight))
   applied_works index s None so = alone s so
@@ -70,7 +71,7 @@ module _ (P : Known → Type 0) where
 
   kept_works : (event : Event) (s : Session) → AllByRecursion P (work_of s.transaction) → AllByRecursion P (works_of (kept event s))
   kept_works (Applied index) s so = applied_works index s s.flight so
-  kept_works Lost s so = elim s.hung as (λ (h : Bool). AllByRecursion P (works_of (cond h [] (ended s ∷ [])))) [ true ↦ tt | false ↦ tt ]
+  kept_works Lost s so = elim s.hung as (λ (h : Bool). AllByRecursion P (works_of (cond h [] (lost s ∷ [])))) [ true ↦ tt | false ↦ tt ]
   kept_works (Left conn) s so = elim (s.conn == conn) as (λ (b : Bool). AllByRecursion P (works_of (cond b (kept_left s s.flight) (s ∷ [])))) [ true ↦ left_works s s.flight so | false ↦ alone s so ]
   kept_works (Ended conn) s so = elim (s.conn == conn) as (λ (b : Bool). AllByRecursion P (works_of (cond b (stopped s ∷ []) (s ∷ [])))) [ true ↦ tt | false ↦ alone s so ]
 
@@ -88,6 +89,12 @@ module _ (P : Known → Type 0) where
       all_both P (work_of s.transaction) (works_of (set ss place to))
       (all_front P (work_of s.transaction) (works_of ss) so)
       (set_works ss place to (all_back P (work_of s.transaction) (works_of ss) so) own)
+
+-- a session in the place of one with the same working image
+pub same_works : (ss : List Session) (place : ℕ) (to : Session) → work_of (get_or ss place to).transaction ≡ work_of to.transaction → works_of (set ss place to) ≡ works_of ss
+same_works [] place to same = refl
+same_works (s ∷ ss) zero to same = ap (λ (works : List Known). works ++ works_of ss) (sym same)
+same_works (s ∷ ss) (suc place) to same = ap (λ (works : List Known). work_of s.transaction ++ works) (same_works ss place to same)
 
 -- what is left of them is of before
 pub kept_among : (event : Event) (ss : List Session) → AreAmong (works_of ss) (works_of (all_kept event ss))

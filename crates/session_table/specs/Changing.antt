@@ -4,10 +4,10 @@ use Rattle.std.specs.List.{AllByRecursion}
 use Rattle.dq_base.specs.declared.pages.NumberedPage.{NumberedPage}
 use Rattle.dq_base.specs.Applying.{applied}
 use Rattle.page_apply.specs.declared.database.Database.{Database}
-use Rattle.session_rules.specs.Sessions.{Gateway, fresh, Prepared, Transaction as RuleTransaction, Session as RuleSession}
+use Rattle.session_rules.specs.Sessions.{Gateway, Lent, fresh, Prepared, Transaction as RuleTransaction, Session as RuleSession}
 use Rattle.session_rules.specs.Touched.{numbers_of}
 use Rattle.session_rules.specs.Statements.{with_prepared, without_prepared, prepared_at}
-use Rattle.session_rules.specs.Requests.{with_tx, with_flight, with_statements, with_database}
+use Rattle.session_rules.specs.Requests.{with_tx, with_flight, with_statements, with_database, with_barriers, with_later}
 use Rattle.session_rules.specs.Events.{connects, connected}
 use Rattle.session_table.specs.declared.session.Session.{Session}
 use Rattle.session_table.specs.declared.session.Transaction.{Transaction}
@@ -33,7 +33,9 @@ worked_on pages (Some x) = Some (record { name = x.name; mark = x.mark; pinned =
 -- the session after a change
 abbrev pub changed_by : RuleSession → Change → RuleSession
 changed_by s changes.Stays = s
-changed_by s (changes.Opens name) = with_database s name
+changed_by s (changes.Opens name barriers) = with_barriers (with_database s name) barriers
+changed_by s (changes.Creates flight barriers) = with_flight (with_barriers s barriers) (Some flight)
+changed_by s (changes.Lends query) = with_later s (Some (Lent query))
 changed_by s (changes.Prepares prepared) = with_statements s (with_prepared prepared s.statements)
 changed_by s (changes.Drops id) = with_statements s (without_prepared id s.statements)
 changed_by s (changes.Works pages number) = with_tx s (worked_on pages.pages s.tx)
@@ -58,4 +60,4 @@ pub record Joined (g : Gateway) (conn : ℕ) (new : Bool) (now : Gateway) : Type
 
 -- a session with an open transaction
 abbrev pub with_transaction : Session → Transaction → Session
-with_transaction s x = record { conn = s.conn; hung = s.hung; database = s.database; statements = s.statements; transaction = Some x; flight = s.flight }
+with_transaction s x = record { conn = s.conn; hung = s.hung; database = s.database; barriers = s.barriers; later = s.later; statements = s.statements; transaction = Some x; flight = s.flight }

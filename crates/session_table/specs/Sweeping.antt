@@ -4,10 +4,13 @@ use Rattle.std.specs.List.{flat_map}
 use Rattle.wire_msgs.specs.declared.response.Response.{Response}
 use Rattle.page_apply.specs.declared.database.Database.{Database}
 use Rattle.page_apply.specs.Pins.{Pinning}
-use Rattle.session_rules.specs.Sessions.{Kind, Opening, Configuring, Writing, Committing, Flight, Reply, Gateway, responses_of}
+use Rattle.session_rules.specs.Sessions.{Kind, Opening, Configuring, Writing, Committing, Querying, Flight, Reply, Gateway, responses_of}
 use Rattle.session_rules.specs.Events as events
 use Rattle.session_rules.specs.Requests.{with_tx, with_session}
+use Rattle.sql_engine.specs.Replies.{Statement}
 use Rattle.session_table.specs.declared.session.Session.{Session}
+use Rattle.session_table.specs.declared.session.Later.{Later}
+use Rattle.session_table.specs.declared.session.Later.TheVariants.{Due, Lent}
 use Rattle.session_table.specs.declared.sweep.Event.{Event}
 use Rattle.session_table.specs.declared.sweep.Event.TheVariants.{Applied, Lost, Left, Ended}
 use Rattle.session_table.specs.Table.{pin_of}
@@ -15,23 +18,37 @@ use Rattle.session_table.specs.Marks.{Released}
 
 -- a session that has hung up
 abbrev pub hung_up : Session → Session
-hung_up s = record { conn = s.conn; hung = true; database = s.database; statements = s.statements; transaction = s.transaction; flight = s.flight }
+hung_up s = record { conn = s.conn; hung = true; database = s.database; barriers = s.barriers; later = s.later; statements = s.statements; transaction = s.transaction; flight = s.flight }
 
 -- a session without a proposal
 abbrev pub landed : Session → Session
-landed s = record { conn = s.conn; hung = s.hung; database = s.database; statements = s.statements; transaction = s.transaction; flight = None }
+landed s = record { conn = s.conn; hung = s.hung; database = s.database; barriers = s.barriers; later = s.later; statements = s.statements; transaction = s.transaction; flight = None }
 
 -- a session without a proposal and without a transaction
 abbrev pub ended : Session → Session
-ended s = record { conn = s.conn; hung = s.hung; database = s.database; statements = s.statements; transaction = None; flight = None }
+ended s = record { conn = s.conn; hung = s.hung; database = s.database; barriers = s.barriers; later = s.later; statements = s.statements; transaction = None; flight = None }
 
 -- a session without a transaction
 abbrev pub stopped : Session → Session
-stopped s = record { conn = s.conn; hung = s.hung; database = s.database; statements = s.statements; transaction = None; flight = s.flight }
+stopped s = record { conn = s.conn; hung = s.hung; database = s.database; barriers = s.barriers; later = s.later; statements = s.statements; transaction = None; flight = s.flight }
 
 -- a session whose new database is there
 abbrev pub opened_at : Session → List ℕ → Session
-opened_at s name = record { conn = s.conn; hung = s.hung; database = Some name; statements = s.statements; transaction = s.transaction; flight = None }
+opened_at s name = record { conn = s.conn; hung = s.hung; database = Some name; barriers = s.barriers; later = s.later; statements = s.statements; transaction = s.transaction; flight = None }
+
+-- a session whose query's barrier is applied
+abbrev pub due_at : Session → Statement → Session
+due_at s statement = record { conn = s.conn; hung = s.hung; database = s.database; barriers = s.barriers; later = Some (Due statement); statements = s.statements; transaction = s.transaction; flight = None }
+
+-- a reader goes on with its query, where leadership is lost
+abbrev pub still_lent : Option Later → Option Later
+still_lent None = None
+still_lent (Some (Due query)) = None
+still_lent (Some (Lent query)) = Some (Lent query)
+
+-- a session where leadership is lost
+abbrev pub lost : Session → Session
+lost s = record { conn = s.conn; hung = s.hung; database = s.database; barriers = s.barriers; later = still_lent s.later; statements = s.statements; transaction = None; flight = None }
 
 -- a session whose proposal is done
 abbrev pub done : Session → List ℕ → Kind → Session
@@ -39,6 +56,7 @@ done s name Opening = opened_at s name
 done s name Configuring = landed s
 done s name (Writing reply) = landed s
 done s name Committing = ended s
+done s name (Querying statement) = due_at s statement
 
 -- a proposal ends at an index
 abbrev pub ends_at : ℕ → Option Flight → Bool
@@ -58,7 +76,7 @@ kept_left s (Some f) = hung_up s ∷ []
 -- what is left of a session: itself, changed or not, or nothing
 abbrev pub kept : Event → Session → List Session
 kept (Applied index) s = kept_applied index s s.flight
-kept Lost s = if s.hung then [] else ended s ∷ []
+kept Lost s = if s.hung then [] else lost s ∷ []
 kept (Left conn) s = if s.conn == conn then kept_left s s.flight else s ∷ []
 kept (Ended conn) s = if s.conn == conn then stopped s ∷ [] else s ∷ []
 
@@ -71,6 +89,7 @@ freed_done s Opening = []
 freed_done s Configuring = []
 freed_done s (Writing reply) = []
 freed_done s Committing = pin_of s.transaction
+freed_done s (Querying statement) = []
 
 abbrev pub freed_applied : ℕ → Session → Option Flight → List Pinning
 freed_applied index s None = []
@@ -96,10 +115,19 @@ told_in r = map (λ (response : Response). (r.0, response)) (responses_of r.1)
 abbrev pub all_told : List (ℕ × Reply) → List (ℕ × Response)
 all_told replies = flat_map told_in replies
 
+-- the responses to a proposal that is done
+abbrev pub landed_responses : Option Reply → List Response
+landed_responses None = []
+landed_responses (Some reply) = responses_of reply
+
+abbrev pub told_landed : ℕ → Option Reply → List (ℕ × Response)
+told_landed conn None = []
+told_landed conn (Some reply) = told_in (conn, reply)
+
 -- what its client is told where an entry is applied
 abbrev pub said_applied : ℕ → Session → Option Flight → List (ℕ × Response)
 said_applied index s None = []
-said_applied index s (Some f) = if f.last == index then (if s.hung then [] else told_in (s.conn, events.landed_reply f.kind)) else []
+said_applied index s (Some f) = if f.last == index then (if s.hung then [] else told_landed s.conn (events.landed_reply f.kind)) else []
 
 abbrev pub said : Event → Session → List (ℕ × Response)
 said (Applied index) s = said_applied index s s.flight

@@ -8,6 +8,7 @@ use Rattle.page_apply.specs.Pins.{Pinning, pinned_image}
 use Rattle.page_apply.specs.Files.{empty_image}
 use Rattle.session_rules.specs.Sessions.{Transaction as RuleTransaction, Session as RuleSession, Gateway, absent}
 use Rattle.session_rules.specs.Limits.{holds, flown_by}
+use Rattle.session_table.specs.Named.{later_named}
 use Rattle.session_table.specs.declared.session.Session.{Session}
 use Rattle.session_table.specs.declared.session.Transaction.{Transaction}
 
@@ -26,7 +27,16 @@ abbrev pub transaction_of : List Database → Transaction → RuleTransaction
 transaction_of databases x = record { name = x.name; mark = x.mark; pinned = image_pinned databases x.pin; working = x.working; turn = x.turn; touched = x.touched.items }
 
 abbrev pub session_of : List Database → Session → RuleSession
-session_of databases s = record { there = true; hung = s.hung; database = database_of s.database; statements = s.statements.items; tx = option_map (transaction_of databases) s.transaction; flight = s.flight }
+session_of databases s = record {
+  there = true;
+  hung = s.hung;
+  database = database_of s.database;
+  barriers = s.barriers;
+  later = option_map later_named s.later;
+  statements = s.statements.items;
+  tx = option_map (transaction_of databases) s.transaction;
+  flight = s.flight;
+}
 
 abbrev pub has_conn : ℕ → Session → Bool
 has_conn conn s = s.conn == conn

@@ -1,13 +1,21 @@
 -- Who waits for proposals that are lost, in the order in which they are told.
-use Rattle.std.specs.Prelude.{ℕ, suc, Bool, not, ◌&&◌, nat_le, List, [], ◌∷◌, map, is_none, if◌then◌else◌}
+use Rattle.std.specs.Prelude.{ℕ, suc, Bool, true, false, not, ◌&&◌, ◌||◌, nat_le, List, [], ◌∷◌, map, is_none, Option, Some, None, if◌then◌else◌}
 use Rattle.wire_msgs.specs.declared.response.Response.{Response}
 use Rattle.session_rules.specs.Causes.{LeadershipLost, failure}
 use Rattle.session_rules.specs.Events.{last_of}
 use Rattle.session_table.specs.declared.session.Session.{Session}
+use Rattle.session_table.specs.declared.session.Later.{Later}
+use Rattle.session_table.specs.declared.session.Later.TheVariants.{Due, Lent}
 
--- a client that waits: the last index of its proposal, and its connection
+-- a query is run next
+abbrev pub is_due : Option Later → Bool
+is_due None = false
+is_due (Some (Due query)) = true
+is_due (Some (Lent query)) = false
+
+-- a client that waits for a proposal, or for a query that is run next
 abbrev pub waits : Session → Bool
-waits s = not s.hung && not (is_none s.flight)
+waits s = not s.hung && (not (is_none s.flight) || is_due s.later)
 
 -- the place of one whose proposal ends at an index: before the first that ends there or later
 abbrev pub place_for : ℕ → List (ℕ × ℕ) → ℕ

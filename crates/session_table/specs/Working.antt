@@ -49,7 +49,9 @@ work_with pages number (Some x) = record { number = Working number; image = appl
 -- the working image that a change of a session makes
 abbrev pub work_made : Change → Option Transaction → List Known
 work_made changes.Stays tx = []
-work_made (changes.Opens name) tx = []
+work_made (changes.Opens name barriers) tx = []
+work_made (changes.Creates flight barriers) tx = []
+work_made (changes.Lends query) tx = []
 work_made (changes.Prepares prepared) tx = []
 work_made (changes.Drops id) tx = []
 work_made (changes.Works pages number) tx = work_with pages.pages number tx

@@ -83,6 +83,10 @@ pub enum Cause {
     BadFormat,
     /// The server that is to lead doesn't have the whole log.
     TargetBehind,
+    /// The server is this node, which would have to hand over its leadership first.
+    TransferFirst,
+    /// There would be an eighth voter.
+    TooManyVoters,
     /// The engine had no memory.
     OutOfMemory,
 }
@@ -122,6 +126,8 @@ impl Cause {
             | Cause::BadRole
             | Cause::BadFormat
             | Cause::TargetBehind
+            | Cause::TransferFirst
+            | Cause::TooManyVoters
             | Cause::SqlError
             | Cause::NotUtf8
             | Cause::NulInText => 1,
@@ -168,6 +174,8 @@ impl Cause {
             Cause::BadRole => "bad role",
             Cause::BadFormat => "bad format",
             Cause::TargetBehind => "target behind",
+            Cause::TransferFirst => "transfer first",
+            Cause::TooManyVoters => "too many voters",
             Cause::OutOfMemory => "out of memory",
         }
     }

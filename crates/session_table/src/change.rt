@@ -11,7 +11,8 @@ ghost use Rattle.session_table.specs.Table.{session_of, table_of, pins_of, IsTab
 ghost use Rattle.session_table.specs.Changing.{StandsAt, changed_by, worked_on, CanChange};
 ghost use Rattle.session_table.specs.Working.{work_of, works_of, work_with, work_made, AreAmong};
 
-use crate::session::{Flight, Prepared, Session, Transaction};
+use crate::query::Query;
+use crate::session::{Flight, Later, Prepared, Session, Transaction};
 use crate::statements::{finalize, prepare};
 use dq_base::{Image, ImageNumber, Name, NumberedPage, PageSet, apply_pages};
 use std::alloc::AllocError;
@@ -21,8 +22,12 @@ use std::alloc::AllocError;
 pub enum Change {
     /// Nothing.
     Stays,
-    /// It has opened the database of this name.
-    Opens(Name),
+    /// It has opened the database of this name, with barrier reads or without.
+    Opens(Name, bool),
+    /// It has a new database in flight, with barrier reads or without.
+    Creates(Flight, bool),
+    /// Its query is lent to a reader.
+    Lends(Query),
     /// It has prepared a statement.
     Prepares(Prepared),
     /// It has let the statement of this number go.
@@ -91,10 +96,16 @@ impl Session {
     {
         match change {
             Change::Stays => {}
-            Change::Opens(name) => {
+            Change::Opens(name, barriers) => {
                 self.database = Some(name);
+                self.barriers = barriers;
                 self.flight = None;
             }
+            Change::Creates(flight, barriers) => {
+                self.barriers = barriers;
+                self.flight = Some(flight);
+            }
+            Change::Lends(query) => self.later = Some(Later::Lent(query)),
             Change::Prepares(prepared) => {
                 let _id = prepare(&mut self.statements, prepared)?;
             }

@@ -1,9 +1,9 @@
 //! What one session's open work means for the others.
 
-ghost use Rattle.std.specs.Prelude.{◌≡◌, ℕ, max, Some, List};
+ghost use Rattle.std.specs.Prelude.{◌≡◌, ◌&&◌, ℕ, max, Some, List, bytes_eq};
 ghost use Rattle.page_apply.specs.declared.database.Database.{Database};
 ghost use Rattle.session_rules.specs.Limits as limits;
-ghost use Rattle.session_table.specs.Named.{kind_named};
+ghost use Rattle.session_table.specs.Named.{kind_named, name_for, pages_for};
 ghost use Rattle.session_table.specs.Table.{transaction_of, session_of, table_of, AreApart, holds_beside, flown_in};
 
 use crate::session::{Flight, FlightKind, Session, Transaction};
@@ -14,8 +14,34 @@ impl FlightKind {
         ensures { result ≡ limits.is_write (kind_named self.now) }
     {
         match self {
-            FlightKind::Opening => false,
-            FlightKind::Writing(_) | FlightKind::Committing => true,
+            FlightKind::Opening { .. } | FlightKind::Configuring | FlightKind::Querying { .. } =>
+                false,
+            FlightKind::Writing { .. } | FlightKind::Committing { .. } => true,
+        }
+    }
+}
+
+impl FlightKind {
+    /// Whether the proposal changes the pages of the database of a name.
+    fn writes_to(&self, name: &str) -> bool
+        ensures { result ≡ (limits.is_write (kind_named self.now) && bytes_eq (name_for self.now) name.now) }
+    {
+        match self {
+            FlightKind::Opening { .. } | FlightKind::Configuring | FlightKind::Querying { .. } =>
+                false,
+            FlightKind::Writing { name: own, .. } => own.as_str() == name,
+            FlightKind::Committing { name: own, .. } => own.as_str() == name,
+        }
+    }
+
+    /// How many pages the database has after it.
+    fn pages(&self) -> u64
+        ensures { result ≡ pages_for self.now }
+    {
+        match self {
+            FlightKind::Opening { .. } | FlightKind::Configuring | FlightKind::Querying { .. } => 0,
+            FlightKind::Writing { pages, .. } => *pages,
+            FlightKind::Committing { pages, .. } => *pages,
         }
     }
 }
@@ -25,14 +51,18 @@ impl Flight {
     pub fn writes_to(&self, name: &str) -> bool
         ensures { result ≡ limits.writes_to (Some self.now) name.now }
     {
-        self.kind.is_write() && self.name.as_str() == name
+        self.kind.writes_to(name)
     }
 
     /// How many pages it gives the database of a name. Takes no memory.
     pub fn pages_of(&self, name: &str) -> u64
         ensures { result ≡ limits.flown_by (Some self.now) name.now }
     {
-        if self.writes_to(name) { self.pages } else { 0 }
+        if self.kind.writes_to(name) {
+            self.kind.pages()
+        } else {
+            0
+        }
     }
 }
 

@@ -1,5 +1,6 @@
 //! One session.
 
+use crate::query::Query;
 use crate::reply::Reply;
 use dq_base::{Image, ImageNumber, Name};
 use page_apply::Pin;
@@ -30,37 +31,64 @@ impl Model for Prepared {
 #[derive(Debug, Drop)]
 pub enum FlightKind {
     /// A new database.
-    Opening,
-    /// The write of statements outside a transaction, with the reply that it gets.
-    Writing(Reply),
+    Opening {
+        /// Its name.
+        name: Name,
+    },
+    /// Other servers of the cluster.
+    Configuring,
+    /// The write of statements outside a transaction.
+    Writing {
+        /// The database.
+        name: Name,
+        /// How many pages it has after the write.
+        pages: u64,
+        /// The reply that the statements get.
+        reply: Reply,
+    },
     /// The commit of the open transaction.
-    Committing,
+    Committing {
+        /// Its database.
+        name: Name,
+        /// How many pages this has after the commit.
+        pages: u64,
+    },
+    /// The barrier before a query.
+    Querying {
+        /// The query, which is run when the barrier is applied.
+        query: Query,
+    },
+}
+
+/// A query that its session has yet to answer, with nothing in flight for it.
+#[derive(Debug, Drop)]
+pub enum Later {
+    /// Its barrier is applied, and it is run next.
+    Due(Query),
+    /// A reader runs it.
+    Lent(Query),
 }
 
 /// A proposal in flight. Clauses see it as the rules' one.
 #[derive(Debug, Drop)]
 pub struct Flight {
-    /// The database that it is for.
-    pub name: Name,
     /// The index of its first entry.
     pub first: u64,
     /// That of its last one.
     pub last: u64,
     /// The term in which its entries were appended.
     pub term: u64,
-    /// How many pages the database has after it.
-    pub pages: u64,
     /// What it is for.
     pub kind: FlightKind,
 }
 
 impl Model for Flight {
     ghost use Rattle.session_rules.specs.Sessions.{Flight as RuleFlight};
-    ghost use Rattle.session_table.specs.Named.{kind_named};
+    ghost use Rattle.session_table.specs.Named.{kind_named, name_for, pages_for};
 
     ghost Value = { RuleFlight };
 
-    ghost view = { λ f. record { name = f.name; first = f.first; last = f.last; term = f.term; pages = f.pages; kind = kind_named f.kind } };
+    ghost view = { λ f. record { name = name_for f.kind; first = f.first; last = f.last; term = f.term; pages = pages_for f.kind; kind = kind_named f.kind } };
 }
 
 /// An open transaction of a session.
@@ -92,6 +120,10 @@ pub struct Session {
     pub hung: bool,
     /// The database that it has opened.
     pub database: Option<Name>,
+    /// Whether it asked for barrier reads when it opened it.
+    pub barriers: bool,
+    /// A query that it has yet to answer, with nothing in flight for it.
+    pub later: Option<Later>,
     /// The statements that it has prepared, by their numbers.
     pub statements: Vec<Option<Prepared>>,
     /// Its open transaction.

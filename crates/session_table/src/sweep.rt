@@ -12,10 +12,10 @@ ghost use Rattle.session_table.specs.Table.{mark_of, pin_of, pins_of, table_of, 
 ghost use Rattle.session_table.specs.Marks.{AreMarks, AreDifferent, Released};
 ghost use Rattle.session_table.specs.Working.{works_of, AreAmong};
 ghost use Rattle.page_apply.specs.ImageNumbers.{NumbersStay};
-ghost use Rattle.session_table.specs.Sweeping.{ends_at, done, freed_done, all_kept, all_freed, said, all_said, told_in, all_told, SweptOne, after};
+ghost use Rattle.session_table.specs.Sweeping.{ends_at, done, freed_done, still_lent, landed_responses, told_landed, all_kept, all_freed, said, all_said, told_in, all_told, SweptOne, after};
 
 use crate::reply::Reply;
-use crate::session::{Flight, FlightKind, Session, Transaction};
+use crate::session::{Flight, FlightKind, Later, Session, Transaction};
 use crate::told::{responses_at, told_lost};
 use page_apply::{Machine, Pin};
 use std::alloc::{AllocError, Global};
@@ -74,22 +74,23 @@ impl Session {
     /// Its proposal is done: what that changes, and what its client is told.
     fn land(&mut self, ended: Flight, machine: &mut Machine, told: &mut Vec<(u64, Response)>)
         requires marks { AllByRecursion (IsPinned machine.old) (pin_of self.old.transaction) }
-        requires room { vec_len told.old + length (responses_of (landed_reply ended.kind)) ≤ vec_capacity told.old }
+        requires room { vec_len told.old + length (landed_responses (landed_reply ended.kind)) ≤ vec_capacity told.old }
         ensures done { self.new ≡ done self.old ended.name ended.kind }
         ensures freed { Released (freed_done self.old ended.kind) machine.old machine.new }
-        ensures told { told.new.items ≡ told.old.items ++ told_in (self.old.conn, landed_reply ended.kind) }
-        ensures len { vec_len told.new ≡ vec_len told.old + length (responses_of (landed_reply ended.kind)) }
+        ensures told { told.new.items ≡ told.old.items ++ told_landed self.old.conn (landed_reply ended.kind) }
+        ensures len { vec_len told.new ≡ vec_len told.old + length (landed_responses (landed_reply ended.kind)) }
         ensures capacity { vec_capacity told.old ≤ vec_capacity told.new }
     {
-        let Flight { name, kind, .. } = ended;
         self.flight = None;
-        match kind {
-            FlightKind::Opening => {
+        match ended.kind {
+            FlightKind::Opening { name } => {
                 self.database = Some(name);
                 Reply::Single(Response::Db { id: 0 }).tell(self.conn, told);
             }
-            FlightKind::Writing(reply) => reply.tell(self.conn, told),
-            FlightKind::Committing => {
+            FlightKind::Configuring => Reply::Single(Response::Empty).tell(self.conn, told),
+            FlightKind::Writing { reply, .. } => reply.tell(self.conn, told),
+            FlightKind::Querying { query } => self.later = Some(Later::Due(query)),
+            FlightKind::Committing { .. } => {
                 release(self.transaction.take(), machine);
                 Reply::Single(Response::Result {
                     last_insert_id: 0,
@@ -125,12 +126,24 @@ fn apply_to(
     true
 }
 
+impl Session {
+    /// A query behind a barrier ends; a reader goes on.
+    fn keep_lent(&mut self)
+        ensures { self.new ≡ record self.old { later = still_lent self.old.later } }
+    {
+        if let Some(Later::Due(_)) = &self.later {
+            self.later = None;
+        }
+    }
+}
+
 /// What the loss of leadership makes of a session; false where nothing is left of it.
 fn end(session: &mut Session, machine: &mut Machine) -> bool
     requires { AllByRecursion (IsPinned machine.old) (pin_of session.old.transaction) }
     ensures { SweptOne Lost session.old session.new result machine.old machine.new [] [] }
 {
     session.flight = None;
+    session.keep_lent();
     release(session.transaction.take(), machine);
     !session.hung
 }

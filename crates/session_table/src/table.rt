@@ -1,12 +1,17 @@
 //! The table: which session is whose.
 
-ghost use Rattle.std.specs.Prelude.{◌≡◌, ◌==◌, ℕ, List, OnErr, IfOk, MatchOption};
+ghost use Rattle.std.specs.Prelude.{◌≡◌, ◌==◌, ℕ, List, Some, None, OnErr, IfOk, MatchOption};
+ghost use Rattle.std.specs.Option.{option_map};
 ghost use Rattle.page_apply.specs.declared.database.Database.{Database};
 ghost use Rattle.session_table.specs.Table.{table_of, pins_of, AreApart, IsTable};
 ghost use Rattle.session_table.specs.Changing.{IsAbsent, StandsAt, FreshFor, Joined};
 ghost use Rattle.session_table.specs.Working.{works_of};
+ghost use Rattle.session_table.specs.Named.{later_named};
+ghost use Rattle.session_rules.specs.Sessions.{later_query};
+ghost use Rattle.session_rules.specs.Requests.{without_later};
 
-use crate::session::Session;
+use crate::query::Query;
+use crate::session::{Later, Session};
 use std::alloc::{AllocError, Global};
 
 /// How many sessions a node has at most, those that have hung up counted.
@@ -41,6 +46,8 @@ fn fresh(alloc: Global, conn: u64) -> Session
         conn,
         hung: false,
         database: None,
+        barriers: false,
+        later: None,
         statements: Vec::new(alloc),
         transaction: None,
         flight: None,
@@ -79,4 +86,43 @@ pub fn join(alloc: Global, sessions: &mut Vec<Session>, conn: u64) -> Result<boo
         Some(_place) => Ok(false),
         None => join_new(alloc, sessions, conn),
     }
+}
+
+impl Later {
+    /// The query itself.
+    fn into_query(self) -> Query
+        ensures { later_query (Some (later_named self)) ≡ Some result }
+    {
+        match self {
+            Later::Due(query) => query,
+            Later::Lent(query) => query,
+        }
+    }
+}
+
+impl Session {
+    /// Takes the query that it has yet to answer.
+    fn take_later(&mut self) -> Option<Query>
+        ensures query { result ≡ later_query (option_map later_named self.old.later) }
+        ensures left { self.new ≡ record self.old { later = None } }
+    {
+        match self.later.take() {
+            Some(later) => Some(later.into_query()),
+            None => None,
+        }
+    }
+}
+
+/// Takes the query that the session at a place, which is that of a connection, has yet to answer, if there is one: it is run now,
+/// or a reader has told its reply. Takes no memory.
+pub fn take_later(sessions: &mut Vec<Session>, place: usize, conn: u64) -> Option<Query>
+    requires apart { AreApart sessions.old.items }
+    requires place { StandsAt conn sessions.old.items place }
+    ensures query { (databases : List Database) (weight : ℕ) → result ≡ later_query ((table_of databases sessions.old.items weight).session conn).later }
+    ensures table { (databases : List Database) (weight : ℕ) → table_of databases sessions.new.items weight ≡ without_later (table_of databases sessions.old.items weight) conn }
+    ensures pins { pins_of sessions.new.items ≡ pins_of sessions.old.items }
+    ensures works { works_of sessions.new.items ≡ works_of sessions.old.items }
+    ensures fit { IsTable sessions.old.items → IsTable sessions.new.items }
+{
+    sessions[place].take_later()
 }

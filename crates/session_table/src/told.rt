@@ -2,32 +2,62 @@
 
 ghost use Rattle.std.specs.Prelude.{◌≡◌, ⊤, ℕ, List, length, IfOk, OnOk, MatchOption};
 ghost use Rattle.page_apply.specs.declared.database.Database.{Database};
-ghost use Rattle.session_rules.specs.Sessions.{responses_of};
 ghost use Rattle.session_rules.specs.Events as events;
+ghost use Rattle.session_rules.specs.Events.{last_of};
 ghost use Rattle.session_table.specs.declared.sweep.Event.TheVariants.{Applied};
 ghost use Rattle.session_table.specs.Named.{kind_named};
 ghost use Rattle.session_table.specs.Table.{table_of, AreApart};
-ghost use Rattle.session_table.specs.Sweeping.{said, all_said, all_told};
-ghost use Rattle.session_table.specs.Waiting.{place_for, placed_in, with_waiting, waiting_in, told_lost_to};
+ghost use Rattle.session_table.specs.Sweeping.{landed_responses, said, all_said, all_told};
+ghost use Rattle.session_table.specs.Waiting.{is_due, waits, place_for, placed_in, with_waiting, waiting_in, told_lost_to};
 
 use crate::cause::Cause;
-use crate::session::{FlightKind, Session};
+use crate::session::{FlightKind, Later, Session};
 use std::alloc::{AllocError, Global};
 use wire_msgs::Response;
 
 impl FlightKind {
     /// In how many responses it is told that the proposal is done.
     fn responses(&self) -> usize
-        ensures { result ≡ length (responses_of (events.landed_reply (kind_named self.now))) }
+        ensures { result ≡ length (landed_responses (events.landed_reply (kind_named self.now))) }
     {
         match self {
-            FlightKind::Opening | FlightKind::Committing => 1,
-            FlightKind::Writing(reply) => reply.responses(),
+            FlightKind::Opening { .. } | FlightKind::Configuring | FlightKind::Committing { .. } =>
+                1,
+            FlightKind::Writing { reply, .. } => reply.responses(),
+            FlightKind::Querying { .. } => 0,
         }
     }
 }
 
 impl Session {
+    /// Whether its query is run next.
+    fn is_due(&self) -> bool
+        ensures { result ≡ is_due self.now.later }
+    {
+        match &self.later {
+            Some(Later::Due(_)) => true,
+            Some(Later::Lent(_)) => false,
+            None => false,
+        }
+    }
+
+    /// Whether its client waits for a proposal, or for a query that is run next.
+    fn waits(&self) -> bool
+        ensures { result ≡ waits self.now }
+    {
+        !self.hung && (self.flight.is_some() || self.is_due())
+    }
+
+    /// The index at which its proposal ends; 0 where none is in flight.
+    fn last_in_flight(&self) -> u64
+        ensures { result ≡ last_of self.now.flight }
+    {
+        match &self.flight {
+            Some(flight) => flight.last,
+            None => 0,
+        }
+    }
+
     /// How many responses its client gets where the entry of an index is applied.
     fn responses_at(&self, index: u64) -> usize
         ensures { result ≡ length (said (Applied index) self.now) }
@@ -77,17 +107,18 @@ fn add_waiting(waiting: &mut Vec<(u64, u64)>, last: u64, conn: u64) -> Result<()
     Ok(())
 }
 
-/// Adds the client of a session, where it waits for a proposal. `Err` is want of memory.
+/// Adds the client of a session, where it waits for a proposal or for a query that is run next. `Err` is want of memory.
 fn add_session(waiting: &mut Vec<(u64, u64)>, session: &Session) -> Result<(), AllocError>
     ensures { OnOk result (waiting.new.items ≡ with_waiting session.now waiting.old.items) }
 {
-    match &session.flight {
-        Some(flight) if !session.hung => add_waiting(waiting, flight.last, session.conn),
-        _ => Ok(()),
+    if session.waits() {
+        add_waiting(waiting, session.last_in_flight(), session.conn)?;
     }
+    Ok(())
 }
 
-/// The clients that wait for a proposal, by the last index of it and their connections, in the order of the indexes.
+/// The clients that wait, by the last index of their proposals and their connections, in the order of the indexes. A query that is
+/// run next has no proposal, and 0 for its index.
 fn waiting(alloc: Global, sessions: &[Session]) -> Result<Vec<(u64, u64)>, AllocError>
     ensures { IfOk result (λ waiting. waiting.items ≡ waiting_in sessions.now) }
 {

@@ -10,7 +10,7 @@ use Rattle.sql_engine.specs.declared.fault.EngineFault.{EngineFault}
 use Rattle.sql_engine.specs.declared.fault.EngineFault.TheVariants as faults
 use Rattle.sql_engine.specs.Replies.{Statement}
 use Rattle.sql_engine.specs.Meanings.{Meaning, Answers, Faults, Told, Tells}
-use Rattle.session_rules.specs.Engines.{Answer, Ending, Lacking, TooLarge, Stopped, Ended, takes, no_answer, runs, used, AllowsAll}
+use Rattle.session_rules.specs.Engines.{Answer, Ending, Lacking, TooLarge, Stopped, Ended, is_cut, takes, no_answer, runs, used, AllowsAll}
 use Rattle.statement_runs.specs.declared.ending.AllRan.{AllRan}
 use Rattle.statement_runs.specs.declared.ending.Ending.{Ending as CodeEnding}
 use Rattle.statement_runs.specs.declared.ending.Ending.TheVariants as codes
@@ -84,6 +84,20 @@ stops_unopened (Some ending) = ends_unopened ending
 abbrev pub came_unopened : Came → Bool
 came_unopened (came.Through reached) = false
 came_unopened (came.Short ending) = ends_unopened ending
+
+-- running ended since a statement took too many steps
+abbrev pub ends_cut : CodeEnding → Bool
+ends_cut (codes.Ended ran) = false
+ends_cut (codes.TooLarge answer) = false
+ends_cut (codes.Stopped fault) = is_cut fault
+
+abbrev pub stops_cut : Option CodeEnding → Bool
+stops_cut None = false
+stops_cut (Some ending) = ends_cut ending
+
+abbrev pub came_cut : Came → Bool
+came_cut (came.Through reached) = false
+came_cut (came.Short ending) = ends_cut ending
 
 -- how running the only statement ends by its answer
 abbrev pub ending_of : Ran → CodeEnding

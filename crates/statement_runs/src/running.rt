@@ -1,9 +1,9 @@
 //! Statements one after another, by an engine.
 
-ghost use Rattle.std.specs.Prelude.{◌≡◌, ◌<◌, true, false, None, Some, [], ◌∷◌, ◌++◌, length, All, Contains, IfOk, IfErr};
+ghost use Rattle.std.specs.Prelude.{◌≡◌, ◌<◌, true, false, None, Some, [], ◌∷◌, ◌++◌, length, All, Contains, IsSome, IfOk, IfErr};
 ghost use Rattle.dq_base.specs.Applying.{applied, page_fault};
 ghost use Rattle.sql_engine.specs.Known.{MayRun};
-ghost use Rattle.sql_engine.specs.Meanings.{Answers, CountsOpenings, Faults, Stays, Tells};
+ghost use Rattle.sql_engine.specs.Meanings.{Answers, CountsOpenings, Faults, IsCutBy, Stays, Tells};
 ghost use Rattle.sql_scan.specs.Places.{StandsIn};
 ghost use Rattle.session_rules.specs.Engines as rules;
 ghost use Rattle.statement_runs.specs.declared.ending.Ending.TheVariants as endings;
@@ -16,6 +16,7 @@ ghost use Rattle.statement_runs.specs.Learning.{IsLearnt, left_by};
 ghost use Rattle.page_changes.specs.Undoing.{IsChange, all_undone};
 
 use crate::ending::{AllRan, Ending};
+use crate::options::RunOptions;
 use dq_base::{Image, ImageNumber, Items, NumberedPage, PageSet, set_lengths};
 use page_changes::{Reached, Undo, add_numbers, apply_noted, put_back_all};
 use sql_engine::{Engine, EngineFault, ImageNumbers, Ran};
@@ -43,6 +44,7 @@ pub fn takes(pages: &[NumberedPage]) -> bool
 fn ending_of(ran: Ran) -> Ending
     ensures ending { result ≡ running.ending_of ran }
     ensures opened { running.ends_unopened result ≡ false }
+    ensures uncut { running.ends_cut result ≡ false }
 {
     if takes(ran.after.pages.as_slice()) {
         Ending::Ended(AllRan {
@@ -54,23 +56,25 @@ fn ending_of(ran: Ran) -> Ending
     }
 }
 
-/// Runs one statement over an image under its number and that of the image after, for the transaction of a number. Copies nothing
-/// of the image, and takes no memory beside the engine's.
+/// Runs one statement over an image under its number and that of the image after. Copies nothing of the image, and takes no memory
+/// beside the engine's.
 pub fn run_one<E: Engine>(
     engine: &mut E,
     image: &Image,
     numbers: ImageNumbers,
     text: &str,
     params: &[Value],
-    tx: u64,
+    options: RunOptions,
 ) -> Ending
     requires { MayRun (E.known engine.old) image.now numbers }
     ensures stays { Stays (E.kind engine.old) (E.kind engine.new) (E.refused_openings engine.old) (E.refused_openings engine.new) }
     ensures unopened { running.ends_unopened result ≡ true → E.refused_openings engine.old < E.refused_openings engine.new }
+    // Nothing is cut off without a limit.
+    ensures cut { running.ends_cut result ≡ true → IsSome options.limit }
     ensures learnt { All (IsLearnt (E.known engine.old) (Some numbers.before) image.now numbers.after (left_by image.now result)) (E.known engine.new) }
-    ensures ran { RanTo (E.meaning (E.kind engine.old)) (E.kind engine.old) tx image.now (record { text = text.now; params = params.now } ∷ []) (E.told engine.old) (E.told engine.new) result }
+    ensures ran { RanTo (E.meaning (E.kind engine.old)) (E.kind engine.old) options.tx image.now (record { text = text.now; params = params.now } ∷ []) (E.told engine.old) (E.told engine.new) result }
 {
-    match engine.run(image, numbers, text, params, tx, None) {
+    match engine.run(image, numbers, text, params, options.tx, options.limit) {
         Ok(ran) => ending_of(ran),
         Err(fault) => Ending::Stopped(fault),
     }
@@ -82,14 +86,16 @@ pub fn run_unnumbered<E: Engine>(
     image: &Image,
     text: &str,
     params: &[Value],
-    tx: u64,
+    options: RunOptions,
 ) -> Ending
     ensures stays { Stays (E.kind engine.old) (E.kind engine.new) (E.refused_openings engine.old) (E.refused_openings engine.new) }
     ensures unopened { running.ends_unopened result ≡ true → E.refused_openings engine.old < E.refused_openings engine.new }
+    // Nothing is cut off without a limit.
+    ensures cut { running.ends_cut result ≡ true → IsSome options.limit }
     ensures known { E.known engine.new ≡ [] }
-    ensures ran { RanTo (E.meaning (E.kind engine.old)) (E.kind engine.old) tx image.now (record { text = text.now; params = params.now } ∷ []) (E.told engine.old) (E.told engine.new) result }
+    ensures ran { RanTo (E.meaning (E.kind engine.old)) (E.kind engine.old) options.tx image.now (record { text = text.now; params = params.now } ∷ []) (E.told engine.old) (E.told engine.new) result }
 {
-    match run_forgetting(engine, image, text, params, tx) {
+    match run_forgetting(engine, image, text, params, options) {
         Ok(ran) => ending_of(ran),
         Err(fault) => Ending::Stopped(fault),
     }
@@ -101,12 +107,13 @@ fn run_forgetting<E: Engine>(
     image: &Image,
     text: &str,
     params: &[Value],
-    tx: u64,
+    options: RunOptions,
 ) -> Result<Ran, EngineFault>
-    ensures answers { IfOk result (Answers (E.meaning (E.kind engine.old)) image.now (record { text = text.now; params = params.now }) tx) }
+    ensures answers { IfOk result (Answers (E.meaning (E.kind engine.old)) image.now (record { text = text.now; params = params.now }) options.tx) }
     ensures faults { IfErr result (Faults (E.meaning (E.kind engine.old)) (E.kind engine.old) image.now (record { text = text.now; params = params.now })) }
     ensures stays { Stays (E.kind engine.old) (E.kind engine.new) (E.refused_openings engine.old) (E.refused_openings engine.new) }
     ensures unopened { CountsOpenings (E.refused_openings engine.old) (E.refused_openings engine.new) result }
+    ensures cut { IsCutBy options.limit result }
     ensures known { E.known engine.new ≡ [] }
     ensures told { Tells result (E.told engine.old) (E.told engine.new) }
 {
@@ -115,7 +122,7 @@ fn run_forgetting<E: Engine>(
         before: ImageNumber::Working(0),
         after: 1,
     };
-    let answer = engine.run(image, numbers, text, params, tx, None);
+    let answer = engine.run(image, numbers, text, params, options.tx, options.limit);
     engine.forget();
     answer
 }
@@ -191,6 +198,7 @@ impl Progress {
         requires change { IsChange image.old ran.after.pages }
         ensures took { IfOk result (running.TookIn image.old ran image.new self.new.answer) }
         ensures opened { IfOk result (λ ending. running.stops_unopened ending ≡ false) }
+        ensures uncut { IfOk result (λ ending. running.stops_cut ending ≡ false) }
         ensures touched { IfOk result (λ ending. ending ≡ None → self.new.touched.items ≡ self.old.touched.items ++ numbers_of ran.after.pages) }
         ensures kept { all_undone self.new.undoes.items image.new ≡ all_undone self.old.undoes.items image.old }
     {
@@ -225,16 +233,17 @@ fn step<E: Engine>(
     progress: &mut Progress,
     text: &str,
     params: &[Value],
-    tx: u64,
+    options: RunOptions,
 ) -> Result<Option<Ending>, AllocError>
     ensures stays { Stays (E.kind engine.old) (E.kind engine.new) (E.refused_openings engine.old) (E.refused_openings engine.new) }
     ensures unopened { IfOk result (λ ending. running.stops_unopened ending ≡ true → E.refused_openings engine.old < E.refused_openings engine.new) }
+    ensures cut { IfOk result (λ ending. running.stops_cut ending ≡ true → IsSome options.limit) }
     ensures known { E.known engine.new ≡ [] }
-    ensures step { IfOk result (Stepped (E.meaning (E.kind engine.old)) (E.kind engine.old) tx image.old (record { text = text.now; params = params.now }) (E.told engine.old) (E.told engine.new) image.new progress.new.answer) }
+    ensures step { IfOk result (Stepped (E.meaning (E.kind engine.old)) (E.kind engine.old) options.tx image.old (record { text = text.now; params = params.now }) (E.told engine.old) (E.told engine.new) image.new progress.new.answer) }
     ensures touched { IfOk result (λ ending. ending ≡ None → progress.new.touched.items ≡ progress.old.touched.items ++ numbers_of progress.new.answer.after.pages) }
     ensures kept { all_undone progress.new.undoes.items image.new ≡ all_undone progress.old.undoes.items image.old }
 {
-    match run_forgetting(engine, image, text, params, tx) {
+    match run_forgetting(engine, image, text, params, options) {
         Ok(ran) => {
             let ending = progress.take(alloc, image, ran)?;
             Ok(ending)
@@ -253,7 +262,7 @@ fn advance<E: Engine>(
     text: &str,
     pieces: &[Piece],
     params: &[Value],
-    tx: u64,
+    options: RunOptions,
 ) -> Result<Option<Ending>, AllocError>
     requires stand { All (StandsIn text.now) pieces.now }
     requires fit { wants pieces.now ≡ length params.now }
@@ -261,8 +270,9 @@ fn advance<E: Engine>(
     requires untouched { progress.old.touched.items ≡ [] }
     ensures stays { Stays (E.kind engine.old) (E.kind engine.new) (E.refused_openings engine.old) (E.refused_openings engine.new) }
     ensures unopened { IfOk result (λ ending. running.stops_unopened ending ≡ true → E.refused_openings engine.old < E.refused_openings engine.new) }
+    ensures cut { IfOk result (λ ending. running.stops_cut ending ≡ true → IsSome options.limit) }
     ensures known { All (Contains (E.known engine.old)) (E.known engine.new) }
-    ensures ran { IfOk result (AdvancedTo (E.meaning (E.kind engine.old)) (E.kind engine.old) tx image.old (assigned text.now pieces.now params.now) (E.told engine.old) (E.told engine.new) image.new progress.new.answer) }
+    ensures ran { IfOk result (AdvancedTo (E.meaning (E.kind engine.old)) (E.kind engine.old) options.tx image.old (assigned text.now pieces.now params.now) (E.told engine.old) (E.told engine.new) image.new progress.new.answer) }
     ensures touched { IfOk result (λ ending. ending ≡ None → ListsAll progress.new.touched.items image.old image.new) }
     ensures kept { all_undone progress.new.undoes.items image.new ≡ all_undone progress.old.undoes.items image.old }
 {
@@ -270,7 +280,7 @@ fn advance<E: Engine>(
     for piece in pieces {
         let (own, later) = rest.split_at(piece.params as usize);
         let one = piece_text(text, piece);
-        match step(alloc, engine, image, progress, one, own, tx)? {
+        match step(alloc, engine, image, progress, one, own, options)? {
             Some(ending) => return Ok(Some(ending)),
             None => rest = later,
         }
@@ -288,7 +298,7 @@ fn lead<E: Engine>(
     text: &str,
     pieces: &[Piece],
     params: &[Value],
-    tx: u64,
+    options: RunOptions,
 ) -> Result<Came, AllocError>
     requires stand { All (StandsIn text.now) pieces.now }
     requires fit { wants pieces.now ≡ length params.now }
@@ -296,11 +306,14 @@ fn lead<E: Engine>(
     requires untouched { progress.old.touched.items ≡ [] }
     ensures stays { Stays (E.kind engine.old) (E.kind engine.new) (E.refused_openings engine.old) (E.refused_openings engine.new) }
     ensures unopened { IfOk result (λ came. running.came_unopened came ≡ true → E.refused_openings engine.old < E.refused_openings engine.new) }
+    ensures cut { IfOk result (λ came. running.came_cut came ≡ true → IsSome options.limit) }
     ensures known { All (Contains (E.known engine.old)) (E.known engine.new) }
-    ensures ran { IfOk result (CameTo (E.meaning (E.kind engine.old)) (E.kind engine.old) tx image.old (assigned text.now pieces.now params.now) (E.told engine.old) (E.told engine.new) progress.new.answer) }
+    ensures ran { IfOk result (CameTo (E.meaning (E.kind engine.old)) (E.kind engine.old) options.tx image.old (assigned text.now pieces.now params.now) (E.told engine.old) (E.told engine.new) progress.new.answer) }
     ensures kept { all_undone progress.new.undoes.items image.new ≡ all_undone progress.old.undoes.items image.old }
 {
-    match advance(alloc, engine, image, progress, text, pieces, params, tx)? {
+    match advance(
+        alloc, engine, image, progress, text, pieces, params, options,
+    )? {
         Some(ending) => Ok(Came::Short(ending)),
         None => {
             let reached = Reached::of(alloc, image, progress.touched.as_slice())?;
@@ -329,8 +342,8 @@ fn ended(
     }
 }
 
-/// Runs the statements of a text one after another, each over the image that the one before it left, for the transaction of
-/// a number. Each takes as many parameters as it counts, in order; together they take all.
+/// Runs the statements of a text one after another, each over the image that the one before it left. Each takes as many parameters
+/// as it counts, in order; together they take all.
 ///
 /// The statements work on the image in place, and it is put back whatever the outcome. Each keeps the pages that it changes, as
 /// they were before, and at the end the pages that they changed are compared with those of the first image; a statement that
@@ -344,15 +357,17 @@ pub fn run_all<E: Engine>(
     text: &str,
     pieces: &[Piece],
     params: &[Value],
-    tx: u64,
+    options: RunOptions,
 ) -> Result<Ending, AllocError>
     requires stand { All (StandsIn text.now) pieces.now }
     requires fit { wants pieces.now ≡ length params.now }
     ensures kept { image.new ≡ image.old }
     ensures stays { Stays (E.kind engine.old) (E.kind engine.new) (E.refused_openings engine.old) (E.refused_openings engine.new) }
     ensures unopened { IfOk result (λ ending. running.ends_unopened ending ≡ true → E.refused_openings engine.old < E.refused_openings engine.new) }
+    // Nothing is cut off without a limit.
+    ensures cut { IfOk result (λ ending. running.ends_cut ending ≡ true → IsSome options.limit) }
     ensures known { All (Contains (E.known engine.old)) (E.known engine.new) }
-    ensures ran { IfOk result (RanTo (E.meaning (E.kind engine.old)) (E.kind engine.old) tx image.old (assigned text.now pieces.now params.now) (E.told engine.old) (E.told engine.new)) }
+    ensures ran { IfOk result (RanTo (E.meaning (E.kind engine.old)) (E.kind engine.old) options.tx image.old (assigned text.now pieces.now params.now) (E.told engine.old) (E.told engine.new)) }
 {
     let mut progress = Progress::new(alloc);
     let came = lead(
@@ -363,8 +378,8 @@ pub fn run_all<E: Engine>(
         text,
         pieces,
         params,
-        tx,
+        options,
     );
     put_back_all(alloc, &mut progress.undoes, image);
-    ended(alloc, image, came?, progress.answer, tx)
+    ended(alloc, image, came?, progress.answer, options.tx)
 }

@@ -1,6 +1,6 @@
 use Rattle.std.proofs.Common.{◌<◌, ◌≤◌, length, refl, ap, ◌∙◌, arith}
 use Rattle.std.proofs.lemmas.List.{drop_more}
-use Rattle.statement_runs.specs.Running.{stops_unopened}
+use Rattle.statement_runs.specs.Running.{stops_cut, stops_unopened}
 use Rattle.statement_runs.proofs.Reaching.{reached_start}
 use Rattle.statement_runs.proofs.Standing.{standing_more, standing_stops, standing_ends, touches_step}
 use Rattle.sql_engine.proofs.Knowing.{all_contained}
@@ -49,3 +49,6 @@ pub returns-in-Some-clause-unopened : goal.returns-in-Some-clause-unopened
 returns-in-Some-clause-unopened g c = λ unopened.
     let rose = c.in_ok-ending.ensures.unopened (ap stops_unopened c.in-Some.is ∙ unopened) in
     omega arith
+
+pub returns-in-Some-clause-cut : goal.returns-in-Some-clause-cut
+returns-in-Some-clause-cut g c = λ cut. c.in_ok-ending.ensures.cut (ap stops_cut c.in-Some.is ∙ cut)

@@ -12,4 +12,4 @@ returns-clause-kept g c = back _ _ _ _ _ c.put_back_all.ensures c.lead-came.ensu
 pub returns-clause-ran : goal.returns-clause-ran
 returns-clause-ran g c =
     let same = back _ _ _ _ _ c.put_back_all.ensures c.lead-came.ensures.kept c.new-progress.ensures.undoes in
-    IfOk-weaker c.ended.result _ _ (λ ending is. came_ran _ _ c.args.tx _ _ _ _ _ _ c.in_ok-came.field-0 ending c.in_ok-came.ensures.ran same is) c.ended.ensures
+    IfOk-weaker c.ended.result _ _ (λ ending is. came_ran _ _ c.args.options.tx _ _ _ _ _ _ c.in_ok-came.field-0 ending c.in_ok-came.ensures.ran same is) c.ended.ensures

@@ -1,5 +1,5 @@
 use Rattle.std.proofs.lemmas.Bool.{both_ways}
-use Rattle.statement_runs.proofs.Opened.{rose}
+use Rattle.statement_runs.proofs.Opened.{rose, had_limit}
 use Rattle.statement_runs.proofs.Reaching.{ran_alone, failed_alone}
 use Rattle.statement_runs.proofs.running.run_unnumbered.Goals as goal
 
@@ -14,3 +14,9 @@ returns-in-Ok-clause-unopened g c = λ e. absurd (both_ways _ c.ending_of.ensure
 
 pub returns-in-Err-clause-unopened : goal.returns-in-Err-clause-unopened
 returns-in-Err-clause-unopened g c = λ e. rose _ _ c.in-Err.fault c.in-Err.ensures.unopened e
+
+pub returns-in-Ok-clause-cut : goal.returns-in-Ok-clause-cut
+returns-in-Ok-clause-cut g c = λ e. absurd (both_ways _ c.ending_of.ensures.uncut e)
+
+pub returns-in-Err-clause-cut : goal.returns-in-Err-clause-cut
+returns-in-Err-clause-cut g c = λ e. had_limit c.args.options.limit c.in-Err.fault c.in-Err.ensures.cut e

@@ -1,0 +1,10 @@
+//! How statements run.
+
+/// How statements run: for which transaction, and how far.
+#[derive(Clone, Copy, Debug)]
+pub struct RunOptions {
+    /// The number of the transaction that their pages are told for.
+    pub tx: u64,
+    /// The most steps that one of them may take; none where none is ever cut off.
+    pub limit: Option<u64>,
+}
