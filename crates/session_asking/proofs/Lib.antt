@@ -8,5 +8,6 @@ pub mod Voting
 pub mod Refused
 pub mod Plain
 pub mod Asked
+pub mod Changing
 pub mod Opening
 pub mod Allowed

@@ -16,29 +16,29 @@ use Rattle.session_asking.specs.Looking.{files_size}
 use Rattle.session_asking.proofs.Finding.{named_there}
 use Rattle.session_asking.proofs.Sizes.{files_length}
 
-module _ (v : View) (m : Machine) (g : Gateway) (s : Session) (name : List ℕ) where
+module _ (v : View) (m : Machine) (g : Gateway) (s : Session) (name : List ℕ) (barriers : Bool) where
   -- what is wanted once no database is open, and of a good name
   closed : Asked
-  closed = cond (not (is_name name)) (Never BadName) (cond (is_named m.names name) (Opens name) (asks_new v m g name))
+  closed = cond (not (is_name name)) (Never BadName) (cond (is_named m.names name) (Opens name barriers) (asks_new v m g name barriers))
 
-  pub is_open : has_database s ≡ true → Never DatabaseOpen ≡ asks_open v m g s name
-  is_open e = ap (λ (b : Bool). cond b (Never DatabaseOpen) (cond (not (is_name name)) (Never BadName) (cond (is_named m.names name) (Opens name) (asks_new v m g name)))) (sym e)
+  pub is_open : has_database s ≡ true → Never DatabaseOpen ≡ asks_open v m g s name barriers
+  is_open e = ap (λ (b : Bool). cond b (Never DatabaseOpen) (cond (not (is_name name)) (Never BadName) (cond (is_named m.names name) (Opens name barriers) (asks_new v m g name barriers)))) (sym e)
 
-  pub ill_named : has_database s ≡ false → is_name name ≡ false → Never BadName ≡ asks_open v m g s name
+  pub ill_named : has_database s ≡ false → is_name name ≡ false → Never BadName ≡ asks_open v m g s name barriers
   ill_named e n =
-      ap (λ (b : Bool). cond (not b) (Never BadName) (cond (is_named m.names name) (Opens name) (asks_new v m g name))) (sym n)
-      ∙ ap (λ (b : Bool). cond b (Never DatabaseOpen) (cond (not (is_name name)) (Never BadName) (cond (is_named m.names name) (Opens name) (asks_new v m g name)))) (sym e)
+      ap (λ (b : Bool). cond (not b) (Never BadName) (cond (is_named m.names name) (Opens name barriers) (asks_new v m g name barriers))) (sym n)
+      ∙ ap (λ (b : Bool). cond b (Never DatabaseOpen) (cond (not (is_name name)) (Never BadName) (cond (is_named m.names name) (Opens name barriers) (asks_new v m g name barriers)))) (sym e)
 
-  pub well_named : has_database s ≡ false → is_name name ≡ true → cond (is_named m.names name) (Opens name) (asks_new v m g name) ≡ asks_open v m g s name
+  pub well_named : has_database s ≡ false → is_name name ≡ true → cond (is_named m.names name) (Opens name barriers) (asks_new v m g name barriers) ≡ asks_open v m g s name barriers
   well_named e n =
-      ap (λ (b : Bool). cond (not b) (Never BadName) (cond (is_named m.names name) (Opens name) (asks_new v m g name))) (sym n)
-      ∙ ap (λ (b : Bool). cond b (Never DatabaseOpen) (cond (not (is_name name)) (Never BadName) (cond (is_named m.names name) (Opens name) (asks_new v m g name)))) (sym e)
+      ap (λ (b : Bool). cond (not b) (Never BadName) (cond (is_named m.names name) (Opens name barriers) (asks_new v m g name barriers))) (sym n)
+      ∙ ap (λ (b : Bool). cond b (Never DatabaseOpen) (cond (not (is_name name)) (Never BadName) (cond (is_named m.names name) (Opens name barriers) (asks_new v m g name barriers)))) (sym e)
 
-  pub is_there : has_database s ≡ false → is_name name ≡ true → is_named m.names name ≡ true → Opens name ≡ asks_open v m g s name
-  is_there e n t = sym (cond-true (is_named m.names name) (Opens name) (asks_new v m g name) t) ∙ well_named e n
+  pub is_there : has_database s ≡ false → is_name name ≡ true → is_named m.names name ≡ true → Opens name barriers ≡ asks_open v m g s name barriers
+  is_there e n t = sym (cond-true (is_named m.names name) (Opens name barriers) (asks_new v m g name barriers) t) ∙ well_named e n
 
-  pub is_new : (asked : Asked) → has_database s ≡ false → is_name name ≡ true → is_named m.names name ≡ false → asked ≡ asks_new v m g name → asked ≡ asks_open v m g s name
-  is_new asked e n t a = a ∙ sym (cond-false (is_named m.names name) (Opens name) (asks_new v m g name) t) ∙ well_named e n
+  pub is_new : (asked : Asked) → has_database s ≡ false → is_name name ≡ true → is_named m.names name ≡ false → asked ≡ asks_new v m g name barriers → asked ≡ asks_open v m g s name barriers
+  is_new asked e n t a = a ∙ sym (cond-false (is_named m.names name) (Opens name barriers) (asks_new v m g name barriers) t) ∙ well_named e n
 
 -- ---- the files of a database
 

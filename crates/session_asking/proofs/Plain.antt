@@ -2,7 +2,7 @@
 use Rattle.std.proofs.Common.{◌≡◌, Bool, true, false, cond, ℕ, List, Option, subst, sym, rules}
 use Rattle.wire_words.specs.declared.value.Value.{Value}
 use Rattle.wire_msgs.specs.declared.response.Response.TheVariants as responses
-use Rattle.session_rules.specs.Asking.{Asked, Never, Tells, Sets, Opens, Creates, Prepares, Drops, Begins, Commits, RollsBack, Changes, Runs, Reads, at_leader, in_database, asks_open, asks_change}
+use Rattle.session_rules.specs.Asking.{Asked, Never, Tells, Sets, Opens, Creates, Prepares, Drops, Begins, Commits, RollsBack, Changes, Runs, Reads, at_leader, in_database, asks_open, if_settled, asks_add, asks_assign, asks_remove}
 use Rattle.session_rules.specs.Machine.{Machine}
 use Rattle.session_rules.specs.Sessions.{Prepared, Session, Gateway, View}
 use Rattle.session_asking.specs.declared.wanted.Wanted.{Wanted}
@@ -14,14 +14,14 @@ abbrev pub Plain : Asked → Type 0
 Plain (Never cause) = Unit {0}
 Plain (Tells response) = Unit {0}
 Plain (Sets effect) = Unit {0}
-Plain (Opens name) = Unit {0}
-Plain (Creates name) = Unit {0}
+Plain (Opens name barriers) = Unit {0}
+Plain (Creates name barriers) = Unit {0}
 Plain (Prepares p tail) = ⊥
 Plain (Drops id) = ⊥
 Plain (Begins at_once) = ⊥
 Plain Commits = ⊥
 Plain RollsBack = ⊥
-Plain (Changes servers) = ⊥
+Plain (Changes servers) = Unit {0}
 Plain (Runs ss) = ⊥
 Plain (Reads s) = ⊥
 
@@ -29,8 +29,9 @@ pub plain_can : (statements : List (Option Prepared)) (params none : List Value)
 plain_can statements params none (wanted.Never cause) asked e h = tt
 plain_can statements params none (wanted.Tells response) asked e h = tt
 plain_can statements params none (wanted.Sets effect) asked e h = tt
-plain_can statements params none (wanted.Opens name) asked e h = tt
-plain_can statements params none (wanted.Creates name) asked e h = tt
+plain_can statements params none (wanted.Opens name barriers) asked e h = tt
+plain_can statements params none (wanted.Creates name barriers) asked e h = tt
+plain_can statements params none (wanted.Changes servers) asked e h = tt
 plain_can statements params none (wanted.Prepares p tail) asked e h = absurd (subst Plain (sym e) h)
 plain_can statements params none (wanted.Drops id) asked e h = absurd (subst Plain (sym e) h)
 plain_can statements params none (wanted.Begins at_once) asked e h = tt
@@ -44,11 +45,17 @@ either : (b : Bool) (x y : Asked) → Plain x → Plain y → Plain (cond b x y)
 either true x y a b = a
 either false x y a b = b
 
-pub open_plain : (v : View) (m : Machine) (g : Gateway) (s : Session) (name : List ℕ) → Plain (at_leader v (asks_open v m g s name))
-open_plain v m g s name = search (rules, either)
+pub open_plain : (v : View) (m : Machine) (g : Gateway) (s : Session) (name : List ℕ) (barriers : Bool) → Plain (at_leader v (asks_open v m g s name barriers))
+open_plain v m g s name barriers = search (rules, either)
 
-pub change_plain : (v : View) (g : Gateway) → Plain (at_leader v (asks_change g))
-change_plain v g = search (rules, either)
+pub add_plain : (v : View) (g : Gateway) (id : ℕ) (address : List ℕ) → Plain (at_leader v (if_settled g (asks_add v.servers id address)))
+add_plain v g id address = search (rules, either)
+
+pub assign_plain : (v : View) (g : Gateway) (id role : ℕ) → Plain (at_leader v (if_settled g (asks_assign v id role)))
+assign_plain v g id role = search (rules, either)
+
+pub remove_plain : (v : View) (g : Gateway) (id : ℕ) → Plain (at_leader v (if_settled g (asks_remove v id)))
+remove_plain v g id = search (rules, either)
 
 pub interrupt_plain : (s : Session) (db : ℕ) → Plain (in_database s db (Tells responses.Empty))
 interrupt_plain s db = search (rules, either)

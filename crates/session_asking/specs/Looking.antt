@@ -2,6 +2,7 @@
 use Rattle.std.specs.Prelude.{◌==◌, ◌&&◌, ◌≡◌, ◌≤◌, ◌+◌, ◌*◌, ◌/◌, ℕ, Bool, List, length, insert, bytes_eq, if◌then◌else◌}
 use Rattle.raft_rules.specs.Node.{Server}
 use Rattle.session_rules.specs.Machine.{Machine, with_name}
+use Rattle.session_rules.specs.Servers.{with_server}
 use Rattle.session_rules.specs.Sessions.{Gateway}
 use Rattle.session_rules.specs.Limits.{held_pages, opened_by, is_configuring}
 use Rattle.session_table.specs.declared.session.Session.{Session}
@@ -14,6 +15,11 @@ pub record BelongsAt (name : List ℕ) (names : List (List ℕ)) (place : ℕ) :
 -- the new database that a session's proposal is for
 abbrev pub proposed_by : Session → List (List ℕ)
 proposed_by s = opened_by s.flight
+
+-- a server of this id belongs at this place among the servers
+pub record StandsAt (id : ℕ) (servers : List Server) (place : ℕ) : Type 0 where
+  pub within : place ≤ length servers
+  pub joined : (new : Server) → new.id ≡ id → with_server new servers ≡ insert servers place new
 
 -- a session's change of the cluster is in flight
 abbrev pub is_changing : Session → Bool

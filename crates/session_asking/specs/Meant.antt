@@ -11,7 +11,8 @@ use Rattle.sql_scan.specs.Statements.{scan_of}
 use Rattle.session_rules.specs.Asking as rules
 use Rattle.session_rules.specs.Causes as rule_causes
 use Rattle.session_rules.specs.Causes.{scan_cause, Cause as RuleCause}
-use Rattle.session_rules.specs.Asking.{Asked, has_database}
+use Rattle.session_rules.specs.Asking.{Asked}
+use Rattle.session_rules.specs.Allowed.{IsServed, IsOneChange}
 use Rattle.session_rules.specs.Sessions as sessions
 use Rattle.session_rules.specs.Sessions.{Prepared, Effect as RuleEffect, View, Session, in_tx}
 use Rattle.session_rules.specs.Limits.{log_full}
@@ -33,8 +34,9 @@ abbrev pub meant : List Value → Wanted → Asked
 meant params (wanted.Never cause) = rules.Never (cause_named cause)
 meant params (wanted.Tells response) = rules.Tells response
 meant params (wanted.Sets effect) = rules.Sets (effect_named effect)
-meant params (wanted.Opens name) = rules.Opens name
-meant params (wanted.Creates name) = rules.Creates name
+meant params (wanted.Opens name barriers) = rules.Opens name barriers
+meant params (wanted.Creates name barriers) = rules.Creates name barriers
+meant params (wanted.Changes servers) = rules.Changes servers
 meant params (wanted.Prepares prepared tail) = rules.Prepares prepared tail
 meant params (wanted.Drops id) = rules.Drops id
 meant params (wanted.Begins at_once) = rules.Begins at_once
@@ -80,22 +82,18 @@ FitsStatements statements params (wanted.Drops id) = IsSome (prepared_at stateme
 FitsStatements statements params (wanted.RunsAll script) = CanRun params (wanted.RunsAll script)
 FitsStatements statements params wanted = Unit {0}
 
--- the node serves as leader, and the session has opened a database
-pub record IsServed (v : View) (s : Session) : Type 0 where
-  pub serves : v.serving ≡ true
-  pub opened : has_database s ≡ true
-
 -- a cause that needs no engine: not that an engine didn't open the files
 abbrev pub IsPlainCause : RuleCause → Type 0
 IsPlainCause rule_causes.NotADatabase = ⊥
 IsPlainCause cause = Unit {0}
 
--- What the rules ask for is asked only where this holds: of a refusal, that it needs no engine; of a new database, that the log has room; of what is done in the
+-- What the rules ask for is asked only where this holds: of a refusal, that it needs no engine; of a new database, that the log has room; of other servers, that the node serves and that they differ in one; of what is done in the
 -- session's database, that it is served; and of a transaction, that none is open where it begins, and one where it ends with
 -- its changes.
 abbrev pub IsAllowed : View → Session → Asked → Type 0
 IsAllowed v s (rules.Never cause) = IsPlainCause cause
-IsAllowed v s (rules.Creates name) = log_full v ≡ false
+IsAllowed v s (rules.Creates name barriers) = log_full v ≡ false
+IsAllowed v s (rules.Changes servers) = (v.serving ≡ true) × IsOneChange v v.servers servers
 IsAllowed v s (rules.Begins at_once) = IsServed v s × (in_tx s ≡ false)
 IsAllowed v s rules.Commits = IsServed v s × (in_tx s ≡ true)
 IsAllowed v s (rules.Runs statements) = IsServed v s

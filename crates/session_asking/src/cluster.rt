@@ -1,11 +1,12 @@
-//! Requests about the cluster and its servers.
+//! Requests about the cluster and its servers, but for those that change these.
 
-ghost use Rattle.std.specs.Prelude.{◌≡◌, ◌==◌, ℕ, List, [], map, IfOk};
+ghost use Rattle.std.specs.Prelude.{◌≡◌, ◌==◌, ℕ, List, [], map, Some, None, IfOk};
 ghost use Rattle.std.specs.List.{list_any};
 ghost use Rattle.raft_rules.specs.Node.{Server as RuleServer, among, voters};
 ghost use Rattle.page_apply.specs.declared.database.Database.{Database};
 ghost use Rattle.session_rules.specs.Asking as rules;
 ghost use Rattle.session_rules.specs.Limits as limits;
+ghost use Rattle.session_rules.specs.Servers.{server_of};
 ghost use Rattle.session_table.specs.Named.{kind_named};
 ghost use Rattle.session_table.specs.Table.{AreApart, table_of};
 ghost use Rattle.session_asking.specs.Meant.{meant};
@@ -20,33 +21,70 @@ use std::alloc::{AllocError, Global};
 use wire_msgs::{NodeInfo, Response};
 use wire_words::WireText;
 
-fn copied_address(alloc: Global, address: &WireText) -> Result<WireText, AllocError>
+pub(crate) fn copied_address(alloc: Global, address: &WireText) -> Result<WireText, AllocError>
     ensures { IfOk result (λ copy. copy ≡ address.now) }
 {
     Ok(WireText::new(String::from_str(alloc, address.as_str())?))
 }
 
+/// A server as the leader.
+fn told_leader(alloc: Global, server: &Server) -> Result<Response, AllocError>
+    ensures { IfOk result (λ response. response ≡ rules.told_leader (Some server.now)) }
+{
+    Ok(Response::Server {
+        id: server.id,
+        address: copied_address(alloc, &server.address)?,
+    })
+}
+
+/// That no leader is known.
+fn no_leader(alloc: Global) -> Response
+    ensures { result ≡ rules.told_leader None }
+{
+    Response::Server {
+        id: 0,
+        address: WireText::new(String::new(alloc)),
+    }
+}
+
+/// Whether a server has an id.
+fn has_id(server: &Server, id: u64) -> bool
+    ensures { result ≡ (server.now.id == id) }
+{
+    server.id == id
+}
+
+/// The server of an id as the leader, or that none is known.
+fn leader_among(alloc: Global, servers: &[Server], id: u64) -> Result<Response, AllocError>
+    ensures { IfOk result (λ response. response ≡ rules.told_leader (server_of servers.now id)) }
+{
+    for server in servers {
+        if has_id(server, id) {
+            return told_leader(alloc, server);
+        }
+    }
+    Ok(no_leader(alloc))
+}
+
 /// The leader that a node knows, or that it knows none.
-fn leader_known(alloc: Global, leader: &Option<Server>) -> Result<Response, AllocError>
-    ensures { IfOk result (λ response. response ≡ rules.leader_known leader.now) }
+fn leader_known(
+    alloc: Global,
+    servers: &[Server],
+    leader: Option<u64>,
+) -> Result<Response, AllocError>
+    ensures { IfOk result (λ response. response ≡ rules.leader_known servers.now leader) }
 {
     match leader {
-        Some(server) => Ok(Response::Server {
-            id: server.id,
-            address: copied_address(alloc, &server.address)?,
-        }),
-        None => Ok(Response::Server {
-            id: 0,
-            address: WireText::new(String::new(alloc)),
-        }),
+        Some(id) => leader_among(alloc, servers, id),
+        None => Ok(no_leader(alloc)),
     }
 }
 
 /// What LEADER wants. `Err` is want of memory.
 pub(crate) fn wanted_by_leader(alloc: Global, view: &View) -> Result<Wanted, AllocError>
-    ensures { IfOk result (λ wanted. meant [] wanted ≡ rules.Tells (rules.leader_known view.now.leader)) }
+    ensures { IfOk result (λ wanted. meant [] wanted ≡ rules.Tells (rules.leader_known view.now.servers view.now.leader)) }
 {
-    let response = leader_known(alloc, &view.leader)?;
+    let response = leader_known(alloc, view.servers.as_slice(), view.leader)?;
     Ok(Wanted::Tells(response))
 }
 
@@ -108,7 +146,7 @@ pub(crate) fn wanted_by_cluster(
 }
 
 /// Whether a server has an id.
-fn is_server(servers: &[Server], id: u64) -> bool
+pub(crate) fn is_server(servers: &[Server], id: u64) -> bool
     ensures { result ≡ list_any (λ (server : RuleServer). server.id == id) servers.now }
 {
     servers.iter().any(|server| server.id == id)
@@ -140,7 +178,7 @@ fn votes_as(server: &Server, id: u64) -> bool
 }
 
 /// Whether a node is a voter.
-fn is_voter(servers: &[Server], id: u64) -> bool
+pub(crate) fn is_voter(servers: &[Server], id: u64) -> bool
     ensures { result ≡ among (voters servers.now) id }
 {
     for server in servers {
@@ -152,7 +190,7 @@ fn is_voter(servers: &[Server], id: u64) -> bool
 }
 
 /// Whether a peer is one of these.
-fn is_among(peers: &[u64], id: u64) -> bool
+pub(crate) fn is_among(peers: &[u64], id: u64) -> bool
     ensures { result ≡ among peers.now id }
 {
     peers.iter().any(|peer| *peer == id)
@@ -178,12 +216,16 @@ pub(crate) fn wanted_by_transfer(view: &View, id: u64) -> Wanted
     }
 }
 
-/// Whether a proposal changes the servers of the cluster. There is no kind that does so yet.
+/// Whether a proposal changes the servers of the cluster.
 fn is_change(kind: &FlightKind) -> bool
     ensures { result ≡ limits.configures (kind_named kind.now) }
 {
     match kind {
-        FlightKind::Opening | FlightKind::Writing(_) | FlightKind::Committing => false,
+        FlightKind::Configuring => true,
+        FlightKind::Opening { .. }
+        | FlightKind::Writing { .. }
+        | FlightKind::Committing { .. }
+        | FlightKind::Querying { .. } => false,
     }
 }
 
@@ -198,7 +240,7 @@ fn is_changing(session: &Session) -> bool
 }
 
 /// Whether some session's change of the cluster is in flight.
-fn change_in_flight(sessions: &[Session]) -> bool
+pub(crate) fn change_in_flight(sessions: &[Session]) -> bool
     requires { AreApart sessions.now }
     ensures { (databases : List Database) (weight : ℕ) → result ≡ limits.change_in_flight (table_of databases sessions.now weight) }
 {
@@ -208,16 +250,4 @@ fn change_in_flight(sessions: &[Session]) -> bool
         }
     }
     false
-}
-
-/// What ADD, ASSIGN and REMOVE want of a serving leader: servers can't be changed yet.
-pub(crate) fn wanted_by_change(sessions: &[Session]) -> Wanted
-    requires { AreApart sessions.now }
-    ensures { (databases : List Database) (weight : ℕ) → meant [] result ≡ rules.asks_change (table_of databases sessions.now weight) }
-{
-    if change_in_flight(sessions) {
-        Wanted::Never(Cause::ChangeInFlight)
-    } else {
-        Wanted::Never(Cause::BadNode)
-    }
 }

@@ -72,16 +72,17 @@ fn log_full(view: &View) -> bool
     view.last >= LAST_INDEX
 }
 
-/// What OPEN wants by a name of which there is no database. `Err` is want of memory.
+/// What OPEN wants by a name of which there is no database, with barrier reads or not. `Err` is want of memory.
 fn wanted_by_new(
     alloc: Global,
     view: &View,
     machine: &Machine,
     sessions: &[Session],
     name: Name,
+    barriers: bool,
 ) -> Result<Wanted, AllocError>
     requires { AreApart sessions.now }
-    ensures { (weight : ℕ) → IfOk result (λ wanted. meant [] wanted ≡ rules.asks_new view.now (machine_of machine.now) (table_of machine.now sessions.now weight) name) }
+    ensures { (weight : ℕ) → IfOk result (λ wanted. meant [] wanted ≡ rules.asks_new view.now (machine_of machine.now) (table_of machine.now sessions.now weight) name barriers) }
 {
     if one_too_many(alloc, machine, sessions, &name)? {
         return Ok(Wanted::Never(Cause::TooManyDatabases));
@@ -89,10 +90,10 @@ fn wanted_by_new(
     if log_full(view) {
         return Ok(Wanted::Never(Cause::LogFull));
     }
-    Ok(Wanted::Creates(name))
+    Ok(Wanted::Creates(name, barriers))
 }
 
-/// What OPEN wants of a serving leader by a name that holds no NUL. `Err` is want of memory.
+/// What OPEN wants of a serving leader by a name that holds no NUL, with barrier reads or not. `Err` is want of memory.
 pub(crate) fn wanted_by_open(
     alloc: Global,
     view: &View,
@@ -100,10 +101,11 @@ pub(crate) fn wanted_by_open(
     sessions: &[Session],
     session: &Session,
     name: &str,
+    barriers: bool,
 ) -> Result<Wanted, AllocError>
     requires apart { AreApart sessions.now }
     requires text { has_nul name.now ≡ false }
-    ensures { (weight : ℕ) → IfOk result (λ wanted. meant [] wanted ≡ rules.asks_open view.now (machine_of machine.now) (table_of machine.now sessions.now weight) (session_of machine.now session.now) name.now) }
+    ensures { (weight : ℕ) → IfOk result (λ wanted. meant [] wanted ≡ rules.asks_open view.now (machine_of machine.now) (table_of machine.now sessions.now weight) (session_of machine.now session.now) name.now barriers) }
 {
     if has_database(session) {
         return Ok(Wanted::Never(Cause::DatabaseOpen));
@@ -112,9 +114,9 @@ pub(crate) fn wanted_by_open(
         return Ok(Wanted::Never(Cause::BadName));
     };
     if is_there(machine, name.as_str()) {
-        return Ok(Wanted::Opens(name));
+        return Ok(Wanted::Opens(name, barriers));
     }
-    wanted_by_new(alloc, view, machine, sessions, name)
+    wanted_by_new(alloc, view, machine, sessions, name, barriers)
 }
 
 /// So many bytes up to a whole word, as far as a number of 64 bits counts.

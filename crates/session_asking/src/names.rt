@@ -56,9 +56,12 @@ fn proposed_by(session: &Session) -> Option<&Name>
     ensures { MatchOption result (proposed_by session.now ≡ []) (λ name. proposed_by session.now ≡ name.now ∷ []) }
 {
     let flight = session.flight.as_ref()?;
-    match flight.kind {
-        FlightKind::Opening => Some(&flight.name),
-        FlightKind::Writing(_) | FlightKind::Committing => None,
+    match &flight.kind {
+        FlightKind::Opening { name } => Some(name),
+        FlightKind::Configuring
+        | FlightKind::Writing { .. }
+        | FlightKind::Committing { .. }
+        | FlightKind::Querying { .. } => None,
     }
 }
 

@@ -8,9 +8,9 @@ ghost use Rattle.session_rules.specs.Machine.{machine_of};
 ghost use Rattle.session_table.specs.Table.{AreApart, session_of, table_of};
 ghost use Rattle.session_asking.specs.Meant.{meant, params_of, NameHasNoNul, FitsStatements, CanBeDone};
 
+use crate::changes::{change_hindrance, wanted_by_add, wanted_by_assign, wanted_by_remove};
 use crate::cluster::{
-    wanted_by_change, wanted_by_cluster, wanted_by_connect, wanted_by_describe, wanted_by_leader,
-    wanted_by_transfer,
+    wanted_by_cluster, wanted_by_connect, wanted_by_describe, wanted_by_leader, wanted_by_transfer,
 };
 use crate::databases::{wanted_by_dump, wanted_by_open};
 use crate::statements::{
@@ -22,10 +22,13 @@ use page_apply::Machine;
 use session_table::{Cause, Session};
 use std::alloc::{AllocError, Global};
 use wire_msgs::{Request, Response};
-use wire_words::Value;
+use wire_words::{Value, WireText};
 
 /// For how many milliseconds a client may be silent.
 const HEARTBEAT_TIMEOUT: u64 = 15_000;
+
+/// The flag of OPEN that asks for barrier reads.
+const BARRIERS: u64 = 4_294_967_296;
 
 /// The parameters of a request; none where it has no place for them. Takes no memory.
 pub fn params_of(request: &Request) -> &[Value]
@@ -40,6 +43,13 @@ pub fn params_of(request: &Request) -> &[Value]
     }
 }
 
+/// Whether the flags of an OPEN ask for barrier reads.
+fn barriers_asked(flags: u64) -> bool
+    ensures { result ≡ rules.barriers_asked flags }
+{
+    flags / BARRIERS % 2 == 1
+}
+
 /// What OPEN wants by a name that holds no NUL. `Err` is want of memory.
 fn opens(
     alloc: Global,
@@ -48,26 +58,69 @@ fn opens(
     sessions: &[Session],
     session: &Session,
     name: &str,
+    flags: u64,
 ) -> Result<Wanted, AllocError>
     requires apart { AreApart sessions.now }
     requires text { has_nul name.now ≡ false }
-    ensures { (weight : ℕ) → IfOk result (λ wanted. meant [] wanted ≡ rules.at_leader view.now (rules.asks_open view.now (machine_of machine.now) (table_of machine.now sessions.now weight) (session_of machine.now session.now) name.now)) }
+    ensures { (weight : ℕ) → IfOk result (λ wanted. meant [] wanted ≡ rules.at_leader view.now (rules.asks_open view.now (machine_of machine.now) (table_of machine.now sessions.now weight) (session_of machine.now session.now) name.now (rules.barriers_asked flags))) }
 {
     if !view.serving {
         return Ok(Wanted::Never(Cause::NotLeader));
     }
-    wanted_by_open(alloc, view, machine, sessions, session, name)
+    wanted_by_open(
+        alloc,
+        view,
+        machine,
+        sessions,
+        session,
+        name,
+        barriers_asked(flags),
+    )
 }
 
-/// What ADD, ASSIGN and REMOVE want.
-fn changes_servers(view: &View, sessions: &[Session]) -> Wanted
+/// What ADD wants. `Err` is want of memory.
+fn adds(
+    alloc: Global,
+    view: &View,
+    sessions: &[Session],
+    id: u64,
+    address: &WireText,
+) -> Result<Wanted, AllocError>
     requires { AreApart sessions.now }
-    ensures { (databases : List Database) (weight : ℕ) → meant [] result ≡ rules.at_leader view.now (rules.asks_change (table_of databases sessions.now weight)) }
+    ensures { (databases : List Database) (weight : ℕ) → IfOk result (λ wanted. meant [] wanted ≡ rules.at_leader view.now (rules.if_settled (table_of databases sessions.now weight) (rules.asks_add view.now.servers id address.now))) }
 {
-    if !view.serving {
-        return Wanted::Never(Cause::NotLeader);
+    match change_hindrance(view, sessions) {
+        Some(cause) => Ok(Wanted::Never(cause)),
+        None => wanted_by_add(alloc, view, id, address),
     }
-    wanted_by_change(sessions)
+}
+
+/// What ASSIGN wants. `Err` is want of memory.
+fn assigns(
+    alloc: Global,
+    view: &View,
+    sessions: &[Session],
+    id: u64,
+    role: u64,
+) -> Result<Wanted, AllocError>
+    requires { AreApart sessions.now }
+    ensures { (databases : List Database) (weight : ℕ) → IfOk result (λ wanted. meant [] wanted ≡ rules.at_leader view.now (rules.if_settled (table_of databases sessions.now weight) (rules.asks_assign view.now id role))) }
+{
+    match change_hindrance(view, sessions) {
+        Some(cause) => Ok(Wanted::Never(cause)),
+        None => wanted_by_assign(alloc, view, id, role),
+    }
+}
+
+/// What REMOVE wants. `Err` is want of memory.
+fn removes(alloc: Global, view: &View, sessions: &[Session], id: u64) -> Result<Wanted, AllocError>
+    requires { AreApart sessions.now }
+    ensures { (databases : List Database) (weight : ℕ) → IfOk result (λ wanted. meant [] wanted ≡ rules.at_leader view.now (rules.if_settled (table_of databases sessions.now weight) (rules.asks_remove view.now id))) }
+{
+    match change_hindrance(view, sessions) {
+        Some(cause) => Ok(Wanted::Never(cause)),
+        None => wanted_by_remove(alloc, view, id),
+    }
 }
 
 /// What TRANSFER wants.
@@ -101,8 +154,16 @@ fn ask(
         Request::Client { .. } => Ok(Wanted::Tells(Response::Welcome {
             heartbeat_timeout: HEARTBEAT_TIMEOUT,
         })),
-        Request::Open { name, .. } => {
-            opens(alloc, view, machine, sessions, session, name.as_str())
+        Request::Open { name, flags, .. } => {
+            opens(
+                alloc,
+                view,
+                machine,
+                sessions,
+                session,
+                name.as_str(),
+                *flags,
+            )
         }
         Request::Prepare { db, sql, wide } => {
             prepares(alloc, view, session, *db, sql.as_str(), *wide)
@@ -140,9 +201,9 @@ fn ask(
         } => queries_text(alloc, view, session, *db, sql.as_str(), params.as_slice()),
         Request::Interrupt { db } => Ok(interrupts(session, *db)),
         Request::Connect { id, .. } => Ok(wanted_by_connect(view, *id)),
-        Request::Add { .. } | Request::Assign { .. } | Request::Remove { .. } => {
-            Ok(changes_servers(view, sessions))
-        }
+        Request::Add { id, address } => adds(alloc, view, sessions, *id, address),
+        Request::Assign { id, role } => assigns(alloc, view, sessions, *id, *role),
+        Request::Remove { id } => removes(alloc, view, sessions, *id),
         Request::Dump { name } => wanted_by_dump(alloc, machine, name.as_str()),
         Request::Cluster { format } => wanted_by_cluster(alloc, view, *format),
         Request::Transfer { id } => Ok(transfers(view, *id)),

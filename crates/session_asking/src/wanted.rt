@@ -1,4 +1,5 @@
 use dq_base::{Items, Name};
+use raft_vote::Servers;
 use session_table::{Cause, Prepared};
 use sql_scan::Piece;
 use wire_msgs::Response;
@@ -33,10 +34,12 @@ pub enum Wanted {
     Tells(Response),
     /// Something beside the sessions.
     Sets(Effect),
-    /// A database that is there.
-    Opens(Name),
-    /// A new database.
-    Creates(Name),
+    /// A database that is there, with barrier reads or not.
+    Opens(Name, bool),
+    /// A new database, with barrier reads or not.
+    Creates(Name, bool),
+    /// Other servers of the cluster.
+    Changes(Servers),
     /// A statement is to be prepared, with the place of the rest of its text where that is told.
     Prepares(Prepared, Option<u64>),
     /// A prepared statement is to be let go.

@@ -12,18 +12,18 @@ use Rattle.session_table.specs.Table.{session_of, table_of}
 use Rattle.session_asking.specs.declared.wanted.Wanted.{Wanted}
 use Rattle.session_asking.specs.Meant.{meant, params_of}
 use Rattle.session_asking.proofs.Asked.{of_request, of_result}
-use Rattle.session_asking.proofs.Plain.{plain_can, open_plain, change_plain, interrupt_plain}
+use Rattle.session_asking.proofs.Plain.{plain_can, open_plain, add_plain, assign_plain, remove_plain, interrupt_plain}
 use Rattle.session_asking.proofs.request.ask.Goals as goal
 
 pub returns-in-Open-clause-wants : goal.returns-in-Open-clause-wants
 unfolding asked_by
 returns-in-Open-clause-wants c =
     of_result c.args.view.now (machine_of c.args.machine.now) (table_of c.args.machine.now c.args.sessions.now c.args.weight) (session_of c.args.machine.now c.args.session.now) c.args.request.now _ c.in-Open.is c.opens.result
-    (subst (λ (name : List ℕ). IfOk c.opens.result (λ (w : Wanted). meant [] w ≡ asking.at_leader c.args.view.now (asking.asks_open c.args.view.now (machine_of c.args.machine.now) (table_of c.args.machine.now c.args.sessions.now c.args.weight) (session_of c.args.machine.now c.args.session.now) name))) c.as_str.ensures.same (c.opens.ensures c.args.weight))
+    (subst (λ (name : List ℕ). IfOk c.opens.result (λ (w : Wanted). meant [] w ≡ asking.at_leader c.args.view.now (asking.asks_open c.args.view.now (machine_of c.args.machine.now) (table_of c.args.machine.now c.args.sessions.now c.args.weight) (session_of c.args.machine.now c.args.session.now) name (asking.barriers_asked c.in-Open.flags)))) c.as_str.ensures.same (c.opens.ensures c.args.weight))
 
 pub returns-in-Open-clause-fits : goal.returns-in-Open-clause-fits
 returns-in-Open-clause-fits c =
-    IfOk-weaker c.opens.result _ _ (λ w e. plain_can c.args.session.now.statements.items (params_of c.args.request.now) [] w _ e (open_plain c.args.view.now (machine_of c.args.machine.now) (table_of c.args.machine.now c.args.sessions.now c.args.weight) (session_of c.args.machine.now c.args.session.now) c.as_str.result.now)) (c.opens.ensures c.args.weight)
+    IfOk-weaker c.opens.result _ _ (λ w e. plain_can c.args.session.now.statements.items (params_of c.args.request.now) [] w _ e (open_plain c.args.view.now (machine_of c.args.machine.now) (table_of c.args.machine.now c.args.sessions.now c.args.weight) (session_of c.args.machine.now c.args.session.now) c.as_str.result.now (asking.barriers_asked c.in-Open.flags))) (c.opens.ensures c.args.weight)
 
 pub returns-in-Prepare-clause-wants : goal.returns-in-Prepare-clause-wants
 unfolding asked_by
@@ -73,6 +73,29 @@ pub returns-in-Describe-clause-wants : goal.returns-in-Describe-clause-wants
 unfolding asked_by table_of
 returns-in-Describe-clause-wants c = of_request c.args.view.now (machine_of c.args.machine.now) (table_of c.args.machine.now c.args.sessions.now c.args.weight) (session_of c.args.machine.now c.args.session.now) c.args.request.now _ c.in-Describe.is c.wanted_by_describe.result c.wanted_by_describe.ensures
 
+pub returns-in-Add-clause-wants : goal.returns-in-Add-clause-wants
+unfolding asked_by
+returns-in-Add-clause-wants c =
+    of_result c.args.view.now (machine_of c.args.machine.now) (table_of c.args.machine.now c.args.sessions.now c.args.weight) (session_of c.args.machine.now c.args.session.now) c.args.request.now _ c.in-Add.is c.adds.result (c.adds.ensures c.args.machine.now c.args.weight)
+
 pub returns-in-Add-clause-fits : goal.returns-in-Add-clause-fits
 returns-in-Add-clause-fits c =
-    plain_can c.args.session.now.statements.items (params_of c.args.request.now) [] c.changes_servers.result _ (c.changes_servers.ensures c.args.machine.now c.args.weight) (change_plain c.args.view.now (table_of c.args.machine.now c.args.sessions.now c.args.weight))
+    IfOk-weaker c.adds.result _ _ (λ w e. plain_can c.args.session.now.statements.items (params_of c.args.request.now) [] w _ e (add_plain c.args.view.now (table_of c.args.machine.now c.args.sessions.now c.args.weight) c.in-Add.id c.in-Add.address)) (c.adds.ensures c.args.machine.now c.args.weight)
+
+pub returns-in-Assign-clause-wants : goal.returns-in-Assign-clause-wants
+unfolding asked_by
+returns-in-Assign-clause-wants c =
+    of_result c.args.view.now (machine_of c.args.machine.now) (table_of c.args.machine.now c.args.sessions.now c.args.weight) (session_of c.args.machine.now c.args.session.now) c.args.request.now _ c.in-Assign.is c.assigns.result (c.assigns.ensures c.args.machine.now c.args.weight)
+
+pub returns-in-Assign-clause-fits : goal.returns-in-Assign-clause-fits
+returns-in-Assign-clause-fits c =
+    IfOk-weaker c.assigns.result _ _ (λ w e. plain_can c.args.session.now.statements.items (params_of c.args.request.now) [] w _ e (assign_plain c.args.view.now (table_of c.args.machine.now c.args.sessions.now c.args.weight) c.in-Assign.id c.in-Assign.role)) (c.assigns.ensures c.args.machine.now c.args.weight)
+
+pub returns-in-Remove-clause-wants : goal.returns-in-Remove-clause-wants
+unfolding asked_by
+returns-in-Remove-clause-wants c =
+    of_result c.args.view.now (machine_of c.args.machine.now) (table_of c.args.machine.now c.args.sessions.now c.args.weight) (session_of c.args.machine.now c.args.session.now) c.args.request.now _ c.in-Remove.is c.removes.result (c.removes.ensures c.args.machine.now c.args.weight)
+
+pub returns-in-Remove-clause-fits : goal.returns-in-Remove-clause-fits
+returns-in-Remove-clause-fits c =
+    IfOk-weaker c.removes.result _ _ (λ w e. plain_can c.args.session.now.statements.items (params_of c.args.request.now) [] w _ e (remove_plain c.args.view.now (table_of c.args.machine.now c.args.sessions.now c.args.weight) c.in-Remove.id)) (c.removes.ensures c.args.machine.now c.args.weight)
