@@ -20,14 +20,15 @@ pub none_open : {X : Type 0} (o : Option X) → not (is_none o) ≡ false → o 
 none_open None e = refl
 none_open (Some x) e = (cc)
 
-module _ (v : View) (m : Machine) (g : Gateway) (s : Session) (name : List ℕ) where
-  pub full_creates : nat_lt 16384 (pages_with m g name 1) ≡ true → ComesTo v m s (creates v m g s name) (turns.Refused causes.DatabaseFull)
+-- a new database, by the session as it asks for barrier reads or doesn't
+module _ (v : View) (m : Machine) (g : Gateway) (s asking : Session) (name : List ℕ) where
+  pub full_creates : nat_lt 16384 (pages_with m g name 1) ≡ true → ComesTo v m s (creates v m g asking name) (turns.Refused causes.DatabaseFull)
   full_creates e =
-      subst (λ (t : Turned). ComesTo v m s t (turns.Refused causes.DatabaseFull)) (sym (cond-true (pages_full m g name empty_image) (Refused DatabaseFull) (Proposes (flying v s name (Does (OpenDb name) ∷ []) 0 Opening) (Does (OpenDb name) ∷ []) Nothing) e)) refl
+      subst (λ (t : Turned). ComesTo v m s t (turns.Refused causes.DatabaseFull)) (sym (cond-true (pages_full m g name empty_image) (Refused DatabaseFull) (Proposes (flying v asking name (Does (OpenDb name) ∷ []) 0 Opening) (Does (OpenDb name) ∷ []) Nothing) e)) refl
 
-  pub new_creates : (turn : Turn) → nat_lt 16384 (pages_with m g name 1) ≡ false → ComesTo v m s (Proposes (flying v s name (Does (OpenDb name) ∷ []) 0 Opening) (Does (OpenDb name) ∷ []) Nothing) turn → ComesTo v m s (creates v m g s name) turn
+  pub new_creates : (turn : Turn) → nat_lt 16384 (pages_with m g name 1) ≡ false → ComesTo v m s (Proposes (flying v asking name (Does (OpenDb name) ∷ []) 0 Opening) (Does (OpenDb name) ∷ []) Nothing) turn → ComesTo v m s (creates v m g asking name) turn
   new_creates turn e h =
-      subst (λ (t : Turned). ComesTo v m s t turn) (sym (cond-false (pages_full m g name empty_image) (Refused DatabaseFull) (Proposes (flying v s name (Does (OpenDb name) ∷ []) 0 Opening) (Does (OpenDb name) ∷ []) Nothing) e)) h
+      subst (λ (t : Turned). ComesTo v m s t turn) (sym (cond-false (pages_full m g name empty_image) (Refused DatabaseFull) (Proposes (flying v asking name (Does (OpenDb name) ∷ []) 0 Opening) (Does (OpenDb name) ∷ []) Nothing) e)) h
 
 module _ (v : View) (m : Machine) (g : Gateway) (conn : ℕ) (s : Session) where
   pub is_locked : (at_once : Bool) → at_once ≡ true → other_holds g conn s.database ≡ true → ComesTo v m s (begins m g conn s at_once) (turns.Refused causes.Locked)

@@ -41,7 +41,7 @@ same_worked : (s : Session) (x : Transaction) (to : Image) → s.tx ≡ Some x �
 same_worked s x to begun is =
     ap (λ (image : Image). worked s x image x.turn) (sym is)
     ∙ ap (λ (ns : List ℕ). with_tx s (Some (record { name = x.name; mark = x.mark; pinned = x.pinned; working = x.working; turn = x.turn; touched = ns }))) (nothing_more x.touched x.working)
-    ∙ ap (λ (tx : Option Transaction). record { there = s.there; hung = s.hung; database = s.database; statements = s.statements; tx = tx; flight = s.flight }) (sym begun)
+    ∙ ap (with_tx s) (sym begun)
 
 -- the transaction with the pages that lead to another image
 pub works_on : (s : Session) (x : Transaction) (set : PageSet) (to : Image) → s.tx ≡ Some x → applied x.working set.pages ≡ to → set.pages ≡ changed x.working to → worked s x to true ≡ with_tx s (worked_on set.pages s.tx)

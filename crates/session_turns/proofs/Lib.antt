@@ -13,3 +13,6 @@ pub mod Committing
 pub mod Leading
 pub mod Placed
 pub mod Works
+pub mod Alone
+pub mod Queries
+pub mod Jobs

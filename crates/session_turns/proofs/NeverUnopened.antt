@@ -1,5 +1,5 @@
 -- That files were not opened is told only where the engine said so.
-use Rattle.std.proofs.Common.{◌≡◌, ℕ, Bool, true, false, cond, not, List, Option, Some, None, Result, Ok, Err, inl, inr, sym, ap, subst, ◌∙◌}
+use Rattle.std.proofs.Common.{◌≡◌, ℕ, Bool, true, false, cond, not, ◌&&◌, List, [], ◌∷◌, Option, Some, None, Result, Ok, Err, inl, inr, sym, ap, subst, ◌∙◌}
 use Rattle.std.specs.Prelude.{◌==◌}
 use Rattle.dq_base.specs.declared.images.Image.{Image}
 use Rattle.dq_base.specs.declared.pages.NumberedPage.{NumberedPage}
@@ -13,13 +13,15 @@ use Rattle.sql_engine.specs.declared.fault.EngineFault.TheVariants as faults
 use Rattle.sql_engine.specs.Replies.{Statement}
 use Rattle.session_rules.specs.Causes as causes
 use Rattle.session_rules.specs.Causes.{Cause, engine_cause}
+use Rattle.session_rules.specs.Entries.{Other}
 use Rattle.session_rules.specs.Engines.{no_pages, Ending, Lacking, TooLarge, Stopped, Ended}
 use Rattle.session_rules.specs.Machine.{Machine}
-use Rattle.session_rules.specs.Sessions.{Session, Gateway, View, Transaction, Turned, Refused, Lacks, Answers, Proposes, Affects}
+use Rattle.session_rules.specs.Sessions.{Session, Gateway, View, Transaction, Querying, Lent, Nothing, Turned, Refused, Lacks, Answers, Proposes, Lends, Affects}
 use Rattle.session_rules.specs.Limits.{other_holds, too_full, log_full, first_cause, hindrance}
-use Rattle.session_rules.specs.Requests.{unless, rows_cause, or_cause, row_cause, outside, outside_write, inside}
+use Rattle.session_rules.specs.Requests.{unless, rows_cause, or_cause, row_cause, outside, outside_write, inside, was_cut, barrier_first, job_of, flying, with_later}
 use Rattle.session_asking.specs.Meant.{IsPlainCause}
 use Rattle.session_turns.specs.Runs.{ran_in}
+use Rattle.session_turns.specs.Reading.{query_in}
 use Rattle.session_table.specs.declared.cause.Cause.TheVariants as code_causes
 use Rattle.session_turns.specs.declared.turn.Turn.{Turn}
 use Rattle.session_turns.specs.declared.turn.Turn.TheVariants as turns
@@ -39,6 +41,7 @@ IsPlain (Refused cause) = IsPlainCause cause
 IsPlain Lacks = Unit {0}
 IsPlain (Answers s reply note) = Unit {0}
 IsPlain (Proposes s contents note) = Unit {0}
+IsPlain (Lends s job) = Unit {0}
 IsPlain (Affects effect) = Unit {0}
 
 pub plain_unless : (cause : Option Cause) (turned : Turned) → Plain cause → IsPlain turned → IsPlain (unless cause turned)
@@ -135,6 +138,7 @@ told_plain v m s (Refused cause) comes plain = subst IsPlainCause comes plain
 told_plain v m s Lacks comes plain = comes
 told_plain v m s (Answers to reply note) comes plain = comes
 told_plain v m s (Proposes to contents note) comes plain = comes
+told_plain v m s (Lends to job) comes plain = comes
 told_plain v m s (Affects effect) comes plain = comes
 
 -- a request is refused since files were not opened only where running ended so
@@ -144,3 +148,22 @@ was_unopened v m g conn s tx ss rows number from e ending turn shows comes is = 
   | inl unopened ↦ unopened
   | inr opened ↦ absurd (told_plain v m s (ran_in v m g conn s tx ss rows e) (subst (ComesTo v m s (ran_in v m g conn s tx ss rows e)) is comes) (plain_ran v m g conn s tx ss rows e (opened_by number from e ending shows opened)))
 ]
+
+-- ---- of queries
+
+plain_query : (v : View) (m : Machine) (g : Gateway) (conn : ℕ) (s : Session) (tx : Option Transaction) (statement : Statement) (e : Ending) → Opened e → IsPlain (query_in v m g conn s tx statement e)
+plain_query v m g conn s None statement e o = plain_if (v.readers && was_cut e) (Lends (with_later s (Some (Lent statement))) (job_of m s statement)) (outside v m g conn s (statement ∷ []) true e) tt (plain_outside v m g conn s (statement ∷ []) true e o)
+plain_query v m g conn s (Some x) statement e o = plain_inside m g conn s x (statement ∷ []) true e o
+
+pub query_unopened : (v : View) (m : Machine) (g : Gateway) (conn : ℕ) (s : Session) (tx : Option Transaction) (statement : Statement) (number : ℕ) (from : Image) (e : Ending) (ending : CodeEnding) (turn : Turn)
+    → Shows number from e ending → ComesTo v m s (query_in v m g conn s tx statement e) turn → turn ≡ turns.Refused code_causes.NotADatabase → ends_unopened ending ≡ true
+query_unopened v m g conn s tx statement number from e ending turn shows comes is = elim (cases_Bool (ends_unopened ending)) [
+  | inl unopened ↦ unopened
+  | inr opened ↦ absurd (told_plain v m s (query_in v m g conn s tx statement e) (subst (ComesTo v m s (query_in v m g conn s tx statement e)) is comes) (plain_query v m g conn s tx statement e (opened_by number from e ending shows opened)))
+]
+
+-- a barrier isn't refused so
+pub barrier_opened : (v : View) (m : Machine) (s : Session) (statement : Statement) (turn : Turn) → ComesTo v m s (barrier_first v s statement) turn → turn ≡ turns.Refused code_causes.NotADatabase → ⊥
+barrier_opened v m s statement turn comes is =
+    told_plain v m s (barrier_first v s statement) (subst (ComesTo v m s (barrier_first v s statement)) is comes)
+    (plain_if (log_full v) (Refused causes.LogFull) (Proposes (flying v s [] (Other ∷ []) 0 (Querying statement)) (Other ∷ []) Nothing) tt tt)

@@ -15,7 +15,7 @@ use Rattle.session_rules.specs.Sessions.{View}
 use Rattle.session_table.specs.declared.session.Session.{Session}
 use Rattle.session_table.specs.Table.{session_of, table_of}
 use Rattle.session_table.specs.Working.{works_of}
-use Rattle.session_asking.specs.Meant.{IsServed}
+use Rattle.session_rules.specs.Allowed.{IsServed}
 use Rattle.statement_runs.specs.Agreeing.{Agree}
 use Rattle.statement_runs.specs.declared.ending.Ending.{Ending}
 use Rattle.statement_runs.specs.Running.{RanTo}

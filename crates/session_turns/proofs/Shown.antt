@@ -1,5 +1,5 @@
 -- The ending of the rules, by that of code.
-use Rattle.std.proofs.Common.{◌≡◌, ℕ, zero, suc, Bool, true, false, cond, bytes_eq, List, [], ◌∷◌, ◌++◌, length, Option, Some, None, refl, sym, ap, ◌∙◌}
+use Rattle.std.proofs.Common.{◌≡◌, ℕ, zero, suc, Bool, true, false, cond, bytes_eq, List, [], ◌∷◌, ◌++◌, length, Option, Some, None, refl, sym, ap, subst, ◌∙◌}
 use Rattle.std.specs.Prelude.{◌==◌}
 use Rattle.std.specs.List.{AllByRecursion}
 use Rattle.dq_base.specs.declared.images.Image.{Image}
@@ -12,10 +12,14 @@ use Rattle.dq_base.proofs.FileBytes.{length-page_from}
 use Rattle.frame_commands.specs.Spelling.{HaveSizes}
 use Rattle.sql_engine.specs.declared.answer.Ran.{Ran}
 use Rattle.sql_engine.specs.declared.fault.EngineFault.{EngineFault}
+use Rattle.sql_engine.specs.declared.kind.EngineKind.{EngineKind}
+use Rattle.sql_engine.specs.Meanings.{Meaning, Told}
+use Rattle.sql_engine.specs.Replies.{Statement}
 use Rattle.session_rules.specs.Engines.{Ending, Lacking, TooLarge, Stopped, Ended}
 use Rattle.statement_runs.specs.declared.ending.AllRan.{AllRan}
+use Rattle.statement_runs.specs.declared.ending.Ending.{Ending as CodeEnding}
 use Rattle.statement_runs.specs.declared.ending.Ending.TheVariants as codes
-use Rattle.statement_runs.specs.Running.{Shows, change_in}
+use Rattle.statement_runs.specs.Running.{RanTo, Shows, change_in}
 use Rattle.session_turns.specs.Hindered.{LeadsTo}
 use Rattle.session_table.proofs.Releasing.{all_both}
 
@@ -50,6 +54,10 @@ shows_ended tx from (Ended to answer) ran shows =
       change = ap change_in same ∙ shows.3;
       leads = shows.4;
     }
+
+-- what ran, by another name of its statement
+pub ran_of : (m : Meaning) (kind : EngineKind) (tx : ℕ) (image : Image) (before now : Option Told) (ending : CodeEnding) (statement asked : Statement) → statement ≡ asked → RanTo m kind tx image (statement ∷ []) before now ending → RanTo m kind tx image (asked ∷ []) before now ending
+ran_of m kind tx image before now ending statement asked is ran = subst (λ (s : Statement). RanTo m kind tx image (s ∷ []) before now ending) is ran
 
 -- ---- the pages of a change have their bytes
 

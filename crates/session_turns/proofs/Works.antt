@@ -1,8 +1,8 @@
 -- No number stands for two images around a run at a session.
-use Rattle.std.proofs.Common.{◌≡◌, ℕ, ◌+◌, ◌<◌, List, [], ◌∷◌, ◌++◌, length, get_or, map, All, Contains, Option, Some, None, option_map, Result, Ok, Err, IfOk, OnErr, refl, sym, ap, subst, ◌∙◌, arith}
+use Rattle.std.proofs.Common.{◌≡◌, ℕ, ◌+◌, List, [], ◌∷◌, ◌++◌, map, All, Contains, Option, Some, None, option_map, Result, Ok, Err, IfOk, refl, sym, subst, arith}
 use Rattle.std.specs.List.{AllByRecursion}
 use Rattle.std.specs.declared.alloc.AllocError.{AllocError}
-use Rattle.std.proofs.lemmas.List.Elements.{Contains-append_left, Contains-append_right}
+use Rattle.std.proofs.lemmas.List.Elements.{Contains-append_left}
 use Rattle.dq_base.specs.declared.images.Image.{Image}
 use Rattle.dq_base.specs.declared.image_number.ImageNumber.{ImageNumber}
 use Rattle.dq_base.specs.declared.image_number.ImageNumber.TheVariants.{Working}
@@ -129,7 +129,9 @@ agree_later known works number bases image a =
 
 no_change : (change : Change) → work_made change None ≡ []
 no_change changes.Stays = refl
-no_change (changes.Opens name) = refl
+no_change (changes.Opens name barriers) = refl
+no_change (changes.Creates flight barriers) = refl
+no_change (changes.Lends query) = refl
 no_change (changes.Prepares prepared) = refl
 no_change (changes.Drops id) = refl
 no_change (changes.Works pages number) = refl
@@ -141,6 +143,8 @@ no_work (turns.Answers change reply) = no_change change
 no_work (turns.Begins at_once) = refl
 no_work turns.Ends = refl
 no_work (turns.Proposes flight entries) = refl
+no_work (turns.Creates flight entries barriers) = refl
+no_work (turns.Lends query job) = refl
 no_work (turns.Affects effect) = refl
 
 -- outside a transaction no turn makes a working image
@@ -151,3 +155,9 @@ none_outside (Err e) made = tt
 -- and an engine that ran statements knows no more than before
 pub agree_stopped : (known now works : List Known) (number : ℕ) (bases : List Numbered) → All (Contains known) now → Agree known works number bases → Agree now works (number + 1) bases
 agree_stopped known now works number bases kept a = agree_later now works number bases empty_image (fewer known now works works number bases kept (all_contained works) a)
+
+-- where nothing ran, and the turn makes no working image
+pub agree_idle : (known works : List Known) (number : ℕ) (bases : List Numbered) (r : Result Turn AllocError) (tx : Option Transaction) → IfOk r (λ turn. (other : Option Transaction) → work_in turn other ≡ []) → Agree known works number bases
+    → Agree known (works_in r tx ++ works) (number + 1) bases
+agree_idle known works number bases (Ok turn) tx none a = subst (λ (made : List Known). Agree known (made ++ works) (number + 1) bases) (sym (none tx)) (agree_later known works number bases empty_image a)
+agree_idle known works number bases (Err e) tx none a = agree_later known works number bases empty_image a

@@ -6,7 +6,7 @@ use Rattle.dq_base.specs.declared.image_number.ImageNumber.{ImageNumber}
 use Rattle.dq_base.specs.declared.image_number.ImageNumber.TheVariants.{Working}
 use Rattle.sql_engine.specs.Known.{Known, MayRun}
 use Rattle.page_apply.specs.ImageNumbers.{Numbered}
-use Rattle.statement_runs.specs.Agreeing.{Agree, Stands}
+use Rattle.statement_runs.specs.Agreeing.{Stands}
 use Rattle.statement_runs.specs.Learning.{left_by}
 use Rattle.statement_runs.specs.declared.ending.Ending.{Ending}
 use Rattle.session_table.specs.declared.session.Transaction.{Transaction}
@@ -21,6 +21,8 @@ work_in (turns.Answers change reply) tx = work_made change tx
 work_in (turns.Begins at_once) tx = []
 work_in turns.Ends tx = []
 work_in (turns.Proposes flight entries) tx = []
+work_in (turns.Creates flight entries barriers) tx = []
+work_in (turns.Lends query job) tx = []
 work_in (turns.Affects effect) tx = []
 
 -- the same where the turn may be missing for want of memory
@@ -34,4 +36,5 @@ work_left image number ending = record { number = Working number; image = left_b
 
 -- an engine may run over any of these images under its number, and the number that was drawn
 abbrev pub MayRunOver : List Known → List Known → List Numbered → ℕ → Type 0
-MayRunOver known works bases number = (before : ImageNumber) (image : Image) → Stands works bases before image → MayRun known image (record { before = before; after = number })
+MayRunOver known works bases number = (before : ImageNumber) (image : Image) → Stands works bases before image
+    → MayRun known image (record { before = before; after = number })

@@ -45,7 +45,8 @@ ran_in v m g conn s (Some x) ss rows ended = inside m g conn s x ss rows ended
 
 -- There are answers that the engine may give to the statements over the session's image, and which it told one after the
 -- other. Running uses all of them, and by them the request comes to this.
-pub record RunsTo (meaning : Meaning) (kind : EngineKind) (v : View) (machine : Machine) (g : Gateway) (conn : ℕ) (s : Session) (ss : List Statement) (rows : Bool) (told_before told_now : Option Told) (turn : Turn) : Type 0 where
+pub record RunsTo (meaning : Meaning) (kind : EngineKind) (v : View) (machine : Machine) (g : Gateway) (conn : ℕ) (s : Session) (ss : List Statement)
+    (rows : Bool) (told_before told_now : Option Told) (turn : Turn) : Type 0 where
   pub answers : List Answer
   pub allowed : AllowsAll meaning kind (ground machine s s.tx) ss answers
   pub told : TellsAll answers told_before told_now

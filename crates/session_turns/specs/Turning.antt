@@ -7,9 +7,9 @@ use Rattle.session_rules.specs.Asking.{Asked, has_database}
 use Rattle.session_rules.specs.Engines.{Answer, Handed, AllowsFor, used_for}
 use Rattle.session_rules.specs.Entries.{written}
 use Rattle.session_rules.specs.Machine.{Machine}
-use Rattle.session_rules.specs.Requests.{with_tx, with_flight, begun, does, handed_for}
+use Rattle.session_rules.specs.Requests.{with_tx, with_flight, with_barriers, with_later, begun, does, handed_for}
 use Rattle.session_rules.specs.Seen.{HasSpelling}
-use Rattle.session_rules.specs.Sessions.{Session, Gateway, View, result, Turned, Refused, Answers, Proposes, Affects}
+use Rattle.session_rules.specs.Sessions.{Session, Gateway, View, Lent, result, Turned, Refused, Answers, Proposes, Lends, Affects}
 use Rattle.statement_runs.specs.Running.{TellsAll}
 use Rattle.session_table.specs.Changing.{changed_by, CanChange}
 use Rattle.session_table.specs.Named.{cause_named, reply_named}
@@ -18,19 +18,24 @@ use Rattle.session_turns.specs.declared.turn.Turn.{Turn}
 use Rattle.session_turns.specs.declared.turn.Turn.TheVariants as turns
 
 -- The outcome of the rules, at a session, is what code tells: the refusal; the change of the session, which can be made, and
--- the reply; the transaction that begins or ends; the proposal, whose entries read back; or what is beside the sessions.
+-- the reply; the transaction that begins or ends; the proposal, whose entries read back; the query that is lent, with its job; or what is beside the sessions.
 abbrev pub ComesTo : View → Machine → Session → Turned → Turn → Type 0
 ComesTo v m s (Refused cause) (turns.Refused told) = cause ≡ cause_named told
 ComesTo v m s (Answers to reply note) (turns.Answers change told) = (to ≡ changed_by s change) × (reply ≡ reply_named told) × CanChange s.statements change
 ComesTo v m s (Answers to reply note) (turns.Begins at_once) = (to ≡ begun m s at_once) × (reply ≡ result 0) × (s.tx ≡ None) × (has_database s ≡ true)
 ComesTo v m s (Answers to reply note) turns.Ends = (to ≡ with_tx s None) × (reply ≡ result 0)
-ComesTo v m s (Proposes to contents note) (turns.Proposes flight entries) = (to ≡ with_flight s (Some flight)) × (entries ≡ written v.term contents) × AllByRecursion HasSpelling contents
+ComesTo v m s (Proposes to contents note) (turns.Proposes flight entries) = (to ≡ with_flight s (Some flight)) × (entries ≡ written v.term contents)
+    × AllByRecursion HasSpelling contents
+ComesTo v m s (Proposes to contents note) (turns.Creates flight entries barriers) = (to ≡ with_flight (with_barriers s barriers) (Some flight))
+    × (entries ≡ written v.term contents) × AllByRecursion HasSpelling contents
+ComesTo v m s (Lends to job) (turns.Lends query told) = (to ≡ with_later s (Some (Lent query))) × (job ≡ told)
 ComesTo v m s (Affects effect) (turns.Affects told) = effect ≡ effect_named told
 ComesTo v m s turned turn = ⊥
 
 -- There are answers that the engine may give to what it is handed, and which it told one after the other. All of them are
 -- used, and by them the rules' outcome at a session is what code tells.
-pub record ComesBy (m : Meaning) (kind : EngineKind) (v : View) (machine : Machine) (s : Session) (given : Option Handed) (outcome : List Answer → Turned) (told_before told_now : Option Told) (turn : Turn) : Type 0 where
+pub record ComesBy (m : Meaning) (kind : EngineKind) (v : View) (machine : Machine) (s : Session) (given : Option Handed) (outcome : List Answer → Turned)
+    (told_before told_now : Option Told) (turn : Turn) : Type 0 where
   pub answers : List Answer
   pub allowed : AllowsFor m kind given answers
   pub told : TellsAll answers told_before told_now
@@ -39,4 +44,5 @@ pub record ComesBy (m : Meaning) (kind : EngineKind) (v : View) (machine : Machi
 
 -- the same of what is asked of a connection's session
 abbrev pub TurnsTo : Meaning → EngineKind → View → Machine → Gateway → ℕ → Session → Asked → Option Told → Option Told → Turn → Type 0
-TurnsTo m kind v machine g conn s asked told_before told_now turn = ComesBy m kind v machine s (handed_for machine s asked) (does v machine g conn s asked) told_before told_now turn
+TurnsTo m kind v machine g conn s asked told_before told_now turn = ComesBy m kind v machine s (handed_for machine s asked)
+    (does v machine g conn s asked) told_before told_now turn

@@ -20,7 +20,7 @@ ghost use Rattle.session_rules.specs.Touched.{IsListed, ListsAll};
 ghost use Rattle.session_rules.specs.Sessions as rules;
 ghost use Rattle.session_rules.specs.Sessions.{Session as RuleSession};
 ghost use Rattle.session_table.specs.Table.{image_pinned, mark_of, pin_of, session_of, table_of, AreApart};
-ghost use Rattle.session_asking.specs.Meant.{IsServed};
+ghost use Rattle.session_rules.specs.Allowed.{IsServed};
 ghost use Rattle.session_table.specs.declared.session.Transaction.{Transaction as TransactionValue};
 ghost use Rattle.session_turns.specs.Numbers.{work_in};
 ghost use Rattle.session_turns.specs.Turning.{ComesTo};
@@ -68,16 +68,16 @@ fn flight(
     pages: u64,
 ) -> Result<Flight, AllocError>
     requires { limits.log_full view.now ≡ false }
-    ensures { (s : RuleSession) (contents : List Content) → entries.now ≡ written view.now.term contents → IfOk result (λ flight. flying view.now s name.now contents pages rules.Committing ≡ with_flight s (Some flight)) }
+    ensures { (s : RuleSession) (contents : List Content) → entries.now ≡ written view.now.term contents
+        → IfOk result (λ flight. flying view.now s name.now contents pages rules.Committing ≡ with_flight s (Some flight)) }
 {
     let name = name.try_clone(alloc)?;
+    let kind = FlightKind::Committing { name, pages };
     Ok(Flight {
-        name,
         first: view.last + 1,
         last: view.last + entries.as_slice().len() as u64,
         term: view.term,
-        pages,
-        kind: FlightKind::Committing,
+        kind,
     })
 }
 
@@ -114,7 +114,9 @@ fn proposed(
     requires term { view.now.term ≤ 4294967295 }
     requires taken { is_none (page_fault pages.items) ≡ true }
     ensures works { IfOk result (λ turn. (tx : Option TransactionValue) → work_in turn tx ≡ []) }
-    ensures comes { (m : RuleMachine) (s : RuleSession) → IfOk result (ComesTo view.now m s (rules.Proposes (flying view.now s name.now (change_of view.now name.now pages.items) count rules.Committing) (change_of view.now name.now pages.items) rules.Nothing)) }
+    ensures comes { (m : RuleMachine) (s : RuleSession) → IfOk result
+        (ComesTo view.now m s (rules.Proposes (flying view.now s name.now (change_of view.now name.now pages.items) count rules.Committing)
+        (change_of view.now name.now pages.items) rules.Nothing)) }
 {
     let set = set_of(view, pages);
     let entries = entries_of(alloc, view, name, &set)?;
@@ -133,7 +135,9 @@ fn hindered(
 ) -> Result<Result<u64, Cause>, AllocError>
     requires apart { AreApart sessions.now }
     requires some { no_pages pages.now.items ≡ false }
-    ensures { (weight : ℕ) (to : ImageValue) → LeadsTo pages.now.items to → IfOk result (Hinders pages.now.items to (limits.hindrance (machine_of machine.now) (table_of machine.now sessions.now weight) conn transaction.now.name transaction.now.mark pages.now.items to)) }
+    ensures { (weight : ℕ) (to : ImageValue) → LeadsTo pages.now.items to
+        → IfOk result (Hinders pages.now.items to (limits.hindrance (machine_of machine.now)
+        (table_of machine.now sessions.now weight) conn transaction.now.name transaction.now.mark pages.now.items to)) }
 {
     let name = transaction.name.as_str();
     hindrance(
@@ -162,7 +166,12 @@ fn commit(
     requires term { view.now.term ≤ 4294967295 }
     requires some { no_pages pages.items ≡ false }
     ensures works { IfOk result (λ turn. (tx : Option TransactionValue) → work_in turn tx ≡ []) }
-    ensures comes { (weight : ℕ) (s : RuleSession) (to : ImageValue) → LeadsTo pages.items to → IfOk result (ComesTo view.now (machine_of machine.now) s (unless (limits.first_cause (limits.log_full view.now) LogFull (limits.hindrance (machine_of machine.now) (table_of machine.now sessions.now weight) conn transaction.now.name transaction.now.mark pages.items to)) (rules.Proposes (flying view.now s transaction.now.name (change_of view.now transaction.now.name pages.items) (page_count to) rules.Committing) (change_of view.now transaction.now.name pages.items) rules.Nothing))) }
+    ensures comes { (weight : ℕ) (s : RuleSession) (to : ImageValue) → LeadsTo pages.items to
+        → IfOk result (ComesTo view.now (machine_of machine.now) s
+        (unless (limits.first_cause (limits.log_full view.now) LogFull
+        (limits.hindrance (machine_of machine.now) (table_of machine.now sessions.now weight) conn transaction.now.name transaction.now.mark pages.items to))
+        (rules.Proposes (flying view.now s transaction.now.name (change_of view.now transaction.now.name pages.items) (page_count to) rules.Committing)
+        (change_of view.now transaction.now.name pages.items) rules.Nothing))) }
 {
     if log_full(view) {
         return Ok(Turn::Refused(Cause::LogFull));
@@ -191,7 +200,10 @@ pub fn commit_turn(
     requires live { AllByRecursion (IsPinned machine.now) (pin_of session.now.transaction) }
     requires listed { IsListed (session_of machine.now session.now).tx }
     ensures works { IfOk result (λ turn. (tx : Option TransactionValue) → work_in turn tx ≡ []) }
-    ensures comes { (weight : ℕ) (answers : List Answer) → IfOk result (ComesTo view.now (machine_of machine.now) (session_of machine.now session.now) (does view.now (machine_of machine.now) (table_of machine.now sessions.now weight) session.now.conn (session_of machine.now session.now) Commits answers)) }
+    ensures comes { (weight : ℕ) (answers : List Answer) → IfOk result
+        (ComesTo view.now (machine_of machine.now) (session_of machine.now session.now)
+        (does view.now (machine_of machine.now) (table_of machine.now sessions.now weight) session.now.conn
+        (session_of machine.now session.now) Commits answers)) }
 {
     let Some(transaction) = &session.transaction else {
         return Ok(Turn::Refused(Cause::NoTransaction));

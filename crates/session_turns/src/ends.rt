@@ -14,7 +14,7 @@ ghost use Rattle.session_rules.specs.Requests.{unless, row_cause, reply_of, with
 ghost use Rattle.session_rules.specs.Seen.{HasSpelling};
 ghost use Rattle.session_rules.specs.Sessions as sessions;
 ghost use Rattle.session_rules.specs.Sessions.{Session, View as RuleView, Turned, Note, Transaction};
-ghost use Rattle.session_table.specs.Named.{cause_named, kind_named};
+ghost use Rattle.session_table.specs.Named.{cause_named, kind_named, name_for, pages_for};
 ghost use Rattle.session_table.specs.Working.{work_with, AreAmong};
 ghost use Rattle.session_table.specs.declared.session.Transaction.{Transaction as TransactionValue};
 ghost use Rattle.session_turns.specs.Numbers.{work_in};
@@ -38,7 +38,8 @@ pub(crate) fn refused(
 ) -> Result<Turn, AllocError>
     requires { IsTable answer.columns answer.rows }
     ensures works { IfOk result (λ turn. (tx : Option TransactionValue) → work_in turn tx ≡ []) }
-    ensures comes { (hindrance : Option RuleCause) → hindrance ≡ Some (cause_named cause) → (v : RuleView) (m : Machine) (s : Session) (turned : Turned) → IfOk result (ComesTo v m s (unless (row_cause rows answer hindrance) turned)) }
+    ensures comes { (hindrance : Option RuleCause) → hindrance ≡ Some (cause_named cause) → (v : RuleView) (m : Machine) (s : Session) (turned : Turned)
+        → IfOk result (ComesTo v m s (unless (row_cause rows answer hindrance) turned)) }
 {
     match told(alloc, rows, answer)? {
         Ok(_reply) => Ok(Turn::Refused(cause)),
@@ -50,7 +51,8 @@ pub(crate) fn refused(
 pub(crate) fn idle(alloc: Global, rows: bool, answer: Ran) -> Result<Turn, AllocError>
     requires { IsTable answer.columns answer.rows }
     ensures works { IfOk result (λ turn. (tx : Option TransactionValue) → work_in turn tx ≡ []) }
-    ensures comes { (v : RuleView) (m : Machine) (s : Session) (note : Note) → IfOk result (ComesTo v m s (unless (row_cause rows answer None) (sessions.Answers s (reply_of rows answer) note))) }
+    ensures comes { (v : RuleView) (m : Machine) (s : Session) (note : Note)
+        → IfOk result (ComesTo v m s (unless (row_cause rows answer None) (sessions.Answers s (reply_of rows answer) note))) }
 {
     match told(alloc, rows, answer)? {
         Ok(reply) => Ok(Turn::Answers(Change::Stays, reply)),
@@ -69,7 +71,9 @@ pub(crate) fn worked(
 ) -> Result<Turn, AllocError>
     requires { IsTable answer.columns answer.rows }
     ensures works { IfOk result (λ turn. (tx : Option TransactionValue) → AreAmong (work_with set.pages number tx) (work_in turn tx)) }
-    ensures comes { (v : RuleView) (m : Machine) (s : Session) (x : Transaction) (note : Note) (to : Image) → s.tx ≡ Some x → applied x.working set.pages ≡ to → set.pages ≡ changed x.working to → IfOk result (ComesTo v m s (unless (row_cause rows answer None) (sessions.Answers (worked s x to true) (reply_of rows answer) note))) }
+    ensures comes { (v : RuleView) (m : Machine) (s : Session) (x : Transaction) (note : Note) (to : Image) → s.tx ≡ Some x → applied x.working set.pages ≡ to
+        → set.pages ≡ changed x.working to → IfOk result (ComesTo v m s
+        (unless (row_cause rows answer None) (sessions.Answers (worked s x to true) (reply_of rows answer) note))) }
 {
     match told(alloc, rows, answer)? {
         Ok(reply) => Ok(Turn::Answers(Change::Works(set, number), reply)),
@@ -77,27 +81,18 @@ pub(crate) fn worked(
     }
 }
 
-/// A proposal of entries that come next in the log, which isn't full. `Err` is want of memory.
-pub(crate) fn flight(
-    alloc: Global,
-    view: &View,
-    name: &Name,
-    entries: &Entries,
-    pages: u64,
-    kind: FlightKind,
-) -> Result<Flight, AllocError>
+/// A proposal of entries that come next in the log, which isn't full.
+pub(crate) fn flight(view: &View, entries: &Entries, kind: FlightKind) -> Flight
     requires { limits.log_full view.now ≡ false }
-    ensures { (s : Session) (contents : List Content) → entries.now ≡ written view.now.term contents → IfOk result (λ flight. flying view.now s name.now contents pages (kind_named kind) ≡ with_flight s (Some flight)) }
+    ensures { (s : Session) (contents : List Content) → entries.now ≡ written view.now.term contents
+        → flying view.now s (name_for kind) contents (pages_for kind) (kind_named kind) ≡ with_flight s (Some result) }
 {
-    let name = name.try_clone(alloc)?;
-    Ok(Flight {
-        name,
+    Flight {
         first: view.last + 1,
         last: view.last + entries.as_slice().len() as u64,
         term: view.term,
-        pages,
         kind,
-    })
+    }
 }
 
 /// A write outside a transaction is proposed. `Err` is want of memory.
@@ -112,18 +107,16 @@ pub(crate) fn proposed(
 ) -> Result<Turn, AllocError>
     requires table { IsTable answer.columns answer.rows }
     requires room { limits.log_full view.now ≡ false }
-    ensures { (m : Machine) (s : Session) (note : Note) (contents : List Content) → entries ≡ written view.now.term contents → AllByRecursion HasSpelling contents → IfOk result (ComesTo view.now m s (unless (row_cause rows answer None) (sessions.Proposes (flying view.now s name.now contents pages (sessions.Writing (reply_of rows answer))) contents note))) }
+    ensures { (m : Machine) (s : Session) (note : Note) (contents : List Content) → entries ≡ written view.now.term contents
+        → AllByRecursion HasSpelling contents → IfOk result (ComesTo view.now m s
+        (unless (row_cause rows answer None) (sessions.Proposes (flying view.now s name.now contents pages
+        (sessions.Writing (reply_of rows answer))) contents note))) }
 {
     match told(alloc, rows, answer)? {
         Ok(reply) => {
-            let flight = flight(
-                alloc,
-                view,
-                name,
-                &entries,
-                pages,
-                FlightKind::Writing(reply),
-            )?;
+            let name = name.try_clone(alloc)?;
+            let kind = FlightKind::Writing { name, pages, reply };
+            let flight = flight(view, &entries, kind);
             Ok(Turn::Proposes(flight, entries))
         }
         Err(cause) => Ok(Turn::Refused(cause)),

@@ -46,7 +46,9 @@ fn hindered_by(
 ) -> Result<Result<u64, Cause>, AllocError>
     requires apart { AreApart sessions.now }
     requires some { engines.no_pages set.now.pages ≡ false }
-    ensures { (weight : ℕ) (to : Image) → LeadsTo set.now.pages to → IfOk result (Hinders set.now.pages to (limits.hindrance (machine_of machine.now) (table_of machine.now sessions.now weight) conn name.now mark set.now.pages to)) }
+    ensures { (weight : ℕ) (to : Image) → LeadsTo set.now.pages to
+        → IfOk result (Hinders set.now.pages to (limits.hindrance (machine_of machine.now)
+        (table_of machine.now sessions.now weight) conn name.now mark set.now.pages to)) }
 {
     let pages = set.pages.as_slice();
     hindrance(alloc, machine, sessions, conn, name.as_str(), mark, pages)
@@ -64,7 +66,9 @@ pub(crate) fn hindered(
 ) -> Result<Result<u64, Cause>, AllocError>
     requires apart { AreApart sessions.now }
     requires some { engines.no_pages (change_in ran.now).pages ≡ false }
-    ensures hinders { (weight : ℕ) (to : Image) → LeadsTo (change_in ran.now).pages to → IfOk result (Hinders (change_in ran.now).pages to (limits.hindrance (machine_of machine.now) (table_of machine.now sessions.now weight) conn name.now mark (change_in ran.now).pages to)) }
+    ensures hinders { (weight : ℕ) (to : Image) → LeadsTo (change_in ran.now).pages to
+        → IfOk result (Hinders (change_in ran.now).pages to (limits.hindrance (machine_of machine.now)
+        (table_of machine.now sessions.now weight) conn name.now mark (change_in ran.now).pages to)) }
     ensures taken { IfOk result (AreTaken (change_in ran.now).pages) }
 {
     hindered_by(alloc, machine, sessions, conn, name, mark, ran.change())
@@ -82,7 +86,8 @@ pub(crate) fn hindering(
 ) -> Result<Cause, AllocError>
     requires apart { AreApart sessions.now }
     requires large { engines.takes answer.now.after.pages ≡ false }
-    ensures { (weight : ℕ) (to : Image) → IfOk result (λ cause. limits.hindrance (machine_of machine.now) (table_of machine.now sessions.now weight) conn name.now mark answer.now.after.pages to ≡ Some (cause_named cause)) }
+    ensures { (weight : ℕ) (to : Image) → IfOk result (λ cause. limits.hindrance (machine_of machine.now)
+        (table_of machine.now sessions.now weight) conn name.now mark answer.now.after.pages to ≡ Some (cause_named cause)) }
 {
     let hindered = hindered_by(alloc, machine, sessions, conn, name, mark, &answer.after)?;
     match hindered {

@@ -36,7 +36,8 @@ fn pages_of(bytes: usize) -> u64
 /// How many pages an image has after these pages, the sizes page included; none where they can't be applied. Looks at their
 /// numbers; takes no memory.
 pub(crate) fn pages_after(pages: &[NumberedPage]) -> Option<u64>
-    ensures { MatchOption result (is_none (page_fault pages.now) ≡ false) (λ count. (is_none (page_fault pages.now) ≡ true) × (HaveSizes pages.now → (image : Image) → page_count (applied image pages.now) ≡ count)) }
+    ensures { MatchOption result (is_none (page_fault pages.now) ≡ false)
+        (λ count. (is_none (page_fault pages.now) ≡ true) × (HaveSizes pages.now → (image : Image) → page_count (applied image pages.now) ≡ count)) }
 {
     match set_lengths(pages) {
         Ok(lengths) => {
@@ -59,7 +60,8 @@ fn room(
 ) -> Result<Option<u64>, AllocError>
     requires apart { AreApart sessions.now }
     requires some { no_pages pages.now ≡ false }
-    ensures { (weight : ℕ) (to : Image) → LeadsTo pages.now to → IfOk result (HasRoom pages.now to (limits.too_full (machine_of machine.now) (table_of machine.now sessions.now weight) name.now pages.now to)) }
+    ensures { (weight : ℕ) (to : Image) → LeadsTo pages.now to → IfOk result
+        (HasRoom pages.now to (limits.too_full (machine_of machine.now) (table_of machine.now sessions.now weight) name.now pages.now to)) }
 {
     let Some(count) = pages_after(pages) else {
         return Ok(None);
@@ -92,7 +94,8 @@ pub(crate) fn hindrance(
 ) -> Result<Result<u64, Cause>, AllocError>
     requires apart { AreApart sessions.now }
     requires some { no_pages pages.now ≡ false }
-    ensures { (weight : ℕ) (to : Image) → LeadsTo pages.now to → IfOk result (Hinders pages.now to (limits.hindrance (machine_of machine.now) (table_of machine.now sessions.now weight) conn name.now mark pages.now to)) }
+    ensures { (weight : ℕ) (to : Image) → LeadsTo pages.now to → IfOk result
+        (Hinders pages.now to (limits.hindrance (machine_of machine.now) (table_of machine.now sessions.now weight) conn name.now mark pages.now to)) }
 {
     if other_holds(sessions, conn, name) {
         return Ok(Err(Cause::Locked));

@@ -55,7 +55,10 @@ fn too_large(
     requires table { IsTable answer.columns answer.rows }
     requires large { engines.takes answer.after.pages ≡ false }
     ensures works { IfOk result (λ turn. (tx : Option TransactionValue) → work_in turn tx ≡ []) }
-    ensures comes { (weight : ℕ) (v : RuleView) (s : RuleSession) (to : Image) → IfOk result (ComesTo v (machine_of machine.now) s (unless (row_cause rows answer (limits.hindrance (machine_of machine.now) (table_of machine.now sessions.now weight) conn transaction.now.name transaction.now.mark answer.after.pages to)) (rules.Refused DatabaseFull))) }
+    ensures comes { (weight : ℕ) (v : RuleView) (s : RuleSession) (to : Image)
+        → IfOk result (ComesTo v (machine_of machine.now) s (unless
+        (row_cause rows answer (limits.hindrance (machine_of machine.now)
+        (table_of machine.now sessions.now weight) conn transaction.now.name transaction.now.mark answer.after.pages to)) (rules.Refused DatabaseFull))) }
 {
     let name = &transaction.name;
     let cause = hindering(
@@ -85,7 +88,12 @@ fn work(
     requires table { IsTable ran.answer.columns ran.answer.rows }
     requires some { engines.no_pages (change_in ran).pages ≡ false }
     ensures works { IfOk result (λ turn. (tx : Option TransactionValue) → AreAmong (work_with (change_in ran).pages number tx) (work_in turn tx)) }
-    ensures comes { (weight : ℕ) (v : RuleView) (s : RuleSession) (x : RuleTransaction) (note : Note) (to : Image) → LeadsTo (change_in ran).pages to → s.tx ≡ Some x → applied x.working (change_in ran).pages ≡ to → (change_in ran).pages ≡ changed x.working to → IfOk result (ComesTo v (machine_of machine.now) s (unless (row_cause rows ran.answer (limits.hindrance (machine_of machine.now) (table_of machine.now sessions.now weight) conn transaction.now.name transaction.now.mark (change_in ran).pages to)) (rules.Answers (requests.worked s x to true) (reply_of rows ran.answer) note))) }
+    ensures comes { (weight : ℕ) (v : RuleView) (s : RuleSession) (x : RuleTransaction) (note : Note) (to : Image) → LeadsTo (change_in ran).pages to
+        → s.tx ≡ Some x → applied x.working (change_in ran).pages ≡ to → (change_in ran).pages ≡ changed x.working to
+        → IfOk result (ComesTo v (machine_of machine.now) s (unless
+        (row_cause rows ran.answer (limits.hindrance (machine_of machine.now)
+        (table_of machine.now sessions.now weight) conn transaction.now.name transaction.now.mark (change_in ran).pages to))
+        (rules.Answers (requests.worked s x to true) (reply_of rows ran.answer) note))) }
 {
     let name = &transaction.name;
     let hindered = hindered(alloc, machine, sessions, conn, name, transaction.mark, &ran)?;
@@ -114,7 +122,10 @@ pub(crate) fn turn_inside(
     requires open { session.now.transaction ≡ Some transaction.now }
     requires formed { IsWellFormed ending }
     ensures works { IfOk result (λ turn. AreAmong (work_left transaction.now.working number ending) (work_in turn session.now.transaction)) }
-    ensures comes { (weight tx : ℕ) (v : RuleView) (statements : List Statement) (ended : engines.Ending) → Shows tx transaction.now.working ended ending → IfOk result (ComesTo v (machine_of machine.now) (session_of machine.now session.now) (requests.inside (machine_of machine.now) (table_of machine.now sessions.now weight) session.now.conn (session_of machine.now session.now) (transaction_of machine.now transaction.now) statements rows ended)) }
+    ensures comes { (weight tx : ℕ) (v : RuleView) (statements : List Statement) (ended : engines.Ending) → Shows tx transaction.now.working ended ending
+        → IfOk result (ComesTo v (machine_of machine.now) (session_of machine.now session.now)
+        (requests.inside (machine_of machine.now) (table_of machine.now sessions.now weight) session.now.conn (session_of machine.now session.now)
+        (transaction_of machine.now transaction.now) statements rows ended)) }
 {
     match ending {
         Ending::Stopped(fault) => Ok(Turn::Refused(Cause::of_engine(fault))),

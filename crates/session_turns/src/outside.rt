@@ -44,7 +44,10 @@ fn too_large(
     requires apart { AreApart sessions.now }
     requires table { IsTable answer.columns answer.rows }
     requires large { engines.takes answer.after.pages ≡ false }
-    ensures { (weight : ℕ) (s : RuleSession) (to : Image) → IfOk result (ComesTo view.now (machine_of machine.now) s (unless (limits.first_cause (limits.log_full view.now) LogFull (row_cause rows answer (limits.hindrance (machine_of machine.now) (table_of machine.now sessions.now weight) conn name.now ((machine_of machine.now).base name.now).newest answer.after.pages to))) (rules.Refused DatabaseFull))) }
+    ensures { (weight : ℕ) (s : RuleSession) (to : Image) → IfOk result
+        (ComesTo view.now (machine_of machine.now) s (unless (limits.first_cause (limits.log_full view.now) LogFull
+        (row_cause rows answer (limits.hindrance (machine_of machine.now) (table_of machine.now sessions.now weight) conn name.now
+        ((machine_of machine.now).base name.now).newest answer.after.pages to))) (rules.Refused DatabaseFull))) }
 {
     if log_full(view) {
         return Ok(Turn::Refused(Cause::LogFull));
@@ -68,7 +71,10 @@ fn write(
     requires apart { AreApart sessions.now }
     requires table { IsTable ran.answer.columns ran.answer.rows }
     requires some { engines.no_pages (change_in ran).pages ≡ false }
-    ensures { (weight : ℕ) (s : RuleSession) (note : Note) (to : Image) → LeadsTo (change_in ran).pages to → (limits.log_full view.now ≡ false → (change_in ran).tx ≡ tx_of view.now.term (suc view.now.last)) → IfOk result (ComesTo view.now (machine_of machine.now) s (write_of view.now (machine_of machine.now) (table_of machine.now sessions.now weight) conn s name.now rows (change_in ran).pages to ran.answer note)) }
+    ensures { (weight : ℕ) (s : RuleSession) (note : Note) (to : Image) → LeadsTo (change_in ran).pages to
+        → (limits.log_full view.now ≡ false → (change_in ran).tx ≡ tx_of view.now.term (suc view.now.last))
+        → IfOk result (ComesTo view.now (machine_of machine.now) s
+        (write_of view.now (machine_of machine.now) (table_of machine.now sessions.now weight) conn s name.now rows (change_in ran).pages to ran.answer note)) }
 {
     if log_full(view) {
         return Ok(Turn::Refused(Cause::LogFull));
@@ -100,7 +106,12 @@ pub(crate) fn turn_outside(
     requires apart { AreApart sessions.now }
     requires name { database_of session.now.database ≡ name.now }
     requires formed { IsWellFormed ending }
-    ensures { (weight tx : ℕ) (statements : List Statement) (ended : engines.Ending) → (limits.log_full view.now ≡ false → tx ≡ tx_of view.now.term (suc view.now.last)) → Shows tx ((machine_of machine.now).base name.now).image ended ending → IfOk result (ComesTo view.now (machine_of machine.now) (session_of machine.now session.now) (requests.outside view.now (machine_of machine.now) (table_of machine.now sessions.now weight) session.now.conn (session_of machine.now session.now) statements rows ended)) }
+    ensures { (weight tx : ℕ) (statements : List Statement) (ended : engines.Ending)
+        → (limits.log_full view.now ≡ false → tx ≡ tx_of view.now.term (suc view.now.last))
+        → Shows tx ((machine_of machine.now).base name.now).image ended ending
+        → IfOk result (ComesTo view.now (machine_of machine.now) (session_of machine.now session.now)
+        (requests.outside view.now (machine_of machine.now) (table_of machine.now sessions.now weight) session.now.conn
+        (session_of machine.now session.now) statements rows ended)) }
 {
     match ending {
         Ending::Stopped(fault) => Ok(Turn::Refused(Cause::of_engine(fault))),

@@ -8,7 +8,7 @@ ghost use Rattle.session_rules.specs.Engines.{Answer};
 ghost use Rattle.session_rules.specs.Entries.{Does, written};
 ghost use Rattle.session_rules.specs.Limits as limits;
 ghost use Rattle.session_rules.specs.Machine.{Machine as RuleMachine, machine_of};
-ghost use Rattle.session_rules.specs.Requests.{does, flying};
+ghost use Rattle.session_rules.specs.Requests.{does, flying, with_barriers};
 ghost use Rattle.session_rules.specs.Seen.{HasSpelling};
 ghost use Rattle.session_rules.specs.Sessions.{Session as RuleSession, View as RuleView, Gateway, Opening, Nothing, Proposes, in_tx};
 ghost use Rattle.session_rules.specs.Statements as statements;
@@ -53,24 +53,24 @@ fn next_index(view: &View) -> u64
     view.last + 1
 }
 
-/// The proposal of a new database, where the log has room. `Err` is want of memory.
-fn opening(alloc: Global, view: &View, name: Name) -> Result<Turn, AllocError>
+/// The proposal of a new database, with barrier reads or not, where the log has room. `Err` is want of memory.
+fn opening(alloc: Global, view: &View, name: Name, barriers: bool) -> Result<Turn, AllocError>
     requires { limits.log_full view.now ≡ false }
     ensures works { IfOk result (λ turn. (tx : Option TransactionValue) → work_in turn tx ≡ []) }
-    ensures comes { (m : RuleMachine) (s : RuleSession) → IfOk result (ComesTo view.now m s (Proposes (flying view.now s name (Does (OpenDb name) ∷ []) 0 Opening) (Does (OpenDb name) ∷ []) Nothing)) }
+    ensures comes { (m : RuleMachine) (s : RuleSession) → IfOk result
+        (ComesTo view.now m s (Proposes (flying view.now (with_barriers s barriers) name (Does (OpenDb name) ∷ []) 0 Opening)
+        (Does (OpenDb name) ∷ []) Nothing)) }
 {
     let entry = opening_entry(alloc, view.term, &name)?;
     let entries = Entries::new(vec![in alloc; entry]?);
     let index = next_index(view);
     let flight = Flight {
-        name,
         first: index,
         last: index,
         term: view.term,
-        pages: 0,
-        kind: FlightKind::Opening,
+        kind: FlightKind::Opening { name },
     };
-    Ok(Turn::Proposes(flight, entries))
+    Ok(Turn::Creates(flight, entries, barriers))
 }
 
 /// What comes of OPEN where a new database is wanted, and the log has room: a proposal, or a refusal where the pages of all
@@ -83,16 +83,20 @@ pub fn creating(
     sessions: &[Session],
     session: &Session,
     name: Name,
+    barriers: bool,
 ) -> Result<Turn, AllocError>
     requires apart { AreApart sessions.now }
     requires room { limits.log_full view.now ≡ false }
     ensures works { IfOk result (λ turn. (tx : Option TransactionValue) → work_in turn tx ≡ []) }
-    ensures comes { (weight conn : ℕ) (answers : List Answer) → IfOk result (ComesTo view.now (machine_of machine.now) (session_of machine.now session.now) (does view.now (machine_of machine.now) (table_of machine.now sessions.now weight) conn (session_of machine.now session.now) (asking.Creates name) answers)) }
+    ensures comes { (weight conn : ℕ) (answers : List Answer) → IfOk result
+        (ComesTo view.now (machine_of machine.now) (session_of machine.now session.now)
+        (does view.now (machine_of machine.now) (table_of machine.now sessions.now weight) conn (session_of machine.now session.now)
+        (asking.Creates name barriers) answers)) }
 {
     if pages_full(alloc, machine, sessions, name.as_str(), 1)? {
         return Ok(Turn::Refused(Cause::DatabaseFull));
     }
-    opening(alloc, view, name)
+    opening(alloc, view, name, barriers)
 }
 
 /// The name of the database that a session has opened; the empty text where it has none.
@@ -112,7 +116,10 @@ pub fn beginning(sessions: &[Session], conn: u64, session: &Session, at_once: bo
     requires outside { (databases : List Database) → in_tx (session_of databases session.now) ≡ false }
     requires open { (databases : List Database) → asking.has_database (session_of databases session.now) ≡ true }
     ensures works { (tx : Option TransactionValue) → work_in result tx ≡ [] }
-    ensures comes { (v : RuleView) (databases : List Database) (weight : ℕ) (answers : List Answer) → ComesTo v (machine_of databases) (session_of databases session.now) (does v (machine_of databases) (table_of databases sessions.now weight) conn (session_of databases session.now) (asking.Begins at_once) answers) result }
+    ensures comes { (v : RuleView) (databases : List Database) (weight : ℕ) (answers : List Answer)
+        → ComesTo v (machine_of databases) (session_of databases session.now)
+        (does v (machine_of databases) (table_of databases sessions.now weight) conn (session_of databases session.now)
+        (asking.Begins at_once) answers) result }
 {
     if !at_once {
         return Turn::Begins(false);
@@ -128,7 +135,8 @@ pub fn beginning(sessions: &[Session], conn: u64, session: &Session, at_once: bo
 pub fn preparing(session: &Session, prepared: Prepared, tail: Option<u64>) -> Turn
     requires { statements.free_id session.now.statements.items < 64 }
     ensures works { (tx : Option TransactionValue) → work_in result tx ≡ [] }
-    ensures comes { (v : RuleView) (m : RuleMachine) (g : Gateway) (conn : ℕ) (databases : List Database) (answers : List Answer) → ComesTo v m (session_of databases session.now) (does v m g conn (session_of databases session.now) (asking.Prepares prepared tail) answers) result }
+    ensures comes { (v : RuleView) (m : RuleMachine) (g : Gateway) (conn : ℕ) (databases : List Database) (answers : List Answer)
+        → ComesTo v m (session_of databases session.now) (does v m g conn (session_of databases session.now) (asking.Prepares prepared tail) answers) result }
 {
     let id = free_id(session.statements.as_slice()) as u32;
     let params = prepared.params;
@@ -146,7 +154,8 @@ pub fn preparing(session: &Session, prepared: Prepared, tail: Option<u64>) -> Tu
 pub fn finalizing(session: &Session, id: u32) -> Turn
     requires { IsSome (statements.prepared_at session.now.statements.items id) }
     ensures works { (tx : Option TransactionValue) → work_in result tx ≡ [] }
-    ensures comes { (v : RuleView) (m : RuleMachine) (g : Gateway) (conn : ℕ) (databases : List Database) (answers : List Answer) → ComesTo v m (session_of databases session.now) (does v m g conn (session_of databases session.now) (asking.Drops id) answers) result }
+    ensures comes { (v : RuleView) (m : RuleMachine) (g : Gateway) (conn : ℕ) (databases : List Database) (answers : List Answer)
+        → ComesTo v m (session_of databases session.now) (does v m g conn (session_of databases session.now) (asking.Drops id) answers) result }
 {
     let _ = &session.statements;
     Turn::Answers(Change::Drops(id), Reply::Single(Response::Empty))
@@ -154,18 +163,23 @@ pub fn finalizing(session: &Session, id: u32) -> Turn
 
 /// What comes of OPEN where the database is there. Takes no memory.
 #[tactic(auto, unfolding(session_rules::specs::Requests::does))]
-pub fn opened(name: Name) -> Turn
+pub fn opened(name: Name, barriers: bool) -> Turn
     ensures works { (tx : Option TransactionValue) → work_in result tx ≡ [] }
-    ensures comes { (v : RuleView) (m : RuleMachine) (g : Gateway) (conn : ℕ) (s : RuleSession) (answers : List Answer) → ComesTo v m s (does v m g conn s (asking.Opens name) answers) result }
+    ensures comes { (v : RuleView) (m : RuleMachine) (g : Gateway) (conn : ℕ) (s : RuleSession) (answers : List Answer)
+        → ComesTo v m s (does v m g conn s (asking.Opens name barriers) answers) result }
 {
-    Turn::Answers(Change::Opens(name), Reply::Single(Response::Db { id: 0 }))
+    Turn::Answers(
+        Change::Opens(name, barriers),
+        Reply::Single(Response::Db { id: 0 }),
+    )
 }
 
 /// What comes of a request that is told a response, and nothing else. Takes no memory.
 #[tactic(auto, unfolding(session_rules::specs::Requests::does))]
 pub fn telling(response: Response) -> Turn
     ensures works { (tx : Option TransactionValue) → work_in result tx ≡ [] }
-    ensures comes { (v : RuleView) (m : RuleMachine) (g : Gateway) (conn : ℕ) (s : RuleSession) (answers : List Answer) → ComesTo v m s (does v m g conn s (asking.Tells response) answers) result }
+    ensures comes { (v : RuleView) (m : RuleMachine) (g : Gateway) (conn : ℕ) (s : RuleSession) (answers : List Answer)
+        → ComesTo v m s (does v m g conn s (asking.Tells response) answers) result }
 {
     Turn::Answers(Change::Stays, Reply::Single(response))
 }

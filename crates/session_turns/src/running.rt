@@ -13,9 +13,9 @@ ghost use Rattle.session_rules.specs.Entries.{tx_of};
 ghost use Rattle.session_rules.specs.Limits as limits;
 ghost use Rattle.session_rules.specs.Machine.{machine_of};
 ghost use Rattle.session_rules.specs.Requests.{ground};
-ghost use Rattle.session_rules.specs.Statements.{with_all};
 ghost use Rattle.session_asking.specs.declared.wanted.Wanted.TheVariants as wanted;
-ghost use Rattle.session_asking.specs.Meant.{CanRun, IsServed};
+ghost use Rattle.session_asking.specs.Meant.{CanRun};
+ghost use Rattle.session_rules.specs.Allowed.{IsServed};
 ghost use Rattle.statement_runs.specs.Texts.{assigned};
 ghost use Rattle.statement_runs.specs.Running.{RanTo, Shows, ends_unopened};
 ghost use Rattle.session_table.specs.declared.cause.Cause.TheVariants as causes;
@@ -34,17 +34,20 @@ use crate::writing::transaction_number;
 use dq_base::{Image, ImageNumber, Name};
 use page_apply::Machine;
 use session_asking::{Script, View};
-use session_table::{Prepared, Session, name_of, newest_image, newest_shared};
+use session_table::{Session, name_of, newest_image, newest_shared};
 use sql_engine::{Engine, ImageNumbers};
-use statement_runs::{Ending, run_all, run_one, run_unnumbered};
+use statement_runs::{Ending, RunOptions, run_all, run_one, run_unnumbered};
 use std::alloc::{AllocError, Global};
 use wire_words::Value;
 
-/// The number of the transaction whose entries come next in the node's log, where that has room.
-fn next_transaction(view: &View) -> u64
-    ensures { view.now.term ≤ 4294967295 → limits.log_full view.now ≡ false → result ≡ tx_of view.now.term (suc view.now.last) }
+/// How statements run with a limit of steps: for the transaction whose entries come next in the node's log, where that has room.
+pub(crate) fn next_run(view: &View, limit: Option<u64>) -> RunOptions
+    ensures { view.now.term ≤ 4294967295 → limits.log_full view.now ≡ false → result.tx ≡ tx_of view.now.term (suc view.now.last) }
 {
-    transaction_number(view.term, view.last)
+    RunOptions {
+        tx: transaction_number(view.term, view.last),
+        limit,
+    }
 }
 
 /// Runs a statement over an image under its number, where it has one, and the number that was drawn for the image after; an engine
@@ -56,13 +59,15 @@ fn run_on<E: Engine>(
     number: u64,
     text: &str,
     params: &[Value],
-    tx: u64,
+    options: RunOptions,
 ) -> Ending
-    requires { AllByRecursion (λ (work : Known). MayRun (E.known engine.old) work.image (record { before = work.number; after = number })) (with_number before image.now) }
+    requires { AllByRecursion (λ (work : Known). MayRun (E.known engine.old) work.image (record { before = work.number; after = number }))
+        (with_number before image.now) }
     ensures stays { Stays (E.kind engine.old) (E.kind engine.new) (E.refused_openings engine.old) (E.refused_openings engine.new) }
     ensures unopened { ends_unopened result ≡ true → E.refused_openings engine.old < E.refused_openings engine.new }
     ensures learnt { All (IsLearnt (E.known engine.old) before image.now number (left_by image.now result)) (E.known engine.new) }
-    ensures ran { RanTo (E.meaning (E.kind engine.old)) (E.kind engine.old) tx image.now (record { text = text.now; params = params.now } ∷ []) (E.told engine.old) (E.told engine.new) result }
+    ensures ran { RanTo (E.meaning (E.kind engine.old)) (E.kind engine.old) options.tx image.now (record { text = text.now; params = params.now } ∷ [])
+        (E.told engine.old) (E.told engine.new) result }
 {
     match before {
         Some(before) => {
@@ -70,9 +75,9 @@ fn run_on<E: Engine>(
                 before,
                 after: number,
             };
-            run_one(engine, image, numbers, text, params, tx)
+            run_one(engine, image, numbers, text, params, options)
         }
-        None => run_unnumbered(engine, image, text, params, tx),
+        None => run_unnumbered(engine, image, text, params, options),
     }
 }
 
@@ -84,53 +89,58 @@ fn run_lent<E: Engine>(
     name: &str,
     text: &str,
     params: &[Value],
-    tx: u64,
+    options: RunOptions,
     number: u64,
     engine: &mut E,
 ) -> Result<Ending, AllocError>
     requires may { MayRunOver (E.known engine.old) [] (map numbered machine.now) number }
     ensures stays { Stays (E.kind engine.old) (E.kind engine.new) (E.refused_openings engine.old) (E.refused_openings engine.new) }
     ensures unopened { IfOk result (λ ending. ends_unopened ending ≡ true → E.refused_openings engine.old < E.refused_openings engine.new) }
-    ensures ran { IfOk result (RanTo (E.meaning (E.kind engine.old)) (E.kind engine.old) tx ((machine_of machine.now).base name.now).image (record { text = text.now; params = params.now } ∷ []) (E.told engine.old) (E.told engine.new)) }
+    ensures ran { IfOk result (RanTo (E.meaning (E.kind engine.old)) (E.kind engine.old) options.tx ((machine_of machine.now).base name.now).image
+        (record { text = text.now; params = params.now } ∷ []) (E.told engine.old) (E.told engine.new)) }
     ensures agree { IfOk result (λ ending. (works : List Known) → Agree (E.known engine.old) works number (map numbered machine.now)
-        → Agree (E.known engine.new) (work_left ((machine_of machine.now).base name.now).image number ending ++ works) (number + 1) (map numbered machine.now)) }
+        → Agree (E.known engine.new) (work_left ((machine_of machine.now).base name.now).image number ending ++ works) (number + 1)
+        (map numbered machine.now)) }
     ensures failed { OnErr result (E.known engine.new ≡ E.known engine.old) }
 {
     let image = newest_shared(alloc, machine, name)?;
     let before = machine.number(name);
-    Ok(run_on(engine, &image, before, number, text, params, tx))
+    Ok(run_on(engine, &image, before, number, text, params, options))
 }
 
 /// Runs a statement over the image of a session: that of its transaction, or the newest of its database, which is lent. `Err`
 /// is want of memory.
-fn run_statement<E: Engine>(
+pub(crate) fn run_statement<E: Engine>(
     alloc: Global,
     machine: &Machine,
     session: &Session,
-    prepared: &Prepared,
+    text: &str,
     params: &[Value],
-    tx: u64,
+    options: RunOptions,
     number: u64,
     engine: &mut E,
 ) -> Result<Ending, AllocError>
     requires may { MayRunOver (E.known engine.old) (work_of session.now.transaction) (map numbered machine.now) number }
     ensures stays { Stays (E.kind engine.old) (E.kind engine.new) (E.refused_openings engine.old) (E.refused_openings engine.new) }
     ensures unopened { IfOk result (λ ending. ends_unopened ending ≡ true → E.refused_openings engine.old < E.refused_openings engine.new) }
-    ensures ran { IfOk result (RanTo (E.meaning (E.kind engine.old)) (E.kind engine.old) tx (ground (machine_of machine.now) (session_of machine.now session.now) (session_of machine.now session.now).tx) (with_all prepared.now params.now ∷ []) (E.told engine.old) (E.told engine.new)) }
-    ensures agree { IfOk result (λ ending. (works : List Known) → AreAmong works (work_of session.now.transaction) → Agree (E.known engine.old) works number (map numbered machine.now)
-        → Agree (E.known engine.new) (work_left (ground (machine_of machine.now) (session_of machine.now session.now) (session_of machine.now session.now).tx) number ending ++ works) (number + 1) (map numbered machine.now)) }
+    ensures ran { IfOk result (RanTo (E.meaning (E.kind engine.old)) (E.kind engine.old) options.tx
+        (ground (machine_of machine.now) (session_of machine.now session.now) (session_of machine.now session.now).tx)
+        (record { text = text.now; params = params.now } ∷ []) (E.told engine.old) (E.told engine.new)) }
+    ensures agree { IfOk result (λ ending. (works : List Known) → AreAmong works (work_of session.now.transaction)
+        → Agree (E.known engine.old) works number (map numbered machine.now)
+        → Agree (E.known engine.new) (work_left (ground (machine_of machine.now) (session_of machine.now session.now)
+        (session_of machine.now session.now).tx) number ending ++ works) (number + 1) (map numbered machine.now)) }
     ensures failed { OnErr result (E.known engine.new ≡ E.known engine.old) }
 {
-    let text = prepared.text.as_str();
     match &session.transaction {
         Some(transaction) => {
             let image = &transaction.working;
             let before = transaction.number;
-            Ok(run_on(engine, image, before, number, text, params, tx))
+            Ok(run_on(engine, image, before, number, text, params, options))
         }
         None => {
             let name = name_of(&session.database);
-            let ending = run_lent(alloc, machine, name, text, params, tx, number, engine)?;
+            let ending = run_lent(alloc, machine, name, text, params, options, number, engine)?;
             Ok(ending)
         }
     }
@@ -144,19 +154,20 @@ fn run_newest<E: Engine>(
     name: &str,
     script: &Script,
     params: &[Value],
-    tx: u64,
+    options: RunOptions,
     engine: &mut E,
 ) -> Result<Ending, AllocError>
     requires { CanRun params.now (wanted.RunsAll script.now) }
     ensures stays { Stays (E.kind engine.old) (E.kind engine.new) (E.refused_openings engine.old) (E.refused_openings engine.new) }
     ensures unopened { IfOk result (λ ending. ends_unopened ending ≡ true → E.refused_openings engine.old < E.refused_openings engine.new) }
     ensures known { All (Contains (E.known engine.old)) (E.known engine.new) }
-    ensures ran { IfOk result (RanTo (E.meaning (E.kind engine.old)) (E.kind engine.old) tx ((machine_of machine.now).base name.now).image (assigned script.now.text script.now.pieces params.now) (E.told engine.old) (E.told engine.new)) }
+    ensures ran { IfOk result (RanTo (E.meaning (E.kind engine.old)) (E.kind engine.old) options.tx ((machine_of machine.now).base name.now).image
+        (assigned script.now.text script.now.pieces params.now) (E.told engine.old) (E.told engine.new)) }
 {
     let text = script.text.as_str();
     let pieces = script.pieces.as_slice();
     let mut image = newest_image(alloc, machine, name)?;
-    let ending = run_all(alloc, engine, &mut image, text, pieces, params, tx)?;
+    let ending = run_all(alloc, engine, &mut image, text, pieces, params, options)?;
     Ok(ending)
 }
 
@@ -167,7 +178,7 @@ fn run_statements<E: Engine>(
     session: &mut Session,
     script: &Script,
     params: &[Value],
-    tx: u64,
+    options: RunOptions,
     engine: &mut E,
 ) -> Result<Ending, AllocError>
     requires { CanRun params.now (wanted.RunsAll script.now) }
@@ -175,19 +186,21 @@ fn run_statements<E: Engine>(
     ensures stays { Stays (E.kind engine.old) (E.kind engine.new) (E.refused_openings engine.old) (E.refused_openings engine.new) }
     ensures unopened { IfOk result (λ ending. ends_unopened ending ≡ true → E.refused_openings engine.old < E.refused_openings engine.new) }
     ensures known { All (Contains (E.known engine.old)) (E.known engine.new) }
-    ensures ran { IfOk result (RanTo (E.meaning (E.kind engine.old)) (E.kind engine.old) tx (ground (machine_of machine.now) (session_of machine.now session.old) (session_of machine.now session.old).tx) (assigned script.now.text script.now.pieces params.now) (E.told engine.old) (E.told engine.new)) }
+    ensures ran { IfOk result (RanTo (E.meaning (E.kind engine.old)) (E.kind engine.old) options.tx
+        (ground (machine_of machine.now) (session_of machine.now session.old) (session_of machine.now session.old).tx)
+        (assigned script.now.text script.now.pieces params.now) (E.told engine.old) (E.told engine.new)) }
 {
     match &mut session.transaction {
         Some(transaction) => {
             let text = script.text.as_str();
             let pieces = script.pieces.as_slice();
             let working = &mut transaction.working;
-            let ending = run_all(alloc, engine, working, text, pieces, params, tx)?;
+            let ending = run_all(alloc, engine, working, text, pieces, params, options)?;
             Ok(ending)
         }
         None => {
             let name = name_of(&session.database);
-            let ending = run_newest(alloc, machine, name, script, params, tx, engine)?;
+            let ending = run_newest(alloc, machine, name, script, params, options, engine)?;
             Ok(ending)
         }
     }
@@ -201,7 +214,7 @@ fn run_at<E: Engine>(
     place: usize,
     script: &Script,
     params: &[Value],
-    tx: u64,
+    options: RunOptions,
     engine: &mut E,
 ) -> Result<Ending, AllocError>
     requires within { place < length sessions.old }
@@ -210,14 +223,16 @@ fn run_at<E: Engine>(
     ensures stays { Stays (E.kind engine.old) (E.kind engine.new) (E.refused_openings engine.old) (E.refused_openings engine.new) }
     ensures unopened { IfOk result (λ ending. ends_unopened ending ≡ true → E.refused_openings engine.old < E.refused_openings engine.new) }
     ensures known { All (Contains (E.known engine.old)) (E.known engine.new) }
-    ensures ran { (own : SessionValue) → IfOk result (RanTo (E.meaning (E.kind engine.old)) (E.kind engine.old) tx (ground (machine_of machine.now) (session_of machine.now (get_or sessions.old place own)) (session_of machine.now (get_or sessions.old place own)).tx) (assigned script.now.text script.now.pieces params.now) (E.told engine.old) (E.told engine.new)) }
+    ensures ran { (own : SessionValue) → IfOk result (RanTo (E.meaning (E.kind engine.old)) (E.kind engine.old) options.tx
+        (ground (machine_of machine.now) (session_of machine.now (get_or sessions.old place own)) (session_of machine.now (get_or sessions.old place own)).tx)
+        (assigned script.now.text script.now.pieces params.now) (E.told engine.old) (E.told engine.new)) }
 {
     let session = &mut sessions[place];
-    run_statements(alloc, machine, session, script, params, tx, engine)
+    run_statements(alloc, machine, session, script, params, options, engine)
 }
 
 /// The name of the database that a session has opened.
-fn opened(session: &Session) -> &Name
+pub(crate) fn opened(session: &Session) -> &Name
     requires { IsSome session.now.database }
     ensures { database_of session.now.database ≡ result.now }
 {
@@ -225,7 +240,7 @@ fn opened(session: &Session) -> &Name
 }
 
 /// What statements that ran come to at their session: in its transaction, or outside of one. `Err` is want of memory.
-fn turn_of(
+pub(crate) fn turn_of(
     alloc: Global,
     view: &View,
     machine: &Machine,
@@ -238,8 +253,14 @@ fn turn_of(
     requires apart { AreApart sessions.now }
     requires open { IsSome session.now.database }
     requires formed { IsWellFormed ending }
-    ensures works { IfOk result (λ turn. AreAmong (work_left (ground (machine_of machine.now) (session_of machine.now session.now) (session_of machine.now session.now).tx) number ending) (work_in turn session.now.transaction)) }
-    ensures comes { (weight tx : ℕ) (statements : List Statement) (ended : engines.Ending) → (limits.log_full view.now ≡ false → tx ≡ tx_of view.now.term (suc view.now.last)) → Shows tx (ground (machine_of machine.now) (session_of machine.now session.now) (session_of machine.now session.now).tx) ended ending → IfOk result (ComesTo view.now (machine_of machine.now) (session_of machine.now session.now) (ran_in view.now (machine_of machine.now) (table_of machine.now sessions.now weight) session.now.conn (session_of machine.now session.now) (session_of machine.now session.now).tx statements rows ended)) }
+    ensures works { IfOk result (λ turn. AreAmong (work_left (ground (machine_of machine.now) (session_of machine.now session.now)
+        (session_of machine.now session.now).tx) number ending) (work_in turn session.now.transaction)) }
+    ensures comes { (weight tx : ℕ) (statements : List Statement) (ended : engines.Ending)
+        → (limits.log_full view.now ≡ false → tx ≡ tx_of view.now.term (suc view.now.last))
+        → Shows tx (ground (machine_of machine.now) (session_of machine.now session.now) (session_of machine.now session.now).tx) ended ending
+        → IfOk result (ComesTo view.now (machine_of machine.now) (session_of machine.now session.now)
+        (ran_in view.now (machine_of machine.now) (table_of machine.now sessions.now weight) session.now.conn (session_of machine.now session.now)
+        (session_of machine.now session.now).tx statements rows ended)) }
 {
     match &session.transaction {
         Some(transaction) => {
@@ -261,18 +282,18 @@ fn turn_of(
     }
 }
 
-/// What a statement comes to that runs with all parameters, and whose rows are told or not, at a session of a node that serves.
+/// What a statement comes to that runs with these parameters, and whose rows are told or not, at a session of a node that serves.
 /// Nothing has changed yet. The number was drawn for the image that the statement leaves. No image is copied: outside a transaction
 /// the machine lends the newest one of the database, where it keeps that whole, and inside one the statement runs over its own.
 /// `Err` is want of memory.
-pub fn run_prepared<E: Engine>(
+pub fn run_single<E: Engine>(
     alloc: Global,
     view: &View,
     machine: &Machine,
     sessions: &[Session],
     session: &Session,
     rows: bool,
-    prepared: &Prepared,
+    text: &str,
     params: &[Value],
     number: u64,
     engine: &mut E,
@@ -286,11 +307,13 @@ pub fn run_prepared<E: Engine>(
     ensures agree { Agree (E.known engine.new) (works_in result session.now.transaction ++ works_of sessions.now) (number + 1) (map numbered machine.now) }
     ensures stays { Stays (E.kind engine.old) (E.kind engine.new) (E.refused_openings engine.old) (E.refused_openings engine.new) }
     ensures unopened { IfOk result (λ turn. turn ≡ turns.Refused causes.NotADatabase → E.refused_openings engine.old < E.refused_openings engine.new) }
-    ensures ran { (weight : ℕ) → IfOk result (RunsTo (E.meaning (E.kind engine.old)) (E.kind engine.old) view.now (machine_of machine.now) (table_of machine.now sessions.now weight) session.now.conn (session_of machine.now session.now) (with_all prepared.now params.now ∷ []) rows (E.told engine.old) (E.told engine.new)) }
+    ensures ran { (weight : ℕ) → IfOk result (RunsTo (E.meaning (E.kind engine.old)) (E.kind engine.old) view.now (machine_of machine.now)
+        (table_of machine.now sessions.now weight) session.now.conn (session_of machine.now session.now)
+        (record { text = text.now; params = params.now } ∷ []) rows (E.told engine.old) (E.told engine.new)) }
 {
-    let tx = next_transaction(view);
+    let options = next_run(view, view.steps.statement);
     let ending = run_statement(
-        alloc, machine, session, prepared, params, tx, number, engine,
+        alloc, machine, session, text, params, options, number, engine,
     )?;
     turn_of(
         alloc, view, machine, sessions, session, rows, ending, number,
@@ -319,14 +342,20 @@ pub fn run_script<E: Engine>(
     requires fits { CanRun params.now (wanted.RunsAll script.now) }
     requires agree { Agree (E.known engine.old) (works_of sessions.old) number (map numbered machine.now) }
     // No number stands for two images then either, with the working image that the turn makes.
-    ensures agree { (own : SessionValue) → Agree (E.known engine.new) (works_in result (get_or sessions.old place own).transaction ++ works_of sessions.old) (number + 1) (map numbered machine.now) }
+    ensures agree { (own : SessionValue) → Agree (E.known engine.new) (works_in result (get_or sessions.old place own).transaction ++ works_of sessions.old)
+        (number + 1) (map numbered machine.now) }
     ensures kept { sessions.new ≡ sessions.old }
     ensures stays { Stays (E.kind engine.old) (E.kind engine.new) (E.refused_openings engine.old) (E.refused_openings engine.new) }
     ensures unopened { IfOk result (λ turn. turn ≡ turns.Refused causes.NotADatabase → E.refused_openings engine.old < E.refused_openings engine.new) }
-    ensures ran { (own : SessionValue) (weight : ℕ) → IfOk result (RunsTo (E.meaning (E.kind engine.old)) (E.kind engine.old) view.now (machine_of machine.now) (table_of machine.now sessions.old weight) (get_or sessions.old place own).conn (session_of machine.now (get_or sessions.old place own)) (assigned script.now.text script.now.pieces params.now) false (E.told engine.old) (E.told engine.new)) }
+    ensures ran { (own : SessionValue) (weight : ℕ) → IfOk result
+        (RunsTo (E.meaning (E.kind engine.old)) (E.kind engine.old) view.now (machine_of machine.now) (table_of machine.now sessions.old weight)
+        (get_or sessions.old place own).conn (session_of machine.now (get_or sessions.old place own))
+        (assigned script.now.text script.now.pieces params.now) false (E.told engine.old) (E.told engine.new)) }
 {
-    let tx = next_transaction(view);
-    let ending = run_at(alloc, machine, sessions, place, script, params, tx, engine)?;
+    let options = next_run(view, view.steps.statement);
+    let ending = run_at(
+        alloc, machine, sessions, place, script, params, options, engine,
+    )?;
     let known = &*sessions;
     let session = &known[place];
     turn_of(alloc, view, machine, known, session, false, ending, number)

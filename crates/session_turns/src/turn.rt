@@ -1,8 +1,9 @@
 //! What comes of a request.
 
+use crate::job::ReadJob;
 use raft_vote::Entries;
 use session_asking::Effect;
-use session_table::{Cause, Change, Flight, Reply};
+use session_table::{Cause, Change, Flight, Query, Reply};
 
 /// What comes of a request. Nothing has changed yet.
 #[derive(Debug, Drop)]
@@ -17,6 +18,10 @@ pub enum Turn {
     Ends,
     /// The session has this proposal in flight, whose entries are to be appended.
     Proposes(Flight, Entries),
+    /// The same of a new database, with barrier reads or not.
+    Creates(Flight, Entries, bool),
+    /// The session's query is lent to a reader, as this job.
+    Lends(Query, ReadJob),
     /// Something beside the sessions.
     Affects(Effect),
 }

@@ -2,7 +2,7 @@ use Rattle.std.proofs.Common.{◌≡◌, ◌<◌, ◌≤◌, suc, sym, subst}
 use Rattle.session_rules.specs.Entries.{tx_of}
 use Rattle.session_rules.specs.Sessions.{View}
 use Rattle.session_turns.proofs.Ground.{not_full}
-use Rattle.session_turns.proofs.running.next_transaction.Goals as goal
+use Rattle.session_turns.proofs.running.next_run.Goals as goal
 
 pub returns : goal.returns
 returns c = λ short room.
