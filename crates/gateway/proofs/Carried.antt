@@ -1,16 +1,21 @@
 -- An outcome that is carried out is the rules' one.
-use Rattle.std.proofs.Common.{◌≡◌, ℕ, List, [], ◌∷◌, map, refl, sym, ap, ◌∙◌}
+use Rattle.std.proofs.Common.{◌≡◌, ℕ, List, [], ◌∷◌, map, Option, refl, sym, ap, ◌∙◌}
 use Rattle.wire_msgs.specs.declared.response.Response.{Response}
+use Rattle.wire_msgs.specs.declared.request.Request.{Request}
+use Rattle.sql_engine.specs.declared.kind.EngineKind.{EngineKind}
+use Rattle.sql_engine.specs.Meanings.{Meaning, Told}
+use Rattle.sql_engine.specs.Replies.{Statement}
 use Rattle.session_rules.specs.Machine.{Machine}
 use Rattle.session_rules.specs.Causes.{Cause, failure}
-use Rattle.session_rules.specs.Requests.{with_session, affected_by}
-use Rattle.session_rules.specs.Sessions.{Gateway, View, Reply, responses_of, Turned, Refused, Lacks, Answers, Proposes, Affects}
+use Rattle.session_rules.specs.Requests.{handed, handed_later, on_later, on_request, with_session, affected_by}
+use Rattle.session_rules.specs.Sessions.{Gateway, View, Reply, responses_of, Turned, Refused, Lacks, Answers, Proposes, Lends, Affects}
 use Rattle.session_turns.specs.declared.turn.Turn.{Turn}
 use Rattle.session_turns.specs.declared.turn.Turn.TheVariants as turns
-use Rattle.session_turns.specs.Turning.{ComesTo}
+use Rattle.session_turns.specs.Turning.{ComesBy, ComesTo}
 use Rattle.gateway.specs.declared.act.Act.{Act}
 use Rattle.gateway.specs.declared.act.Act.TheVariants as acts
-use Rattle.gateway.specs.Calls.{Is, act_for}
+use Rattle.gateway.specs.Calls.{Is, TurnedBy, act_for}
+use Rattle.gateway.specs.Later.{LaterBy}
 use Rattle.gateway.specs.Carrying.{Carries}
 
 -- responses to a connection, without it
@@ -19,34 +24,73 @@ stripped conn [] = refl
 stripped conn (r ∷ rs) = ap (λ (ss : List Response). r ∷ ss) (stripped conn rs)
 
 module _ (v : View) (m : Machine) (g : Gateway) (conn : ℕ) (now : Gateway) (act : Act) where
-  pub carried : (turned : Turned) (turn : Turn) → ComesTo v m (g.session conn) turned turn → Carries m g conn turn now act → Is v g conn turned now act
+  carried : (turned : Turned) (turn : Turn) → ComesTo v m (g.session conn) turned turn → Carries m g conn turn now act → Is v g conn turned now act
   carried (Refused cause) (turns.Refused told) e c = (c.0, c.1 ∙ ap (λ (cause : Cause). acts.Reply (failure cause ∷ [])) (sym e))
   carried (Refused cause) (turns.Answers change reply) e c = absurd e
   carried (Refused cause) (turns.Begins at_once) e c = absurd e
   carried (Refused cause) turns.Ends e c = absurd e
   carried (Refused cause) (turns.Proposes flight entries) e c = absurd e
+  carried (Refused cause) (turns.Creates flight entries barriers) e c = absurd e
+  carried (Refused cause) (turns.Lends query job) e c = absurd e
   carried (Refused cause) (turns.Affects effect) e c = absurd e
   carried Lacks (turns.Refused told) e c = e
   carried Lacks (turns.Answers change reply) e c = e
   carried Lacks (turns.Begins at_once) e c = e
   carried Lacks turns.Ends e c = e
   carried Lacks (turns.Proposes flight entries) e c = e
+  carried Lacks (turns.Creates flight entries barriers) e c = e
+  carried Lacks (turns.Lends query job) e c = e
   carried Lacks (turns.Affects effect) e c = e
   carried (Answers to reply note) (turns.Refused told) e c = absurd e
   carried (Answers to reply note) (turns.Answers change told) e c = (c.0 ∙ ap (with_session g conn) (sym e.0), c.1 ∙ ap (λ (r : Reply). acts.Reply (responses_of r)) (sym e.1))
   carried (Answers to reply note) (turns.Begins at_once) e c = (c.0 ∙ ap (with_session g conn) (sym e.0), c.1 ∙ ap (λ (r : Reply). acts.Reply (responses_of r)) (sym e.1))
   carried (Answers to reply note) turns.Ends e c = (c.0 ∙ ap (with_session g conn) (sym e.0), c.1 ∙ ap (λ (r : Reply). acts.Reply (responses_of r)) (sym e.1))
   carried (Answers to reply note) (turns.Proposes flight entries) e c = absurd e
+  carried (Answers to reply note) (turns.Creates flight entries barriers) e c = absurd e
+  carried (Answers to reply note) (turns.Lends query job) e c = absurd e
   carried (Answers to reply note) (turns.Affects effect) e c = absurd e
   carried (Proposes to contents note) (turns.Refused told) e c = absurd e
   carried (Proposes to contents note) (turns.Answers change reply) e c = absurd e
   carried (Proposes to contents note) (turns.Begins at_once) e c = absurd e
   carried (Proposes to contents note) turns.Ends e c = absurd e
   carried (Proposes to contents note) (turns.Proposes flight entries) e c = (c.0 ∙ ap (with_session g conn) (sym e.0), c.1 ∙ ap acts.Propose e.1, e.2)
+  carried (Proposes to contents note) (turns.Creates flight entries barriers) e c = (c.0 ∙ ap (with_session g conn) (sym e.0), c.1 ∙ ap acts.Propose e.1, e.2)
+  carried (Proposes to contents note) (turns.Lends query job) e c = absurd e
   carried (Proposes to contents note) (turns.Affects effect) e c = absurd e
+  carried (Lends to lent) (turns.Refused told) e c = absurd e
+  carried (Lends to lent) (turns.Answers change reply) e c = absurd e
+  carried (Lends to lent) (turns.Begins at_once) e c = absurd e
+  carried (Lends to lent) turns.Ends e c = absurd e
+  carried (Lends to lent) (turns.Proposes flight entries) e c = absurd e
+  carried (Lends to lent) (turns.Creates flight entries barriers) e c = absurd e
+  carried (Lends to lent) (turns.Lends query job) e c = (c.0 ∙ ap (with_session g conn) (sym e.0), c.1 ∙ ap acts.Lend (sym e.1))
+  carried (Lends to lent) (turns.Affects effect) e c = absurd e
   carried (Affects effect) (turns.Refused told) e c = absurd e
   carried (Affects effect) (turns.Answers change reply) e c = absurd e
   carried (Affects effect) (turns.Begins at_once) e c = absurd e
   carried (Affects effect) turns.Ends e c = absurd e
   carried (Affects effect) (turns.Proposes flight entries) e c = absurd e
+  carried (Affects effect) (turns.Creates flight entries barriers) e c = absurd e
+  carried (Affects effect) (turns.Lends query job) e c = absurd e
   carried (Affects effect) (turns.Affects told) e c = (c.0 ∙ ap (affected_by g) (sym e), c.1 ∙ ap act_for (sym e))
+
+module _ (m : Meaning) (kind : EngineKind) (v : View) (machine : Machine) (g : Gateway) (conn : ℕ) (before after : Option Told) (now : Gateway) (act : Act) (turn : Turn) (carries : Carries machine g conn turn now act) where
+  -- of a request
+  pub turned_by : (request : Request) → ComesBy m kind v machine (g.session conn) (handed v machine g conn request) (on_request v machine g conn request) before after turn → TurnedBy m kind v machine g conn request before after now act
+  turned_by request ran = record {
+    answers = ran.answers;
+    allowed = ran.allowed;
+    told = ran.told;
+    exact = ran.exact;
+    is = carried v machine g conn now act (on_request v machine g conn request ran.answers) turn ran.is carries;
+  }
+
+  -- of a query that is run later
+  pub later_by : (statement : Statement) → ComesBy m kind v machine (g.session conn) (handed_later v machine g conn statement) (on_later v machine g conn statement) before after turn → LaterBy m kind v machine g conn statement before after now act
+  later_by statement ran = record {
+    answers = ran.answers;
+    allowed = ran.allowed;
+    told = ran.told;
+    exact = ran.exact;
+    is = carried v machine g conn now act (on_later v machine g conn statement ran.answers) turn ran.is carries;
+  }

@@ -14,7 +14,7 @@ use Rattle.page_apply.specs.Pins.{IsPinned}
 use Rattle.wire_msgs.specs.declared.request.Request.{Request}
 use Rattle.wire_msgs.specs.declared.request.Request.TheVariants as requests
 use Rattle.gateway.specs.declared.act.Act.{Act}
-use Rattle.gateway.specs.Calls.{TurnedBy, HasNoNul}
+use Rattle.gateway.specs.Calls.{TurnedBy, HasNoNul, AddressHasNoNul}
 use Rattle.sql_engine.specs.declared.kind.EngineKind.{EngineKind}
 use Rattle.sql_engine.specs.Meanings.{Meaning, Told}
 use Rattle.session_rules.specs.Asking as asking
@@ -22,11 +22,12 @@ use Rattle.session_rules.specs.Asking.{Asked, asked_by}
 use Rattle.session_rules.specs.Causes as causes
 use Rattle.session_rules.specs.Causes.{Cause}
 use Rattle.session_rules.specs.Engines.{Answer, Handed}
-use Rattle.session_rules.specs.Entries.{Does}
+use Rattle.raft_rules.specs.Node.{Server}
+use Rattle.session_rules.specs.Entries.{Does, Configures}
 use Rattle.session_rules.specs.Limits.{pages_full, other_holds, log_full, first_cause, hindrance}
 use Rattle.session_rules.specs.Machine.{Machine, machine_of}
-use Rattle.session_rules.specs.Requests.{does, handed_for, handed, on_request, begun, flying, commit_in, has_nothing, committed, unless, change_of, with_tx}
-use Rattle.session_rules.specs.Sessions.{may_ask, Session, Gateway, View, Transaction, Turned, Refused, Lacks, Answers, Proposes, Affects, Opening, Committing, Nothing, Began, result}
+use Rattle.session_rules.specs.Requests.{does, handed_for, handed, on_request, begun, flying, commit_in, has_nothing, committed, unless, change_of, with_tx, with_barriers}
+use Rattle.session_rules.specs.Sessions.{may_ask, Session, Gateway, View, Transaction, Turned, Refused, Lacks, Answers, Proposes, Lends, Affects, Opening, Configuring, Committing, Nothing, Began, result}
 use Rattle.statement_runs.specs.Running.{TellsAll}
 use Rattle.session_table.specs.declared.cause.Cause.TheVariants as told
 use Rattle.session_table.specs.declared.session.Session.{Session as CodeSession}
@@ -58,6 +59,7 @@ IsPlain (Refused cause) = IsPlainCause cause
 IsPlain Lacks = Unit {0}
 IsPlain (Answers s reply note) = Unit {0}
 IsPlain (Proposes s contents note) = Unit {0}
+IsPlain (Lends s job) = Unit {0}
 IsPlain (Affects effect) = Unit {0}
 
 abbrev IsPlainFor : Option Cause → Type 0
@@ -70,6 +72,7 @@ module _ (v : View) (m : Machine) (s : Session) where
   not_that Lacks h e = e
   not_that (Answers to reply note) h e = e
   not_that (Proposes to contents note) h e = e
+  not_that (Lends to job) h e = e
   not_that (Affects effect) h e = e
 
   pub never_unopened : (turned : Turned) (turn : Turn) → IsPlain turned → ComesTo v m s turned turn → turn ≡ turns.Refused told.NotADatabase → ⊥
@@ -88,9 +91,13 @@ unless_plain None t a b = b
 unless_plain (Some cause) t a b = a
 
 module _ (v : View) (m : Machine) (g : Gateway) (conn : ℕ) (s : Session) (answers : List Answer) where
-  pub creates_plain : (name : List ℕ) → IsPlain (does v m g conn s (asking.Creates name) answers)
+  pub creates_plain : (name : List ℕ) (barriers : Bool) → IsPlain (does v m g conn s (asking.Creates name barriers) answers)
   unfolding does
-  creates_plain name = either (pages_full m g name empty_image) (Refused causes.DatabaseFull) (Proposes (flying v s name (Does (OpenDb name) ∷ []) 0 Opening) (Does (OpenDb name) ∷ []) Nothing) tt tt
+  creates_plain name barriers = either (pages_full m g name empty_image) (Refused causes.DatabaseFull) (Proposes (flying v (with_barriers s barriers) name (Does (OpenDb name) ∷ []) 0 Opening) (Does (OpenDb name) ∷ []) Nothing) tt tt
+
+  pub changes_plain : (servers : List Server) → IsPlain (does v m g conn s (asking.Changes servers) answers)
+  unfolding does
+  changes_plain servers = either (log_full v) (Refused causes.LogFull) (Proposes (flying v s [] (Configures servers ∷ []) 0 Configuring) (Configures servers ∷ []) Nothing) tt tt
 
   pub begins_plain : (at_once : Bool) → IsPlain (does v m g conn s (asking.Begins at_once) answers)
   unfolding does
@@ -157,16 +164,20 @@ pub can_carry : (v : View) (m : Machine) (databases : List Database) (s : CodeSe
 can_carry v m databases s turned (turns.Refused told) e = tt
 can_carry v m databases s turned turns.Ends e = tt
 can_carry v m databases s turned (turns.Proposes flight entries) e = tt
+can_carry v m databases s turned (turns.Creates flight entries barriers) e = tt
+can_carry v m databases s turned (turns.Lends query job) e = tt
 can_carry v m databases s turned (turns.Affects effect) e = tt
 can_carry v m databases s (Refused cause) (turns.Answers change reply) e = absurd e
 can_carry v m databases s Lacks (turns.Answers change reply) e = absurd e
 can_carry v m databases s (Answers to reply note) (turns.Answers change told) e = e.2
 can_carry v m databases s (Proposes to contents note) (turns.Answers change reply) e = absurd e
+can_carry v m databases s (Lends to job) (turns.Answers change reply) e = absurd e
 can_carry v m databases s (Affects effect) (turns.Answers change reply) e = absurd e
 can_carry v m databases s (Refused cause) (turns.Begins at_once) e = absurd e
 can_carry v m databases s Lacks (turns.Begins at_once) e = absurd e
 can_carry v m databases s (Answers to reply note) (turns.Begins at_once) e = (none_mapped (transaction_of databases) s.transaction e.2, some_name s.database e.3)
 can_carry v m databases s (Proposes to contents note) (turns.Begins at_once) e = absurd e
+can_carry v m databases s (Lends to job) (turns.Begins at_once) e = absurd e
 can_carry v m databases s (Affects effect) (turns.Begins at_once) e = absurd e
 
 -- ---- a connection that has a session stands somewhere
@@ -216,9 +227,30 @@ its_name (requests.Transfer id) h = tt
 its_name (requests.Describe format) h = tt
 its_name (requests.Weight weight) h = tt
 
+pub its_address : (request : Request) → HasNoNul request → AddressHasNoNul request
+its_address requests.Leader h = tt
+its_address (requests.Client id) h = tt
+its_address (requests.Open name flags vfs) h = tt
+its_address (requests.Prepare db sql wide) h = tt
+its_address (requests.Exec db id params wide) h = tt
+its_address (requests.Query db id params wide) h = tt
+its_address (requests.Finalize db id) h = tt
+its_address (requests.ExecSql db sql params wide) h = tt
+its_address (requests.QuerySql db sql params wide) h = tt
+its_address (requests.Interrupt db) h = tt
+its_address (requests.Connect id address) h = tt
+its_address (requests.Add id address) h = h
+its_address (requests.Assign id role) h = tt
+its_address (requests.Remove id) h = tt
+its_address (requests.Dump name) h = tt
+its_address (requests.Cluster format) h = tt
+its_address (requests.Transfer id) h = tt
+its_address (requests.Describe format) h = tt
+its_address (requests.Weight weight) h = tt
+
 pub there_if : (s : Session) → may_ask s ≡ true → s.there ≡ true
 unfolding may_ask
-there_if s e = (and_parts s.there (not s.hung) (and_parts (s.there && not s.hung) (is_none s.flight) e).0).0
+there_if s e = (and_parts s.there (not s.hung) (and_parts (s.there && not s.hung) (is_none s.flight) (and_parts (s.there && not s.hung && is_none s.flight) (is_none s.later) e).0).0).0
 
 pub turned_so : (m : Meaning) (kind : EngineKind) (v : View) (machine : Machine) (g known : Gateway) (conn : ℕ) (request : Request) (told_before told_now : Option Told) (now seen : Gateway) (act : Act) → g ≡ known → now ≡ seen
     → TurnedBy m kind v machine g conn request told_before told_now now act → TurnedBy m kind v machine known conn request told_before told_now seen act

@@ -1,8 +1,8 @@
 -- The sessions that code holds.
-use Rattle.std.proofs.Common.{◌≡◌, ℕ, Bool, false, cond, not, List, [], get_or, Option, Some, None, is_none, is_some, Result, Ok, Err, IfOk, OnOk, refl, sym, ap, subst, ◌∙◌}
+use Rattle.std.proofs.Common.{◌≡◌, ℕ, Bool, false, cond, List, [], get_or, Result, Ok, Err, IfOk, OnOk, sym, ap, subst, ◌∙◌}
 use Rattle.std.specs.declared.alloc.AllocError.{AllocError}
 use Rattle.page_apply.specs.declared.database.Database.{Database}
-use Rattle.session_rules.specs.Sessions.{Flight, Gateway, no_sessions, is_busy}
+use Rattle.session_rules.specs.Sessions.{Gateway, no_sessions, is_busy}
 use Rattle.session_rules.specs.Events.{connects, connected}
 use Rattle.session_table.specs.declared.session.Session.{Session}
 use Rattle.session_table.specs.Table as tables
@@ -26,20 +26,16 @@ none_pinned held none = ap (λ (ss : List Session). tables.pins_of ss) none
 
 -- ---- the session of a connection
 
-some_flight : (flight : Option Flight) → is_some flight ≡ not (is_none flight)
-some_flight None = refl
-some_flight (Some f) = refl
-
 -- a session that stands at a place is that of its connection
 pub seen_at : (held : Held) (databases : List Database) (conn place : ℕ) (d : Session) → IsTable held.sessions → StandsAt conn held.sessions place → (seen held databases).session conn ≡ session_of databases (get_or held.sessions place d)
 unfolding seen table_of
 seen_at held databases conn place d table at =
     subst (λ (n : ℕ). session_at databases held.sessions n ≡ session_of databases (get_or held.sessions place d)) (at.own d) (stands databases held.sessions place d table.apart at.within)
 
-pub busy_at : (held : Held) (databases : List Database) (conn place : ℕ) (s : Session) (busy : Bool) → IsTable held.sessions → StandsAt conn held.sessions place → s ≡ get_or held.sessions place s → busy ≡ is_some s.flight
+pub busy_at : (held : Held) (databases : List Database) (conn place : ℕ) (s : Session) (busy : Bool) → IsTable held.sessions → StandsAt conn held.sessions place → s ≡ get_or held.sessions place s → busy ≡ is_busy (session_of databases s)
     → busy ≡ is_busy ((seen held databases).session conn)
 busy_at held databases conn place s busy table at is has =
-    has ∙ some_flight s.flight ∙ ap (λ (t : Session). not (is_none t.flight)) is ∙ sym (ap is_busy (seen_at held databases conn place s table at))
+    has ∙ ap (λ (t : Session). is_busy (session_of databases t)) is ∙ sym (ap is_busy (seen_at held databases conn place s table at))
 
 pub busy_nowhere : (held : Held) (databases : List Database) (conn : ℕ) → IsAbsent conn held.sessions → false ≡ is_busy ((seen held databases).session conn)
 unfolding seen table_of

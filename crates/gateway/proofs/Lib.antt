@@ -4,6 +4,8 @@ pub mod Carried
 pub mod Decided
 pub mod Unopened
 pub mod RunTurns
-pub mod CommitTurns
 pub mod Placed
 pub mod Numbering
+pub mod Configured
+pub mod Laters
+pub mod Listing

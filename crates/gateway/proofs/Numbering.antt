@@ -1,15 +1,14 @@
 -- No number stands for two images, whatever becomes of the sessions.
-use Rattle.std.proofs.Common.{◌≡◌, ℕ, ◌+◌, ◌<◌, ◌≤◌, List, [], ◌∷◌, ◌++◌, length, map, get_or, All, Contains, Option, Result, Ok, Err, IfOk, ◌⊎◌, inl, inr, refl, sym, ap, subst, ◌∙◌, arith}
+use Rattle.std.proofs.Common.{◌≡◌, ℕ, ◌+◌, ◌<◌, List, [], ◌∷◌, ◌++◌, length, map, get_or, Contains, Option, Result, Ok, Err, IfOk, ◌⊎◌, inl, inr, sym, subst, ◌∙◌, arith}
 use Rattle.std.specs.List.{AllByRecursion}
 use Rattle.std.specs.declared.alloc.AllocError.{AllocError}
-use Rattle.dq_base.specs.declared.images.Image.{Image}
 use Rattle.sql_engine.specs.Known.{Known}
 use Rattle.sql_engine.proofs.Knowing.{of_contained}
 use Rattle.frame_commands.specs.declared.command.Command.{Command}
 use Rattle.page_apply.specs.declared.database.Database.{Database}
 use Rattle.page_apply.specs.Databases.{act}
 use Rattle.page_apply.specs.Files.{empty_image}
-use Rattle.page_apply.specs.ImageNumbers.{Numbered, numbered, ComesFrom, NumbersGoOn, NumbersStay}
+use Rattle.page_apply.specs.ImageNumbers.{Numbered, numbered, ComesFrom, NumbersStay}
 use Rattle.page_apply.specs.Machines.{IsMachine}
 use Rattle.page_apply.proofs.Acting.{no_databases}
 use Rattle.page_apply.proofs.ImageNumbers.{numbers_after_act}

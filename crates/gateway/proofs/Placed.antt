@@ -1,8 +1,7 @@
 -- What is wanted of the session at a place.
-use Rattle.std.proofs.Common.{◌≡◌, ℕ, ◌<◌, true, false, List, ◌++◌, length, get_or, take, drop, Option, Some, None, IsSome, IfOk, refl, sym, ap, subst, ◌∙◌, append-nil, arith}
+use Rattle.std.proofs.Common.{◌≡◌, ℕ, ◌<◌, false, List, ◌++◌, length, get_or, take, drop, Option, Some, None, IfOk, refl, sym, ap, subst, ◌∙◌, append-nil, arith}
 use Rattle.std.specs.Prelude.{Result, is_none, not}
 use Rattle.std.specs.Option.{option_map}
-use Rattle.std.proofs.lemmas.Bool.{false≢true}
 use Rattle.std.proofs.lemmas.List.{drop_all, take_all}
 use Rattle.std.specs.declared.alloc.AllocError.{AllocError}
 use Rattle.wire_words.specs.declared.value.Value.{Value}
@@ -84,10 +83,6 @@ wants_at v databases sessions weight found there params known wanted request sam
 pub outside_too : (m databases : List Database) (o : Option Transaction) → not (is_none (option_map (transaction_of m) o)) ≡ false → not (is_none (option_map (transaction_of databases) o)) ≡ false
 outside_too m databases None e = refl
 outside_too m databases (Some x) e = e
-
-pub some_inside : (m : List Database) (o : Option Transaction) → not (is_none (option_map (transaction_of m) o)) ≡ true → IsSome o
-some_inside m None e = absurd (false≢true e)
-some_inside m (Some x) e = refl
 
 -- sessions that were lent come back as they were
 pub lent_back : (len : ℕ) (new old : List Session) → new ≡ old → len ≡ length old → take len (new ++ drop (length new) old) ≡ old

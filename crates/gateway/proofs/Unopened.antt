@@ -3,13 +3,15 @@ use Rattle.std.proofs.Common.{◌≡◌, ℕ, List, [], ◌∷◌, map, refl, sy
 use Rattle.wire_msgs.specs.declared.request.Request.{Request}
 use Rattle.wire_msgs.specs.declared.response.Response.{Response}
 use Rattle.wire_msgs.specs.declared.response.Response.TheVariants as responses
+use Rattle.sql_engine.specs.Replies.{Statement}
 use Rattle.session_rules.specs.Causes.{NotADatabase, code, failure}
 use Rattle.session_rules.specs.Engines.{Answer}
-use Rattle.session_rules.specs.Laws.{IsFailure, IsRefusal}
+use Rattle.session_rules.specs.Allowed.{IsFailure}
+use Rattle.session_rules.specs.Laws.{IsRefusal}
 use Rattle.session_rules.specs.Machine.{Machine}
-use Rattle.session_rules.specs.Requests.{on_request}
-use Rattle.session_rules.specs.Sessions.{Gateway, View, Reply, Refusal, Single, Rows, responses_of, Turned, Refused, Lacks, Answers, Proposes, Affects}
-use Rattle.session_rules.proofs.Keeping.{answers_plain}
+use Rattle.session_rules.specs.Requests.{on_request, on_later}
+use Rattle.session_rules.specs.Sessions.{Session, Gateway, View, Note, Reply, Refusal, Single, Rows, responses_of, Turned, Refused, Lacks, Answers, Proposes, Lends, Affects}
+use Rattle.session_rules.proofs.Keeping.{answers_plain, later_answers_plain}
 use Rattle.session_table.specs.declared.cause.Cause.{Cause}
 use Rattle.session_table.specs.declared.cause.Cause.TheVariants as told
 use Rattle.session_table.specs.Named.{cause_named}
@@ -44,6 +46,8 @@ by_code told.BadNode e = absurd (omega arith)
 by_code told.BadRole e = absurd (omega arith)
 by_code told.BadFormat e = absurd (omega arith)
 by_code told.TargetBehind e = absurd (omega arith)
+by_code told.TransferFirst e = absurd (omega arith)
+by_code told.TooManyVoters e = absurd (omega arith)
 by_code told.TooManyStatements e = absurd (omega arith)
 by_code told.TooManyDatabases e = absurd (omega arith)
 by_code told.LogFull e = absurd (omega arith)
@@ -74,21 +78,35 @@ no_failure (Refusal cause) plain e = plain tt
 no_failure (Single response) plain e = plain (subst IsFailure (one_failure response (code NotADatabase) _ e) tt)
 no_failure (Rows answer) plain e = rows_differ _ _ _ e
 
-module _ (v : View) (m : Machine) (g : Gateway) (conn : ℕ) (request : Request) (answers : List Answer) (now : Gateway) (act : Act) (is : act ≡ acts.Reply (failure NotADatabase ∷ [])) where
-  answered : (turned : Turned) (turn : Turn) → on_request v m g conn request answers ≡ turned → ComesTo v m (g.session conn) turned turn → Carries m g conn turn now act → turn ≡ turns.Refused told.NotADatabase
+-- where no answer at once is a refusal
+module _ (v : View) (m : Machine) (g : Gateway) (conn : ℕ) (outcome : Turned) (plain : (to : Session) (reply : Reply) (note : Note) → outcome ≡ Answers to reply note → IsRefusal reply → ⊥) (now : Gateway) (act : Act) (is : act ≡ acts.Reply (failure NotADatabase ∷ [])) where
+  answered : (turned : Turned) (turn : Turn) → outcome ≡ turned → ComesTo v m (g.session conn) turned turn → Carries m g conn turn now act → turn ≡ turns.Refused told.NotADatabase
   answered turned (turns.Refused cause) e comes carries = ap turns.Refused (by_code cause (code_of (failure NotADatabase) (failure NotADatabase) _ _ _ _ (sym carries.1 ∙ is)))
   answered (Refused cause) (turns.Answers change reply) e comes carries = absurd comes
   answered Lacks (turns.Answers change reply) e comes carries = absurd comes
   answered (Answers to reply note) (turns.Answers change told) e comes carries =
-      absurd (no_failure reply (answers_plain v m g conn request answers to reply note e) (ap (λ (r : Reply). acts.Reply (responses_of r)) comes.1 ∙ sym carries.1 ∙ is))
+      absurd (no_failure reply (plain to reply note e) (ap (λ (r : Reply). acts.Reply (responses_of r)) comes.1 ∙ sym carries.1 ∙ is))
   answered (Proposes to contents note) (turns.Answers change reply) e comes carries = absurd comes
+  answered (Lends to job) (turns.Answers change reply) e comes carries = absurd comes
   answered (Affects effect) (turns.Answers change reply) e comes carries = absurd comes
   answered turned (turns.Begins at_once) e comes carries = let other : acts.Reply (responses.Result 0 0 ∷ []) ≡ acts.Reply (failure NotADatabase ∷ []) = sym carries.1 ∙ is in (cc)
   answered turned turns.Ends e comes carries = let other : acts.Reply (responses.Result 0 0 ∷ []) ≡ acts.Reply (failure NotADatabase ∷ []) = sym carries.1 ∙ is in (cc)
   answered turned (turns.Proposes flight entries) e comes carries = let other : acts.Propose entries ≡ acts.Reply (failure NotADatabase ∷ []) = sym carries.1 ∙ is in (cc)
+  answered turned (turns.Creates flight entries barriers) e comes carries = let other : acts.Propose entries ≡ acts.Reply (failure NotADatabase ∷ []) = sym carries.1 ∙ is in (cc)
+  answered turned (turns.Lends query job) e comes carries = let other : acts.Lend job ≡ acts.Reply (failure NotADatabase ∷ []) = sym carries.1 ∙ is in (cc)
   answered turned (turns.Affects (effects.HandsOver id)) e comes carries = let other : acts.Transfer id ≡ acts.Reply (failure NotADatabase ∷ []) = sym carries.1 ∙ is in (cc)
   answered turned (turns.Affects (effects.JoinsPeer id)) e comes carries = let other : acts.Peer id ≡ acts.Reply (failure NotADatabase ∷ []) = sym carries.1 ∙ is in (cc)
   answered turned (turns.Affects (effects.Weighs weight)) e comes carries = let other : acts.Reply (responses.Empty ∷ []) ≡ acts.Reply (failure NotADatabase ∷ []) = sym carries.1 ∙ is in (cc)
 
-  pub unopened_turn : (turn : Turn) → ComesTo v m (g.session conn) (on_request v m g conn request answers) turn → Carries m g conn turn now act → turn ≡ turns.Refused told.NotADatabase
-  unopened_turn turn comes carries = answered (on_request v m g conn request answers) turn refl comes carries
+  unopened_outcome : (turn : Turn) → ComesTo v m (g.session conn) outcome turn → Carries m g conn turn now act → turn ≡ turns.Refused told.NotADatabase
+  unopened_outcome turn comes carries = answered outcome turn refl comes carries
+
+-- of a request
+pub unopened_turn : (v : View) (m : Machine) (g : Gateway) (conn : ℕ) (request : Request) (answers : List Answer) (now : Gateway) (act : Act) → act ≡ acts.Reply (failure NotADatabase ∷ []) → (turn : Turn)
+    → ComesTo v m (g.session conn) (on_request v m g conn request answers) turn → Carries m g conn turn now act → turn ≡ turns.Refused told.NotADatabase
+unopened_turn v m g conn request answers now act is = unopened_outcome v m g conn (on_request v m g conn request answers) (answers_plain v m g conn request answers) now act is
+
+-- of a query that is run later
+pub unopened_later : (v : View) (m : Machine) (g : Gateway) (conn : ℕ) (statement : Statement) (answers : List Answer) (now : Gateway) (act : Act) → act ≡ acts.Reply (failure NotADatabase ∷ []) → (turn : Turn)
+    → ComesTo v m (g.session conn) (on_later v m g conn statement answers) turn → Carries m g conn turn now act → turn ≡ turns.Refused told.NotADatabase
+unopened_later v m g conn statement answers now act is = unopened_outcome v m g conn (on_later v m g conn statement answers) (later_answers_plain v m g conn statement answers) now act is

@@ -12,8 +12,11 @@ use Rattle.session_rules.specs.Entries.{written}
 use Rattle.session_rules.specs.Machine.{Machine}
 use Rattle.session_rules.specs.Seen.{HasSpelling}
 use Rattle.session_rules.specs.Engines.{Answer, AllowsFor, used_for}
-use Rattle.session_rules.specs.Sessions.{responses_of, Gateway, View, Effect, HandsOver, JoinsPeer, Weighs, Turned, Refused, Lacks, Answers, Proposes, Affects}
+use Rattle.session_rules.specs.Sessions.{responses_of, Gateway, View, Effect, HandsOver, JoinsPeer, Weighs, Turned, Refused, Lacks, Answers, Proposes, Lends, Affects}
 use Rattle.session_rules.specs.Requests.{on_request, handed, with_session, affected_by}
+use Rattle.raft_vote.specs.Servers.{IsConfiguration}
+use Rattle.session_asking.specs.declared.wanted.Wanted.{Wanted}
+use Rattle.session_asking.specs.declared.wanted.Wanted.TheVariants as wanted
 use Rattle.statement_runs.specs.Running.{TellsAll}
 use Rattle.gateway.specs.declared.act.Act.{Act}
 use Rattle.gateway.specs.declared.act.Act.TheVariants as acts
@@ -31,6 +34,7 @@ Is v g conn (Refused cause) now act = (now ≡ g) × (act ≡ acts.Reply (failur
 Is v g conn Lacks now act = ⊥
 Is v g conn (Answers session reply note) now act = (now ≡ with_session g conn session) × (act ≡ acts.Reply (responses_of reply))
 Is v g conn (Proposes session contents note) now act = (now ≡ with_session g conn session) × (act ≡ acts.Propose (written v.term contents)) × AllByRecursion HasSpelling contents
+Is v g conn (Lends session job) now act = (now ≡ with_session g conn session) × (act ≡ acts.Lend job)
 Is v g conn (Affects effect) now act = (now ≡ affected_by g effect) × (act ≡ act_for effect)
 
 -- There are answers that the engine may give to what the request hands it, and which it told one after the other. The
@@ -48,8 +52,23 @@ HasNoNul (requests.Open name flags vfs) = has_nul name ≡ false
 HasNoNul (requests.Prepare db sql wide) = has_nul sql ≡ false
 HasNoNul (requests.ExecSql db sql params wide) = has_nul sql ≡ false
 HasNoNul (requests.QuerySql db sql params wide) = has_nul sql ≡ false
+HasNoNul (requests.Add id address) = has_nul address ≡ false
 HasNoNul (requests.Dump name) = has_nul name ≡ false
 HasNoNul request = Unit {0}
+
+-- no address of a server that is to join holds a NUL
+abbrev pub AddressHasNoNul : Request → Type 0
+AddressHasNoNul (requests.Add id address) = has_nul address ≡ false
+AddressHasNoNul request = Unit {0}
+
+-- the servers of the cluster are ones that may stand together
+abbrev pub IsConfigured : View → Type 0
+IsConfigured v = IsConfiguration v.servers
+
+-- so are those that it is to get
+abbrev pub MayConfigure : Wanted → Type 0
+MayConfigure (wanted.Changes servers) = IsConfiguration servers
+MayConfigure other = Unit {0}
 
 -- a serving leader's term has 32 bits, so that the number of a transaction has 64
 abbrev pub HasShortTerm : View → Type 0

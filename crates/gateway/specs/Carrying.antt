@@ -5,8 +5,8 @@ use Rattle.page_apply.specs.declared.database.Database.{Database}
 use Rattle.page_apply.specs.ImageNumbers.{numbered}
 use Rattle.session_rules.specs.Causes.{failure}
 use Rattle.session_rules.specs.Machine.{Machine}
-use Rattle.session_rules.specs.Requests.{with_session, with_tx, with_flight, begun, affected_by}
-use Rattle.session_rules.specs.Sessions.{Gateway, responses_of, result}
+use Rattle.session_rules.specs.Requests.{with_session, with_tx, with_flight, with_barriers, with_later, begun, affected_by}
+use Rattle.session_rules.specs.Sessions.{Gateway, Lent, responses_of, result}
 use Rattle.statement_runs.specs.Agreeing.{Agree}
 use Rattle.session_table.specs.declared.session.Session.{Session}
 use Rattle.session_table.specs.Named.{cause_named, reply_named}
@@ -25,6 +25,8 @@ Carries m g conn (turns.Answers change reply) now act = (now ≡ with_session g 
 Carries m g conn (turns.Begins at_once) now act = (now ≡ with_session g conn (begun m (g.session conn) at_once)) × (act ≡ acts.Reply (responses_of (result 0)))
 Carries m g conn turns.Ends now act = (now ≡ with_session g conn (with_tx (g.session conn) None)) × (act ≡ acts.Reply (responses_of (result 0)))
 Carries m g conn (turns.Proposes flight entries) now act = (now ≡ with_session g conn (with_flight (g.session conn) (Some flight))) × (act ≡ acts.Propose entries)
+Carries m g conn (turns.Creates flight entries barriers) now act = (now ≡ with_session g conn (with_flight (with_barriers (g.session conn) barriers) (Some flight))) × (act ≡ acts.Propose entries)
+Carries m g conn (turns.Lends query job) now act = (now ≡ with_session g conn (with_later (g.session conn) (Some (Lent query)))) × (act ≡ acts.Lend job)
 Carries m g conn (turns.Affects effect) now act = (now ≡ affected_by g (effect_named effect)) × (act ≡ act_for (effect_named effect))
 
 -- Where no number stood for two images, also with these that are made, none does after it was carried out.

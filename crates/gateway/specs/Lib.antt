@@ -1,3 +1,4 @@
 pub mod Calls
 pub mod Carrying
+pub mod Later
 pub mod Seen

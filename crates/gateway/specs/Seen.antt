@@ -5,6 +5,7 @@ use Rattle.page_apply.specs.declared.database.Database.{Database}
 use Rattle.page_apply.specs.ImageNumbers.{numbered}
 use Rattle.page_apply.specs.Pins.{Pinning}
 use Rattle.session_rules.specs.Sessions.{Gateway}
+use Rattle.session_rules.specs.Touched.{IsListed}
 use Rattle.session_table.specs.declared.session.Session.{Session}
 use Rattle.session_table.specs.Marks.{AreMarks}
 use Rattle.session_table.specs.Table as tables
@@ -32,3 +33,7 @@ PinsOf held databases = AreMarks (pins_of held) databases
 -- no number stands for two images: neither for an engine, nor for the transactions, nor for the machine's databases
 abbrev pub Agrees : List Known → Held → List Database → Type 0
 Agrees known held databases = Agree known (works_of held.sessions) held.next (map numbered databases)
+
+-- each session whose transaction has the numbers of all pages that it changed is so afterwards
+abbrev pub ListsAsBefore : Gateway → Gateway → Type 0
+ListsAsBefore g now = (conn : ℕ) → IsListed (g.session conn).tx → IsListed (now.session conn).tx

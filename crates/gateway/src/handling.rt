@@ -11,40 +11,42 @@ ghost use Rattle.statement_runs.specs.Agreeing.{Agree};
 ghost use Rattle.session_table.specs.Table.{table_of, pins_of, IsTable};
 ghost use Rattle.session_table.specs.Working.{works_of};
 ghost use Rattle.session_asking.specs.Meant.{NameHasNoNul};
-ghost use Rattle.gateway.specs.Calls.{TurnedBy, HasShortTerm};
+ghost use Rattle.gateway.specs.Calls.{AddressHasNoNul, HasShortTerm, IsConfigured, TurnedBy};
 
 use crate::act::Act;
+use crate::call::{Call, Seat};
 use crate::deciding::decide;
 use crate::turning::carry_out;
 use page_apply::Machine;
-use session_asking::View;
 use session_table::{Session, find};
 use sql_engine::Engine;
-use std::alloc::{AllocError, Global};
+use std::alloc::AllocError;
 use wire_msgs::Request;
 
 /// Handles a request of a connection that has a session. The number was drawn for the image that its statements leave. `Err` is
 /// want of memory; nothing has changed then but what the engine told.
 pub(crate) fn handle<E: Engine>(
-    alloc: Global,
+    call: &Call,
     sessions: &mut Vec<Session>,
     weight: &mut u64,
     conn: u64,
-    request: &Request,
-    view: &View,
+    request: Request,
     machine: &mut Machine,
-    number: u64,
     engine: &mut E,
 ) -> Result<Act, AllocError>
     requires table { IsTable sessions.old.items }
     requires marks { AreMarks (pins_of sessions.old.items) machine.old }
     requires listed { IsListed ((table_of machine.old sessions.old.items weight.old).session conn).tx }
     requires there { ((table_of machine.old sessions.old.items weight.old).session conn).there ≡ true }
-    requires name { NameHasNoNul request.now }
-    requires term { HasShortTerm view.now }
-    requires agree { Agree (E.known engine.old) (works_of sessions.old.items) number (map numbered machine.old) }
-    ensures agree { Agree (E.known engine.new) (works_of sessions.new.items) (number + 1) (map numbered machine.new) }
-    ensures turned { IfOk result (TurnedBy (E.meaning (E.kind engine.old)) (E.kind engine.old) view.now (machine_of machine.old) (table_of machine.old sessions.old.items weight.old) conn request.now (E.told engine.old) (E.told engine.new) (table_of machine.new sessions.new.items weight.new)) }
+    requires name { NameHasNoNul request }
+    requires term { HasShortTerm call.now.view.now }
+    requires configured { IsConfigured call.now.view.now }
+    requires address { AddressHasNoNul request }
+    requires agree { Agree (E.known engine.old) (works_of sessions.old.items) call.now.number (map numbered machine.old) }
+    ensures agree { Agree (E.known engine.new) (works_of sessions.new.items) (call.now.number + 1) (map numbered machine.new) }
+    ensures turned { IfOk result (TurnedBy (E.meaning (E.kind engine.old)) (E.kind engine.old) call.now.view.now (machine_of machine.old)
+        (table_of machine.old sessions.old.items weight.old) conn request (E.told engine.old) (E.told engine.new)
+        (table_of machine.new sessions.new.items weight.new)) }
     ensures failed { OnErr result (table_of machine.new sessions.new.items weight.new ≡ table_of machine.old sessions.old.items weight.old) }
     ensures files { machine_of machine.new ≡ machine_of machine.old }
     ensures marks_after { AreMarks (pins_of sessions.new.items) machine.new }
@@ -54,8 +56,7 @@ pub(crate) fn handle<E: Engine>(
 {
     let place = find(sessions.as_slice(), conn).unwrap();
     let known = sessions.as_mut_slice();
-    let turn = decide(
-        alloc, known, *weight, place, conn, request, view, machine, number, engine,
-    )?;
-    carry_out(alloc, sessions, weight, place, conn, machine, turn)
+    let seat = Seat { conn, place };
+    let turn = decide(call, known, *weight, seat, request, machine, engine)?;
+    carry_out(call.alloc, sessions, weight, place, conn, machine, turn)
 }

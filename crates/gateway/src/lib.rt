@@ -3,15 +3,17 @@
 #![tactic(auto)]
 
 mod act;
-mod committing;
+mod call;
 mod deciding;
 mod handling;
+mod later;
 mod laws;
-mod running;
+mod params;
 mod sessions;
 mod turning;
 
 pub use act::Act;
 pub use laws::commands_keep_sessions;
-pub use session_asking::View;
+pub use session_asking::{StepLimits, View};
+pub use session_turns::{Read, ReadJob, run_job};
 pub use sessions::Gateway;

@@ -1,6 +1,6 @@
 //! The gateway and its calls.
 
-ghost use Rattle.std.specs.Prelude.{◌≡◌, ◌<◌, ◌+◌, true, false, [], ◌∷◌, OnOk, OnErr, IfOk, if◌then◌else◌};
+ghost use Rattle.std.specs.Prelude.{◌≡◌, ◌<◌, ◌≤◌, ◌+◌, true, false, [], ◌∷◌, ℕ, Some, IsSome, OnOk, OnErr, IfOk, MatchOption, if◌then◌else◌};
 ghost use Rattle.sql_engine.specs.Meanings.{Stays};
 ghost use Rattle.std.specs.Prelude.{List};
 ghost use Rattle.sql_engine.specs.Known.{Known};
@@ -12,14 +12,22 @@ ghost use Rattle.session_rules.specs.Machine.{machine_of};
 ghost use Rattle.session_rules.specs.Touched.{IsListed};
 ghost use Rattle.session_rules.specs.Events as events;
 ghost use Rattle.session_table.specs.Sweeping.{all_told};
-ghost use Rattle.gateway.specs.Calls.{TurnedBy, HasNoNul, HasShortTerm};
-ghost use Rattle.gateway.specs.Seen.{seen, pins_of, Agrees, PinsOf};
+ghost use Rattle.session_table.specs.Table.{session_of, IsTable};
+ghost use Rattle.session_rules.specs.Asking.{has_database};
+ghost use Rattle.session_rules.specs.Sessions.{is_due, later_query, lent_query};
+ghost use Rattle.session_turns.specs.Reading.{read_named};
+ghost use Rattle.gateway.specs.Calls.{TurnedBy, HasNoNul, HasShortTerm, IsConfigured};
+ghost use Rattle.gateway.specs.Later.{ReadDone, Resumed};
+ghost use Rattle.gateway.specs.Seen.{seen, pins_of, Agrees, ListsAsBefore, PinsOf};
 
 use crate::act::Act;
+use crate::call::Call;
 use crate::handling::handle;
+use crate::later::{next_due, read_done, resume};
 use page_apply::Machine;
 use session_asking::View;
 use session_table::{Session, applied, find, join, left, lost};
+use session_turns::Read;
 use sql_engine::Engine;
 use std::alloc::{AllocError, Global};
 use std::marker::Model;
@@ -65,6 +73,16 @@ fn draw(next: &mut u64) -> Result<u64, AllocError>
     }
 }
 
+/// Whether a session has yet to answer its last request.
+fn is_busy(session: &Session) -> bool
+    ensures { (databases : List Database) → result ≡ is_busy (session_of databases session.now) }
+{
+    if session.flight.is_some() {
+        return true;
+    }
+    session.later.is_some()
+}
+
 impl Gateway {
     /// A gateway without sessions. Takes no memory.
     #[tactic(auto, using(crate::proofs::Holding::none_seen, crate::proofs::Holding::none_pinned))]
@@ -84,7 +102,8 @@ impl Gateway {
     /// Gives a connection a session; false exactly where it has one, or where 64 are there, hung-up ones counted. Nothing has
     /// changed at false. `Err` is want of memory; nothing has changed then either.
     pub fn connect(&mut self, conn: u64) -> Result<bool, AllocError>
-        ensures connected { OnOk result ((databases : List Database) → seen self.new databases ≡ (if events.connects (seen self.old databases) conn then events.connected (seen self.old databases) conn else seen self.old databases)) }
+        ensures connected { OnOk result ((databases : List Database) → seen self.new databases
+            ≡ (if events.connects (seen self.old databases) conn then events.connected (seen self.old databases) conn else seen self.old databases)) }
         ensures told { IfOk result (λ new. (databases : List Database) → new ≡ events.connects (seen self.old databases) conn) }
         ensures pins { pins_of self.new ≡ pins_of self.old }
         ensures agrees { (known : List Known) (databases : List Database) → Agrees known self.old databases → Agrees known self.new databases }
@@ -93,9 +112,9 @@ impl Gateway {
         join(self.alloc, &mut self.sessions, conn)
     }
 
-    /// What comes of a request of a connection: a refusal or another answer at once, entries to be appended, or something
-    /// for the node to do. The connection's session is there, is not hung up and has no proposal out; `busy` tells. The
-    /// machine is that of the earlier calls with the commands applied since.
+    /// What comes of a request of a connection: a refusal or another answer at once, entries to be appended, a query for a reader,
+    /// or something for the node to do. The connection's session is there, is not hung up and has answered the last request; `busy`
+    /// tells. The request is moved. The machine is that of the earlier calls with the commands applied since.
     ///
     /// A refused request has changed nothing. `Err` is want of memory, which also comes where no number is left, after
     /// 18,446,744,073,709,551,615 requests; then nothing has changed either but what the engine told.
@@ -111,7 +130,7 @@ impl Gateway {
     pub fn on_request<E: Engine>(
         &mut self,
         conn: u64,
-        request: &Request,
+        request: Request,
         view: &View,
         machine: &mut Machine,
         engine: &mut E,
@@ -120,36 +139,45 @@ impl Gateway {
         requires pins { PinsOf self.old machine.old }
         // Its open transaction has the numbers of all pages that it changed, as each request leaves it.
         requires listed { IsListed ((seen self.old machine.old).session conn).tx }
-        requires text { HasNoNul request.now }
+        requires text { HasNoNul request }
         requires term { HasShortTerm view.now }
+        // The servers of the cluster are ones that may stand together, and each change leaves them so.
+        requires configured { IsConfigured view.now }
         // No number stands for two images, for the engine, the transactions and the databases; and so it is afterwards.
         requires agrees { Agrees (E.known engine.old) self.old machine.old }
         ensures agrees { Agrees (E.known engine.new) self.new machine.new }
         // The definition's outcome, by answers that the engine may give and told.
-        ensures turned { IfOk result (TurnedBy (E.meaning (E.kind engine.old)) (E.kind engine.old) view.now (machine_of machine.old) (seen self.old machine.old) conn request.now (E.told engine.old) (E.told engine.new) (seen self.new machine.new)) }
+        ensures turned { IfOk result (TurnedBy (E.meaning (E.kind engine.old)) (E.kind engine.old) view.now (machine_of machine.old)
+            (seen self.old machine.old) conn request (E.told engine.old) (E.told engine.new) (seen self.new machine.new)) }
         ensures failed { OnErr result (seen self.new machine.new ≡ seen self.old machine.old) }
         // The databases stay; their live marks are those of the sessions.
         ensures files { machine_of machine.new ≡ machine_of machine.old }
         ensures pins_after { PinsOf self.new machine.new }
+        // Open transactions have the numbers of all pages that they changed, as they had before.
+        ensures lists { ListsAsBefore (seen self.old machine.old) (seen self.new machine.new) }
         // The engine stays of its kind, and its files were not opened only where it counted so.
         ensures stays { Stays (E.kind engine.old) (E.kind engine.new) (E.refused_openings engine.old) (E.refused_openings engine.new) }
-        ensures unopened { IfOk result (λ act. act ≡ Act.Reply (failure NotADatabase ∷ []) → E.refused_openings engine.old < E.refused_openings engine.new) }
+        ensures unopened { IfOk result (λ act. act ≡ Act.Reply (failure NotADatabase ∷ []) →
+            E.refused_openings engine.old < E.refused_openings engine.new) }
     {
         let number = draw(&mut self.next)?;
         let sessions = &mut self.sessions;
         let weight = &mut self.weight;
-        handle(
-            self.alloc, sessions, weight, conn, request, view, machine, number, engine,
-        )
+        let call = Call {
+            alloc: self.alloc,
+            view,
+            number,
+        };
+        handle(&call, sessions, weight, conn, request, machine, engine)
     }
 
-    /// An entry of a term is applied: the proposal that ends with it is done, and its client, if it is there, is answered. The
-    /// machine has the entry applied. (A proposal in flight is of the node's term, so its index tells it alone.) `Err` is want
-    /// of memory; nothing has changed then.
+    /// The entry of an index is applied: the proposal that ends with it is done, and its client, if it is there, is answered; but
+    /// where it was the barrier before a query, nothing is told, and the query is to be run next: `next_due` tells it. The machine
+    /// has the entry applied. (A proposal in flight is of the node's term, so its index tells it alone.) `Err` is want of memory;
+    /// nothing has changed then.
     pub fn on_applied(
         &mut self,
         index: u64,
-        _term: u64,
         machine: &mut Machine,
     ) -> Result<Vec<(u64, Response)>, AllocError>
         requires pins { PinsOf self.old machine.old }
@@ -163,8 +191,78 @@ impl Gateway {
         applied(self.alloc, &mut self.sessions, index, machine)
     }
 
+    /// The first connection whose query is to be run next, since its barrier is applied; none where there is none. Looks at each
+    /// session; takes no memory.
+    pub fn next_due(&self) -> Option<u64>
+        ensures { (databases : List Database) → MatchOption result
+            ((conn : ℕ) → is_due ((seen self.now databases).session conn).later ≡ false)
+            (λ conn. is_due ((seen self.now databases).session conn).later ≡ true) }
+    {
+        next_due(self.sessions.as_slice())
+    }
+
+    /// Runs the query that a connection has yet to answer: its barrier is applied, or its reader gave it back, since it would change
+    /// pages. It is run as if it was asked now, but with no barrier and no reader any more; where the node doesn't serve any more it
+    /// is refused. None where the connection has no such query; then nothing is done. `Err` is want of memory; nothing has changed
+    /// then but what the engine told, and the query waits on.
+    ///
+    /// For each call a number is drawn, as for a request; it costs as one.
+    pub fn on_later<E: Engine>(
+        &mut self,
+        conn: u64,
+        view: &View,
+        machine: &mut Machine,
+        engine: &mut E,
+    ) -> Result<Option<Act>, AllocError>
+        requires pins { PinsOf self.old machine.old }
+        // Its session has opened a database, as it had when the query was asked.
+        requires opened { IsSome ((seen self.old machine.old).session conn).later → has_database ((seen self.old machine.old).session conn) ≡ true }
+        requires term { HasShortTerm view.now }
+        // No number stands for two images, for the engine, the transactions and the databases; and so it is afterwards.
+        requires agrees { Agrees (E.known engine.old) self.old machine.old }
+        ensures agrees { Agrees (E.known engine.new) self.new machine.new }
+        // The definition's outcome, by answers that the engine may give and told.
+        ensures resumed { IfOk result (Resumed (E.meaning (E.kind engine.old)) (E.kind engine.old) view.now (machine_of machine.old)
+            (seen self.old machine.old) conn (later_query ((seen self.old machine.old).session conn).later) (E.told engine.old) (E.told engine.new)
+            (seen self.new machine.new)) }
+        ensures failed { OnErr result (seen self.new machine.new ≡ seen self.old machine.old) }
+        // The databases stay; their live marks are those of the sessions.
+        ensures files { machine_of machine.new ≡ machine_of machine.old }
+        ensures pins_after { PinsOf self.new machine.new }
+        // Open transactions have the numbers of all pages that they changed, as they had before.
+        ensures lists { ListsAsBefore (seen self.old machine.old) (seen self.new machine.new) }
+        // The engine stays of its kind, and its files were not opened only where it counted so.
+        ensures stays { Stays (E.kind engine.old) (E.kind engine.new) (E.refused_openings engine.old) (E.refused_openings engine.new) }
+        ensures unopened { IfOk result (λ act. act ≡ Some (Act.Reply (failure NotADatabase ∷ [])) →
+            E.refused_openings engine.old < E.refused_openings engine.new) }
+    {
+        let number = draw(&mut self.next)?;
+        let sessions = &mut self.sessions;
+        let weight = &mut self.weight;
+        let call = Call {
+            alloc: self.alloc,
+            view,
+            number,
+        };
+        resume(&call, sessions, weight, conn, machine, engine)
+    }
+
+    /// A reader is done with the query of a connection, and tells this of it: what the node has to tell the connection. None where
+    /// no reader has a query of the connection any more, since its client has gone; and where the reader gives the query back, which
+    /// `on_later` then runs. Nothing has changed at none. `Err` is want of memory; nothing has changed then either.
+    pub fn on_read_done(&mut self, conn: u64, read: Read) -> Result<Option<Act>, AllocError>
+        ensures done { IfOk result (λ act. (databases : List Database) → ReadDone (seen self.old databases) conn
+            (lent_query ((seen self.old databases).session conn).later) (read_named read) (seen self.new databases) act) }
+        ensures pins { pins_of self.new ≡ pins_of self.old }
+        ensures agrees { (known : List Known) (databases : List Database) → Agrees known self.old databases → Agrees known self.new databases }
+        ensures failed { OnErr result ((databases : List Database) → seen self.new databases ≡ seen self.old databases) }
+    {
+        read_done(self.alloc, &mut self.sessions, conn, read)
+    }
+
     /// The node no longer leads the term of the proposals in flight: they and all transactions end, and each client that
-    /// waits is told so, in the order of the proposals' last entries. Databases and statements stay. No mark of the machine
+    /// waits is told so, in the order of the proposals' last entries, those whose queries were to be run next before all others.
+    /// Databases and statements stay, and readers go on. No mark of the machine
     /// is live then. `Err` is want of memory; nothing has changed then.
     pub fn on_lost(&mut self, machine: &mut Machine) -> Result<Vec<(u64, Response)>, AllocError>
         requires pins { PinsOf self.old machine.old }
@@ -193,12 +291,20 @@ impl Gateway {
         left(self.alloc, &mut self.sessions, conn, machine);
     }
 
-    /// Whether a proposal of the connection's session is in flight. Takes no memory.
+    /// A law: no two sessions are of one connection, and there are 64 at most.
+    pub fn is_table(&self)
+        ensures { IsTable self.now.sessions }
+    {
+        let _ = &self.sessions;
+    }
+
+    /// Whether the connection's last request is yet to be answered: its proposal is in flight, its query is to be run next, or a
+    /// reader has it. Takes no memory.
     pub fn busy(&self, conn: u64) -> bool
         ensures { (databases : List Database) → result ≡ is_busy ((seen self.now databases).session conn) }
     {
         match find(self.sessions.as_slice(), conn) {
-            Some(place) => self.sessions[place].flight.is_some(),
+            Some(place) => is_busy(&self.sessions[place]),
             None => false,
         }
     }

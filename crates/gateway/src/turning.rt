@@ -37,7 +37,7 @@ fn told(alloc: Global, response: Response) -> Result<Act, AllocError>
 }
 
 /// A refusal as what a node has to do. `Err` is want of memory.
-fn refused(alloc: Global, cause: Cause) -> Result<Act, AllocError>
+pub(crate) fn refused(alloc: Global, cause: Cause) -> Result<Act, AllocError>
     ensures { IfOk result (λ act. act ≡ acts.Reply (causes.failure (cause_named cause) ∷ [])) }
 {
     let response = cause.failure(alloc)?;
@@ -59,7 +59,7 @@ fn responses_in(
 }
 
 /// A reply as what a node has to do. `Err` is want of memory.
-fn answered(alloc: Global, reply: Reply) -> Result<Act, AllocError>
+pub(crate) fn answered(alloc: Global, reply: Reply) -> Result<Act, AllocError>
     ensures { IfOk result (λ act. act ≡ acts.Reply (rules.responses_of (reply_named reply))) }
 {
     let mut said = Vec::with_capacity(alloc, reply.responses())?;
@@ -81,7 +81,8 @@ fn nothing_affected() -> Reply
 /// Something beside the sessions. `Err` is want of memory; nothing has changed then.
 fn affect(alloc: Global, weight: &mut u64, effect: Effect) -> Result<Act, AllocError>
     ensures act { IfOk result (λ act. act ≡ act_for (effect_named effect)) }
-    ensures weight { OnOk result ((databases : List Database) (sessions : List SessionValue) → table_of databases sessions weight.new ≡ affected_by (table_of databases sessions weight.old) (effect_named effect)) }
+    ensures weight { OnOk result ((databases : List Database) (sessions : List SessionValue) →
+        table_of databases sessions weight.new ≡ affected_by (table_of databases sessions weight.old) (effect_named effect)) }
     ensures kept { OnErr result (weight.new ≡ weight.old) }
 {
     match effect {
@@ -108,7 +109,8 @@ fn begin_told(
     requires place { StandsAt conn sessions.old.items place }
     requires marks { AreMarks (pins_of sessions.old.items) machine.old }
     requires can { (session : SessionValue) → CanCarry (get_or sessions.old.items place session) (Turn.Begins at_once) }
-    ensures done { (weight : ℕ) → IfOk result (Carries (machine_of machine.old) (table_of machine.old sessions.old.items weight) conn (Turn.Begins at_once) (table_of machine.new sessions.new.items weight)) }
+    ensures done { (weight : ℕ) → IfOk result (Carries (machine_of machine.old) (table_of machine.old sessions.old.items weight) conn (Turn.Begins at_once)
+        (table_of machine.new sessions.new.items weight)) }
     ensures kept { OnErr result ((weight : ℕ) → table_of machine.new sessions.new.items weight ≡ table_of machine.old sessions.old.items weight) }
     ensures files { machine_of machine.new ≡ machine_of machine.old }
     ensures agree { AgreesOn [] sessions.old.items machine.old sessions.new.items machine.new }
@@ -129,7 +131,8 @@ fn end_told(
 ) -> Result<Act, AllocError>
     requires table { IsTable sessions.old.items }
     requires marks { AreMarks (pins_of sessions.old.items) machine.old }
-    ensures done { (weight : ℕ) → IfOk result (Carries (machine_of machine.old) (table_of machine.old sessions.old.items weight) conn Turn.Ends (table_of machine.new sessions.new.items weight)) }
+    ensures done { (weight : ℕ) → IfOk result (Carries (machine_of machine.old) (table_of machine.old sessions.old.items weight) conn Turn.Ends
+        (table_of machine.new sessions.new.items weight)) }
     ensures kept { OnErr result ((weight : ℕ) → table_of machine.new sessions.new.items weight ≡ table_of machine.old sessions.old.items weight) }
     ensures files { machine_of machine.new ≡ machine_of machine.old }
     ensures agree { AgreesOn [] sessions.old.items machine.old sessions.new.items machine.new }
@@ -153,10 +156,14 @@ fn change_told(
     requires place { StandsAt conn sessions.old.items place }
     requires can { (session : SessionValue) → CanChange (get_or sessions.old.items place session).statements.items change }
     ensures act { IfOk result (λ done. done ≡ act) }
-    ensures done { OnOk result ((databases : List Database) (weight : ℕ) → table_of databases sessions.new.items weight ≡ with_session (table_of databases sessions.old.items weight) conn (changed_by ((table_of databases sessions.old.items weight).session conn) change)) }
-    ensures kept { OnErr result ((databases : List Database) (weight : ℕ) → table_of databases sessions.new.items weight ≡ table_of databases sessions.old.items weight) }
+    ensures done { OnOk result ((databases : List Database) (weight : ℕ) →
+        table_of databases sessions.new.items weight ≡ with_session (table_of databases sessions.old.items weight) conn
+        (changed_by ((table_of databases sessions.old.items weight).session conn) change)) }
+    ensures kept { OnErr result ((databases : List Database) (weight : ℕ) →
+        table_of databases sessions.new.items weight ≡ table_of databases sessions.old.items weight) }
     ensures pins { pins_of sessions.new.items ≡ pins_of sessions.old.items }
-    ensures agree { (own : SessionValue) (databases : List Database) → AgreesOn (work_made change (get_or sessions.old.items place own).transaction) sessions.old.items databases sessions.new.items databases }
+    ensures agree { (own : SessionValue) (databases : List Database) → AgreesOn
+        (work_made change (get_or sessions.old.items place own).transaction) sessions.old.items databases sessions.new.items databases }
     ensures fit { IsTable sessions.new.items }
 {
     make_change(sessions, place, conn, change)?;
@@ -178,11 +185,13 @@ pub(crate) fn carry_out(
     requires place { StandsAt conn sessions.old.items place }
     requires marks { AreMarks (pins_of sessions.old.items) machine.old }
     requires can { (session : SessionValue) → CanCarry (get_or sessions.old.items place session) turn }
-    ensures done { IfOk result (Carries (machine_of machine.old) (table_of machine.old sessions.old.items weight.old) conn turn (table_of machine.new sessions.new.items weight.new)) }
+    ensures done { IfOk result (Carries (machine_of machine.old) (table_of machine.old sessions.old.items weight.old) conn turn
+        (table_of machine.new sessions.new.items weight.new)) }
     ensures kept { OnErr result (table_of machine.new sessions.new.items weight.new ≡ table_of machine.old sessions.old.items weight.old) }
     ensures files { machine_of machine.new ≡ machine_of machine.old }
     // No number stands for two images, where none did with the working image that the turn makes.
-    ensures agree { (own : SessionValue) → AgreesOn (work_in turn (get_or sessions.old.items place own).transaction) sessions.old.items machine.old sessions.new.items machine.new }
+    ensures agree { (own : SessionValue) → AgreesOn (work_in turn (get_or sessions.old.items place own).transaction) sessions.old.items machine.old
+        sessions.new.items machine.new }
     ensures marks_after { AreMarks (pins_of sessions.new.items) machine.new }
     ensures fit { IsTable sessions.new.items }
 {
@@ -197,6 +206,17 @@ pub(crate) fn carry_out(
         Turn::Proposes(flight, entries) => {
             let act = Act::Propose(entries);
             change_told(sessions, place, conn, Change::Flies(flight), act)
+        }
+        Turn::Creates(flight, entries, barriers) => change_told(
+            sessions,
+            place,
+            conn,
+            Change::Creates(flight, barriers),
+            Act::Propose(entries),
+        ),
+        Turn::Lends(query, job) => {
+            let act = Act::Lend(job);
+            change_told(sessions, place, conn, Change::Lends(query), act)
         }
         Turn::Affects(effect) => affect(alloc, weight, effect),
     }

@@ -10,9 +10,8 @@ use Rattle.session_table.specs.Working.{works_of}
 use Rattle.session_table.specs.declared.session.Session.{Session}
 use Rattle.session_table.specs.Changing.{IsAbsent, StandsAt}
 use Rattle.gateway.proofs.Decided.{is_found, stands_somewhere, moved, carry_at}
-use Rattle.session_rules.specs.Requests.{on_request}
 use Rattle.gateway.specs.Carrying.{CanCarry, Carries}
-use Rattle.gateway.proofs.Carried.{carried}
+use Rattle.gateway.proofs.Carried.{turned_by}
 use Rattle.gateway.proofs.Numbering.{carried_agree, failed_agree}
 use Rattle.gateway.proofs.Placed.{lent_back}
 use Rattle.gateway.proofs.Unopened.{unopened_turn}
@@ -31,27 +30,22 @@ carry_out-requires-clause-can g c = λ session.
     let back = lent_back _ _ _ (c.decide.ensures.kept ∙ c.as_mut_slice-known.ensures.value) (sym c.as_mut_slice-known.ensures.len ∙ ap length c.as_mut_slice-known.ensures.value) in
     let at : StandsAt c.args.conn c.args.sessions.now.items c.unwrap-place.result = subst (λ (ss : List Session). StandsAt c.args.conn ss c.unwrap-place.result) c.as_slice.ensures.value (MatchOption-at_some _ _ c.unwrap-place.result c.unwrap-place.ensures c.find.ensures) in
     subst (λ (ss : List Session). CanCarry (get_or ss c.unwrap-place.result session) c.in_ok-turn.turn) (sym back)
-    (carry_at _ _ c.args.view.now c.args.machine.now c.args.sessions.now.items c.as_mut_slice-known.result.now c.args.weight.now c.args.conn c.unwrap-place.result session c.args.request.now _ _ c.in_ok-turn.turn c.as_mut_slice-known.ensures.value c.requires.table.apart at c.in_ok-turn.ensures.ran)
+    (carry_at _ _ c.args.call.now.view.now c.args.machine.now c.args.sessions.now.items c.as_mut_slice-known.result.now c.args.weight.now c.args.conn c.unwrap-place.result session c.args.request _ _ c.in_ok-turn.turn c.as_mut_slice-known.ensures.value c.requires.table.apart at c.in_ok-turn.ensures.ran)
 
 pub returns-clause-turned : goal.returns-clause-turned
 returns-clause-turned g c =
     let back = lent_back _ _ _ (c.decide.ensures.kept ∙ c.as_mut_slice-known.ensures.value) (sym c.as_mut_slice-known.ensures.len ∙ ap length c.as_mut_slice-known.ensures.value) in
-    let ran = moved _ _ c.args.view.now c.args.machine.now c.args.sessions.now.items c.as_mut_slice-known.result.now c.args.weight.now c.args.conn c.args.request.now _ _ c.in_ok-turn.turn c.as_mut_slice-known.ensures.value c.in_ok-turn.ensures.ran in
-    IfOk-weaker c.carry_out.result _ _ (λ act carries. record {
-      answers = ran.answers;
-      allowed = ran.allowed;
-      told = ran.told;
-      exact = ran.exact;
-      is = carried c.args.view.now (machine_of c.args.machine.now) (table_of c.args.machine.now c.args.sessions.now.items c.args.weight.now) c.args.conn (table_of c.carry_out.new.machine c.carry_out.new.sessions.items c.carry_out.new.weight) act (on_request c.args.view.now (machine_of c.args.machine.now) (table_of c.args.machine.now c.args.sessions.now.items c.args.weight.now) c.args.conn c.args.request.now ran.answers) c.in_ok-turn.turn ran.is carries;
-    })
+    let ran = moved _ _ c.args.call.now.view.now c.args.machine.now c.args.sessions.now.items c.as_mut_slice-known.result.now c.args.weight.now c.args.conn c.args.request _ _ c.in_ok-turn.turn c.as_mut_slice-known.ensures.value c.in_ok-turn.ensures.ran in
+    IfOk-weaker c.carry_out.result _ _
+    (λ act carries. turned_by _ _ c.args.call.now.view.now (machine_of c.args.machine.now) (table_of c.args.machine.now c.args.sessions.now.items c.args.weight.now) c.args.conn _ _ (table_of c.carry_out.new.machine c.carry_out.new.sessions.items c.carry_out.new.weight) act c.in_ok-turn.turn carries c.args.request ran)
     (subst (λ (ss : List Session). IfOk c.carry_out.result (Carries (machine_of c.args.machine.now) (table_of c.args.machine.now ss c.args.weight.now) c.args.conn c.in_ok-turn.turn (table_of c.carry_out.new.machine c.carry_out.new.sessions.items c.carry_out.new.weight))) back c.carry_out.ensures.done)
 
 pub returns-clause-unopened : goal.returns-clause-unopened
 returns-clause-unopened g c =
     let back = lent_back _ _ _ (c.decide.ensures.kept ∙ c.as_mut_slice-known.ensures.value) (sym c.as_mut_slice-known.ensures.len ∙ ap length c.as_mut_slice-known.ensures.value) in
-    let ran = moved _ _ c.args.view.now c.args.machine.now c.args.sessions.now.items c.as_mut_slice-known.result.now c.args.weight.now c.args.conn c.args.request.now _ _ c.in_ok-turn.turn c.as_mut_slice-known.ensures.value c.in_ok-turn.ensures.ran in
+    let ran = moved _ _ c.args.call.now.view.now c.args.machine.now c.args.sessions.now.items c.as_mut_slice-known.result.now c.args.weight.now c.args.conn c.args.request _ _ c.in_ok-turn.turn c.as_mut_slice-known.ensures.value c.in_ok-turn.ensures.ran in
     IfOk-weaker c.carry_out.result _ _
-    (λ act h is. c.in_ok-turn.ensures.unopened (unopened_turn c.args.view.now (machine_of c.args.machine.now) (table_of c.args.machine.now c.args.sessions.now.items c.args.weight.now) c.args.conn c.args.request.now ran.answers (table_of c.carry_out.new.machine c.carry_out.new.sessions.items c.carry_out.new.weight) act is c.in_ok-turn.turn ran.is h))
+    (λ act h is. c.in_ok-turn.ensures.unopened (unopened_turn c.args.call.now.view.now (machine_of c.args.machine.now) (table_of c.args.machine.now c.args.sessions.now.items c.args.weight.now) c.args.conn c.args.request ran.answers (table_of c.carry_out.new.machine c.carry_out.new.sessions.items c.carry_out.new.weight) act is c.in_ok-turn.turn ran.is h))
     (subst (λ (ss : List Session). IfOk c.carry_out.result (Carries (machine_of c.args.machine.now) (table_of c.args.machine.now ss c.args.weight.now) c.args.conn c.in_ok-turn.turn (table_of c.carry_out.new.machine c.carry_out.new.sessions.items c.carry_out.new.weight))) back c.carry_out.ensures.done)
 
 pub returns-clause-agree : goal.returns-clause-agree
@@ -68,4 +62,4 @@ returns-in_err-turn-clause-agree g c =
 
 pub decide-requires-clause-agree : goal.decide-requires-clause-agree
 decide-requires-clause-agree g c =
-    subst (λ (ss : List Session). Agree (g.E.Engine.known c.args.engine.now) (works_of ss) c.args.number (map numbered c.args.machine.now)) (sym c.as_mut_slice-known.ensures.value) c.requires.agree
+    subst (λ (ss : List Session). Agree (g.E.Engine.known c.args.engine.now) (works_of ss) c.args.call.now.number (map numbered c.args.machine.now)) (sym c.as_mut_slice-known.ensures.value) c.requires.agree

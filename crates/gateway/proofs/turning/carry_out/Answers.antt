@@ -19,6 +19,16 @@ returns-in_err-act-in-Answers-clause-agree c = λ own.
     let made = work_in c.args.turn (get_or all c.args.place own).transaction in
     fewer_agree made all all c.args.machine.now c.args.machine.now refl (among_more made (works_of all))
 
+pub returns-in-Creates-clause-agree : goal.returns-in-Creates-clause-agree
+returns-in-Creates-clause-agree c = λ own.
+    let all = c.args.sessions.now.items in
+    subst (λ (t : Turn). AgreesOn (work_in t (get_or all c.args.place own).transaction) all c.args.machine.now c.change_told-in-Creates.new.sessions.items c.args.machine.now) (sym c.in-Creates.is) (c.change_told-in-Creates.ensures.agree own c.args.machine.now)
+
+pub returns-in-Lends-clause-agree : goal.returns-in-Lends-clause-agree
+returns-in-Lends-clause-agree c = λ own.
+    let all = c.args.sessions.now.items in
+    subst (λ (t : Turn). AgreesOn (work_in t (get_or all c.args.place own).transaction) all c.args.machine.now c.change_told-in-Lends.new.sessions.items c.args.machine.now) (sym c.in-Lends.is) (c.change_told-in-Lends.ensures.agree own c.args.machine.now)
+
 pub returns-in-Proposes-clause-agree : goal.returns-in-Proposes-clause-agree
 returns-in-Proposes-clause-agree c = λ own.
     let all = c.args.sessions.now.items in
