@@ -4,7 +4,7 @@ use Rattle.std.specs.Prelude.{◌≡◌, ◌+◌, ◌-◌, ◌≤◌, ℕ, Bool,
 use Rattle.wire_words.specs.declared.message.Message.{Message}
 use Rattle.wire_words.specs.declared.splitter.SplitFault.{SplitFault}
 use Rattle.wire_words.specs.declared.splitter.SplitFault.TheVariants as faults
-use Rattle.wire_words.specs.Stream.{End, Opening, Rest, Broken, Stream, Splitting, stream, fed, going_on, client_limit, unread_bytes, fault_in}
+use Rattle.wire_words.specs.Stream.{End, Opening, Rest, Broken, Stream, Splitting, stream, fed, going_on, client_limit, peer_limit, unread_bytes, fault_in}
 use Rattle.client_connection.specs.declared.connection.CloseReason.{CloseReason}
 use Rattle.client_connection.specs.declared.connection.CloseReason.TheVariants as reasons
 
@@ -79,6 +79,10 @@ abbrev pub received : Conn → List ℕ → Conn
 received c piece =
     if c.full then c else with_more c (going_on client_limit c.end (take (room c) piece)) (nat_lt (room c) (length piece))
 
+-- a connection that carries a peer's messages after a piece of the stream: any number of bytes may wait
+abbrev pub peer_received : Conn → List ℕ → Conn
+peer_received c piece = if c.full then c else with_more c (going_on peer_limit c.end piece) false
+
 -- a splitter that was fed a client's stream
 pub record IsFed (splitter : Splitting) : Type 0 where
   pub bytes : List ℕ
@@ -97,10 +101,18 @@ pub record Counts (splitter : Splitting) (waiting : List Message) (begun : Bool)
   pub counted : count ≡ sum_by message_size waiting
   pub within : length (unread_bytes splitter.end) + count ≤ 33554432 + version_room splitter.end
 
--- Of these bytes so many messages were taken, in order, and the others wait.
-pub record HasTaken (c : Conn) (bytes : List ℕ) (taken : List Message) : Type 0 where
-  pub messages : (stream client_limit bytes).messages ≡ taken ++ c.waiting
-  pub end : (stream client_limit bytes).end ≡ c.end
+-- Of these bytes, where a message may have so many words, so many messages were taken, in order, and the others wait.
+pub record HasTakenBy (limit : ℕ) (c : Conn) (bytes : List ℕ) (taken : List Message) : Type 0 where
+  pub messages : (stream limit bytes).messages ≡ taken ++ c.waiting
+  pub end : (stream limit bytes).end ≡ c.end
+
+-- so it is of a client's stream
+abbrev pub HasTaken : Conn → List ℕ → List Message → Type 0
+HasTaken c bytes taken = HasTakenBy client_limit c bytes taken
+
+-- and of a peer's
+abbrev pub PeerHasTaken : Conn → List ℕ → List Message → Type 0
+PeerHasTaken c bytes taken = HasTakenBy peer_limit c bytes taken
 
 -- A call gave the first message that waits, or none where none does.
 abbrev pub TakesFirst : Conn → Conn → Option Message → Type 0

@@ -1,7 +1,9 @@
 ghost use Rattle.std.specs.Prelude.{◌≡◌, ◌||◌, not, nat_lt, ◌+◌, ◌≤◌, ◌<◌, ◌^◌, [], ◌∷◌, ◌++◌, length, take, sum_by, IfOk, OnOk, IsErr, MatchOption, if◌then◌else◌};
 ghost use Rattle.wire_words.specs.Stream.{going_on, client_limit, unread_bytes};
-ghost use Rattle.client_connection.specs.Connection.{IsFed, opened, received, with_more, held, room, message_size, version_room, stream_reason, reason_of, TakesFirst};
+ghost use Rattle.std.specs.Option.{option_or};
+ghost use Rattle.client_connection.specs.Connection.{IsFed, opened, received, with_more, held, room, message_size, version_room, stream_reason, limit_reason, reason_of, TakesFirst};
 
+use crate::peer_stream::PeerStream;
 use std::alloc::{AllocError, Global};
 use std::collections::VecDeque;
 use std::marker::Model;
@@ -83,7 +85,7 @@ fn feed(alloc: Global, splitter: &mut Splitter, piece: &[u8]) -> Result<Vec<Mess
 }
 
 // Why the stream is at its end, if it is.
-fn end_reason(splitter: &Splitter) -> Option<CloseReason>
+pub(crate) fn end_reason(splitter: &Splitter) -> Option<CloseReason>
     ensures { result ≡ stream_reason splitter.now.end }
 {
     match splitter.fault() {
@@ -93,8 +95,22 @@ fn end_reason(splitter: &Splitter) -> Option<CloseReason>
     }
 }
 
+// The reason at the stream's end, and where there is none that of a byte for which there was no room.
+pub(crate) fn closes_for(end: Option<CloseReason>, is_full: bool) -> Option<CloseReason>
+    ensures { result ≡ option_or end (limit_reason is_full) }
+{
+    match end {
+        Some(reason) => Some(reason),
+        None if is_full => Some(CloseReason::Limit),
+        None => None,
+    }
+}
+
 // The first of the earlier messages, and where there are none the first of the latest.
-fn first_of(earlier: &mut VecDeque<Message>, latest: &mut VecDeque<Message>) -> Option<Message>
+pub(crate) fn first_of(
+    earlier: &mut VecDeque<Message>,
+    latest: &mut VecDeque<Message>,
+) -> Option<Message>
     ensures { MatchOption result
         ((earlier.old.items ++ latest.old.items ≡ []) × (earlier.new.items ++ latest.new.items ≡ earlier.old.items ++ latest.old.items))
         (λ first. earlier.old.items ++ latest.old.items ≡ first ∷ (earlier.new.items ++ latest.new.items)) }
@@ -226,11 +242,7 @@ impl Connection {
     pub fn close_reason(&self) -> Option<CloseReason>
         ensures { result ≡ reason_of self.now }
     {
-        match end_reason(&self.splitter) {
-            Some(reason) => Some(reason),
-            None if self.is_full => Some(CloseReason::Limit),
-            None => None,
-        }
+        closes_for(end_reason(&self.splitter), self.is_full)
     }
 
     /// How many bytes are unread: those of the message that isn't there whole yet. The messages that wait are not counted.
@@ -239,5 +251,19 @@ impl Connection {
         ensures { result ≡ length (unread_bytes self.now.end) }
     {
         self.splitter.held()
+    }
+
+    /// The connection where a peer's messages follow, which may have 33,554,432 words: what waits and what is unread stays so, and so
+    /// does why it closes; any number of bytes may wait then. Takes no memory.
+    pub fn into_peer(self) -> PeerStream
+        ensures { result ≡ self }
+    {
+        PeerStream {
+            alloc: self.alloc,
+            splitter: self.splitter.for_peer(),
+            earlier: self.earlier,
+            latest: self.latest,
+            is_full: self.is_full,
+        }
     }
 }

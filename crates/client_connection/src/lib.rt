@@ -4,6 +4,8 @@
 
 mod connection;
 mod laws;
+mod peer_stream;
 
 pub use connection::{CloseReason, Connection};
-pub use laws::pieces_are_joined;
+pub use laws::{peer_pieces_are_joined, pieces_are_joined};
+pub use peer_stream::PeerStream;

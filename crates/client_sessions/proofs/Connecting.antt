@@ -1,5 +1,5 @@
 -- A client that connects.
-use Rattle.std.proofs.Common.{◌≡◌, ℕ, Bool, true, false, cond, ◌||◌, List, Option, Some, None, is_some, refl, sym, ap, subst, ◌∙◌}
+use Rattle.std.proofs.Common.{◌≡◌, ℕ, Bool, true, false, cond, ◌||◌, List, Option, Some, None, is_none, not, is_some, refl, sym, ap, subst, ◌∙◌}
 use Rattle.std.specs.Ordering.{nat_cmp}
 use Rattle.std.specs.BTreeMap.{BTreeMap, get, is_at}
 use Rattle.client_connection.specs.Connection.{Conn, opened}
@@ -24,7 +24,7 @@ taken_by (Some c) s busy is fits = sym fits.0
 taken_by None s true is fits = sym (fits.1 is)
 taken_by None s false is fits = not_there s.there refl where
   not_there : (there : Bool) → s.there ≡ there → false ≡ there
-  not_there true there = let both : true ≡ false = sym (fits.0 there).1 ∙ is in absurd cc
+  not_there true there = let both : true ≡ false = sym (ap (λ (flying : Bool). flying || not (is_none s.later)) (fits.0 there).1) ∙ is in absurd cc
   not_there false there = refl
 
 there_so : (held : Held) (databases : List Database) (conn : ℕ) (found busy : Bool) → found ≡ is_some (get nat_cmp held.connections conn) → busy ≡ is_busy ((seen held.gateway databases).session conn)

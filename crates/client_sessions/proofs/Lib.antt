@@ -1,10 +1,12 @@
 pub mod Asking
 pub mod Connecting
 pub mod Hearing
+pub mod Idle
 pub mod Landing
-pub mod Listing
+pub mod Moving
 pub mod Offers
 pub mod Requests
+pub mod Resuming
 pub mod Serving
 pub mod Soundness
 pub mod Standing
@@ -12,3 +14,4 @@ pub mod Taking
 pub mod Telling
 pub mod Turns
 pub mod Whole
+pub mod Writable

@@ -1,40 +1,63 @@
 -- The message whose turn it is, and what comes of it, as code handles them one after the other.
-use Rattle.std.proofs.Common.{◌≡◌, ℕ, true, List, Option, Some, None, refl, sym, ap, subst, ◌∙◌}
+use Rattle.std.proofs.Common.{◌≡◌, ℕ, true, false, List, [], ◌∷◌, ◌++◌, Option, Some, None, Result, IfOk, refl, sym, ap, subst, ◌∙◌}
+use Rattle.std.specs.Prelude.{IfSome, MatchOption}
+use Rattle.std.specs.declared.alloc.AllocError.{AllocError}
 use Rattle.std.specs.Ordering.{nat_cmp}
 use Rattle.std.specs.BTreeMap.{get}
 use Rattle.wire_words.specs.declared.message.Message.{Message}
+use Rattle.wire_msgs.specs.declared.fault.MsgFault.{MsgFault}
+use Rattle.wire_msgs.specs.declared.request.Request.{Request}
 use Rattle.wire_msgs.specs.Reading.{request_of}
+use Rattle.sql_engine.specs.Known.{Known}
 use Rattle.sql_engine.specs.declared.kind.EngineKind.{EngineKind}
 use Rattle.sql_engine.specs.Meanings.{Meaning, Told}
 use Rattle.page_apply.specs.declared.database.Database.{Database}
+use Rattle.page_apply.specs.Pins.{Pinning}
 use Rattle.session_rules.specs.Machine.{Machine}
-use Rattle.session_rules.specs.Sessions.{Gateway, View, may_ask}
+use Rattle.session_rules.specs.Sessions.{Gateway, View, Reply, may_ask, is_due, later_query, lent_query}
 use Rattle.session_rules.specs.Touched.{IsListed}
-use Rattle.gateway.specs.Seen.{seen, PinsOf}
+use Rattle.session_table.specs.Marks.{AreMarks}
+use Rattle.gateway.specs.Seen as gates
+use Rattle.gateway.specs.Seen.{Held as Gate, seen, pins_of, PinsOf}
 use Rattle.client_sessions.specs.declared.act.Act.{Act}
 use Rattle.client_sessions.specs.declared.clients.Clients.{Clients as Held}
-use Rattle.client_sessions.specs.Sending.{FlightCanSend}
-use Rattle.client_sessions.specs.Clients.{Clients, with_sessions, Sound}
+use Rattle.client_sessions.specs.Clients.{Clients, with_sessions, freed, Awaits, Sound}
 use Rattle.client_sessions.specs.Calls.{TookNext, Comes, TookOffer}
-use Rattle.client_sessions.specs.Seen.{clients_of, StandOver}
+use Rattle.client_sessions.specs.Later.{Resumes, Finishes}
+use Rattle.client_sessions.specs.Seen.{clients_of, Agrees, StandOver}
 use Rattle.client_sessions.proofs.Asking.{offered_asks}
 use Rattle.client_sessions.proofs.Offers.{next_is_first}
 use Rattle.client_sessions.proofs.Standing.{sound_as}
 use Rattle.client_sessions.proofs.Taking.{took_sound, idle_sound}
 
--- the session of the connection whose message was taken may be asked
-pub ready : (k mid : Clients) (took : ℕ × Message) → TookNext k mid (Some took) → Sound k → may_ask (mid.sessions.session took.0) ≡ true
+-- ---- the message that was taken
+
+-- the session of its connection may be asked
+ready : (k mid : Clients) (took : ℕ × Message) → TookNext k mid (Some took) → Sound k → may_ask (mid.sessions.session took.0) ≡ true
 ready k mid took t sound =
     let same : mid.sessions ≡ k.sessions = ap (λ (c : Clients). c.sessions) t.4 in
     subst (λ (conn : ℕ). may_ask (mid.sessions.session conn) ≡ true) t.2
     (subst (λ (g : Gateway). may_ask (g.session t.0.conn) ≡ true) (sym same) (offered_asks k t.0 (next_is_first k t.0 t.1) sound))
 
-pub next_sound : (k mid : Clients) (took : Option (ℕ × Message)) → TookNext k mid took → Sound k → Sound mid
+pub took_ready : (k mid : Clients) (took : Option (ℕ × Message)) → TookNext k mid took → Sound k → IfSome took (λ (t : ℕ × Message). may_ask (mid.sessions.session t.0) ≡ true)
+took_ready k mid None t sound = tt
+took_ready k mid (Some took) t sound = ready k mid took t sound
+
+next_sound : (k mid : Clients) (took : Option (ℕ × Message)) → TookNext k mid took → Sound k → Sound mid
 next_sound k mid None t sound = idle_sound k mid t.1 sound
 next_sound k mid (Some took) t sound = took_sound k mid t.0 t.1 t.4 sound
 
--- what came of the message that was taken
-pub turn_taken : (m : Meaning) (kind : EngineKind) (v : View) (machine : Machine) (k mid new : Clients) (took : ℕ × Message) (before now : Option Told) (refused_before refused_now : ℕ) (act : Act) → TookNext k mid (Some took)
+pub took_stand : (old mid : Held) (databases : List Database) (took : Option (ℕ × Message)) → TookNext (clients_of old databases) (clients_of mid databases) took → mid.gateway ≡ old.gateway → StandOver old databases → StandOver mid databases
+took_stand old mid databases took t same stand = record {
+  pins = subst (λ (g : Gate). PinsOf g databases) (sym same) stand.pins;
+  sound = next_sound (clients_of old databases) (clients_of mid databases) took t stand.sound;
+}
+
+pub took_agree : (known : List Known) (old mid : Held) (databases : List Database) → mid.gateway ≡ old.gateway → Agrees known old databases → Agrees known mid databases
+took_agree known old mid databases same agree = subst (λ (g : Gate). gates.Agrees known g databases) (sym same) agree
+
+-- what came of it
+turn_taken : (m : Meaning) (kind : EngineKind) (v : View) (machine : Machine) (k mid new : Clients) (took : ℕ × Message) (before now : Option Told) (refused_before refused_now : ℕ) (act : Act) → TookNext k mid (Some took)
     → Comes m kind v machine mid.sessions took.0 (request_of took.1) before now refused_before refused_now new.sessions act → new ≡ with_sessions mid new.sessions → TookOffer m kind v machine k before now refused_before refused_now new act
 turn_taken m kind v machine k mid new took before now refused_before refused_now act t came rest =
     let same : mid.sessions ≡ k.sessions = ap (λ (c : Clients). c.sessions) t.4 in
@@ -47,40 +70,83 @@ turn_taken m kind v machine k mid new took before now refused_before refused_now
       rest = rest ∙ ap (λ (c : Clients). with_sessions c new.sessions) t.4;
     }
 
+pub turn_answered : (m : Meaning) (kind : EngineKind) (v : View) (machine : Machine) (k mid new : Clients) (took : ℕ × Message) (asked : Result Request MsgFault) (before now : Option Told) (refused_before refused_now : ℕ) (act : Act) → TookNext k mid (Some took)
+    → asked ≡ request_of took.1 → Comes m kind v machine mid.sessions took.0 asked before now refused_before refused_now new.sessions act → new ≡ with_sessions mid new.sessions → TookOffer m kind v machine k before now refused_before refused_now new act
+turn_answered m kind v machine k mid new took asked before now refused_before refused_now act t read came rest =
+    turn_taken m kind v machine k mid new took before now refused_before refused_now act t
+    (subst (λ (r : Result Request MsgFault). Comes m kind v machine mid.sessions took.0 r before now refused_before refused_now new.sessions act) read came) rest
+
 -- ---- over what code holds
 
-pub ready_held : (old mid : Held) (databases : List Database) (conn : ℕ) (message : Message) → TookNext (clients_of old databases) (clients_of mid databases) (Some (conn, message)) → StandOver old databases
-    → may_ask ((seen mid.gateway databases).session conn) ≡ true
+pub ready_held : (held : Held) (databases : List Database) (conn : ℕ) → may_ask ((clients_of held databases).sessions.session conn) ≡ true → may_ask ((seen held.gateway databases).session conn) ≡ true
 unfolding clients_of
-ready_held old mid databases conn message took stand = ready (clients_of old databases) (clients_of mid databases) (conn, message) took stand.sound
+ready_held held databases conn ready = ready
 
-pub sends_held : (old mid : Held) (databases : List Database) (conn : ℕ) (message : Message) → TookNext (clients_of old databases) (clients_of mid databases) (Some (conn, message)) → StandOver old databases
-    → FlightCanSend ((seen mid.gateway databases).session conn).flight
+pub listed_held : (held : Held) (databases : List Database) (conn : ℕ) → StandOver held databases → IsListed ((seen held.gateway databases).session conn).tx
 unfolding clients_of
-sends_held old mid databases conn message took stand = (next_sound (clients_of old databases) (clients_of mid databases) (Some (conn, message)) took stand.sound).sends conn
+listed_held held databases conn stand = stand.sound.listed conn
 
-pub listed_held : (old mid : Held) (databases : List Database) (conn : ℕ) (message : Message) → TookNext (clients_of old databases) (clients_of mid databases) (Some (conn, message)) → StandOver old databases
-    → IsListed ((seen mid.gateway databases).session conn).tx
+pub awaits_held : (held : Held) (databases : List Database) (conn : ℕ) → StandOver held databases
+    → Awaits ((seen held.gateway databases).session conn).database ((seen held.gateway databases).session conn).flight ((seen held.gateway databases).session conn).later
 unfolding clients_of
-listed_held old mid databases conn message took stand = (next_sound (clients_of old databases) (clients_of mid databases) (Some (conn, message)) took stand.sound).listed conn
+awaits_held held databases conn stand = stand.sound.awaits conn
 
-pub came_stand : (old mid new : Held) (before after : List Database) (took : Option (ℕ × Message)) → TookNext (clients_of old before) (clients_of mid before) took → StandOver old before
-    → ((k : Clients) → k.sessions ≡ seen mid.gateway before → Sound k → Sound (with_sessions k (seen new.gateway after))) → ((q : ℕ) → get nat_cmp new.connections q ≡ get nat_cmp mid.connections q)
-    → PinsOf new.gateway after → StandOver new after
+pub came_held : (m : Meaning) (kind : EngineKind) (v : View) (machine : Machine) (old new : Held) (before after : List Database) (conn : ℕ) (asked : Result Request MsgFault) (told_before told_now : Option Told) (refused_before refused_now : ℕ) (r : Result Act AllocError)
+    → IfOk r (Comes m kind v machine (seen old.gateway before) conn asked told_before told_now refused_before refused_now (seen new.gateway after))
+    → IfOk r (Comes m kind v machine (clients_of old before).sessions conn asked told_before told_now refused_before refused_now (clients_of new after).sessions)
 unfolding clients_of
-came_stand old mid new before after took t stand keeps streams pins = record {
+came_held m kind v machine old new before after conn asked told_before told_now refused_before refused_now r came = came
+
+pub due_held : (held : Held) (databases : List Database) (r : Option ℕ)
+    → MatchOption r ((conn : ℕ) → is_due ((seen held.gateway databases).session conn).later ≡ false) (λ (conn : ℕ). is_due ((seen held.gateway databases).session conn).later ≡ true)
+    → MatchOption r ((conn : ℕ) → is_due ((clients_of held databases).sessions.session conn).later ≡ false) (λ (conn : ℕ). is_due ((clients_of held databases).sessions.session conn).later ≡ true)
+unfolding clients_of
+due_held held databases r due = due
+
+pub resumes_held : (m : Meaning) (kind : EngineKind) (v : View) (machine : Machine) (old new : Held) (before after : List Database) (conn : ℕ) (told_before told_now : Option Told) (refused_before refused_now : ℕ) (given act : Option Act) → given ≡ act
+    → Resumes m kind v machine (seen old.gateway before) conn (later_query ((seen old.gateway before).session conn).later) told_before told_now refused_before refused_now (seen new.gateway after) given
+    → Resumes m kind v machine (clients_of old before).sessions conn (later_query ((clients_of old before).sessions.session conn).later) told_before told_now refused_before refused_now (clients_of new after).sessions act
+unfolding clients_of
+resumes_held m kind v machine old new before after conn told_before told_now refused_before refused_now given act is resumes =
+    subst (λ (a : Option Act). Resumes m kind v machine (seen old.gateway before) conn (later_query ((seen old.gateway before).session conn).later) told_before told_now refused_before refused_now (seen new.gateway after) a) is resumes
+
+pub finishes_held : (old new : Held) (databases : List Database) (conn : ℕ) (reply : Option Reply) (given act : Option Act) → given ≡ act
+    → Finishes (seen old.gateway databases) conn (lent_query ((seen old.gateway databases).session conn).later) reply (seen new.gateway databases) given
+    → Finishes (clients_of old databases).sessions conn (lent_query ((clients_of old databases).sessions.session conn).later) reply (clients_of new databases).sessions act
+unfolding clients_of
+finishes_held old new databases conn reply given act is finishes =
+    subst (λ (a : Option Act). Finishes (seen old.gateway databases) conn (lent_query ((seen old.gateway databases).session conn).later) reply (seen new.gateway databases) a) is finishes
+
+no_more : (turns : List ℕ) → turns ≡ turns ++ []
+no_more [] = refl
+no_more (conn ∷ turns) = ap (λ (ts : List ℕ). conn ∷ ts) (no_more turns)
+
+-- other sessions, and these turns more
+pub turned_held : (old new : Held) (before after : List Database) (turns : List ℕ) → ((q : ℕ) → get nat_cmp new.connections q ≡ get nat_cmp old.connections q) → new.turns.items ≡ old.turns.items ++ turns
+    → clients_of new after ≡ freed (clients_of old before) (clients_of new after).sessions turns
+unfolding clients_of
+turned_held old new before after turns streams same = λ i. record { sessions = seen new.gateway after; streams = λ q. streams q i; turns = same i }
+
+-- other sessions, and nothing else
+pub rest_held : (old new : Held) (before after : List Database) → ((q : ℕ) → get nat_cmp new.connections q ≡ get nat_cmp old.connections q) → new.turns.items ≡ old.turns.items
+    → clients_of new after ≡ with_sessions (clients_of old before) (clients_of new after).sessions
+unfolding clients_of
+rest_held old new before after streams same = λ i. record { sessions = seen new.gateway after; streams = λ q. streams q i; turns = same i }
+
+pub came_stand : (old new : Held) (before after : List Database) → StandOver old before → ((k : Clients) → k.sessions ≡ seen old.gateway before → Sound k → Sound (with_sessions k (seen new.gateway after)))
+    → ((q : ℕ) → get nat_cmp new.connections q ≡ get nat_cmp old.connections q) → PinsOf new.gateway after → StandOver new after
+unfolding clients_of
+came_stand old new before after stand keeps streams pins = record {
   pins = pins;
-  sound =
-      sound_as (clients_of new after) (with_sessions (clients_of mid before) (seen new.gateway after)) refl streams
-      (keeps (clients_of mid before) refl (next_sound (clients_of old before) (clients_of mid before) took t stand.sound));
+  sound = sound_as (clients_of new after) (with_sessions (clients_of old before) (seen new.gateway after)) refl streams (keeps (clients_of old before) refl stand.sound);
 }
 
-pub turn_held : (m : Meaning) (kind : EngineKind) (v : View) (machine : Machine) (old mid new : Held) (before after : List Database) (conn : ℕ) (message : Message) (told_before told_now : Option Told) (refused_before refused_now : ℕ) (act : Act)
-    → TookNext (clients_of old before) (clients_of mid before) (Some (conn, message))
-    → Comes m kind v machine (seen mid.gateway before) conn (request_of message) told_before told_now refused_before refused_now (seen new.gateway after) act
-    → ((q : ℕ) → get nat_cmp new.connections q ≡ get nat_cmp mid.connections q) → new.turns.items ≡ mid.turns.items
-    → TookOffer m kind v machine (clients_of old before) told_before told_now refused_before refused_now (clients_of new after) act
-unfolding clients_of
-turn_held m kind v machine old mid new before after conn message told_before told_now refused_before refused_now act t came streams turns =
-    turn_taken m kind v machine (clients_of old before) (clients_of mid before) (clients_of new after) (conn, message) told_before told_now refused_before refused_now act t came
-    (λ i. record { sessions = seen new.gateway after; streams = λ q. streams q i; turns = turns i })
+pub idle_held : (old new : Held) (before after : List Database) → ((q : ℕ) → get nat_cmp new.connections q ≡ get nat_cmp old.connections q) → new.turns.items ≡ old.turns.items
+    → clients_of new after ≡ freed (clients_of old before) (clients_of new after).sessions []
+idle_held old new before after streams same = turned_held old new before after [] streams (same ∙ no_more old.turns.items)
+
+-- the same, over a machine that hasn't changed
+pub read_stand : (old new : Held) (databases : List Database) → StandOver old databases → ((k : Clients) → k.sessions ≡ seen old.gateway databases → Sound k → Sound (with_sessions k (seen new.gateway databases)))
+    → ((q : ℕ) → get nat_cmp new.connections q ≡ get nat_cmp old.connections q) → pins_of new.gateway ≡ pins_of old.gateway → StandOver new databases
+read_stand old new databases stand keeps streams pins =
+    came_stand old new databases databases stand keeps streams (subst (λ (ps : List Pinning). AreMarks ps databases) (sym pins) stand.pins)

@@ -34,7 +34,7 @@ held_alike old new before after sessions streams turns = alike _ _ sessions stre
 pub sound_as : (j k : Clients) → j.sessions ≡ k.sessions → ((conn : ℕ) → j.streams conn ≡ k.streams conn) → Sound k → Sound j
 sound_as j k sessions streams sound =
     let same : j ≡ record { sessions = k.sessions; streams = k.streams; turns = j.turns } = alike j _ sessions streams refl in
-    subst Sound (sym same) (record { fits = sound.fits; sends = sound.sends; listed = sound.listed })
+    subst Sound (sym same) (record { fits = sound.fits; sends = sound.sends; listed = sound.listed; awaits = sound.awaits })
 
 -- the same of maps with the same entries
 pub entries_alike : (old new : Held) (before after : List Database) → seen new.gateway after ≡ seen old.gateway before → new.connections.entries ≡ old.connections.entries

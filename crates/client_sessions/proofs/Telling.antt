@@ -5,12 +5,12 @@ use Rattle.std.specs.List.{AllByRecursion, flat_map}
 use Rattle.wire_msgs.specs.declared.response.Response.{Response}
 use Rattle.wire_msgs.specs.Responses.{IsWritable}
 use Rattle.session_rules.specs.Causes.{LeadershipLost}
-use Rattle.session_rules.specs.Sessions.{Reply, Refusal, responses_of, Kind, Opening, Configuring, Writing, Committing, Flight, Session, Gateway}
-use Rattle.session_rules.specs.Events.{landed_reply, told_by, told_applied, told_lost}
+use Rattle.session_rules.specs.Sessions.{Reply, Refusal, responses_of, Kind, Opening, Configuring, Writing, Committing, Querying, Flight, Session, Gateway}
+use Rattle.session_rules.specs.Events.{landed_reply, told_to, told_by, told_applied, told_lost}
 use Rattle.session_table.specs.Sweeping.{told_in, all_told}
 use Rattle.client_sessions.specs.Clients.{Clients, Sound}
-use Rattle.client_sessions.specs.Sending.{CanSend, KindCanSend, FlightCanSend}
-use Rattle.client_sessions.proofs.Requests.{refusal_sent}
+use Rattle.client_sessions.specs.Sending.{CanSend, ToldCanSend, KindCanSend, FlightCanSend}
+use Rattle.client_sessions.proofs.Writable.{refusal_sent}
 
 all_append : {X : Type 0} (P : X → Type 0) (xs ys : List X) → AllByRecursion P xs → AllByRecursion P ys → AllByRecursion P (xs ++ ys)
 all_append P [] ys a b = b
@@ -26,15 +26,20 @@ all_told_writable [] all = tt
 all_told_writable (r ∷ rs) all =
     all_append (λ (t : ℕ × Response). IsWritable t.1) (told_in r) (all_told rs) (told_writable r.0 (responses_of r.1) all.0) (all_told_writable rs all.1)
 
-landed_can : (kind : Kind) → KindCanSend kind → CanSend (landed_reply kind)
+landed_can : (kind : Kind) → KindCanSend kind → ToldCanSend (landed_reply kind)
 landed_can Opening can = ((tt, tt), tt)
 landed_can Configuring can = ((tt, tt), tt)
 landed_can (Writing reply) can = can
 landed_can Committing can = ((tt, (tt, tt)), tt)
+landed_can (Querying statement) can = tt
 
-where_can : (done hung : Bool) (conn : ℕ) (reply : Reply) → CanSend reply → AllByRecursion (λ (r : ℕ × Reply). CanSend r.1) (cond done (cond hung [] ((conn, reply) ∷ [])) [])
+told_to_can : (conn : ℕ) (reply : Option Reply) → ToldCanSend reply → AllByRecursion (λ (r : ℕ × Reply). CanSend r.1) (told_to conn reply)
+told_to_can conn None can = tt
+told_to_can conn (Some reply) can = (can, tt)
+
+where_can : (done hung : Bool) (conn : ℕ) (reply : Option Reply) → ToldCanSend reply → AllByRecursion (λ (r : ℕ × Reply). CanSend r.1) (cond done (cond hung [] (told_to conn reply)) [])
 where_can true true conn reply can = tt
-where_can true false conn reply can = (can, tt)
+where_can true false conn reply can = told_to_can conn reply can
 where_can false hung conn reply can = tt
 
 told_by_can : (index conn : ℕ) (s : Session) (flight : Option Flight) → FlightCanSend flight → AllByRecursion (λ (r : ℕ × Reply). CanSend r.1) (told_by index conn s flight)

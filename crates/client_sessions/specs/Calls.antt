@@ -11,14 +11,16 @@ use Rattle.wire_msgs.specs.Reading.{request_of}
 use Rattle.sql_engine.specs.declared.kind.EngineKind.{EngineKind}
 use Rattle.sql_engine.specs.Meanings.{Meaning, Told}
 use Rattle.session_rules.specs.Causes.{NotADatabase, unread_cause, failure}
+use Rattle.session_rules.specs.Events.{on_applied, told_applied, on_lost, told_lost}
 use Rattle.session_rules.specs.Machine.{Machine}
 use Rattle.session_rules.specs.Sessions.{Gateway, View}
+use Rattle.session_table.specs.Sweeping.{all_told}
 use Rattle.gateway.specs.declared.act.Act.{Act as GatewayAct}
 use Rattle.gateway.specs.declared.act.Act.TheVariants as gateway
 use Rattle.gateway.specs.Calls.{TurnedBy}
 use Rattle.client_sessions.specs.declared.act.Act.{Act}
-use Rattle.client_sessions.specs.declared.act.Act.TheVariants.{Reply, Propose, Transfer, Peer}
-use Rattle.client_sessions.specs.Clients.{Clients, with_stream, Offer, offered, next_offer, taken, with_sessions}
+use Rattle.client_sessions.specs.declared.act.Act.TheVariants.{Reply, Propose, Lend, Transfer, Peer}
+use Rattle.client_sessions.specs.Clients.{Clients, with_stream, Offer, offered, next_offer, taken, with_sessions, freed}
 
 -- responses as they are sent, each a message
 abbrev pub bytes_of : List Response → List (List ℕ)
@@ -28,6 +30,7 @@ bytes_of responses = map response_bytes responses
 abbrev pub act_on : ℕ → GatewayAct → Act
 act_on conn (gateway.Reply responses) = Reply conn (bytes_of responses)
 act_on conn (gateway.Propose entries) = Propose conn entries
+act_on conn (gateway.Lend job) = Lend conn job
 act_on conn (gateway.Transfer id) = Transfer conn id (response_bytes Empty)
 act_on conn (gateway.Peer id) = Peer conn id (response_bytes Empty)
 
@@ -87,3 +90,19 @@ sent told = map sent_to told
 -- the connections that are told something, in order: one of several responses as often
 abbrev pub told_conns : List (ℕ × Response) → List ℕ
 told_conns told = map (λ (t : ℕ × Response). t.0) told
+
+-- ---- what happens to all clients at once
+
+-- the clients after the entry of an index was applied, and what is told
+abbrev pub landed_at : ℕ → Clients → Clients
+landed_at index k = freed k (on_applied index k.sessions) (told_conns (all_told (told_applied index k.sessions)))
+
+abbrev pub told_at : ℕ → Clients → List (ℕ × List ℕ)
+told_at index k = sent (all_told (told_applied index k.sessions))
+
+-- the clients after leadership was lost, and what is told
+abbrev pub lost_all : Clients → Clients
+lost_all k = freed k (on_lost k.sessions) (told_conns (all_told (told_lost k.sessions)))
+
+abbrev pub told_all_lost : Clients → List (ℕ × List ℕ)
+told_all_lost k = sent (all_told (told_lost k.sessions))

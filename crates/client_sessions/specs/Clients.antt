@@ -1,10 +1,10 @@
 -- The clients of a node: their open connections, their sessions, and whose turn it is.
-use Rattle.std.specs.Prelude.{◌≡◌, ℕ, ◌==◌, Bool, true, false, List, [], ◌∷◌, ◌++◌, is_none, Option, Some, None, if◌then◌else◌}
+use Rattle.std.specs.Prelude.{◌≡◌, ℕ, ◌==◌, Bool, true, false, List, [], ◌∷◌, ◌++◌, nat_lt, length, is_none, Option, Some, None, if◌then◌else◌}
 use Rattle.std.specs.Option.{option_or}
 use Rattle.wire_words.specs.declared.message.Message.{Message}
 use Rattle.client_connection.specs.declared.connection.CloseReason.{CloseReason}
 use Rattle.client_connection.specs.Connection.{Conn, opened, received, reason_of}
-use Rattle.session_rules.specs.Sessions.{Session, Gateway, no_sessions, is_busy}
+use Rattle.session_rules.specs.Sessions.{Kind, Opening, Configuring, Writing, Committing, Querying, Flight, Later, Session, Gateway, no_sessions, is_flying, is_busy}
 use Rattle.session_rules.specs.Events.{connects, connected, on_hangup}
 use Rattle.session_rules.specs.Touched.{IsListed}
 use Rattle.client_sessions.specs.Sending.{FlightCanSend}
@@ -118,17 +118,41 @@ with_sessions k sessions = record { sessions = sessions; streams = k.streams; tu
 abbrev pub freed : Clients → Gateway → List ℕ → Clients
 freed k sessions conns = record { sessions = sessions; streams = k.streams; turns = k.turns ++ conns }
 
+-- no transaction is open at these sessions
+abbrev pub NoneIsOpen : Gateway → Type 0
+NoneIsOpen g = (conn : ℕ) → (g.session conn).tx ≡ None
+
+abbrev pub HasNoTransactions : Clients → Type 0
+HasNoTransactions k = NoneIsOpen k.sessions
+
 -- ---- what holds of clients at all times
 
 -- A connection is open exactly where its session is there and hasn't hung up. A session that has hung up has a proposal in
--- flight, and one with a proposal in flight is there.
+-- flight, and one that has yet to answer its last request is there.
 abbrev pub Fits : Option Conn → Session → Type 0
-Fits None s = (s.there ≡ true → (s.hung ≡ true) × (is_busy s ≡ true)) × (is_busy s ≡ true → s.there ≡ true)
+Fits None s = (s.there ≡ true → (s.hung ≡ true) × (is_flying s ≡ true)) × (is_busy s ≡ true → s.there ≡ true)
 Fits (Some stream) s = (s.there ≡ true) × (s.hung ≡ false)
 
--- So it is with every connection; the reply that a proposal in flight gets can be sent; and an open transaction has the numbers
--- of all pages that it changed.
+-- a query is asked of a database that was opened
+abbrev pub KindIsOpened : List ℕ → Kind → Type 0
+KindIsOpened database Opening = Unit {0}
+KindIsOpened database Configuring = Unit {0}
+KindIsOpened database (Writing reply) = Unit {0}
+KindIsOpened database Committing = Unit {0}
+KindIsOpened database (Querying statement) = nat_lt 0 (length database) ≡ true
+
+-- A session waits for one thing at most: for its proposal, or for its query to be run. A query that is yet to be answered, and
+-- one whose barrier is in flight, is asked of a database that the session has opened.
+abbrev pub Awaits : List ℕ → Option Flight → Option Later → Type 0
+Awaits database None None = Unit {0}
+Awaits database None (Some later) = nat_lt 0 (length database) ≡ true
+Awaits database (Some f) None = KindIsOpened database f.kind
+Awaits database (Some f) (Some later) = ⊥
+
+-- So it is with every connection; the reply that a proposal in flight gets can be sent; an open transaction has the numbers of all
+-- pages that it changed; and what each session waits for is one thing.
 pub record Sound (k : Clients) : Type 0 where
   pub fits : (conn : ℕ) → Fits (k.streams conn) (k.sessions.session conn)
   pub sends : (conn : ℕ) → FlightCanSend (k.sessions.session conn).flight
   pub listed : (conn : ℕ) → IsListed (k.sessions.session conn).tx
+  pub awaits : (conn : ℕ) → Awaits (k.sessions.session conn).database (k.sessions.session conn).flight (k.sessions.session conn).later

@@ -1,4 +1,5 @@
 pub mod Calls
 pub mod Clients
+pub mod Later
 pub mod Seen
 pub mod Sending

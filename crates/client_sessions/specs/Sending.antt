@@ -1,40 +1,36 @@
 -- What can be sent: texts without a NUL, and rows of whole words.
-use Rattle.std.specs.Prelude.{◌≡◌, false, Option, Some, None}
+use Rattle.std.specs.Prelude.{Option, Some, None}
 use Rattle.std.specs.List.{AllByRecursion}
-use Rattle.dq_base.specs.Names.{has_nul}
 use Rattle.wire_msgs.specs.Responses.{IsWritable}
-use Rattle.raft_rules.specs.Node.{Server}
 use Rattle.gateway.specs.declared.act.Act.{Act}
 use Rattle.gateway.specs.declared.act.Act.TheVariants as acts
-use Rattle.session_rules.specs.Sessions.{Reply, responses_of, Kind, Opening, Configuring, Writing, Committing, Flight, View}
+use Rattle.session_rules.specs.Sessions.{Reply, responses_of, Kind, Opening, Configuring, Writing, Committing, Querying, Flight}
 
 -- each response of a reply can be written
 abbrev pub CanSend : Reply → Type 0
 CanSend reply = AllByRecursion IsWritable (responses_of reply)
+
+-- so it is of what is told, if anything
+abbrev pub ToldCanSend : Option Reply → Type 0
+ToldCanSend None = Unit {0}
+ToldCanSend (Some reply) = CanSend reply
 
 abbrev pub KindCanSend : Kind → Type 0
 KindCanSend Opening = Unit {0}
 KindCanSend Configuring = Unit {0}
 KindCanSend (Writing reply) = CanSend reply
 KindCanSend Committing = Unit {0}
+KindCanSend (Querying statement) = Unit {0}
 
 -- the reply that a proposal gets can be written
 abbrev pub FlightCanSend : Option Flight → Type 0
 FlightCanSend None = Unit {0}
 FlightCanSend (Some f) = KindCanSend f.kind
 
--- no address that a node is told by holds a NUL
-abbrev pub IsPlain : Option Server → Type 0
-IsPlain None = Unit {0}
-IsPlain (Some server) = has_nul server.address ≡ false
-
-pub record HasPlainAddresses (v : View) : Type 0 where
-  pub leader : IsPlain v.leader
-  pub servers : AllByRecursion (λ (server : Server). has_nul server.address ≡ false) v.servers
-
 -- what the gateway says for a connection can be sent
 abbrev pub ActCanSend : Act → Type 0
 ActCanSend (acts.Reply responses) = AllByRecursion IsWritable responses
 ActCanSend (acts.Propose entries) = Unit {0}
+ActCanSend (acts.Lend job) = Unit {0}
 ActCanSend (acts.Transfer id) = Unit {0}
 ActCanSend (acts.Peer id) = Unit {0}

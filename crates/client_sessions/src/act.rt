@@ -1,4 +1,5 @@
 use dq_base::Items;
+use gateway::ReadJob;
 use raft_vote::Entries;
 use wire_words::WireBytes;
 
@@ -16,13 +17,20 @@ pub enum Act {
         conn: u64,
         entries: Entries,
     },
+    /// Have a reader run this query. What it tells goes to `Clients::on_read_done`; where it gives the query back,
+    /// `Clients::on_later` runs it.
+    Lend {
+        conn: u64,
+        job: ReadJob,
+    },
     /// Hand leadership to the server of this id, where it is another one, and send this message to the client.
     Transfer {
         conn: u64,
         to: u64,
         reply: WireBytes,
     },
-    /// Send this message to the client; from then on the connection carries the messages of the peer of this id.
+    /// Send this message to the client; from then on the connection carries the messages of the peer of this id, and
+    /// `Clients::hand_over` gives its stream.
     Peer {
         conn: u64,
         id: u64,

@@ -1,6 +1,6 @@
 //! The clients of a node, and their calls.
 
-ghost use Rattle.std.specs.Prelude.{◌≡◌, [], false, not, is_none, None, List, ℕ, ◌++◌, IfOk, OnOk, OnErr, if◌then◌else◌};
+ghost use Rattle.std.specs.Prelude.{◌≡◌, [], true, false, not, is_none, None, List, ℕ, ◌++◌, IfOk, IfSome, OnOk, OnErr, MatchOption, if◌then◌else◌};
 ghost use Rattle.sql_engine.specs.Meanings.{Stays};
 ghost use Rattle.std.specs.Ordering.{nat_cmp};
 ghost use Rattle.std.specs.BTreeMap.{get};
@@ -8,26 +8,29 @@ ghost use Rattle.sql_engine.specs.Known.{Known};
 ghost use Rattle.page_apply.specs.declared.database.Database.{Database};
 ghost use Rattle.page_apply.specs.Machines.{IsMachine};
 ghost use Rattle.session_rules.specs.Machine.{machine_of};
+ghost use Rattle.session_rules.specs.Sessions.{is_due, later_query, lent_query, may_ask};
 ghost use Rattle.session_rules.specs.Events as events;
-ghost use Rattle.session_table.specs.Sweeping.{all_told};
-ghost use Rattle.gateway.specs.Calls.{HasShortTerm};
+ghost use Rattle.session_turns.specs.Reading.{read_named};
+ghost use Rattle.gateway.specs.Calls.{HasNoNul, HasShortTerm, IsConfigured};
 ghost use Rattle.gateway.specs.Seen.{pins_of};
-ghost use Rattle.client_sessions.specs.Sending.{HasPlainAddresses};
-ghost use Rattle.client_sessions.specs.Clients.{no_clients, joining, joined, joined_as, hung_up, closing, closed, heard, freed};
-ghost use Rattle.client_sessions.specs.Calls.{TookFrom, TookNext, TookTurn, told_conns, sent};
+ghost use Rattle.client_sessions.specs.Sending.{ToldCanSend};
+ghost use Rattle.client_sessions.specs.Clients.{no_clients, joining, joined, joined_as, hung_up, closing, closed, heard, freed, with_sessions};
+ghost use Rattle.client_sessions.specs.Clients.{HasNoTransactions};
+ghost use Rattle.client_sessions.specs.Calls.{Comes, TookFrom, TookNext, TookTurn, told_conns, landed_at, told_at, lost_all, told_all_lost};
+ghost use Rattle.client_sessions.specs.Later.{Resumes, Finishes, turn_for};
 ghost use Rattle.client_sessions.specs.Seen.{clients_of, Agrees, StandOver, HasNoMarks};
 
 use crate::act::Act;
-use crate::answering::come;
+use crate::answering::{come, finish, read_message, resume};
 use crate::joining::Joining;
 use crate::sending::messages_to;
-use client_connection::{CloseReason, Connection};
-use gateway::{Gateway, View};
+use client_connection::{CloseReason, Connection, PeerStream};
+use gateway::{Gateway, Read, View};
 use page_apply::Machine;
 use sql_engine::Engine;
 use std::alloc::{AllocError, Global};
 use std::collections::{BTreeMap, VecDeque};
-use wire_msgs::Response;
+use wire_msgs::{MsgFault, Request, Response};
 use wire_words::{Message, WireBytes};
 
 /// All clients of a node: their sessions, and the streams of their open connections.
@@ -78,8 +81,10 @@ impl Clients {
     /// A client connects: it gets a session, unless its number is taken or 64 sessions are there, hung-up ones counted. `Err`
     /// is want of memory; nothing has changed then.
     pub fn connect(&mut self, conn: u64) -> Result<Joining, AllocError>
-        ensures joined { OnOk result ((databases : List Database) → StandOver self.old databases → clients_of self.new databases ≡ joined (clients_of self.old databases) conn) }
-        ensures told { IfOk result (λ how. (databases : List Database) → StandOver self.old databases → how ≡ joining (clients_of self.old databases).sessions conn) }
+        ensures joined { OnOk result ((databases : List Database) → StandOver self.old databases →
+            clients_of self.new databases ≡ joined (clients_of self.old databases) conn) }
+        ensures told { IfOk result (λ how. (databases : List Database) → StandOver self.old databases →
+            how ≡ joining (clients_of self.old databases).sessions conn) }
         ensures stand { (databases : List Database) → StandOver self.old databases → StandOver self.new databases }
         ensures agrees { (known : List Known) (databases : List Database) → Agrees known self.old databases → Agrees known self.new databases }
         ensures failed { OnErr result ((databases : List Database) → clients_of self.new databases ≡ clients_of self.old databases) }
@@ -112,9 +117,68 @@ impl Clients {
         Ok(())
     }
 
+    /// Takes the message whose turn it is, with its connection; `None` where no message's turn is left. It is the first that waits on
+    /// the first connection in turn that has one and whose session has answered its last request. Its session may be asked. Takes no
+    /// memory.
+    pub fn take(&mut self) -> Option<(u64, Message)>
+        ensures took { (databases : List Database) → TookNext (clients_of self.old databases) (clients_of self.new databases) result }
+        ensures ready { (databases : List Database) → StandOver self.old databases →
+            IfSome result (λ took. may_ask ((clients_of self.new databases).sessions.session took.0) ≡ true) }
+        ensures stand { (databases : List Database) → StandOver self.old databases → StandOver self.new databases }
+        ensures agrees { (known : List Known) (databases : List Database) → Agrees known self.old databases → Agrees known self.new databases }
+    {
+        self.take_next()
+    }
+
+    /// What the node has to do for a message of a connection, by what the message reads as; one that doesn't read as a request is
+    /// refused. The connection's session may be asked, as that of a message is which `take` gives.
+    ///
+    /// `Err` is want of memory. The request may have been handled then and its reply be lost, so the node can't go on as if
+    /// nothing had been; but the clients stand over the machine as ever.
+    pub fn answer<E: Engine>(
+        &mut self,
+        conn: u64,
+        asked: Result<Request, MsgFault>,
+        view: &View,
+        machine: &mut Machine,
+        engine: &mut E,
+    ) -> Result<Act, AllocError>
+        requires stand { StandOver self.old machine.old }
+        requires ready { may_ask ((clients_of self.old machine.old).sessions.session conn) ≡ true }
+        requires text { IfOk asked HasNoNul }
+        requires term { HasShortTerm view.now }
+        requires configured { IsConfigured view.now }
+        // No number stands for two images, for the engine, the transactions and the databases; and so it is afterwards.
+        requires agrees { Agrees (E.known engine.old) self.old machine.old }
+        ensures agrees { Agrees (E.known engine.new) self.new machine.new }
+        // The definition's outcome, by answers that the engine may give and told.
+        ensures came { IfOk result (Comes (E.meaning (E.kind engine.old)) (E.kind engine.old) view.now (machine_of machine.old)
+            (clients_of self.old machine.old).sessions conn asked (E.told engine.old) (E.told engine.new)
+            (E.refused_openings engine.old) (E.refused_openings engine.new) (clients_of self.new machine.new).sessions) }
+        ensures rest { clients_of self.new machine.new ≡ with_sessions (clients_of self.old machine.old) (clients_of self.new machine.new).sessions }
+        ensures stands { StandOver self.new machine.new }
+        // Where the node doesn't serve, no transaction begins.
+        ensures idle { view.now.serving ≡ false → HasNoTransactions (clients_of self.old machine.old) →
+            HasNoTransactions (clients_of self.new machine.new) }
+        // The databases stay but for their marks.
+        ensures files { machine_of machine.new ≡ machine_of machine.old }
+        // The engine stays of its kind.
+        ensures stays { Stays (E.kind engine.old) (E.kind engine.new) (E.refused_openings engine.old) (E.refused_openings engine.new) }
+    {
+        come(
+            self.alloc,
+            &mut self.gateway,
+            conn,
+            asked,
+            view,
+            machine,
+            engine,
+        )
+    }
+
     /// Takes the message whose turn it is, and answers what the node has to do for it; `None` where no message's turn is left.
-    /// That message is the first that waits on the first connection in turn that has one and whose session has no proposal
-    /// in flight. One that doesn't read as a request is refused.
+    /// That message is the first that waits on the first connection in turn that has one and whose session has answered its last
+    /// request. One that doesn't read as a request is refused.
     ///
     /// To be called again until it answers `None`; what it answers is to be done before.
     ///
@@ -128,66 +192,141 @@ impl Clients {
     ) -> Result<Option<Act>, AllocError>
         requires stand { StandOver self.old machine.old }
         requires term { HasShortTerm view.now }
-        requires plain { HasPlainAddresses view.now }
+        requires configured { IsConfigured view.now }
         // No number stands for two images, for the engine, the transactions and the databases; and so it is afterwards.
         requires agrees { Agrees (E.known engine.old) self.old machine.old }
         ensures agrees { Agrees (E.known engine.new) self.new machine.new }
         // The definition's outcome, by answers that the engine may give and told.
-        ensures turn { IfOk result (TookTurn (E.meaning (E.kind engine.old)) (E.kind engine.old) view.now (machine_of machine.old) (clients_of self.old machine.old) (E.told engine.old) (E.told engine.new) (E.refused_openings engine.old) (E.refused_openings engine.new) (clients_of self.new machine.new)) }
+        ensures turn { IfOk result (TookTurn (E.meaning (E.kind engine.old)) (E.kind engine.old) view.now (machine_of machine.old)
+            (clients_of self.old machine.old) (E.told engine.old) (E.told engine.new)
+            (E.refused_openings engine.old) (E.refused_openings engine.new) (clients_of self.new machine.new)) }
         ensures stands { StandOver self.new machine.new }
+        // Where the node doesn't serve, no transaction begins.
+        ensures idle { view.now.serving ≡ false → HasNoTransactions (clients_of self.old machine.old) →
+            HasNoTransactions (clients_of self.new machine.new) }
         // The databases stay but for their marks.
         ensures files { machine_of machine.new ≡ machine_of machine.old }
         // The engine stays of its kind.
         ensures stays { Stays (E.kind engine.old) (E.kind engine.new) (E.refused_openings engine.old) (E.refused_openings engine.new) }
     {
-        let Some((conn, message)) = self.take_next() else {
+        let Some((conn, message)) = self.take() else {
             return Ok(None);
         };
-        let act = come(
-            self.alloc,
-            &mut self.gateway,
-            conn,
-            &message,
-            view,
-            machine,
-            engine,
-        )?;
+        let asked = read_message(self.alloc, &message)?;
+        let act = self.answer(conn, asked, view, machine, engine)?;
         Ok(Some(act))
     }
 
-    /// An entry of a term is applied: the proposal that ends with it is done. Answers the messages that tell its client so, if
-    /// it is there, with the number of its connection, which gets a turn behind the others. The machine has the entry applied.
+    /// The first connection whose query is to be run next, since its barrier is applied; none where there is none. Looks at each
+    /// session; takes no memory.
+    pub fn next_due(&self) -> Option<u64>
+        ensures { (databases : List Database) → MatchOption result
+            ((conn : ℕ) → is_due ((clients_of self.now databases).sessions.session conn).later ≡ false)
+            (λ conn. is_due ((clients_of self.now databases).sessions.session conn).later ≡ true) }
+    {
+        self.gateway.next_due()
+    }
+
+    /// Runs the query that a connection has yet to answer: its barrier is applied, or its reader gave it back. It is run as if it was
+    /// asked now, but with no barrier and no reader any more; where the node doesn't serve any more it is refused. The connection
+    /// then gets a turn behind the others. `None` where it has no such query; then nothing is done.
+    ///
+    /// `Err` is want of memory. The query may have been run then and its reply be lost; the clients stand over the machine as
+    /// ever.
+    pub fn on_later<E: Engine>(
+        &mut self,
+        conn: u64,
+        view: &View,
+        machine: &mut Machine,
+        engine: &mut E,
+    ) -> Result<Option<Act>, AllocError>
+        requires stand { StandOver self.old machine.old }
+        requires term { HasShortTerm view.now }
+        // No number stands for two images, for the engine, the transactions and the databases; and so it is afterwards.
+        requires agrees { Agrees (E.known engine.old) self.old machine.old }
+        ensures agrees { Agrees (E.known engine.new) self.new machine.new }
+        // The definition's outcome, by answers that the engine may give and told.
+        ensures resumed { IfOk result (Resumes (E.meaning (E.kind engine.old)) (E.kind engine.old) view.now (machine_of machine.old)
+            (clients_of self.old machine.old).sessions conn (later_query ((clients_of self.old machine.old).sessions.session conn).later)
+            (E.told engine.old) (E.told engine.new) (E.refused_openings engine.old) (E.refused_openings engine.new)
+            (clients_of self.new machine.new).sessions) }
+        ensures rest { IfOk result (λ act. clients_of self.new machine.new ≡
+            freed (clients_of self.old machine.old) (clients_of self.new machine.new).sessions (turn_for conn act)) }
+        ensures stands { StandOver self.new machine.new }
+        // Where the node doesn't serve, no transaction begins.
+        ensures idle { view.now.serving ≡ false → HasNoTransactions (clients_of self.old machine.old) →
+            HasNoTransactions (clients_of self.new machine.new) }
+        // The databases stay but for their marks.
+        ensures files { machine_of machine.new ≡ machine_of machine.old }
+        // The engine stays of its kind.
+        ensures stays { Stays (E.kind engine.old) (E.kind engine.new) (E.refused_openings engine.old) (E.refused_openings engine.new) }
+    {
+        let gateway = &mut self.gateway;
+        let Some(act) = resume(self.alloc, gateway, conn, view, machine, engine)? else {
+            return Ok(None);
+        };
+        self.turns.push_back(conn)?;
+        Ok(Some(act))
+    }
+
+    /// A reader is done with the query of a connection, and tells this of it: what the node has to do for the connection, which gets
+    /// a turn behind the others. What it tells can be sent, as all is that a job comes to. `None` where no reader has a query of the
+    /// connection any more, since its client has gone; and where the reader gives the query back, which `on_later` then runs.
+    /// Nothing has changed at `None`.
+    ///
+    /// `Err` is want of memory. The query may be done then and its reply be lost; the clients stand over the machine as ever.
+    pub fn on_read_done(&mut self, conn: u64, read: Read) -> Result<Option<Act>, AllocError>
+        requires sends { ToldCanSend (read_named read) }
+        ensures finished { IfOk result (λ act. (databases : List Database) → Finishes (clients_of self.old databases).sessions conn
+            (lent_query ((clients_of self.old databases).sessions.session conn).later) (read_named read) (clients_of self.new databases).sessions act) }
+        ensures rest { IfOk result (λ act. (databases : List Database) → clients_of self.new databases ≡
+            freed (clients_of self.old databases) (clients_of self.new databases).sessions (turn_for conn act)) }
+        ensures stand { (databases : List Database) → StandOver self.old databases → StandOver self.new databases }
+        ensures idle { (databases : List Database) → HasNoTransactions (clients_of self.old databases) →
+            HasNoTransactions (clients_of self.new databases) }
+        ensures agrees { (known : List Known) (databases : List Database) → Agrees known self.old databases → Agrees known self.new databases }
+    {
+        let Some(act) = finish(self.alloc, &mut self.gateway, conn, read)? else {
+            return Ok(None);
+        };
+        self.turns.push_back(conn)?;
+        Ok(Some(act))
+    }
+
+    /// The entry of an index is applied: the proposal that ends with it is done. Answers the messages that tell its client so, if
+    /// it is there, with the number of its connection, which gets a turn behind the others; but where it was the barrier before a
+    /// query, nothing is told, and the query is to be run next: `next_due` tells it. The machine has the entry applied.
     ///
     /// `Err` is want of memory. The proposal may be done then and its reply be lost; the clients stand over the machine as
     /// ever.
     pub fn on_applied(
         &mut self,
         index: u64,
-        term: u64,
         machine: &mut Machine,
     ) -> Result<Vec<(u64, WireBytes)>, AllocError>
         requires stand { StandOver self.old machine.old }
-        ensures landed { OnOk result (clients_of self.new machine.new ≡ freed (clients_of self.old machine.old) (events.on_applied index (clients_of self.old machine.old).sessions) (told_conns (all_told (events.told_applied index (clients_of self.old machine.old).sessions)))) }
-        ensures told { IfOk result (λ told. told.items ≡ sent (all_told (events.told_applied index (clients_of self.old machine.old).sessions))) }
+        ensures landed { OnOk result (clients_of self.new machine.new ≡ landed_at index (clients_of self.old machine.old)) }
+        ensures told { IfOk result (λ told. told.items ≡ told_at index (clients_of self.old machine.old)) }
         ensures stands { StandOver self.new machine.new }
         ensures agrees { (known : List Known) → Agrees known self.old machine.old → Agrees known self.new machine.new }
         ensures files { machine_of machine.new ≡ machine_of machine.old }
     {
-        let told = self.gateway.on_applied(index, term, machine)?;
+        let told = self.gateway.on_applied(index, machine)?;
         give_turns(&mut self.turns, told.as_slice())?;
         messages_to(self.alloc, told.as_slice())
     }
 
     /// The node no longer leads the term of the proposals in flight: they and all transactions end. Answers the messages that
     /// tell each client that waits so, in the order of the proposals' last entries, with the numbers of their connections,
-    /// which get a turn behind the others. Databases and statements stay.
+    /// which get a turn behind the others. Databases and statements stay, and readers go on.
     ///
     /// `Err` is want of memory. Proposals and transactions may have ended then and replies be lost; the clients stand over
     /// the machine as ever.
     pub fn on_lost(&mut self, machine: &mut Machine) -> Result<Vec<(u64, WireBytes)>, AllocError>
         requires stand { StandOver self.old machine.old }
-        ensures lost { OnOk result (clients_of self.new machine.new ≡ freed (clients_of self.old machine.old) (events.on_lost (clients_of self.old machine.old).sessions) (told_conns (all_told (events.told_lost (clients_of self.old machine.old).sessions)))) }
-        ensures told { IfOk result (λ told. told.items ≡ sent (all_told (events.told_lost (clients_of self.old machine.old).sessions))) }
+        ensures lost { OnOk result (clients_of self.new machine.new ≡ lost_all (clients_of self.old machine.old)) }
+        ensures told { IfOk result (λ told. told.items ≡ told_all_lost (clients_of self.old machine.old)) }
+        ensures ended { OnOk result (HasNoTransactions (clients_of self.new machine.new)) }
         ensures unmarked { OnOk result (HasNoMarks machine.new) }
         ensures stands { StandOver self.new machine.new }
         ensures agrees { (known : List Known) → Agrees known self.old machine.old → Agrees known self.new machine.new }
@@ -198,9 +337,20 @@ impl Clients {
         messages_to(self.alloc, told.as_slice())
     }
 
-    /// The client of a connection hangs up: its session goes with its transaction and with the messages that wait. A proposal
-    /// in flight, and the turn to write with it, stays until it is applied or lost. Of a connection that isn't open nothing
-    /// changes. Takes no memory.
+    /// A law: clients without an open transaction have pinned no image; and over any databases no number stands for two images,
+    /// where no engine knows one. So a node whose transactions have ended may take over the databases of a snapshot, with an
+    /// engine that has forgotten all numbers; `clients_change_databases` has the rest.
+    pub fn have_ended(&self)
+        ensures unmarked { (databases : List Database) → HasNoTransactions (clients_of self.now databases) →
+            StandOver self.now databases → HasNoMarks databases }
+        ensures agree { (old new : List Database) → HasNoTransactions (clients_of self.now old) → IsMachine new → Agrees [] self.now new }
+    {
+        self.gateway.is_table();
+    }
+
+    /// The client of a connection hangs up: its session goes with its transaction, with the messages that wait and with a query that
+    /// is yet to be answered. A proposal in flight, and the turn to write with it, stays until it is applied or lost. Of a
+    /// connection that isn't open nothing changes. Takes no memory.
     pub fn hang_up(&mut self, conn: u64, machine: &mut Machine)
         requires stand { StandOver self.old machine.old }
         ensures left { clients_of self.new machine.new ≡ hung_up (clients_of self.old machine.old) conn }
@@ -208,8 +358,23 @@ impl Clients {
         ensures agrees { (known : List Known) → Agrees known self.old machine.old → Agrees known self.new machine.new }
         ensures files { machine_of machine.new ≡ machine_of machine.old }
     {
-        if self.connections.remove(&conn).is_some() {
-            self.gateway.on_hangup(conn, machine);
+        let _stream = self.remove(conn, machine);
+    }
+
+    /// Hands over the stream of a connection that carries a peer's messages from now on: the messages that wait behind those that were
+    /// taken, what is unread, and why it closes. The connection goes as one that hangs up. `None` where it isn't open; then nothing
+    /// changes. To be called where `Act::Peer` is answered, before anything else is. Takes no memory.
+    pub fn hand_over(&mut self, conn: u64, machine: &mut Machine) -> Option<PeerStream>
+        requires stand { StandOver self.old machine.old }
+        ensures handed { result ≡ (clients_of self.old machine.old).streams conn }
+        ensures left { clients_of self.new machine.new ≡ hung_up (clients_of self.old machine.old) conn }
+        ensures stands { StandOver self.new machine.new }
+        ensures agrees { (known : List Known) → Agrees known self.old machine.old → Agrees known self.new machine.new }
+        ensures files { machine_of machine.new ≡ machine_of machine.old }
+    {
+        match self.remove(conn, machine) {
+            Some(stream) => Some(stream.into_peer()),
+            None => None,
         }
     }
 
@@ -230,6 +395,22 @@ impl Clients {
         Some(reason)
     }
 
+    // Takes out a connection, where it is open, with its session.
+    fn remove(&mut self, conn: u64, machine: &mut Machine) -> Option<Connection>
+        requires stand { StandOver self.old machine.old }
+        ensures found { result ≡ (clients_of self.old machine.old).streams conn }
+        ensures left { clients_of self.new machine.new ≡ hung_up (clients_of self.old machine.old) conn }
+        ensures stands { StandOver self.new machine.new }
+        ensures agrees { (known : List Known) → Agrees known self.old machine.old → Agrees known self.new machine.new }
+        ensures files { machine_of machine.new ≡ machine_of machine.old }
+    {
+        let stream = self.connections.remove(&conn);
+        if stream.is_some() {
+            self.gateway.on_hangup(conn, machine);
+        }
+        stream
+    }
+
     // Whether a number is that of a connection that is open, or of one that hung up while its proposal is in flight.
     fn is_taken(&self, conn: u64) -> bool
         ensures there { (databases : List Database) → StandOver self.now databases → result ≡ ((clients_of self.now databases).sessions.session conn).there }
@@ -243,7 +424,8 @@ impl Clients {
     fn join(&mut self, conn: u64) -> Result<bool, AllocError>
         requires { get nat_cmp self.old.connections conn ≡ None }
         ensures told { IfOk result (λ new. (databases : List Database) → new ≡ events.connects (clients_of self.old databases).sessions conn) }
-        ensures joined { IfOk result (λ new. (databases : List Database) → clients_of self.new databases ≡ (if new then joined_as (clients_of self.old databases) conn Joining.Joined else clients_of self.old databases)) }
+        ensures joined { IfOk result (λ new. (databases : List Database) → clients_of self.new databases ≡
+            (if new then joined_as (clients_of self.old databases) conn Joining.Joined else clients_of self.old databases)) }
         ensures pins { pins_of self.new.gateway ≡ pins_of self.old.gateway }
         ensures agrees { (known : List Known) (databases : List Database) → Agrees known self.old databases → Agrees known self.new databases }
         ensures failed { OnErr result ((databases : List Database) → clients_of self.new databases ≡ clients_of self.old databases) }
@@ -274,7 +456,8 @@ impl Clients {
 
     // Takes the first message that waits on a connection, where it is open and its session isn't busy.
     fn take_from(&mut self, conn: u64) -> Option<Message>
-        ensures took { (databases : List Database) (turns : List ℕ) → TookFrom (clients_of self.old databases) (clients_of self.new databases) conn turns result }
+        ensures took { (databases : List Database) (turns : List ℕ) →
+            TookFrom (clients_of self.old databases) (clients_of self.new databases) conn turns result }
         ensures gateway { self.new.gateway ≡ self.old.gateway }
         ensures turns { self.new.turns.items ≡ self.old.turns.items }
     {

@@ -6,10 +6,15 @@ ghost use Rattle.page_apply.specs.declared.database.Database.{Database};
 ghost use Rattle.page_apply.specs.Databases.{act};
 ghost use Rattle.page_apply.specs.Machines.{IsMachine};
 ghost use Rattle.page_apply.specs.Pins.{Pinning, StillPinned};
+ghost use Rattle.session_rules.specs.Engines.{Ending};
 ghost use Rattle.session_rules.specs.Events as events;
+ghost use Rattle.session_rules.specs.Requests.{job_reply};
+ghost use Rattle.session_rules.specs.Sessions.{Job};
+ghost use Rattle.client_sessions.specs.Sending.{ToldCanSend};
 ghost use Rattle.client_sessions.specs.declared.clients.Clients.{Clients as Held};
-ghost use Rattle.client_sessions.specs.Clients.{Clients, no_clients, joined, without, Offer, next_offer, IsOffered, freed, Sound};
-ghost use Rattle.client_sessions.specs.Seen.{clients_of, Agrees, StandOver};
+ghost use Rattle.client_sessions.specs.Calls.{landed_at, lost_all};
+ghost use Rattle.client_sessions.specs.Clients.{Clients, no_clients, joined, without, hung_up, closed, heard, Offer, next_offer, IsOffered, freed, HasNoTransactions, Sound};
+ghost use Rattle.client_sessions.specs.Seen.{clients_of, Agrees, HasNoMarks, StandOver};
 
 /// A law: the message whose turn it is is the first that waits on a connection that is open and whose session has no proposal
 /// in flight. So the requests of a connection come in the order of its stream, one at a time.
@@ -34,6 +39,31 @@ pub fn commands_keep_clients()
         StandOver held databases → clients_of held (act databases command) ≡ clients_of held databases }
     ensures stand { (held : Held) (databases : List Database) (command : Command) → ((pin : Pinning) → StillPinned databases (act databases command) pin) →
         StandOver held databases → StandOver held (act databases command) }
-    ensures agree { (known : List Known) (held : Held) (databases : List Database) (command : Command) → IsMachine databases → IsMachine (act databases command) →
-        Agrees known held databases → Agrees known held (act databases command) }
+    ensures agree { (known : List Known) (held : Held) (databases : List Database) (command : Command) →
+        IsMachine databases → IsMachine (act databases command) → Agrees known held databases → Agrees known held (act databases command) }
+{}
+
+/// A law: clients that stand over databases of which no image is pinned stand over any others of which none is, and are the same
+/// there. So a node whose transactions have ended may take over the databases of a snapshot; `Clients::have_ended` has the rest.
+pub fn clients_change_databases()
+    ensures clients { (held : Held) (old new : List Database) → HasNoMarks old → StandOver held old → clients_of held new ≡ clients_of held old }
+    ensures stand { (held : Held) (old new : List Database) → HasNoMarks old → HasNoMarks new → StandOver held old → StandOver held new }
+{}
+
+/// A law: where no transaction is open, none begins by clients that come and go, by bytes, nor by entries that are applied; and
+/// after lost leadership none is open. The calls that handle requests say the same of a node that doesn't serve. So between a lost
+/// leadership and the next service none begins.
+pub fn no_transaction_begins()
+    ensures started { HasNoTransactions no_clients }
+    ensures joined { (k : Clients) (conn : ℕ) → HasNoTransactions k → HasNoTransactions (joined k conn) }
+    ensures heard { (k : Clients) (conn : ℕ) (bytes : List ℕ) → HasNoTransactions k → HasNoTransactions (heard k conn bytes) }
+    ensures left { (k : Clients) (conn : ℕ) → HasNoTransactions k → HasNoTransactions (hung_up k conn) }
+    ensures closed { (k : Clients) (conn : ℕ) → HasNoTransactions k → HasNoTransactions (closed k conn) }
+    ensures applied { (k : Clients) (index : ℕ) → HasNoTransactions k → HasNoTransactions (landed_at index k) }
+    ensures lost { (k : Clients) → HasNoTransactions (lost_all k) }
+{}
+
+/// A law: what a reader makes of a job, by the engine's answers, can be sent.
+pub fn jobs_can_be_sent()
+    ensures { (job : Job) (ending : Ending) → ToldCanSend (job_reply job ending) }
 {}

@@ -10,6 +10,10 @@ mod laws;
 mod sending;
 
 pub use act::Act;
+pub use answering::read_message;
 pub use clients::Clients;
 pub use joining::Joining;
-pub use laws::{clients_stay_sound, commands_keep_clients, offers_are_first};
+pub use laws::{
+    clients_change_databases, clients_stay_sound, commands_keep_clients, jobs_can_be_sent,
+    no_transaction_begins, offers_are_first,
+};

@@ -57,7 +57,7 @@ fn refusal(alloc: Global, fault: MsgFault) -> Result<Response, AllocError>
 }
 
 /// The message that refuses one that doesn't read as a request, for this fault.
-#[tactic(auto, using(crate::proofs::Requests::unread_writable))]
+#[tactic(auto, using(crate::proofs::Writable::unread_writable))]
 pub(crate) fn refused(alloc: Global, fault: MsgFault) -> Result<Items<WireBytes>, AllocError>
     ensures { IfOk result (λ messages. messages ≡ bytes_of (failure (unread_cause fault) ∷ [])) }
 {

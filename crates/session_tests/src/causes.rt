@@ -44,6 +44,8 @@ const CAUSES: &[(Cause, u64, &str)] = &[
     (Cause::BadRole, 1, "bad role"),
     (Cause::BadFormat, 1, "bad format"),
     (Cause::TargetBehind, 1, "target behind"),
+    (Cause::TransferFirst, 1, "transfer first"),
+    (Cause::TooManyVoters, 1, "too many voters"),
     (Cause::OutOfMemory, 7, "out of memory"),
 ];
 

@@ -5,8 +5,12 @@
 #[cfg(test)]
 mod causes;
 #[cfg(test)]
+mod engine;
+#[cfg(test)]
 mod lives;
 #[cfg(test)]
 mod messages;
 #[cfg(test)]
 mod node;
+#[cfg(test)]
+mod rows;

@@ -2,8 +2,8 @@
 //! proposed, or never.
 
 use crate::messages::{
-    DATABASE_FULL, LOCKED, LOG_FULL, LOST, NO_ROW, NO_TRANSACTION, NONE_AFFECTED, NOT_LEADER,
-    ONE_AFFECTED, OPENED, ROW_OF_9,
+    BAD_NUMBER, DATABASE_FULL, LOCKED, LOG_FULL, LOST, NO_ROW, NO_TRANSACTION, NONE_AFFECTED,
+    NOT_A_DATABASE, NOT_LEADER, ONE_AFFECTED, OPENED, ROW_OF_9, TOO_BIG,
 };
 use crate::node::{Node, Step};
 use std::alloc::{AllocError, Global};
@@ -217,6 +217,144 @@ const HINDRANCES: &[Life] = &[
     ),
 ];
 
+/// Lives in which clients 9 and 10 ask for barrier reads.
+const BARRIERS: &[Life] = &[
+    // A query waits for its barrier, and so sees the write that was out when it was asked; another client's doesn't.
+    (
+        &[
+            Step::Connect(9),
+            Step::OpenFresh(9, "d"),
+            Step::Exec(7, "SET 3 9"),
+            Step::Query(9, "GET 3"),
+            Step::Query(8, "GET 3"),
+            Step::Apply,
+        ],
+        &[(9, OPENED), (8, NO_ROW), (7, ONE_AFFECTED), (9, ROW_OF_9)],
+        0,
+    ),
+    // Two wait, and each is answered at its own.
+    (
+        &[
+            Step::Connect(9),
+            Step::OpenFresh(9, "d"),
+            Step::Connect(10),
+            Step::OpenFresh(10, "d"),
+            Step::Query(10, "GET 3"),
+            Step::Exec(7, "SET 3 9"),
+            Step::Query(9, "GET 3"),
+            Step::Apply,
+        ],
+        &[
+            (9, OPENED),
+            (10, OPENED),
+            (10, NO_ROW),
+            (7, ONE_AFFECTED),
+            (9, ROW_OF_9),
+        ],
+        0,
+    ),
+    // Two wait, and leadership is lost: both are told so, first the one that asked first.
+    (
+        &[
+            Step::Connect(9),
+            Step::OpenFresh(9, "d"),
+            Step::Connect(10),
+            Step::OpenFresh(10, "d"),
+            Step::Query(10, "GET 3"),
+            Step::Query(9, "GET 3"),
+            Step::Lose,
+            Step::Query(9, "GET 3"),
+        ],
+        &[
+            (9, OPENED),
+            (10, OPENED),
+            (10, LOST),
+            (9, LOST),
+            (9, NOT_LEADER),
+        ],
+        0,
+    ),
+    // In a transaction none waits, and a client that hangs up gets no answer.
+    (
+        &[
+            Step::Connect(9),
+            Step::OpenFresh(9, "d"),
+            Step::Exec(9, "BEGIN"),
+            Step::Query(9, "GET 3"),
+            Step::Exec(9, "COMMIT"),
+            Step::Query(9, "GET 3"),
+            Step::HangUp(9),
+            Step::Connect(9),
+            Step::Apply,
+            Step::Connect(9),
+            Step::Query(8, "GET 3"),
+        ],
+        &[
+            (9, OPENED),
+            (9, NONE_AFFECTED),
+            (9, NO_ROW),
+            (9, NONE_AFFECTED),
+            (9, b"taken"),
+            (8, NO_ROW),
+        ],
+        0,
+    ),
+    // At the log's end there is no barrier, and so no answer.
+    (
+        &[
+            Step::Connect(9),
+            Step::OpenFresh(9, "d"),
+            Step::Reach(4_294_900_000),
+            Step::Query(9, "GET 3"),
+            Step::Query(8, "GET 3"),
+        ],
+        &[(9, OPENED), (9, LOG_FULL), (8, NO_ROW)],
+        0,
+    ),
+];
+
+/// Lives in which a fault is told, where the node could as well take it for want of memory.
+const FAULTS: &[Life] = &[
+    // Parameters are numbered from 1.
+    (&[Step::Exec(7, "SET ?0 9")], &[(7, BAD_NUMBER)], 0),
+    // The files of a database have more than 16,777,216 bytes.
+    (
+        &[Step::Exec(7, "SET 8192 9"), Step::Apply, Step::Dump(8, "d")],
+        &[(7, ONE_AFFECTED), (8, TOO_BIG)],
+        0,
+    ),
+    // The files of a database aren't opened, outside of a transaction and in one.
+    (
+        &[
+            Step::Spoil,
+            Step::Exec(7, "SET 3 9"),
+            Step::Query(7, "GET 3"),
+            Step::Exec(8, "BEGIN"),
+            Step::Query(8, "GET 3"),
+        ],
+        &[
+            (7, NOT_A_DATABASE),
+            (7, NOT_A_DATABASE),
+            (8, NONE_AFFECTED),
+            (8, NOT_A_DATABASE),
+        ],
+        1,
+    ),
+    // More than 33,554,432 bytes wait on a connection whose write is out.
+    (
+        &[
+            Step::Exec(7, "SET 3 9"),
+            Step::Close(7),
+            Step::Flood(7),
+            Step::Close(7),
+            Step::Apply,
+            Step::Query(8, "GET 3"),
+        ],
+        &[(7, b"\x03"), (8, ROW_OF_9)],
+        0,
+    ),
+];
+
 /// Whether just this is said while these steps are taken behind the beginning, and how many images of `d` are pinned then.
 fn after(
     alloc: Global,
@@ -234,7 +372,7 @@ fn after(
 
 #[test]
 fn replies_and_pins_are_those_of_each_life(rt: HostRuntime) -> Result<(), Fail> {
-    for lives in [LOSSES, HANGUPS, HINDRANCES] {
+    for lives in [LOSSES, HANGUPS, HINDRANCES, BARRIERS, FAULTS] {
         for (place, life) in lives.iter().enumerate() {
             let came = after(rt.alloc(), life.0, life.1)?;
             assert_eq!(rt; came, (true, life.2), "at {place}");

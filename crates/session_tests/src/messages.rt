@@ -43,6 +43,20 @@ pub(crate) const DATABASE_FULL: &[u8] =
 /// FAILURE 13, for the log.
 pub(crate) const LOG_FULL: &[u8] = b"\x03\0\0\0\0\0\0\0\x0d\0\0\0\0\0\0\0log is full\0\0\0\0\0";
 
+/// FAILURE 1, for a parameter's number.
+pub(crate) const BAD_NUMBER: &[u8] =
+    b"\x04\0\0\0\0\0\0\0\x01\0\0\0\0\0\0\0bad parameter number\0\0\0\0";
+
+/// FAILURE 18.
+pub(crate) const TOO_BIG: &[u8] = b"\x03\0\0\0\0\0\0\0\x12\0\0\0\0\0\0\0answer too big\0\0";
+
+/// FAILURE 26.
+pub(crate) const NOT_A_DATABASE: &[u8] =
+    b"\x04\0\0\0\0\0\0\0\x1a\0\0\0\0\0\0\0file is not a database\0\0";
+
+/// How many bytes a message with 16 MiB has.
+const BULK_BYTES: usize = 16_777_224;
+
 /// The head of a message of a type, with so many words.
 fn head(alloc: Global, words: usize, kind: u8) -> Result<Vec<u8>, AllocError> {
     let mut bytes = Vec::new(alloc);
@@ -59,11 +73,26 @@ fn put_text(bytes: &mut Vec<u8>, text: &str) -> Result<(), AllocError> {
     Ok(())
 }
 
-/// OPEN of a short name, without flags and VFS.
-pub(crate) fn opens(alloc: Global, name: &str) -> Result<Vec<u8>, AllocError> {
+/// OPEN of a short name, which asks for barrier reads or doesn't, without a VFS.
+pub(crate) fn opens(alloc: Global, name: &str, barriers: bool) -> Result<Vec<u8>, AllocError> {
     let mut bytes = head(alloc, name.len() / 8 + 3, 3)?;
     put_text(&mut bytes, name)?;
-    bytes.extend_from_slice(&[0; 16])?;
+    bytes.extend_from_slice(&[0, 0, 0, 0, u8::from(barriers), 0, 0, 0])?;
+    bytes.extend_from_slice(&[0; 8])?;
+    Ok(bytes)
+}
+
+/// DUMP of a short name.
+pub(crate) fn dumps(alloc: Global, name: &str) -> Result<Vec<u8>, AllocError> {
+    let mut bytes = head(alloc, name.len() / 8 + 1, 15)?;
+    put_text(&mut bytes, name)?;
+    Ok(bytes)
+}
+
+/// A message of no type with a body of 16 MiB, which has the most words that a message may have.
+pub(crate) fn bulk(alloc: Global) -> Result<Vec<u8>, AllocError> {
+    let mut bytes = vec![in alloc; 0, 0, 32, 0, 255, 0, 0, 0]?;
+    bytes.resize(BULK_BYTES, 0)?;
     Ok(bytes)
 }
 

@@ -1,21 +1,21 @@
 //! A node over cells, alone in its cluster, that is told when its entries are applied and when it loses its leadership.
 
-ghost use Rattle.std.specs.Prelude.{[], IfOk};
-ghost use Rattle.gateway.specs.Calls.{HasShortTerm};
-ghost use Rattle.client_sessions.specs.Sending.{HasPlainAddresses, IsPlain};
+ghost use Rattle.std.specs.Prelude.{[]};
+ghost use Rattle.gateway.specs.Calls.{HasShortTerm, IsConfigured};
 ghost use Rattle.client_sessions.specs.Seen.{Agrees, StandOver};
 
-use crate::messages::{VERSION, executes, opens, queries};
+use crate::engine::LifeEngine;
+use crate::messages::{VERSION, bulk, dumps, executes, opens, queries};
 use client_sessions::{Act, Clients, Joining};
 use dq_base::Items;
 use frame_commands::{Command, read_command};
-use gateway::View;
+use gateway::{StepLimits, View};
 use page_apply::Machine;
-use raft_vote::{Entry, Server, ServerRole};
+use raft_vote::Entry;
 use sql_engine::CellEngine;
 use std::alloc::{AllocError, Global};
-use std::mem;
-use wire_words::{WireBytes, WireText};
+use std::collections::VecDeque;
+use wire_words::WireBytes;
 
 /// Something that happens at the node.
 #[derive(Clone, Copy)]
@@ -26,6 +26,14 @@ pub(crate) enum Step {
     Crowd(u64),
     /// A client opens a database, and all that waits has its turn.
     Open(u64, &'static str),
+    /// A client opens a database with barrier reads, and all that waits has its turn.
+    OpenFresh(u64, &'static str),
+    /// A client asks for the files of a database, and all that waits has its turn.
+    Dump(u64, &'static str),
+    /// A client sends two messages of 16 MiB, of no type, and no message has its turn.
+    Flood(u64),
+    /// A connection is closed that is to be, and its client is told the number of the reason.
+    Close(u64),
     /// A client has a text run, and all that waits has its turn.
     Exec(u64, &'static str),
     /// A client asks for the rows of a text, and all that waits has its turn.
@@ -40,6 +48,8 @@ pub(crate) enum Step {
     Lead,
     /// This is the index of the last entry that is applied.
     Reach(u64),
+    /// From now on the engine opens no files.
+    Spoil,
 }
 
 /// The node: what it is, what was proposed and isn't applied, and what it said to which connection. A client that gets no
@@ -49,26 +59,12 @@ pub(crate) struct Node {
     alloc: Global,
     clients: Clients,
     machine: Machine,
-    engine: CellEngine,
+    engine: LifeEngine,
     serving: bool,
     term: u32,
     applied: u64,
-    proposed: Vec<Entry>,
+    proposed: VecDeque<Entry>,
     said: Vec<(u64, WireBytes)>,
-}
-
-/// The leader that the node knows: itself, where it serves.
-fn leader(alloc: Global, serving: bool) -> Result<Option<Server>, AllocError>
-    ensures { IfOk result IsPlain }
-{
-    if !serving {
-        return Ok(None);
-    }
-    Ok(Some(Server {
-        id: 1,
-        address: WireText::new(String::from_str(alloc, "n1")?),
-        role: ServerRole::Voter,
-    }))
 }
 
 /// Adds messages to a connection.
@@ -83,20 +79,21 @@ fn say_all(
     Ok(())
 }
 
-/// Adds what an act tells, and the entries that it proposes.
+/// Adds what an act tells, and the entries that it proposes. Nothing is lent, as there are no readers.
 fn follow(
     act: Act,
-    proposed: &mut Vec<Entry>,
+    proposed: &mut VecDeque<Entry>,
     said: &mut Vec<(u64, WireBytes)>,
 ) -> Result<(), AllocError> {
     match act {
         Act::Reply { conn, messages } => say_all(said, conn, messages),
         Act::Propose { entries, .. } => {
             for entry in entries.into_vec() {
-                proposed.push(entry)?;
+                proposed.push_back(entry)?;
             }
             Ok(())
         }
+        Act::Lend { .. } => Ok(()),
         Act::Transfer { conn, reply, .. } | Act::Peer { conn, reply, .. } => {
             said.push((conn, reply))?;
             Ok(())
@@ -140,24 +137,23 @@ impl Node {
             alloc,
             clients: Clients::new(alloc),
             machine: Machine::new(alloc),
-            engine: CellEngine::new(alloc),
+            engine: LifeEngine::new(CellEngine::new(alloc)),
             serving: true,
             term: 1,
             applied: 1,
-            proposed: Vec::new(alloc),
+            proposed: VecDeque::new(alloc),
             said: Vec::new(alloc),
         }
     }
 
-    /// What it is for its sessions.
-    fn view(&self) -> Result<View, AllocError>
-        ensures term { IfOk result HasShortTerm }
-        ensures plain { IfOk result HasPlainAddresses }
+    /// What it is for its sessions. It names no servers, not even itself.
+    fn view(&self) -> View
+        ensures term { HasShortTerm result }
+        ensures configured { IsConfigured result }
     {
-        let leader = leader(self.alloc, self.serving)?;
-        Ok(View {
+        let leader = if self.serving { Some(1) } else { None };
+        View {
             id: 1,
-            address: WireText::new(String::from_str(self.alloc, "n1")?),
             leader,
             serving: self.serving,
             term: u64::from(self.term),
@@ -166,7 +162,8 @@ impl Node {
             links: false,
             readers: false,
             even: Items::new(Vec::new(self.alloc)),
-        })
+            steps: StepLimits::none(),
+        }
     }
 
     /// The message whose turn it is has it; false where none is left.
@@ -176,7 +173,7 @@ impl Node {
         ensures stand { StandOver self.new.clients self.new.machine }
         ensures agrees { Agrees [] self.new.clients self.new.machine }
     {
-        let view = self.view()?;
+        let view = self.view();
         match self
             .clients
             .next(&view, &mut self.machine, &mut self.engine)?
@@ -258,6 +255,54 @@ impl Node {
         self.hear(conn, bytes.as_slice())
     }
 
+    /// A client sends two messages of 16 MiB, and no message has its turn.
+    fn flood(&mut self, conn: u64) -> Result<(), AllocError>
+        requires stand { StandOver self.old.clients self.old.machine }
+        requires agrees { Agrees [] self.old.clients self.old.machine }
+        ensures stand { StandOver self.new.clients self.new.machine }
+        ensures agrees { Agrees [] self.new.clients self.new.machine }
+    {
+        let message = bulk(self.alloc)?;
+        self.clients.receive(conn, message.as_slice())?;
+        self.clients.receive(conn, message.as_slice())
+    }
+
+    /// A connection is closed that is to be.
+    fn close(&mut self, conn: u64) -> Result<(), AllocError>
+        requires stand { StandOver self.old.clients self.old.machine }
+        requires agrees { Agrees [] self.old.clients self.old.machine }
+        ensures stand { StandOver self.new.clients self.new.machine }
+        ensures agrees { Agrees [] self.new.clients self.new.machine }
+    {
+        let Some(reason) = self.clients.close(conn, &mut self.machine) else {
+            return Ok(());
+        };
+        let number = (reason.number() % 256) as u8;
+        let bytes = vec![in self.alloc; number]?;
+        self.said.push((conn, WireBytes::new(bytes)))?;
+        Ok(())
+    }
+
+    /// The query whose barrier is applied is run, where there is one.
+    fn run_due(&mut self) -> Result<(), AllocError>
+        requires stand { StandOver self.old.clients self.old.machine }
+        requires agrees { Agrees [] self.old.clients self.old.machine }
+        ensures stand { StandOver self.new.clients self.new.machine }
+        ensures agrees { Agrees [] self.new.clients self.new.machine }
+    {
+        let Some(conn) = self.clients.next_due() else {
+            return Ok(());
+        };
+        let view = self.view();
+        match self
+            .clients
+            .on_later(conn, &view, &mut self.machine, &mut self.engine)?
+        {
+            Some(act) => follow(act, &mut self.proposed, &mut self.said),
+            None => Ok(()),
+        }
+    }
+
     /// The next entry is applied.
     fn apply_one(&mut self, entry: &Entry) -> Result<(), AllocError>
         requires stand { StandOver self.old.clients self.old.machine }
@@ -269,10 +314,9 @@ impl Node {
             act(&self.clients, &mut self.machine, &command)?;
         }
         self.applied = self.applied.saturating_add(1);
-        let mut told = self
-            .clients
-            .on_applied(self.applied, u64::from(self.term), &mut self.machine)?;
-        self.said.append(&mut told)
+        let mut told = self.clients.on_applied(self.applied, &mut self.machine)?;
+        self.said.append(&mut told)?;
+        self.run_due()
     }
 
     /// What was proposed is applied.
@@ -282,9 +326,10 @@ impl Node {
         ensures stand { StandOver self.new.clients self.new.machine }
         ensures agrees { Agrees [] self.new.clients self.new.machine }
     {
-        let entries = mem::replace(&mut self.proposed, Vec::new(self.alloc));
-        for entry in &entries {
-            self.apply_one(entry)?;
+        for _ in 0..self.proposed.len() {
+            if let Some(entry) = self.proposed.pop_front() {
+                self.apply_one(&entry)?;
+            }
         }
         self.serve()
     }
@@ -325,7 +370,11 @@ impl Node {
         match step {
             Step::Connect(conn) => self.connect(conn),
             Step::Crowd(count) => self.crowd(count),
-            Step::Open(conn, name) => self.ask(conn, opens(self.alloc, name)),
+            Step::Open(conn, name) => self.ask(conn, opens(self.alloc, name, false)),
+            Step::OpenFresh(conn, name) => self.ask(conn, opens(self.alloc, name, true)),
+            Step::Dump(conn, name) => self.ask(conn, dumps(self.alloc, name)),
+            Step::Flood(conn) => self.flood(conn),
+            Step::Close(conn) => self.close(conn),
             Step::Exec(conn, sql) => self.ask(conn, executes(self.alloc, sql)),
             Step::Query(conn, sql) => self.ask(conn, queries(self.alloc, sql)),
             Step::HangUp(conn) => {
@@ -340,6 +389,10 @@ impl Node {
             }
             Step::Reach(index) => {
                 self.applied = index;
+                Ok(())
+            }
+            Step::Spoil => {
+                self.engine.close();
                 Ok(())
             }
         }

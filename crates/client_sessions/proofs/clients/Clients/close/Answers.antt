@@ -1,5 +1,4 @@
-use Rattle.std.proofs.Common.{sym, ap, ◌∙◌}
-use Rattle.client_sessions.specs.Clients.{Clients, hung_up}
+use Rattle.std.proofs.Common.{sym, ◌∙◌}
 use Rattle.client_sessions.proofs.Hearing.{closed_none, closed_is_hung}
 use Rattle.client_sessions.proofs.clients.Clients.close.Goals as goal
 

@@ -1,6 +1,8 @@
 use Rattle.std.proofs.Common.{refl, ap, ◌∙◌}
 use Rattle.std.proofs.lemmas.Result.{IfOk-weaker}
 use Rattle.client_sessions.specs.Calls.{sent}
+use Rattle.client_sessions.specs.Seen.{clients_of}
+use Rattle.client_sessions.proofs.Moving.{lost_ended}
 use Rattle.client_sessions.proofs.Landing.{lost_can, lost_held, lost_told, lost_stand, failed_stand, unmarked, on_ok}
 use Rattle.client_sessions.proofs.clients.Clients.on_lost.Goals as goal
 
@@ -32,3 +34,8 @@ returns-clause-stands c =
 
 pub returns-clause-unmarked : goal.returns-clause-unmarked
 returns-clause-unmarked c = on_ok c.messages_to.result _ (unmarked _ c.on_lost.new.machine c.in_ok-told.ensures.unmarked c.on_lost.ensures.pins_after)
+
+pub returns-clause-ended : goal.returns-clause-ended
+returns-clause-ended c =
+    on_ok c.messages_to.result _ (lost_ended (clients_of c.args.self.now c.args.machine.now) _ _
+    (lost_held c.args.self.now _ c.args.machine.now c.on_lost.new.machine c.as_slice.result.now c.in_ok-told.ensures.lost (c.as_slice.ensures.value ∙ c.in_ok-told.ensures.told) (λ q. refl) c.in_ok-give_turns.ensures))

@@ -2,5 +2,5 @@ use Rattle.std.proofs.Common.{[]}
 use Rattle.client_sessions.specs.Seen.{Agrees, StandOver}
 use Rattle.session_tests.proofs.node.Node.apply.Given as goal
 
-abbrev pub invariant-loop-entry : goal.invariant-loop-entry
-invariant-loop-entry l = StandOver l.self.clients l.self.machine × Agrees [] l.self.clients l.self.machine
+abbrev pub invariant-loop : goal.invariant-loop
+invariant-loop l = StandOver l.self.clients l.self.machine × Agrees [] l.self.clients l.self.machine
