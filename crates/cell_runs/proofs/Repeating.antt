@@ -15,7 +15,7 @@ use Rattle.client_connection.specs.Connection.{Conn, opened, received, reason_of
 use Rattle.sql_engine.specs.declared.kind.EngineKind.TheVariants.{Cells}
 use Rattle.sql_engine.specs.Cells.{cells}
 use Rattle.session_rules.specs.Engines.{Answer, AllowsFor}
-use Rattle.session_rules.specs.Sessions.{Reply, Refusal, Single, Rows, responses_of, may_ask}
+use Rattle.session_rules.specs.Sessions.{Reply, Refusal, Single, Rows, responses_of, is_busy, may_ask}
 use Rattle.session_rules.specs.Requests.{on_request, handed}
 use Rattle.session_rules.specs.Events.{connects}
 use Rattle.session_world.specs.Nodes.{Said, Node, databases, started}
@@ -26,7 +26,8 @@ use Rattle.client_sessions.specs.Calls.{sent}
 use Rattle.client_sessions.specs.Clients.{with_stream}
 use Rattle.lone_node.specs.declared.say.Say.{Say}
 use Rattle.lone_node.specs.declared.say.Say.TheVariants as says
-use Rattle.lone_node.specs.Lone.{Lone, node_of, given, with_streams, standing, view, turned, said_to, replies, messages_of, said_in, outcome, uses, ask, left_by, asks, comes, behind, onward, comes_all, times_out, joins, leaves, hangs_up, answered, closes, served, hears_on, hears}
+use Rattle.lone_node.specs.Lone.{Lone, node_of, given, with_streams, standing, view, turned, said_to, replies, messages_of, said_in, taken_alone, outcome, uses, ask, left_by, asks, comes, behind, onward, comes_all, times_out, joins, leaves, hangs_up, answered, closes, served, hears_on, hears}
+use Rattle.lone_node.proofs.Resting.{none_flies}
 use Rattle.lone_node.proofs.Turning.{turn_more, new_said}
 use Rattle.cell_runs.specs.Ample.{IsAmple, IsAmpleTurn, unsaid}
 use Rattle.cell_runs.specs.Repeats.{AreOfCells, AreAlike, GoAlike, BytesRepeat, EventsRepeat}
@@ -126,7 +127,7 @@ plain_turn : (n : Node) (conn : ℕ) (request : Request) (a b : List Answer) →
 plain_turn n conn request a b p q k l x y = ask_same n conn (standing n) request a b (λ may. request_same (view n) (databases n) n.gate conn request a b (p may) (q may) k l x y)
 
 no_flights : (w : Lone) (t : Turn) → AreOfCells (w.turns ++ t ∷ []) → (conn : ℕ) → ((takes_turn (unsaid (node_of w)) t).gate.session conn).flight ≡ None
-no_flights w t h conn = ap (λ (n : Node). (n.gate.session conn).flight) (sym (node_apart w t)) ∙ (alone_is_safe_holds cells Cells (w.turns ++ t ∷ []) h.allowed).answered conn
+no_flights w t h conn = none_flies ((takes_turn (unsaid (node_of w)) t).gate.session conn) (ap (λ (n : Node). is_busy (n.gate.session conn)) (sym (node_apart w t)) ∙ (alone_is_safe_holds cells Cells (w.turns ++ t ∷ []) h.allowed).answered conn)
 
 same_ask : (w v : Lone) (conn : ℕ) (request : Request) → AreAlike w v → AreOfCells (turned w (ask w conn request)).turns → AreOfCells (turned v (ask v conn request)).turns
     → lacks (outcome (node_of w) conn request w.journal) ≡ false → lacks (outcome (node_of v) conn request v.journal) ≡ false → Turns w v (ask w conn request) (ask v conn request)
@@ -134,8 +135,8 @@ same_ask w v conn request h p q x y =
     let n = unsaid (node_of w) in
     let a = take (uses (node_of w) conn request w.journal) w.journal in
     let b = take (uses (node_of v) conn request v.journal) v.journal in
-    let of_a : OfCells n conn request a = last_allowed w.turns (ask w conn request) p in
-    let of_b : OfCells n conn request b = subst (λ (m : Node). OfCells m conn request b) (sym h.node) (last_allowed v.turns (ask v conn request) q) in
+    let of_a : OfCells n conn request a = (last_allowed w.turns (ask w conn request) p).2 in
+    let of_b : OfCells n conn request b = subst (λ (m : Node). OfCells m conn request b) (sym h.node) (last_allowed v.turns (ask v conn request) q).2 in
     let enough_b : AreEnough n conn request b = subst (λ (m : Node). AreEnough m conn request b) (sym h.node) (enough_taken v conn request y) in
     let same = plain_turn n conn request a b of_a of_b (ample_last w.turns (ask w conn request) p.ample) (ample_last v.turns (ask v conn request) q.ample) (enough_taken w conn request x) enough_b in
     let moved : takes_turn n (Ask conn (standing n) request b) ≡ takes_turn (unsaid (node_of v)) (ask v conn request) = ap (λ (m : Node). takes_turn m (Ask conn (standing m) request b)) h.node in
@@ -192,11 +193,11 @@ told_alike : (next after x y : Lone × List Say) → next ≡ x → after ≡ y 
 told_alike next after x y e f h = subst (λ (a : Lone × List Say). GoAlike a after) (sym e) (subst (λ (b : Lone × List Say). GoAlike x b) (sym f) h)
 
 comes_grow : (w : Lone) (conn : ℕ) (r : Result Request MsgFault) (next : Lone × List Say) → comes w conn r ≡ Some next → Grew w next.0
-comes_grow w conn (Ok request) next e = asks_grow w conn request next e
+comes_grow w conn (Ok request) next e = asks_grow w conn (taken_alone request) next e
 comes_grow w conn (Err fault) next e = subst (λ (x : Lone × List Say). Grew w x.0) (some_is e) (grew_refl w)
 
 comes_same : (w v : Lone) (conn : ℕ) (r : Result Request MsgFault) (next after : Lone × List Say) → AreAlike w v → comes w conn r ≡ Some next → comes v conn r ≡ Some after → AreOfCells next.0.turns → AreOfCells after.0.turns → GoAlike next after
-comes_same w v conn (Ok request) next after h e f p q = asks_same w v conn request next after h e f p q
+comes_same w v conn (Ok request) next after h e f p q = asks_same w v conn (taken_alone request) next after h e f p q
 comes_same w v conn (Err fault) next after h e f p q = told_alike next after _ _ (sym (some_is e)) (sym (some_is f)) (record { alike = h; said = refl })
 
 -- ---- what leads on in two steps

@@ -1,14 +1,15 @@
 -- A turn of one voter doesn't look at what was said before; and with answers of cells it comes to the same.
-use Rattle.std.proofs.Common.{◌≡◌, ℕ, Bool, true, false, cond, List, [], ◌∷◌, ◌++◌, Option, None, inl, inr, refl, sym, ap, ◌∙◌, append_assoc}
+use Rattle.std.proofs.Common.{◌≡◌, ℕ, Bool, true, false, cond, List, [], ◌∷◌, ◌++◌, Option, Some, None, inl, inr, refl, sym, ap, ◌∙◌, append_assoc}
 use Rattle.std.proofs.lemmas.Bool.{cases_Bool, cond-true, cond-false}
 use Rattle.std.proofs.lemmas.List.{append-nil}
 use Rattle.wire_msgs.specs.declared.request.Request.{Request}
+use Rattle.sql_engine.specs.Replies.{Statement}
 use Rattle.session_rules.specs.Engines.{Answer}
-use Rattle.session_rules.specs.Sessions.{Flight, Session, Turned, Refused, Lacks, Answers, Proposes, Affects, may_ask}
+use Rattle.session_rules.specs.Sessions.{Flight, Session, Reply, later_query, lent_query, Turned, Refused, Lacks, Answers, Proposes, Lends, Affects, may_ask}
 use Rattle.session_rules.specs.Requests.{on_request}
 use Rattle.session_rules.specs.Events.{connects}
 use Rattle.session_world.specs.Nodes.{Said, Node, Standing, databases, view_of}
-use Rattle.session_world.specs.Life.{Event, Connect, Hangup, Call, Apply, Lose, Lead, Serve, Append, Follow, joined, called, happens, run_from}
+use Rattle.session_world.specs.Life.{Event, Connect, Hangup, Call, Resume, Done, Apply, Lose, Lead, Serve, Append, Follow, joined, called, undue, outcome_later, resumed_by, resumed, told_at, read_by, read, happens, run_from}
 use Rattle.session_world.specs.Alone.{Turn, Timeout, Join, Leave, Ask, settling, due, settled, checkpointed, events_of, takes_turn}
 use Rattle.session_world.proofs.Lasts.{run_append}
 use Rattle.cell_runs.specs.Ample.{unsaid}
@@ -27,7 +28,28 @@ onto_called said n conn (Refused cause) = ap (λ (xs : List Said). record n { sa
 onto_called said n conn Lacks = refl
 onto_called said n conn (Answers s reply note) = ap (λ (xs : List Said). record (called n conn (Answers s reply note)) { said = xs }) (append_assoc said n.said _)
 onto_called said n conn (Proposes s contents note) = refl
+onto_called said n conn (Lends s job) = refl
 onto_called said n conn (Affects effect) = ap (λ (xs : List Said). record (called n conn (Affects effect)) { said = xs }) (append_assoc said n.said _)
+
+onto_resumed : (said : List Said) (n : Node) (conn : ℕ) (t : Turned) → resumed_by (onto said n) conn t ≡ onto said (resumed_by n conn t)
+onto_resumed said n conn (Refused cause) = onto_called said (undue n conn) conn (Refused cause)
+onto_resumed said n conn Lacks = refl
+onto_resumed said n conn (Answers s reply note) = onto_called said (undue n conn) conn (Answers s reply note)
+onto_resumed said n conn (Proposes s contents note) = refl
+onto_resumed said n conn (Lends s job) = refl
+onto_resumed said n conn (Affects effect) = onto_called said (undue n conn) conn (Affects effect)
+
+onto_later : (said : List Said) (n : Node) (conn : ℕ) (standing : Standing) (answers : List Answer) (o : Option Statement) → resumed (onto said n) conn standing answers o ≡ onto said (resumed n conn standing answers o)
+onto_later said n conn standing answers None = refl
+onto_later said n conn standing answers (Some statement) = onto_resumed said n conn (outcome_later n conn standing statement answers)
+
+onto_told : (said : List Said) (n : Node) (conn : ℕ) (statement : Statement) (o : Option Reply) → read_by (onto said n) conn statement o ≡ onto said (read_by n conn statement o)
+onto_told said n conn statement None = refl
+onto_told said n conn statement (Some reply) = ap (λ (xs : List Said). record (read_by n conn statement (Some reply)) { said = xs }) (append_assoc said n.said _)
+
+onto_read : (said : List Said) (n : Node) (conn : ℕ) (answers : List Answer) (o : Option Statement) → read (onto said n) conn answers o ≡ onto said (read n conn answers o)
+onto_read said n conn answers None = refl
+onto_read said n conn answers (Some statement) = onto_told said n conn statement (told_at n conn statement answers)
 
 onto_happens : (said : List Said) (n : Node) (e : Event) → happens (onto said n) e ≡ onto said (happens n e)
 unfolding happens
@@ -36,6 +58,8 @@ onto_happens said n (Hangup conn) = refl
 onto_happens said n (Call conn standing request answers) =
     ap (λ (x : Node). cond (may_ask (n.gate.session conn)) x (onto said n)) (onto_called said n conn (on_request (view_of n standing) (databases n) n.gate conn request answers))
     ∙ onto_both said (may_ask (n.gate.session conn)) (called n conn (on_request (view_of n standing) (databases n) n.gate conn request answers)) n
+onto_happens said n (Resume conn standing answers) = onto_later said n conn standing answers (later_query (n.gate.session conn).later)
+onto_happens said n (Done conn answers) = onto_read said n conn answers (lent_query (n.gate.session conn).later)
 onto_happens said n Apply = ap (λ (xs : List Said). record (happens n Apply) { said = xs }) (append_assoc said n.said _)
 onto_happens said n (Lose term) = ap (λ (xs : List Said). record (happens n (Lose term)) { said = xs }) (append_assoc said n.said _)
 onto_happens said n (Lead term) = refl
@@ -115,7 +139,7 @@ ask_same n conn standing request a b same =
 -- ---- between turns
 
 session_idle : (s : Session) → s.flight ≡ None → plain_session s ≡ s
-session_idle s none = ap (λ (o : Option Flight). record { there = s.there; hung = s.hung; database = s.database; statements = s.statements; tx = s.tx; flight = plain_flight o }) none ∙ sym (ap (λ (o : Option Flight). record { there = s.there; hung = s.hung; database = s.database; statements = s.statements; tx = s.tx; flight = o }) none)
+session_idle s none = ap (λ (o : Option Flight). record s { flight = plain_flight o }) none ∙ sym (ap (λ (o : Option Flight). record s { flight = o }) none)
 
 node_idle : (w : Node) → ((conn : ℕ) → (w.gate.session conn).flight ≡ None) → unsaid (plain_node w) ≡ unsaid w
 node_idle w none = λ i. record {

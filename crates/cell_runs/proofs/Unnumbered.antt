@@ -1,6 +1,6 @@
 -- A node whose replies name no transaction: what comes of requests and entries is the same.
 use Rattle.std.proofs.Common.{◌≡◌, ℕ, zero, suc, ◌+◌, Bool, true, false, cond, List, [], ◌∷◌, ◌++◌, map, Option, Some, None, refl, sym, ap, ◌∙◌}
-use Rattle.std.specs.Prelude.{◌==◌, ◌-◌, length}
+use Rattle.std.specs.Prelude.{◌==◌, ◌&&◌, ◌-◌, length}
 use Rattle.std.specs.List.{filter}
 use Rattle.std.proofs.lemmas.List.{map-append}
 use Rattle.dq_base.specs.declared.images.Image.{Image}
@@ -13,12 +13,12 @@ use Rattle.session_rules.specs.Causes.{Cause, LogFull}
 use Rattle.session_rules.specs.Entries.{Content}
 use Rattle.session_rules.specs.Machine.{Machine}
 use Rattle.session_rules.specs.Engines.{no_pages, Ending, Lacking, TooLarge, Stopped, Ended}
-use Rattle.session_rules.specs.Sessions.{Reply, Refusal, Single, Rows, Kind, Opening, Configuring, Writing, Committing, Flight, Transaction, Session, Gateway, View, absent, Note, Nothing, Began, Inside, Outside, Turned, Refused, Lacks, Answers, Proposes, Affects}
+use Rattle.session_rules.specs.Sessions.{Reply, Refusal, Single, Rows, Kind, Opening, Configuring, Writing, Committing, Querying, Flight, Lent, Transaction, Session, Gateway, View, absent, Note, Nothing, Began, Inside, Outside, Turned, Refused, Lacks, Answers, Proposes, Lends, Affects}
 use Rattle.session_rules.specs.Limits.{first_cause, hindrance, log_full}
-use Rattle.session_rules.specs.Requests.{with_flight, worked, flying, unless, row_cause, reply_of, change_of, outside_write, outside, inside, with_session}
+use Rattle.session_rules.specs.Requests.{with_flight, with_later, worked, flying, unless, row_cause, reply_of, change_of, outside_write, outside, inside, job_of, was_cut, read_outside, with_session}
 use Rattle.session_rules.specs.Events.{tidy, landed, settled_by, on_applied}
 use Rattle.session_world.specs.Nodes.{Query, Said, Trail, Node, databases}
-use Rattle.session_world.specs.Life.{Apply, Append, query_for, query_by, called, said_landed, said_by, said_applied, landed_trail, trail_by, happens, run_from}
+use Rattle.session_world.specs.Life.{Apply, Append, query_for, query_by, called, commit_of, said_landed, said_by, said_applied, landed_trail, trail_by, happens, run_from}
 use Rattle.session_world.specs.Alone.{applies, due, settled, checkpointed}
 use Rattle.cell_runs.proofs.CellAnswers.{unnumbered, unnumbered_end}
 
@@ -32,13 +32,14 @@ plain_kind Opening = Opening
 plain_kind Configuring = Configuring
 plain_kind (Writing reply) = Writing (plain_reply reply)
 plain_kind Committing = Committing
+plain_kind (Querying statement) = Querying statement
 
 abbrev pub plain_flight : Option Flight → Option Flight
 plain_flight None = None
 plain_flight (Some f) = Some (record { name = f.name; first = f.first; last = f.last; term = f.term; pages = f.pages; kind = plain_kind f.kind })
 
 abbrev pub plain_session : Session → Session
-plain_session s = record { there = s.there; hung = s.hung; database = s.database; statements = s.statements; tx = s.tx; flight = plain_flight s.flight }
+plain_session s = record { there = s.there; hung = s.hung; database = s.database; barriers = s.barriers; later = s.later; statements = s.statements; tx = s.tx; flight = plain_flight s.flight }
 
 abbrev pub plain_gate : Gateway → Gateway
 plain_gate g = record { conns = g.conns; session = λ conn. plain_session (g.session conn); weight = g.weight }
@@ -58,6 +59,7 @@ plain_turned (Refused cause) = Refused cause
 plain_turned Lacks = Lacks
 plain_turned (Answers s reply note) = Answers (plain_session s) (plain_reply reply) note
 plain_turned (Proposes s contents note) = Proposes (plain_session s) contents note
+plain_turned (Lends s job) = Lends (plain_session s) job
 plain_turned (Affects effect) = Affects effect
 
 -- ---- twice is once
@@ -72,13 +74,14 @@ kind_twice Opening = refl
 kind_twice Configuring = refl
 kind_twice (Writing reply) = ap (λ (r : Reply). Writing r) (reply_twice reply)
 kind_twice Committing = refl
+kind_twice (Querying statement) = refl
 
 flight_twice : (o : Option Flight) → plain_flight (plain_flight o) ≡ plain_flight o
 flight_twice None = refl
 flight_twice (Some f) = ap (λ (k : Kind). Some (record { name = f.name; first = f.first; last = f.last; term = f.term; pages = f.pages; kind = k })) (kind_twice f.kind)
 
 session_twice : (s : Session) → plain_session (plain_session s) ≡ plain_session s
-session_twice s = ap (λ (o : Option Flight). record { there = s.there; hung = s.hung; database = s.database; statements = s.statements; tx = s.tx; flight = o }) (flight_twice s.flight)
+session_twice s = ap (λ (o : Option Flight). record { there = s.there; hung = s.hung; database = s.database; barriers = s.barriers; later = s.later; statements = s.statements; tx = s.tx; flight = o }) (flight_twice s.flight)
 
 -- ---- what comes of a request
 
@@ -126,6 +129,7 @@ called_plain w conn (Answers s r note) = λ i. record {
   said = (map-append plain_said w.said (said_now conn w.applied (w.trail conn) r note ∷ []) ∙ ap (λ (x : Said). map plain_said w.said ++ x ∷ []) (said_once conn w.applied (w.trail conn) r note) ∙ sym (map-append plain_said w.said (said_now conn w.applied (w.trail conn) (plain_reply r) note ∷ []))) i;
 }
 called_plain w conn (Proposes s contents note) = ap (λ (g : Gateway). record (plain_node (called w conn (Proposes s contents note))) { gate = g }) (with_plain w.gate conn s)
+called_plain w conn (Lends s job) = ap (λ (g : Gateway). record (plain_node (called w conn (Lends s job))) { gate = g }) (with_plain w.gate conn s)
 called_plain w conn (Affects effect) = refl
 
 -- a choice that is the same where both sides are
@@ -206,6 +210,26 @@ pub inside_same : (m : Machine) (g : Gateway) (conn : ℕ) (s : Session) (x : Tr
     → plain_turned (inside m g conn s x ss rows e) ≡ plain_turned (inside m g conn s x ss rows f)
 inside_same m g conn s x ss rows e f same = inside_plain m g conn s x ss rows e ∙ ap (λ (y : Ending). plain_turned (inside m g conn s x ss rows y)) same ∙ sym (inside_plain m g conn s x ss rows f)
 
+-- a query outside a transaction is lent by how running it ends, and not by the number of its transaction
+cut_plain : (e : Ending) → was_cut (unnumbered_end e) ≡ was_cut e
+cut_plain Lacking = refl
+cut_plain (TooLarge r) = refl
+cut_plain (Stopped fault) = refl
+cut_plain (Ended to r) = refl
+
+abbrev lent : Machine → Session → Statement → Turned
+lent m s statement = Lends (with_later s (Some (Lent statement))) (job_of m s statement)
+
+read_plain : (v : View) (m : Machine) (g : Gateway) (conn : ℕ) (s : Session) (statement : Statement) (e : Ending)
+    → plain_turned (read_outside v m g conn s statement e) ≡ plain_turned (read_outside v m g conn s statement (unnumbered_end e))
+read_plain v m g conn s statement e =
+    both (v.readers && was_cut e) (lent m s statement) (outside v m g conn s (statement ∷ []) true e) (lent m s statement) (outside v m g conn s (statement ∷ []) true (unnumbered_end e)) refl (outside_plain v m g conn s (statement ∷ []) true e)
+    ∙ ap (λ (b : Bool). plain_turned (cond (v.readers && b) (lent m s statement) (outside v m g conn s (statement ∷ []) true (unnumbered_end e)))) (sym (cut_plain e))
+
+pub read_same : (v : View) (m : Machine) (g : Gateway) (conn : ℕ) (s : Session) (statement : Statement) (e f : Ending) → unnumbered_end e ≡ unnumbered_end f
+    → plain_turned (read_outside v m g conn s statement e) ≡ plain_turned (read_outside v m g conn s statement f)
+read_same v m g conn s statement e f same = read_plain v m g conn s statement e ∙ ap (λ (x : Ending). plain_turned (read_outside v m g conn s statement x)) same ∙ sym (read_plain v m g conn s statement f)
+
 -- ---- entries that are applied
 
 landed_trail_plain : (index : ℕ) (t : Trail) (k : Kind) → landed_trail index t (plain_kind k) ≡ landed_trail index t k
@@ -213,6 +237,7 @@ landed_trail_plain index t Opening = refl
 landed_trail_plain index t Configuring = refl
 landed_trail_plain index t (Writing reply) = refl
 landed_trail_plain index t Committing = refl
+landed_trail_plain index t (Querying statement) = refl
 
 trail_plain : (index : ℕ) (t : Trail) (o : Option Flight) → trail_by index t (plain_flight o) ≡ trail_by index t o
 trail_plain index t None = refl
@@ -223,6 +248,7 @@ landed_plain s f Opening = refl
 landed_plain s f Configuring = refl
 landed_plain s f (Writing reply) = refl
 landed_plain s f Committing = refl
+landed_plain s f (Querying statement) = refl
 
 settled_plain : (index : ℕ) (s : Session) (o : Option Flight) → settled_by index (plain_session s) (plain_flight o) ≡ plain_session (settled_by index s o)
 settled_plain index s None = refl
@@ -239,19 +265,20 @@ gate_plain index g =
     let same : (conn : ℕ) → plain_session (settled_by index (g.session conn) (g.session conn).flight) ≡ settled_by index (plain_session (g.session conn)) (plain_flight (g.session conn).flight) = λ conn. sym (settled_plain index (g.session conn) (g.session conn).flight) in
     λ i. record { conns = filter (λ (conn : ℕ). (same conn i).there) g.conns; session = λ conn. same conn i; weight = g.weight }
 
-landed_said_plain : (conn : ℕ) (t : Trail) (f : Flight) (k : Kind) → plain_said (said_landed conn t f k) ≡ said_landed conn t (record { name = f.name; first = f.first; last = f.last; term = f.term; pages = f.pages; kind = plain_kind f.kind }) (plain_kind k)
+landed_said_plain : (conn : ℕ) (t : Trail) (f : Flight) (k : Kind) → map plain_said (said_landed conn t f k) ≡ said_landed conn t (record { name = f.name; first = f.first; last = f.last; term = f.term; pages = f.pages; kind = plain_kind f.kind }) (plain_kind k)
 landed_said_plain conn t f Opening = refl
 landed_said_plain conn t f Configuring = refl
-landed_said_plain conn t f (Writing reply) = ap (λ (q : Option Query). record (plain_said (said_landed conn t f (Writing reply))) { query = q }) (query_plain reply f.name t.at [] t.ran t.seen)
+landed_said_plain conn t f (Writing reply) = ap (λ (q : Option Query). record { conn = conn; reply = plain_reply reply; query = q; commit = Some (commit_of f t.ran); opened = None; index = f.last; term = f.term } ∷ []) (query_plain reply f.name t.at [] t.ran t.seen)
 landed_said_plain conn t f Committing = refl
+landed_said_plain conn t f (Querying statement) = refl
 
 said_by_plain : (index conn : ℕ) (t : Trail) (hung : Bool) (o : Option Flight) → map plain_said (said_by index conn t hung o) ≡ said_by index conn t hung (plain_flight o)
 said_by_plain index conn t hung None = refl
 said_by_plain index conn t hung (Some f) = at (f.last == index) hung
   where
-    at : (b h : Bool) → map plain_said (cond b (cond h [] (said_landed conn t f f.kind ∷ [])) []) ≡ cond b (cond h [] (said_landed conn t (record { name = f.name; first = f.first; last = f.last; term = f.term; pages = f.pages; kind = plain_kind f.kind }) (plain_kind f.kind) ∷ [])) []
+    at : (b h : Bool) → map plain_said (cond b (cond h [] (said_landed conn t f f.kind)) []) ≡ cond b (cond h [] (said_landed conn t (record { name = f.name; first = f.first; last = f.last; term = f.term; pages = f.pages; kind = plain_kind f.kind }) (plain_kind f.kind))) []
     at true true = refl
-    at true false = ap (λ (x : Said). x ∷ []) (landed_said_plain conn t f f.kind)
+    at true false = landed_said_plain conn t f f.kind
     at false h = refl
 
 said_plain : (index : ℕ) (trail : ℕ → Trail) (session : ℕ → Session) (conns : List ℕ) → map plain_said (said_applied index trail session conns) ≡ said_applied index trail (λ conn. plain_session (session conn)) conns

@@ -12,14 +12,16 @@ use Rattle.sql_engine.specs.Meanings.{Meaning}
 use Rattle.sql_engine.specs.Replies.{Statement}
 use Rattle.dq_base.specs.declared.images.Image.{Image}
 use Rattle.sqlite_engine.specs.Any.{any_meaning}
+use Rattle.session_rules.specs.Asking.{fits_one_voter}
 use Rattle.session_rules.specs.Engines.{Answer, Handed, AllowsFor, AllowsAll}
 use Rattle.session_rules.specs.Requests.{handed}
 use Rattle.session_rules.specs.Events.{connects}
 use Rattle.session_world.specs.Nodes.{Node, databases}
 use Rattle.session_world.specs.Alone.{Turn, Timeout, Join, Leave, Ask, lacks, alone, AllowsTurn}
 use Rattle.lone_node.specs.declared.say.Say.{Say as Told}
-use Rattle.lone_node.specs.Lone.{Lone, node_of, given, turned, left_by, said_in, view, outcome, uses, ask, asks, comes, comes_all, onward, behind, times_out, joins, leaves, hangs_up, closes, served, hears_on, hears}
+use Rattle.lone_node.specs.Lone.{Lone, node_of, given, turned, left_by, said_in, view, taken_alone, outcome, uses, ask, asks, comes, comes_all, onward, behind, times_out, joins, leaves, hangs_up, closes, served, hears_on, hears}
 use Rattle.lone_node.specs.Safe.{Allowed}
+use Rattle.lone_node.proofs.Fitting.{taken_fits}
 use Rattle.lone_node.proofs.Turning.{allowed_more}
 use Rattle.cluster_runner.specs.declared.cluster.Say.{Say}
 use Rattle.cluster_runner.specs.declared.grammar.Event.{Event}
@@ -101,19 +103,19 @@ module _ (kind : EngineKind) where
   abbrev KeptNext : Lone × List Told → Type 0
   KeptNext next = KeptNode kind next.0
 
-  kept_asks : (w : Lone) (conn : ℕ) (request : Request) (next : Lone × List Told) → KeptNode kind w → asks w conn request ≡ Some next → KeptNext next
+  kept_asks : (w : Lone) (conn : ℕ) (request : Request) (next : Lone × List Told) → fits_one_voter request ≡ true → KeptNode kind w → asks w conn request ≡ Some next → KeptNext next
   unfolding asks
-  kept_asks w conn request next kept e =
+  kept_asks w conn request next fits kept e =
       let n = uses (node_of w) conn request w.journal in
       let taken : take n w.journal ≡ [] = take_none n w.journal kept.spent in
       where_not KeptNext (lacks (outcome (node_of w) conn request w.journal)) (given (turned w (ask w conn request)) (left_by w conn request), said_in w (ask w conn request)) next
       (record {
         spent = drop_none n w.journal kept.spent;
-        allowed = more w (ask w conn request) kept (λ _. none_allowed m kind (handed (view (node_of w)) (databases (node_of w)) (node_of w).gate conn request) (take n w.journal) taken);
+        allowed = more w (ask w conn request) kept (fits, refl, λ _. none_allowed m kind (handed (view (node_of w)) (databases (node_of w)) (node_of w).gate conn request) (take n w.journal) taken);
       }) e
 
   kept_comes : (w : Lone) (conn : ℕ) (r : Result Request MsgFault) (next : Lone × List Told) → KeptNode kind w → comes w conn r ≡ Some next → KeptNext next
-  kept_comes w conn (Ok request) next kept e = kept_asks w conn request next kept e
+  kept_comes w conn (Ok request) next kept e = kept_asks w conn (taken_alone request) next (taken_fits request) kept e
   kept_comes w conn (Err fault) next kept e = subst KeptNext (some_is _ next e) kept
 
   kept_onward : (go : Lone → Option (Lone × List Told)) (o : Option (Lone × List Told)) (next : Lone × List Told) → ((n : Lone × List Told) → o ≡ Some n → KeptNext n)

@@ -1,6 +1,6 @@
 -- What comes of one message.
 use Rattle.std.proofs.Common.{◌≡◌, ◌≢◌, inl, inr, ℕ, suc, true, false, List, [], ◌∷◌, ◌++◌, length, take, drop, refl, sym, ap, subst, ◌∙◌, arith, length-append, Option, Some, None, Ok, Err}
-use Rattle.std.specs.Prelude.{codes, if◌then◌else◌}
+use Rattle.std.specs.Prelude.{if◌then◌else◌}
 use Rattle.std.specs.List.{AllByRecursion}
 use Rattle.std.proofs.lemmas.List.{append-nil}
 use Rattle.std.proofs.lemmas.Bool.{cases_Bool, cond-true, cond-false}
@@ -11,12 +11,13 @@ use Rattle.wire_msgs.specs.Reading.{request_of}
 use Rattle.client_connection.specs.Connection.{Conn}
 use Rattle.sql_engine.specs.declared.kind.EngineKind.{EngineKind}
 use Rattle.sql_engine.specs.Meanings.{Meaning, Told}
+use Rattle.session_rules.specs.Asking.{fits_one_voter}
 use Rattle.session_rules.specs.Causes.{unread_cause, failure}
 use Rattle.session_rules.specs.Entries.{Content, Entry, entries_of, written}
 use Rattle.session_rules.specs.Seen.{HasSpelling}
 use Rattle.session_rules.specs.Machine.{machine_of, files}
 use Rattle.session_rules.specs.Engines.{Answer, AllowsFor}
-use Rattle.session_rules.specs.Sessions.{Reply, Refusal, empty, responses_of, Session, Gateway, View, Note, Effect, HandsOver, JoinsPeer, Weighs, Turned, Refused, Lacks, Answers, Proposes, Affects, may_ask}
+use Rattle.session_rules.specs.Sessions.{Reply, Refusal, empty, responses_of, Session, Gateway, View, Note, Effect, HandsOver, JoinsPeer, Weighs, Turned, Refused, Lacks, Answers, Proposes, Lends, Affects, may_ask}
 use Rattle.session_rules.specs.Requests.{on_request, handed, with_session}
 use Rattle.session_world.specs.Nodes.{Said, Node, databases}
 use Rattle.session_world.specs.Life.{Call, query_by, tells, called, happens}
@@ -32,12 +33,14 @@ use Rattle.client_sessions.specs.Clients.{with_stream}
 use Rattle.client_sessions.specs.Seen.{clients_of}
 use Rattle.lone_node.specs.declared.say.Say.{Say}
 use Rattle.lone_node.specs.declared.voter.Voter.{Voter}
-use Rattle.lone_node.specs.Lone.{Lone, own_server, node_of, given, standing, view, view_now, messages_of, said_in, turned, uses, asks, comes}
+use Rattle.lone_node.specs.Lone.{Lone, own_server, node_of, given, standing, view, view_now, messages_of, said_in, turned, taken_alone, uses, asks, comes}
 use Rattle.lone_node.specs.Safe.{Allowed}
 use Rattle.lone_node.specs.Shows.{Rests, IsQuiet, Holds}
 use Rattle.lone_node.specs.Applying.{At, Going, Settles, OnlySays, says_of, Performs}
 use Rattle.lone_node.specs.Taking.{Among, at_first, further, with_waiting, Caused, Waits}
 use Rattle.lone_node.proofs.Causes.{caused_none, caused_asked}
+use Rattle.lone_node.proofs.Fitting.{taken_fits}
+use Rattle.lone_node.proofs.Resting.{IsUnlent, request_unlent}
 use Rattle.lone_node.proofs.Journals.{IsExact, request_same, front_taken, front_left}
 use Rattle.lone_node.proofs.Settling.{at_databases, at_rest, settled_end, none_due, turn_at_leader, turn_elsewhere, turn_quiet, calm_after, all_settled}
 use Rattle.lone_node.proofs.Turning.{turn_more, new_said, allowed_more, messages_one}
@@ -72,6 +75,7 @@ enough_of v g conn (Refused cause) now act is = refl
 enough_of v g conn Lacks now act is = absurd is
 enough_of v g conn (Answers s reply note) now act is = refl
 enough_of v g conn (Proposes s contents note) now act is = refl
+enough_of v g conn (Lends s job) now act is = refl
 enough_of v g conn (Affects effect) now act is = refl
 
 -- ---- a request that appends nothing
@@ -109,24 +113,25 @@ effect_says conn (Weighs weight) = refl
 abbrev answered_said : Node → ℕ → Reply → Note → Said
 answered_said node conn reply note = record { conn = conn; reply = reply; query = query_by node.applied (node.trail conn) reply note; commit = None; opened = None; index = 0; term = 0 }
 
-comes_of : (node : Node) (conn : ℕ) (o : Turned) (sessions : Gateway) (gact : GatewayAct) (act : Act) → act ≡ act_on conn gact → Is (view node) node.gate conn o sessions gact → Came node conn sessions act o
-comes_of node conn (Refused cause) sessions gact act is i =
+comes_of : (node : Node) (conn : ℕ) (o : Turned) (sessions : Gateway) (gact : GatewayAct) (act : Act) → IsUnlent o → act ≡ act_on conn gact → Is (view node) node.gate conn o sessions gact → Came node conn sessions act o
+comes_of node conn (Refused cause) sessions gact act unlent is i =
     let same : act ≡ acts.Reply conn (bytes_of (failure cause ∷ [])) = is ∙ ap (act_on conn) i.1 in
     quietly
     (record { gate = i.0; more = tells conn (Refusal cause) ∷ []; said = refl; says = ap says_of same ∙ sym (messages_one (tells conn (Refusal cause))); log = refl; applied = refl; leads = refl; serving = refl; term = refl })
     (only_on act _ same (λ b n old new p. p))
-comes_of node conn Lacks sessions gact act is i = absurd i
-comes_of node conn (Answers s reply note) sessions gact act is i =
+comes_of node conn Lacks sessions gact act unlent is i = absurd i
+comes_of node conn (Answers s reply note) sessions gact act unlent is i =
     let same : act ≡ acts.Reply conn (bytes_of (responses_of reply)) = is ∙ ap (act_on conn) i.1 in
     quietly
     (record { gate = i.0; more = answered_said node conn reply note ∷ []; said = refl; says = ap says_of same ∙ sym (messages_one (answered_said node conn reply note)); log = refl; applied = refl; leads = refl; serving = refl; term = refl })
     (only_on act _ same (λ b n old new p. p))
-comes_of node conn (Affects effect) sessions gact act is i =
+comes_of node conn (Lends s job) sessions gact act unlent is i = absurd unlent
+comes_of node conn (Affects effect) sessions gact act unlent is i =
     let same : act ≡ act_on conn (act_for effect) = is ∙ ap (act_on conn) i.1 in
     quietly
     (record { gate = i.0; more = tells conn empty ∷ []; said = refl; says = ap says_of same ∙ effect_says conn effect; log = refl; applied = refl; leads = refl; serving = refl; term = refl })
     (only_on act _ same (effect_only conn effect))
-comes_of node conn (Proposes s contents note) sessions gact act is i = proposing s contents note refl i.0 (is ∙ ap (act_on conn) i.1) i.2
+comes_of node conn (Proposes s contents note) sessions gact act unlent is i = proposing s contents note refl i.0 (is ∙ ap (act_on conn) i.1) i.2
 
 -- ---- the turn that a request is
 
@@ -135,6 +140,7 @@ record Before (m : Meaning) (kind : EngineKind) (w : Lone) (conn : ℕ) (request
   allowed : Allowed m kind w.turns
   rests : Rests (node_of w)
   may : may_ask ((node_of w).gate.session conn) ≡ true
+  fits : fits_one_voter request ≡ true
   answers_allowed : AllowsFor m kind (handed (view (node_of w)) (databases (node_of w)) (node_of w).gate conn request) answers
 
 abbrev turn_of : Lone → ℕ → Request → List Answer → Turn
@@ -149,7 +155,7 @@ unfolding happens
 call_is w conn request answers may = cond-true (may_ask ((node_of w).gate.session conn)) _ (node_of w) may
 
 next_allowed : (m : Meaning) (kind : EngineKind) (w : Lone) (conn : ℕ) (request : Request) (answers : List Answer) → Before m kind w conn request answers → Allowed m kind (next_of w conn request answers).turns
-next_allowed m kind w conn request answers b = allowed_more m kind w.turns (turn_of w conn request answers) b.allowed (λ e. b.answers_allowed)
+next_allowed m kind w conn request answers b = allowed_more m kind w.turns (turn_of w conn request answers) b.allowed (b.fits, refl, λ e. b.answers_allowed)
 
 -- after a turn the node rests, where no checkpoint is due
 pub rests_after : (m : Meaning) (kind : EngineKind) (ts : List Turn) → Allowed m kind ts → due (databases (alone ts)) ≡ [] → Rests (alone ts)
@@ -161,8 +167,7 @@ same_databases node v log applied = λ i. files (take (applied i) (log i))
 same_view : (node v : Node) → v.leads ≡ node.leads → v.serving ≡ node.serving → v.term ≡ node.term → v.applied ≡ node.applied → view_now node ≡ view_now v
 same_view node v leads serving term applied = λ i. record {
   id = 1;
-  address = codes "n1";
-  leader = if (sym leads) i then Some own_server else None;
+  leader = if (sym leads) i then Some 1 else None;
   serving = (sym serving) i;
   term = (sym term) i;
   last = (sym applied) i;
@@ -351,23 +356,25 @@ pub record Does (m : Meaning) (kind : EngineKind) (w : Lone) (conn : ℕ) (strea
 
 pub asked_does : (m : Meaning) (kind : EngineKind) (w : Lone) (conn : ℕ) (stream : Conn) (message : Message) (request : Request) (rest : List Message) (told_before told_now : Option Told) (sessions : Gateway) (refused_before refused_now : ℕ) (act : Act) (mid new : Voter) (before now : List Say)
     → request_of message ≡ Ok request → Allowed m kind w.turns → Rests (node_of w) → may_ask ((node_of w).gate.session conn) ≡ true → Taken mid w conn stream rest sessions
-    → Asked m kind (view (node_of w)) (databases (node_of w)) (node_of w).gate conn request told_before told_now refused_before refused_now sessions act → Performs act mid new before now
+    → Asked m kind (view (node_of w)) (databases (node_of w)) (node_of w).gate conn (taken_alone request) told_before told_now refused_before refused_now sessions act → Performs act mid new before now
     → Does m kind w conn stream message rest told_before told_now refused_before refused_now new before now
 asked_does m kind w conn stream message request rest told_before told_now sessions refused_before refused_now act mid new before now reads allowed rests may t a performs =
     let node = node_of w in
+    let taken = taken_alone request in
     let x = a.turned in
-    let b : Before m kind w conn request x.answers = record { allowed = allowed; rests = rests; may = may; answers_allowed = x.allowed } in
-    let exact : IsExact (view node) (databases node) node.gate conn request x.answers = record { all = x.exact; enough = enough_of (view node) node.gate conn _ sessions a.gateway_act x.is } in
-    let r = told_by m kind w conn stream rest request x.answers sessions act mid new before now b t (comes_of node conn _ sessions a.gateway_act act a.act_is x.is) performs in
+    let b : Before m kind w conn taken x.answers = record { allowed = allowed; rests = rests; may = may; fits = taken_fits request; answers_allowed = x.allowed } in
+    let exact : IsExact (view node) (databases node) node.gate conn taken x.answers = record { all = x.exact; enough = enough_of (view node) node.gate conn _ sessions a.gateway_act x.is } in
+    let unlent : IsUnlent (on_request (view node) (databases node) node.gate conn taken x.answers) = request_unlent (view node) (databases node) node.gate conn taken x.answers refl in
+    let r = told_by m kind w conn stream rest taken x.answers sessions act mid new before now b t (comes_of node conn _ sessions a.gateway_act act unlent a.act_is x.is) performs in
     record {
       answers = x.answers;
       told = x.told;
-      next = next_of w conn request x.answers;
-      said = said_in w (turn_of w conn request x.answers);
-      comes_to = λ later. ap (comes (given w (x.answers ++ later)) conn) reads ∙ asks_as w conn request x.answers later exact;
+      next = next_of w conn taken x.answers;
+      said = said_in w (turn_of w conn taken x.answers);
+      comes_to = λ later. ap (comes (given w (x.answers ++ later)) conn) reads ∙ asks_as w conn taken x.answers later exact;
       streams = refl;
-      allowed = next_allowed m kind w conn request x.answers b;
-      caused = caused_asked w conn request x.answers sessions a.gateway_act refused_before refused_now x.is a.unopened;
+      allowed = next_allowed m kind w conn taken x.answers b;
+      caused = caused_asked w conn taken x.answers sessions a.gateway_act refused_before refused_now x.is a.unopened;
       waits = r.waits;
       says = r.says;
     }

@@ -1,6 +1,6 @@
 -- One entry more that is applied, as the code does it.
 use Rattle.std.proofs.Common.{◌≡◌, ℕ, suc, false, List, [], ◌∷◌, ◌++◌, map, sym, ap, subst, ◌∙◌, append_assoc, Option, Some, None, Result, Ok, Err}
-use Rattle.std.specs.Prelude.{codes, OnOk, if◌then◌else◌}
+use Rattle.std.specs.Prelude.{OnOk, if◌then◌else◌}
 use Rattle.std.proofs.lemmas.List.{map-append}
 use Rattle.std.proofs.lemmas.List.Concat.{flat_map-append}
 use Rattle.client_connection.specs.Connection.{Conn}
@@ -33,13 +33,12 @@ messages_append xs ys =
 
 -- what the node is, where it has another last index
 abbrev pub with_last : View → ℕ → View
-with_last v last = record { id = v.id; address = v.address; leader = v.leader; serving = v.serving; term = v.term; last = last; servers = v.servers; links = v.links; readers = v.readers; even = v.even }
+with_last v last = record { id = v.id; leader = v.leader; serving = v.serving; term = v.term; last = last; servers = v.servers; links = v.links; readers = v.readers; even = v.even }
 
 next_view : (u : Node) → Applied u → with_last (view_now u) (suc u.applied) ≡ view_now (happens u Apply)
 next_view u a = λ i. record {
   id = 1;
-  address = codes "n1";
-  leader = if (sym a.leads) i then Some own_server else None;
+  leader = if (sym a.leads) i then Some 1 else None;
   serving = (sym a.serving) i;
   term = (sym a.term) i;
   last = (sym a.applied) i;

@@ -1,5 +1,6 @@
 -- Answers behind those that a request uses change nothing.
-use Rattle.std.proofs.Common.{◌≡◌, ℕ, suc, Bool, true, false, List, [], ◌∷◌, ◌++◌, length, take, drop, Ok, Err, Option, Some, None, inl, inr, refl, sym, ap, subst, ◌∙◌, arith}
+use Rattle.std.proofs.Common.{◌≡◌, ℕ, suc, Bool, true, false, List, [], ◌∷◌, ◌++◌, length, take, drop, cond, Ok, Err, Option, Some, None, inl, inr, refl, sym, ap, subst, ◌∙◌, arith}
+use Rattle.std.specs.Prelude.{◌&&◌}
 use Rattle.std.proofs.lemmas.Bool.{cases_Bool, cond-true, cond-false}
 use Rattle.std.proofs.lemmas.List.{take_all, drop_all, take-append-le, drop-append-le}
 use Rattle.dq_base.specs.declared.images.Image.{Image}
@@ -8,10 +9,10 @@ use Rattle.sql_engine.specs.declared.answer.Ran.{Ran}
 use Rattle.sql_engine.specs.Replies.{Statement}
 use Rattle.page_apply.specs.Files.{image_after}
 use Rattle.session_rules.specs.Machine.{Machine}
-use Rattle.session_rules.specs.Engines.{Answer, Ending, Lacking, TooLarge, takes, no_answer, runs, used, used_for}
-use Rattle.session_rules.specs.Sessions.{Gateway, Session, Transaction, View}
+use Rattle.session_rules.specs.Engines.{Answer, Handed, Ending, Lacking, TooLarge, takes, no_answer, runs, used, used_for}
+use Rattle.session_rules.specs.Sessions.{Lent, Gateway, Session, Transaction, View, Lends}
 use Rattle.session_rules.specs.Asking.{Asked, Never, Tells, Sets, Opens, Creates, Prepares, Drops, Begins, Commits, RollsBack, Changes, Runs, Reads, asked}
-use Rattle.session_rules.specs.Requests.{outside, inside, run_in, does, on_request, ground, handed_for, handed}
+use Rattle.session_rules.specs.Requests.{with_later, outside, inside, run_in, waits_first, barrier_first, job_of, read_outside, read_in, does, on_request, ground, handed_over, handed_for, handed}
 use Rattle.session_world.specs.Alone.{lacks}
 
 -- running is by these answers, not short of one, and uses all of them
@@ -85,6 +86,28 @@ run_same v m g conn s (Some x) ss rows answers later all enough =
     let same = same_front ss x.working no_answer answers later (record { all = all; enough = λ e. no (sym (inside_lacks m g conn s x ss rows _ e) ∙ enough) }) in
     record { comes = ap (inside m g conn s x ss rows) same.ends; uses = same.uses ∙ all }
 
+-- a query lacks an answer where running it does
+read_lacks : (v : View) (m : Machine) (g : Gateway) (conn : ℕ) (s : Session) (statement : Statement) (e : Ending) → e ≡ Lacking → lacks (read_outside v m g conn s statement e) ≡ true
+unfolding outside
+read_lacks v m g conn s statement e is = subst (λ (x : Ending). lacks (read_outside v m g conn s statement x) ≡ true) (sym is) (by v.readers)
+  where
+    by : (b : Bool) → lacks (cond (b && false) (Lends (with_later s (Some (Lent statement))) (job_of m s statement)) (outside v m g conn s (statement ∷ []) true Lacking)) ≡ true
+    by true = refl
+    by false = refl
+
+record ReadSame (v : View) (m : Machine) (g : Gateway) (conn : ℕ) (s : Session) (o : Option Transaction) (statement : Statement) (answers later : List Answer) : Type 0 where
+  comes : read_in v m g conn s o statement (answers ++ later) ≡ read_in v m g conn s o statement answers
+  uses : used (ground m s o) (statement ∷ []) (answers ++ later) ≡ length answers
+
+read_same : (v : View) (m : Machine) (g : Gateway) (conn : ℕ) (s : Session) (o : Option Transaction) (statement : Statement) (answers later : List Answer)
+    → used (ground m s o) (statement ∷ []) answers ≡ length answers → lacks (read_in v m g conn s o statement answers) ≡ false → ReadSame v m g conn s o statement answers later
+read_same v m g conn s None statement answers later all enough =
+    let same = same_front (statement ∷ []) (m.base s.database).image no_answer answers later (record { all = all; enough = λ e. no (sym (read_lacks v m g conn s statement _ e) ∙ enough) }) in
+    record { comes = ap (read_outside v m g conn s statement) same.ends; uses = same.uses ∙ all }
+read_same v m g conn s (Some x) statement answers later all enough =
+    let r = run_same v m g conn s (Some x) (statement ∷ []) true answers later all enough in
+    record { comes = r.comes; uses = r.uses }
+
 record DoesSame (v : View) (m : Machine) (g : Gateway) (conn : ℕ) (s : Session) (x : Asked) (answers later : List Answer) : Type 0 where
   comes : does v m g conn s x (answers ++ later) ≡ does v m g conn s x answers
   uses : used_for (handed_for m s x) (answers ++ later) ≡ length answers
@@ -95,8 +118,8 @@ unfolding does
 does_same v m g conn s (Never cause) answers later all enough = record { comes = refl; uses = all }
 does_same v m g conn s (Tells response) answers later all enough = record { comes = refl; uses = all }
 does_same v m g conn s (Sets effect) answers later all enough = record { comes = refl; uses = all }
-does_same v m g conn s (Opens name) answers later all enough = record { comes = refl; uses = all }
-does_same v m g conn s (Creates name) answers later all enough = record { comes = refl; uses = all }
+does_same v m g conn s (Opens name barriers) answers later all enough = record { comes = refl; uses = all }
+does_same v m g conn s (Creates name barriers) answers later all enough = record { comes = refl; uses = all }
 does_same v m g conn s (Prepares p tail) answers later all enough = record { comes = refl; uses = all }
 does_same v m g conn s (Drops id) answers later all enough = record { comes = refl; uses = all }
 does_same v m g conn s (Begins at_once) answers later all enough = record { comes = refl; uses = all }
@@ -104,7 +127,24 @@ does_same v m g conn s Commits answers later all enough = record { comes = refl;
 does_same v m g conn s RollsBack answers later all enough = record { comes = refl; uses = all }
 does_same v m g conn s (Changes servers) answers later all enough = record { comes = refl; uses = all }
 does_same v m g conn s (Runs ss) answers later all enough = let r = run_same v m g conn s s.tx ss false answers later all enough in record { comes = r.comes; uses = r.uses }
-does_same v m g conn s (Reads statement) answers later all enough = let r = run_same v m g conn s s.tx (statement ∷ []) true answers later all enough in record { comes = r.comes; uses = r.uses }
+does_same v m g conn s (Reads statement) answers later all enough = elim (cases_Bool (waits_first s)) [
+  | inl waits ↦
+      let none : handed_for m s (Reads statement) ≡ None = cond-true (waits_first s) None _ waits in
+      let no_answers : 0 ≡ length answers = sym (ap (λ (o : Option Handed). used_for o answers) none) ∙ all in
+      record {
+        comes = cond-true (waits_first s) (barrier_first v s statement) _ waits ∙ sym (cond-true (waits_first s) (barrier_first v s statement) _ waits);
+        uses = ap (λ (o : Option Handed). used_for o (answers ++ later)) none ∙ no_answers;
+      }
+  | inr goes ↦
+      let over : handed_for m s (Reads statement) ≡ handed_over (ground m s s.tx) (statement ∷ []) = cond-false (waits_first s) None _ goes in
+      let own_all : used (ground m s s.tx) (statement ∷ []) answers ≡ length answers = sym (ap (λ (o : Option Handed). used_for o answers) over) ∙ all in
+      let own_enough : lacks (read_in v m g conn s s.tx statement answers) ≡ false = sym (ap lacks (cond-false (waits_first s) (barrier_first v s statement) _ goes)) ∙ enough in
+      let r = read_same v m g conn s s.tx statement answers later own_all own_enough in
+      record {
+        comes = cond-false (waits_first s) (barrier_first v s statement) _ goes ∙ r.comes ∙ sym (cond-false (waits_first s) (barrier_first v s statement) _ goes);
+        uses = ap (λ (o : Option Handed). used_for o (answers ++ later)) over ∙ r.uses;
+      }
+]
 
 pub request_same : (v : View) (m : Machine) (g : Gateway) (conn : ℕ) (request : Request) (answers later : List Answer) → IsExact v m g conn request answers → IsSame v m g conn request answers later
 unfolding on_request handed

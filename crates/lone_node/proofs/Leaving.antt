@@ -6,7 +6,7 @@ use Rattle.std.proofs.lemmas.Bool.Decides.{eqb_tells}
 use Rattle.client_connection.specs.declared.connection.CloseReason.{CloseReason}
 use Rattle.client_connection.specs.declared.connection.CloseReason.TheVariants.{Limit}
 use Rattle.client_connection.specs.Connection.{Conn, opened, reason_of}
-use Rattle.session_rules.specs.Sessions.{Flight, Session, Gateway, fresh}
+use Rattle.session_rules.specs.Sessions.{Flight, Session, Gateway, fresh, is_busy}
 use Rattle.session_rules.specs.Machine.{machine_of}
 use Rattle.session_rules.specs.Events.{tidy, left, on_hangup, connects, connected}
 use Rattle.session_world.specs.Nodes.{Node}
@@ -25,6 +25,7 @@ use Rattle.lone_node.specs.Shows.{Rests, IsQuiet, Holds, Shows}
 use Rattle.lone_node.specs.Taking.{with_waiting, Empties, ClosesFor, Closes}
 use Rattle.lone_node.proofs.Turning.{turn_more}
 use Rattle.lone_node.proofs.Messages.{stream_here, stream_there, stream_again}
+use Rattle.lone_node.proofs.Resting.{none_flies}
 
 -- ---- a client that goes
 
@@ -36,15 +37,15 @@ left_node : (w : Lone) (conn : ℕ) → node_of (turned w (Leave conn)) ≡ with
 unfolding happens
 left_node w conn = turn_more w.turns (Leave conn)
 
-left_idle : (s : Session) (o : Option Flight) → o ≡ None → (left s o).flight ≡ None
+left_idle : (s : Session) (o : Option Flight) → o ≡ None → is_busy (left s o) ≡ false
 left_idle s None e = refl
 left_idle s (Some f) e = absurd cc
 
-gone_idle : (g : Gateway) (conn : ℕ) → ((other : ℕ) → (g.session other).flight ≡ None) → (other : ℕ) → ((on_hangup g conn).session other).flight ≡ None
+gone_idle : (g : Gateway) (conn : ℕ) → ((other : ℕ) → is_busy (g.session other) ≡ false) → (other : ℕ) → is_busy ((on_hangup g conn).session other) ≡ false
 unfolding on_hangup tidy
-gone_idle g conn idle other = cond_both (other == conn) (left (g.session conn) (g.session conn).flight) (g.session other) (λ (s : Session). s.flight ≡ None) (λ e. left_idle (g.session conn) (g.session conn).flight (idle conn)) (λ e. idle other)
+gone_idle g conn idle other = cond_both (other == conn) (left (g.session conn) (g.session conn).flight) (g.session other) (λ (s : Session). is_busy s ≡ false) (λ e. left_idle (g.session conn) (g.session conn).flight (none_flies (g.session conn) (idle conn))) (λ e. idle other)
 
-gated_rests : (node : Node) (gate : Gateway) → Rests node → ((other : ℕ) → (gate.session other).flight ≡ None) → Rests (with_gate node gate)
+gated_rests : (node : Node) (gate : Gateway) → Rests node → ((other : ℕ) → is_busy (gate.session other) ≡ false) → Rests (with_gate node gate)
 gated_rests node gate r idle = record { applied = r.applied; serves = r.serves; term = r.term; answered = idle; calm = r.calm }
 
 quiet_with : (streams : ℕ → Option Conn) (conn : ℕ) (stream : Option Conn) → IsQuiet stream → ((other : ℕ) → other ≢ conn → IsQuiet (streams other)) → (other : ℕ) → IsQuiet (with_stream streams conn stream other)
@@ -162,9 +163,9 @@ joined_node : (w : Lone) (conn : ℕ) → connects (node_of w).gate conn ≡ tru
 unfolding happens
 joined_node w conn e = turn_more w.turns (Join conn) ∙ cond-true (connects (node_of w).gate conn) (joined (node_of w) conn) (node_of w) e
 
-joined_idle : (g : Gateway) (conn : ℕ) → ((other : ℕ) → (g.session other).flight ≡ None) → (other : ℕ) → ((connected g conn).session other).flight ≡ None
+joined_idle : (g : Gateway) (conn : ℕ) → ((other : ℕ) → is_busy (g.session other) ≡ false) → (other : ℕ) → is_busy ((connected g conn).session other) ≡ false
 unfolding connected
-joined_idle g conn idle other = cond_both (other == conn) fresh (g.session other) (λ (s : Session). s.flight ≡ None) (λ e. refl) (λ e. idle other)
+joined_idle g conn idle other = cond_both (other == conn) fresh (g.session other) (λ (s : Session). is_busy s ≡ false) (λ e. refl) (λ e. idle other)
 
 -- how a connection comes, by its session and by the room that there is
 how_joins : (g : Gateway) (conn : ℕ) (how : Joining) → how ≡ joining g conn → how ≡ Joined → connects g conn ≡ true

@@ -6,12 +6,14 @@ pub mod Checkpoints
 pub mod Collecting
 pub mod Commands
 pub mod Entries
+pub mod Fitting
 pub mod Goings
 pub mod Journals
 pub mod Leaving
 pub mod Messages
 pub mod Offering
 pub mod Performing
+pub mod Resting
 pub mod Safety
 pub mod Settling
 pub mod Shown

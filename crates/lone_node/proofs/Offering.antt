@@ -1,11 +1,10 @@
 -- Which message is taken, where messages wait on one connection alone.
 use Rattle.std.proofs.Common.{◌≡◌, ◌≢◌, ◌⊎◌, inl, inr, ℕ, Bool, true, false, List, [], ◌∷◌, Option, Some, None, refl, sym, ap, subst, ◌∙◌}
-use Rattle.std.specs.Prelude.{is_none, not}
 use Rattle.std.specs.Option.{option_or}
 use Rattle.std.proofs.lemmas.Bool.Decides.{eqb_tells}
 use Rattle.wire_words.specs.declared.message.Message.{Message}
 use Rattle.client_connection.specs.Connection.{Conn}
-use Rattle.session_rules.specs.Sessions.{Flight, is_busy}
+use Rattle.session_rules.specs.Sessions.{is_busy}
 use Rattle.client_sessions.specs.Clients.{Clients, Offer, first_of, offered_on, offered, offer_of, next_offer}
 use Rattle.lone_node.specs.Shows.{IsQuiet}
 use Rattle.lone_node.specs.Taking.{Among, at_first, further, with_waiting}
@@ -14,7 +13,7 @@ use Rattle.lone_node.specs.Taking.{Among, at_first, further, with_waiting}
 pub record Waiting (k : Clients) (conn : ℕ) (stream : Conn) (left : List Message) : Type 0 where
   pub here : k.streams conn ≡ Some (with_waiting stream left)
   pub others : (other : ℕ) → other ≢ conn → IsQuiet (k.streams other)
-  pub idle : (other : ℕ) → (k.sessions.session other).flight ≡ None
+  pub idle : (other : ℕ) → is_busy (k.sessions.session other) ≡ false
 
 -- the offer is the first of these
 pub record Offers (conn : ℕ) (stream : Conn) (left : List Message) (offer : Offer) : Type 0 where
@@ -35,12 +34,9 @@ none_on conn turns true stream quiet = refl
 none_on conn turns false None quiet = refl
 none_on conn turns false (Some c) quiet = ap (first_of conn turns c) quiet
 
-idle_is : (o : Option Flight) → o ≡ None → not (is_none o) ≡ false
-idle_is o e = ap (λ (x : Option Flight). not (is_none x)) e
-
 on_it : (k : Clients) (conn : ℕ) (stream : Conn) (left : List Message) (turns : List ℕ) → Waiting k conn stream left → offered k conn turns ≡ first_of conn turns (with_waiting stream left) left
 on_it k conn stream left turns w =
-    ap (λ (busy : Bool). offered_on conn turns busy (k.streams conn)) (idle_is (k.sessions.session conn).flight (w.idle conn))
+    ap (λ (busy : Bool). offered_on conn turns busy (k.streams conn)) (w.idle conn)
     ∙ ap (offered_on conn turns false) w.here
 
 none_offered : (k : Clients) (conn : ℕ) (stream : Conn) (turns : List ℕ) → Waiting k conn stream [] → offer_of k turns ≡ None

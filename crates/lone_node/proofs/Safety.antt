@@ -4,10 +4,10 @@ use Rattle.std.proofs.lemmas.List.{append-nil}
 use Rattle.std.proofs.lemmas.Bool.{cond_both}
 use Rattle.sql_engine.specs.declared.kind.EngineKind.{EngineKind}
 use Rattle.sql_engine.specs.Meanings.{Meaning}
-use Rattle.session_rules.specs.Sessions.{Turned, Refused, Lacks, Answers, Proposes, Affects, may_ask}
+use Rattle.session_rules.specs.Sessions.{Turned, Refused, Lacks, Answers, Proposes, Lends, Affects, may_ask}
 use Rattle.session_rules.specs.Events.{connects}
 use Rattle.session_world.specs.Nodes.{Node, started}
-use Rattle.session_world.specs.Life.{Event, Connect, Hangup, Call, Apply, Lose, Lead, Serve, Append, Follow, called, happens, run_from}
+use Rattle.session_world.specs.Life.{Event, Connect, Hangup, Call, Resume, Done, Apply, Lose, Lead, Serve, Append, Follow, called, happens, run_from}
 use Rattle.session_world.specs.Alone.{Turn, Timeout, Join, Leave, Ask, applies, settling, events_of, takes_turn, alone_from, alone, AllowsTurn, AllowsTurns, SaysInTime, NoneJoins}
 use Rattle.session_world.specs.Laws.{Sees}
 use Rattle.session_world.proofs.Alones.{alone_is_safe_holds, turns_say_hold, turns_see_hold}
@@ -34,11 +34,14 @@ lasts_called w c (Refused why) = says_more w (called w c (Refused why)) _ refl r
 lasts_called w c Lacks = lasts_refl w
 lasts_called w c (Answers s r note) = says_more w (called w c (Answers s r note)) _ refl refl
 lasts_called w c (Affects effect) = says_more w (called w c (Affects effect)) _ refl refl
+lasts_called w c (Lends s job) = record { more = []; log = sym (append-nil w.log); later = []; said = sym (append-nil w.said) }
 lasts_called w c (Proposes s contents note) = record { more = _; log = refl; later = []; said = sym (append-nil w.said) }
 
--- what others' entries don't change
+-- an event of one voter: neither others' entries nor a query that is answered later than it was asked
 abbrev IsOwn : Event → Type 0
 IsOwn (Follow entries) = ⊥
+IsOwn (Resume conn standing answers) = ⊥
+IsOwn (Done conn answers) = ⊥
 IsOwn e = Unit {0}
 
 abbrev AllOwn : List Event → Type 0
@@ -50,6 +53,8 @@ unfolding happens
 lasts_event w (Connect c) own = cond_both (connects w.gate c) _ w (Lasts w) (λ e. record { more = []; log = sym (append-nil w.log); later = []; said = sym (append-nil w.said) }) (λ e. lasts_refl w)
 lasts_event w (Hangup c) own = record { more = []; log = sym (append-nil w.log); later = []; said = sym (append-nil w.said) }
 lasts_event w (Call c standing r answers) own = cond_both (may_ask (w.gate.session c)) _ w (Lasts w) (λ e. lasts_called w c _) (λ e. lasts_refl w)
+lasts_event w (Resume c standing answers) own = absurd own
+lasts_event w (Done c answers) own = absurd own
 lasts_event w Apply own = record { more = []; log = sym (append-nil w.log); later = _; said = refl }
 lasts_event w (Lose t) own = record { more = []; log = sym (append-nil w.log); later = _; said = refl }
 lasts_event w (Lead t) own = record { more = []; log = sym (append-nil w.log); later = []; said = sym (append-nil w.said) }

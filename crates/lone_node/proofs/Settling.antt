@@ -8,8 +8,8 @@ use Rattle.wire_msgs.specs.declared.request.Request.{Request}
 use Rattle.session_rules.specs.Entries.{Content, Entry, entries_of}
 use Rattle.session_rules.specs.Machine.{Machine, files, files_from, done}
 use Rattle.session_rules.specs.Engines.{Answer}
-use Rattle.session_rules.specs.Sessions.{Reply, Kind, Opening, Configuring, Writing, Committing, Flight, Session}
-use Rattle.session_rules.specs.Events.{on_applied, landed_reply, told_by, told_applied}
+use Rattle.session_rules.specs.Sessions.{Reply, Kind, Opening, Configuring, Writing, Committing, Querying, Flight, Session}
+use Rattle.session_rules.specs.Events.{on_applied, landed_reply, told_to, told_by, told_applied}
 use Rattle.session_world.specs.Nodes.{Said, Trail, Node, Standing, databases, applied_entries}
 use Rattle.session_world.specs.Life.{Call, Apply, Append, said_landed, said_by, said_applied, happens, run_from}
 use Rattle.session_world.specs.Alone.{Ask, applies, settling, due, settled, checkpointed, takes_turn}
@@ -48,14 +48,15 @@ one_more : (front : List Entry) (e : Entry) → files (front ++ e ∷ []) ≡ do
 one_more front e = files_append front (e ∷ [])
 
 -- what is said when an entry is applied
-told_kind : (conn : ℕ) (t : Trail) (f : Flight) (k : Kind) → map said_to (said_landed conn t f k ∷ []) ≡ (conn, landed_reply k) ∷ []
+told_kind : (conn : ℕ) (t : Trail) (f : Flight) (k : Kind) → map said_to (said_landed conn t f k) ≡ told_to conn (landed_reply k)
 told_kind conn t f Opening = refl
 told_kind conn t f Configuring = refl
 told_kind conn t f (Writing reply) = refl
 told_kind conn t f Committing = refl
+told_kind conn t f (Querying statement) = refl
 
 told_ends : (conn : ℕ) (t : Trail) (f : Flight) (ends hung : Bool)
-    → map said_to (cond ends (cond hung [] (said_landed conn t f f.kind ∷ [])) []) ≡ cond ends (cond hung [] ((conn, landed_reply f.kind) ∷ [])) []
+    → map said_to (cond ends (cond hung [] (said_landed conn t f f.kind)) []) ≡ cond ends (cond hung [] (told_to conn (landed_reply f.kind))) []
 told_ends conn t f false hung = refl
 told_ends conn t f true true = refl
 told_ends conn t f true false = told_kind conn t f f.kind

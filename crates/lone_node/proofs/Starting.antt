@@ -1,20 +1,19 @@
 -- A voter that has just started, and its first timeout.
 use Rattle.std.proofs.Common.{◌≡◌, ℕ, suc, true, false, List, [], ◌∷◌, ◌++◌, refl, sym, ap, subst, ◌∙◌, append-nil, length-append, arith, Option, Some, None}
-use Rattle.std.specs.Prelude.{codes}
 use Rattle.std.proofs.lemmas.Bool.{cond-true, cond-false}
 use Rattle.page_apply.specs.declared.database.Database.{Database}
 use Rattle.client_connection.specs.Connection.{Conn}
+use Rattle.raft_rules.specs.Node.{voters}
 use Rattle.session_rules.specs.Entries.{Content, Other}
 use Rattle.session_rules.specs.Machine.{machine_of, files}
 use Rattle.session_rules.specs.Engines.{Answer}
-use Rattle.session_rules.specs.Sessions.{View, Flight, Session, Gateway}
+use Rattle.session_rules.specs.Sessions.{View, Flight, Session, Gateway, is_busy}
 use Rattle.session_rules.specs.Events.{tidy, settled_by, on_applied}
 use Rattle.session_world.specs.Nodes.{Said, Node, databases, started}
 use Rattle.session_world.specs.Life.{Lead, Append, Apply, Serve, happens, run_from}
 use Rattle.session_world.specs.Alone.{Timeout, alone, due}
-use Rattle.gateway.specs.Calls.{HasShortTerm}
+use Rattle.gateway.specs.Calls.{HasShortTerm, IsConfigured}
 use Rattle.client_sessions.specs.Clients.{no_clients}
-use Rattle.client_sessions.specs.Sending.{HasPlainAddresses}
 use Rattle.client_sessions.specs.Seen.{clients_of, StandOver, HasNoMarks}
 use Rattle.client_sessions.specs.declared.clients.Clients.{Clients as Held}
 use Rattle.lone_node.specs.declared.voter.Voter.{Voter}
@@ -23,6 +22,7 @@ use Rattle.lone_node.specs.Lone.{Lone, own_server, fresh, node_of, view_now, sta
 use Rattle.lone_node.specs.Applying.{IsFor, At, Going}
 use Rattle.lone_node.proofs.Turning.{turn_more, new_said}
 use Rattle.lone_node.proofs.Checkpoints.{reached}
+use Rattle.lone_node.proofs.Resting.{none_flies}
 use Rattle.lone_node.proofs.Settling.{at_databases, at_rest, at_next, next_databases, settled_end, settled_next}
 use Rattle.lone_node.specs.Shows.{IsSound, Rests, Holds, Shows}
 
@@ -46,17 +46,18 @@ starts new none machine view journal = record {
   quiet = λ conn. tt;
 }
 
-plain_start : HasPlainAddresses starting_view
-plain_start = record { leader = tt; servers = (refl, tt) }
-
 short_start : HasShortTerm starting_view
 short_start = λ e. absurd cc
+
+configured_start : IsConfigured starting_view
+unfolding voters
+configured_start = record { ascend = (omega arith, tt); each = ((omega arith, refl, omega arith), tt); few = omega arith; few_voters = omega arith }
 
 pub starts_sound : (new : Voter) → ((ds : List Database) → HasNoMarks ds → StandOver new.clients ds) → new.machine ≡ [] → new.view ≡ starting_view → IsSound new
 starts_sound new stand machine view = record {
   stands = subst (StandOver new.clients) (sym machine) (stand [] (λ pin live. live));
-  plain = subst HasPlainAddresses (sym view) plain_start;
   short = subst HasShortTerm (sym view) short_start;
+  configured = subst IsConfigured (sym view) configured_start;
 }
 
 -- ---- timeouts
@@ -100,12 +101,11 @@ leader_said : (node : Node) → (leader_of node).said ≡ node.said
 unfolding happens
 leader_said node = refl
 
-leader_view : (node : Node) → node.serving ≡ false → elected (view_now node) own_server ≡ view_now (leader_of node)
+leader_view : (node : Node) → node.serving ≡ false → elected (view_now node) ≡ view_now (leader_of node)
 unfolding happens
 leader_view node off = λ i. record {
   id = 1;
-  address = codes "n1";
-  leader = Some own_server;
+  leader = Some 1;
   serving = off i;
   term = 1;
   last = node.applied;
@@ -119,7 +119,7 @@ leader_databases : (node : Node) → Rests node → databases (leader_of node) �
 leader_databases node r = at_databases (leader_of node) node.log (Other ∷ []) (leader_at node r) ∙ sym (at_databases node node.log [] (at_rest node r.applied))
 
 elected_going : (mid : Voter) (node : Node) (streams : ℕ → Option Conn) (turns : List ℕ) (said : List Say) → Rests node → node.serving ≡ false
-    → clients_of mid.clients mid.machine ≡ record { sessions = node.gate; streams = streams; turns = turns } → machine_of mid.machine ≡ databases node → mid.view ≡ elected (view_now node) own_server
+    → clients_of mid.clients mid.machine ≡ record { sessions = node.gate; streams = streams; turns = turns } → machine_of mid.machine ≡ databases node → mid.view ≡ elected (view_now node)
     → Going mid (leader_of node) (Other ∷ []) streams turns said said
 elected_going mid node streams turns said r off held machine view = record {
   node = leader_of node;
@@ -146,13 +146,13 @@ serving_of node = happens (happens (leader_of node) Apply) Serve
 served_node : (w : Lone) → (node_of w).leads ≡ false → alone (w.turns ++ Timeout ∷ []) ≡ serving_of (node_of w)
 served_node w off = turn_more w.turns Timeout ∙ ap (run_from (node_of w)) (cond-false (node_of w).leads [] (Lead 1 ∷ Append (Other ∷ []) ∷ Apply ∷ Serve ∷ []) off)
 
-settled_idle : (index : ℕ) (s : Session) (o : Option Flight) → o ≡ None → s.flight ≡ None → (settled_by index s o).flight ≡ None
+settled_idle : (index : ℕ) (s : Session) (o : Option Flight) → o ≡ None → is_busy s ≡ false → is_busy (settled_by index s o) ≡ false
 settled_idle index s None e f = f
 settled_idle index s (Some x) e f = absurd cc
 
-applied_idle : (index : ℕ) (g : Gateway) → ((conn : ℕ) → (g.session conn).flight ≡ None) → (conn : ℕ) → ((on_applied index g).session conn).flight ≡ None
+applied_idle : (index : ℕ) (g : Gateway) → ((conn : ℕ) → is_busy (g.session conn) ≡ false) → (conn : ℕ) → is_busy ((on_applied index g).session conn) ≡ false
 unfolding on_applied tidy
-applied_idle index g idle conn = settled_idle index (g.session conn) (g.session conn).flight (idle conn) (idle conn)
+applied_idle index g idle conn = settled_idle index (g.session conn) (g.session conn).flight (none_flies (g.session conn) (idle conn)) (idle conn)
 
 served_databases : (node : Node) → Rests node → databases (serving_of node) ≡ databases node
 unfolding happens
@@ -181,7 +181,7 @@ serve_said : (u : Node) → (happens u Serve).said ≡ u.said
 unfolding happens
 serve_said u = refl
 
-pub times_first : (old mid applied last : Voter) (said_old said_new : List Say) → old.view.serving ≡ false → mid.clients ≡ old.clients → mid.machine ≡ old.machine → mid.view ≡ elected old.view own_server
+pub times_first : (old mid applied last : Voter) (said_old said_new : List Say) → old.view.serving ≡ false → mid.clients ≡ old.clients → mid.machine ≡ old.machine → mid.view ≡ elected old.view
     → ((from : Node) (content : Content) (left : List Content) (streams : ℕ → Option Conn) (ahead : List ℕ) (before : List Say) → Going mid from (content ∷ left) streams ahead before said_old → IsFor None content → Going applied from left streams ahead before said_new)
     → last.clients ≡ applied.clients → last.machine ≡ applied.machine → last.view ≡ serving applied.view → (w : Lone) → Shows old w → Times last w said_old said_new
 unfolding times_out said_in
@@ -191,7 +191,7 @@ times_first old mid applied last said_old said_new off mid_clients mid_machine m
     let quiet : node.serving ≡ false = sym (ap (λ (v : View). v.serving) x.holds.view_is) ∙ off in
     let held = ap (λ (c : Held). clients_of c mid.machine) mid_clients ∙ ap (clients_of old.clients) mid_machine ∙ x.holds.clients in
     let g = goes (leader_of node) Other [] w.streams x.turns said_old
-    (elected_going mid node w.streams x.turns said_old r quiet held (ap machine_of mid_machine ∙ x.holds.machine_is) (mid_view ∙ ap (λ (v : View). elected v own_server) x.holds.view_is)) (λ m. refl) in
+    (elected_going mid node w.streams x.turns said_old r quiet held (ap machine_of mid_machine ∙ x.holds.machine_is) (mid_view ∙ ap elected x.holds.view_is)) (λ m. refl) in
     let at = leader_at node r in
     let there : g.node ≡ happens (leader_of node) Apply = reached applied (leader_of node) w.streams x.turns said_old said_new g ∙ settled_next (leader_of node) node.log Other [] at ∙ settled_end (happens (leader_of node) Apply) _ (at_next (leader_of node) node.log Other [] at) in
     let is = served_node w (sym r.serves ∙ quiet) in

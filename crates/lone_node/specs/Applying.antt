@@ -75,6 +75,7 @@ pub record Settles (code : Voter) (from : Node) (streams : ℕ → Option Conn) 
 abbrev pub says_of : Act → List Say
 says_of (acts.Reply conn messages) = map (λ (message : List ℕ). says.Reply conn message) messages
 says_of (acts.Propose conn entries) = []
+says_of (acts.Lend conn job) = []
 says_of (acts.Transfer conn to reply) = says.Reply conn reply ∷ []
 says_of (acts.Peer conn id reply) = says.Reply conn reply ∷ []
 
@@ -87,5 +88,6 @@ pub record OnlySays (act : Act) (old new : Voter) (before now : List Say) : Type
 abbrev pub Performs : Act → Voter → Voter → List Say → List Say → Type 0
 Performs (acts.Reply conn messages) old new before now = OnlySays (acts.Reply conn messages) old new before now
 Performs (acts.Propose conn entries) old new before now = (from : Node) (contents : List Content) (streams : ℕ → Option Conn) (ahead : List ℕ) (start : List Say) → Going old from contents streams ahead start before → AreFor entries contents → Settles new from streams ahead start now
+Performs (acts.Lend conn job) old new before now = OnlySays (acts.Lend conn job) old new before now
 Performs (acts.Transfer conn to reply) old new before now = OnlySays (acts.Transfer conn to reply) old new before now
 Performs (acts.Peer conn id reply) old new before now = OnlySays (acts.Peer conn id reply) old new before now

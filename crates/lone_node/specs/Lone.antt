@@ -4,6 +4,7 @@ use Rattle.std.specs.Prelude.{ℕ, true, false, List, [], ◌∷◌, ◌++◌, c
 use Rattle.std.specs.Option.{option_map}
 use Rattle.wire_words.specs.declared.message.Message.{Message}
 use Rattle.wire_msgs.specs.declared.request.Request.{Request}
+use Rattle.wire_msgs.specs.declared.request.Request.TheVariants as requests
 use Rattle.wire_msgs.specs.declared.response.Response.{Response}
 use Rattle.wire_msgs.specs.declared.fault.MsgFault.{MsgFault}
 use Rattle.wire_msgs.specs.Reading.{request_of}
@@ -66,8 +67,7 @@ own_server = record { id = 1; address = codes "n1"; role = 0 }
 abbrev pub standing : Node → Standing
 standing node = record {
   id = 1;
-  address = codes "n1";
-  leader = if node.leads then Some own_server else None;
+  leader = if node.leads then Some 1 else None;
   servers = own_server ∷ [];
   links = false;
   readers = false;
@@ -82,8 +82,7 @@ view node = view_of node (standing node)
 abbrev pub view_now : Node → View
 view_now node = record {
   id = 1;
-  address = codes "n1";
-  leader = if node.leads then Some own_server else None;
+  leader = if node.leads then Some 1 else None;
   serving = node.serving;
   term = node.term;
   last = node.applied;
@@ -95,14 +94,14 @@ view_now node = record {
 
 -- what it is before anything happened
 abbrev pub starting_view : View
-starting_view = record { id = 1; address = codes "n1"; leader = None; serving = false; term = 0; last = 0; servers = own_server ∷ []; links = false; readers = false; even = [] }
+starting_view = record { id = 1; leader = None; serving = false; term = 0; last = 0; servers = own_server ∷ []; links = false; readers = false; even = [] }
 
 -- the leader of term 1
-abbrev pub elected : View → Server → View
-elected v leader = record { id = v.id; address = v.address; leader = Some leader; serving = v.serving; term = 1; last = v.last; servers = v.servers; links = v.links; readers = v.readers; even = v.even }
+abbrev pub elected : View → View
+elected v = record { id = v.id; leader = Some 1; serving = v.serving; term = 1; last = v.last; servers = v.servers; links = v.links; readers = v.readers; even = v.even }
 
 abbrev pub serving : View → View
-serving v = record { id = v.id; address = v.address; leader = v.leader; serving = true; term = v.term; last = v.last; servers = v.servers; links = v.links; readers = v.readers; even = v.even }
+serving v = record { id = v.id; leader = v.leader; serving = true; term = v.term; last = v.last; servers = v.servers; links = v.links; readers = v.readers; even = v.even }
 
 -- ---- turns, and what is said in them
 
@@ -126,6 +125,20 @@ unfoldable pub said_in : Lone → Turn → List Say
 said_in w t = messages_of (drop (length (node_of w).said) (alone (w.turns ++ t ∷ [])).said)
 
 -- ---- requests
+
+-- A request as a voter takes it that has no others: barrier reads are left out of an OPEN, as its own image is never older than
+-- what it has answered; and one that would change the servers is refused as one that names no server of the cluster.
+unfoldable pub taken_alone : Request → Request
+taken_alone (requests.Open name flags vfs) = requests.Open name 0 vfs
+taken_alone (requests.Add id address) = requests.Transfer 0
+taken_alone (requests.Assign id role) = requests.Transfer 0
+taken_alone (requests.Remove id) = requests.Transfer 0
+taken_alone request = request
+
+-- what a message reads as, as such a voter takes it
+abbrev pub read_alone : Result Request MsgFault → Result Request MsgFault
+read_alone (Ok request) = Ok (taken_alone request)
+read_alone (Err fault) = Err fault
 
 -- what comes of a request by these answers
 abbrev pub outcome : Node → ℕ → Request → List Answer → Turned
@@ -152,9 +165,9 @@ asks w conn request =
 abbrev pub replies_to : ℕ → List Response → List Say
 replies_to conn responses = map (λ (message : List ℕ). says.Reply conn message) (bytes_of responses)
 
--- A message that doesn't read as a request is refused, and nothing happens at the node.
+-- A message comes as the request that it reads as. One that doesn't read as a request is refused, and nothing happens at the node.
 abbrev pub comes : Lone → ℕ → Result Request MsgFault → Option (Lone × List Say)
-comes w conn (Ok request) = asks w conn request
+comes w conn (Ok request) = asks w conn (taken_alone request)
 comes w conn (Err fault) = Some (w, replies_to conn (failure (unread_cause fault) ∷ []))
 
 -- what was said before stands in front

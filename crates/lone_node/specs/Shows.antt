@@ -1,14 +1,13 @@
 -- Which runs the code of one voter shows.
-use Rattle.std.specs.Prelude.{◌≡◌, ℕ, List, [], length, Option, Some, None, if◌then◌else◌}
+use Rattle.std.specs.Prelude.{◌≡◌, ℕ, false, List, [], length, Option, Some, None, if◌then◌else◌}
 use Rattle.client_connection.specs.Connection.{Conn}
 use Rattle.sql_engine.specs.Known.{Known}
 use Rattle.page_apply.specs.declared.database.Database.{Database}
 use Rattle.session_rules.specs.Machine.{machine_of}
-use Rattle.session_rules.specs.Sessions.{View}
+use Rattle.session_rules.specs.Sessions.{View, is_busy}
 use Rattle.session_world.specs.Nodes.{Node, databases}
 use Rattle.session_world.specs.Alone.{due}
-use Rattle.gateway.specs.Calls.{HasShortTerm}
-use Rattle.client_sessions.specs.Sending.{HasPlainAddresses}
+use Rattle.gateway.specs.Calls.{HasShortTerm, IsConfigured}
 use Rattle.client_sessions.specs.Seen as clients
 use Rattle.client_sessions.specs.Seen.{clients_of, StandOver}
 use Rattle.client_sessions.specs.declared.clients.Clients.{Clients as Held}
@@ -18,8 +17,8 @@ use Rattle.lone_node.specs.Lone.{Lone, node_of, view_now}
 -- The clients stand over the databases, and what the node is can be told to them.
 pub record IsSound (code : Voter) : Type 0 where
   pub stands : StandOver code.clients code.machine
-  pub plain : HasPlainAddresses code.view
   pub short : HasShortTerm code.view
+  pub configured : IsConfigured code.view
 
 -- no number stands for two images: neither for an engine, nor for the clients' transactions, nor for the databases
 abbrev pub Agrees : List Known → Voter → Type 0
@@ -34,7 +33,7 @@ pub record Rests (node : Node) : Type 0 where
   pub applied : node.applied ≡ length node.log
   pub serves : node.serving ≡ node.leads
   pub term : node.term ≡ (if node.leads then 1 else 0)
-  pub answered : (conn : ℕ) → (node.gate.session conn).flight ≡ None
+  pub answered : (conn : ℕ) → is_busy (node.gate.session conn) ≡ false
   pub calm : due (databases node) ≡ []
 
 -- no message waits on a connection, where it is open

@@ -160,9 +160,7 @@ impl Voter {
     {
         let index = next_index(self.view.last)?;
         perform(&mut self.machine, command)?;
-        let told = self
-            .clients
-            .on_applied(index, self.view.term, &mut self.machine)?;
+        let told = self.clients.on_applied(index, &mut self.machine)?;
         self.view.last = index;
         tell(told, said)
     }

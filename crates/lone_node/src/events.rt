@@ -12,17 +12,11 @@ use crate::voter::Voter;
 use client_connection::CloseReason;
 use client_sessions::{Clients, Joining};
 use dq_base::Items;
-use gateway::View;
+use gateway::{StepLimits, View};
 use page_apply::{Database, Machine};
 use raft_vote::{Server, ServerRole};
 use std::alloc::{AllocError, Global};
 use wire_words::WireText;
-
-fn own_address(alloc: Global) -> Result<WireText, AllocError>
-    ensures { IfOk result (λ address. address ≡ own_server.address) }
-{
-    Ok(WireText::new(String::from_str(alloc, "n1")?))
-}
 
 /// The server that it is.
 fn own_server(alloc: Global) -> Result<Server, AllocError>
@@ -30,7 +24,7 @@ fn own_server(alloc: Global) -> Result<Server, AllocError>
 {
     Ok(Server {
         id: 1,
-        address: own_address(alloc)?,
+        address: WireText::new(String::from_str(alloc, "n1")?),
         role: ServerRole::Voter,
     })
 }
@@ -47,12 +41,12 @@ fn gets_in(how: Joining) -> bool
 }
 
 /// It becomes the leader of term 1.
-fn elect(view: &mut View, leader: Server)
+fn elect(view: &mut View)
     requires { HasShortTerm view.old }
-    ensures elected { view.new ≡ elected view.old leader }
+    ensures elected { view.new ≡ elected view.old }
     ensures short { HasShortTerm view.new }
 {
-    view.leader = Some(leader);
+    view.leader = Some(1);
     view.term = 1;
 }
 
@@ -71,7 +65,6 @@ fn starting_view(alloc: Global) -> Result<View, AllocError>
     servers.push(own_server(alloc)?)?;
     Ok(View {
         id: 1,
-        address: own_address(alloc)?,
         leader: None,
         serving: false,
         term: 0,
@@ -80,6 +73,7 @@ fn starting_view(alloc: Global) -> Result<View, AllocError>
         links: false,
         readers: false,
         even: Items::new(Vec::new(alloc)),
+        steps: StepLimits::none(),
     })
 }
 
@@ -112,8 +106,7 @@ impl Voter {
         if self.view.serving {
             return Ok(());
         }
-        let leader = own_server(self.alloc)?;
-        elect(&mut self.view, leader);
+        elect(&mut self.view);
         self.apply(&None, said)?;
         serve(&mut self.view);
         Ok(())

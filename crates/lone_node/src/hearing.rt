@@ -12,9 +12,10 @@ ghost use Rattle.lone_node.specs.Safe.{Allowed};
 ghost use Rattle.lone_node.specs.Shows.{Agrees, IsSound, Shows, StaysAgreed};
 ghost use Rattle.lone_node.specs.Taking.{Waits, TakesOne, TakesNone, TakesAll, Empties, Closes, Heard};
 
+use crate::reading::read_alone;
 use crate::say::Say;
 use crate::voter::Voter;
-use client_sessions::Act;
+use client_sessions::{Act, read_message};
 use dq_base::Items;
 use sql_engine::Engine;
 use std::alloc::{AllocError, Global};
@@ -44,6 +45,8 @@ impl Voter {
                 self.apply_all(entries.as_slice(), said)?;
                 self.checkpoint(said)
             }
+            // It has no readers, so that no query is lent.
+            Act::Lend { .. } => Ok(()),
             Act::Transfer { conn, reply, .. } | Act::Peer { conn, reply, .. } => {
                 said.push(Say::Reply {
                     conn,
@@ -69,13 +72,16 @@ impl Voter {
         ensures stays { Stays (E.kind engine.old) (E.kind engine.new) (E.refused_openings engine.old) (E.refused_openings engine.new) }
         ensures sound { IsSound self.new }
     {
-        match self.clients.next(&self.view, &mut self.machine, engine)? {
-            Some(act) => {
-                self.perform(act, said)?;
-                Ok(true)
-            }
-            None => Ok(false),
-        }
+        let Some((conn, message)) = self.clients.take() else {
+            return Ok(false);
+        };
+        let asked = read_alone(read_message(self.alloc, &message)?);
+        let machine = &mut self.machine;
+        let act = self
+            .clients
+            .answer(conn, asked, &self.view, machine, engine)?;
+        self.perform(act, said)?;
+        Ok(true)
     }
 
     /// Takes all messages that wait.

@@ -6,6 +6,7 @@ mod events;
 mod hearing;
 mod laws;
 mod node;
+mod reading;
 mod say;
 mod voter;
 

@@ -1,9 +1,14 @@
-use Rattle.std.proofs.Common.{refl}
-use Rattle.lone_node.proofs.Messages.{takes_one, takes_none}
+use Rattle.std.proofs.Common.{refl, ap, ◌∙◌}
+use Rattle.lone_node.specs.Lone.{read_alone}
+use Rattle.lone_node.proofs.Messages.{took_one, takes_one, takes_none}
 use Rattle.lone_node.proofs.voter.Voter.take_message.Goals as goal
 
-pub returns-in_ok-perform-in-Some-clause-took : goal.returns-in_ok-perform-in-Some-clause-took
-returns-in_ok-perform-in-Some-clause-took g c = takes_one _ _ _ _ _ _ _ _ _ c.in_ok-act.field-0 c.in-Some.act _ _ c.in-Some.is c.requires.sound refl c.in_ok-act.ensures.files c.in_ok-act.ensures.turn c.in_ok-perform-in-Some.ensures.performs
+pub returns-clause-took : goal.returns-clause-took
+returns-clause-took g c =
+    let machine = c.args.self.now.machine in
+    takes_one _ _ c.args.self.now _ _ _ _ _ _ c.in_ok-act.act _ _ refl c.in_ok-act.ensures.files
+    (took_one _ _ _ _ _ _ _ c.in-Some.conn c.in-Some.message _ _ _ _ _ c.in_ok-act.act (c.in-Some.ensures.took machine) (c.in-Some.ensures.ready machine c.requires.sound.stands) (c.read_alone-asked.ensures.read ∙ ap read_alone c.in_ok-read_message.ensures.read) c.in_ok-act.ensures.came c.in_ok-act.ensures.rest)
+    c.in_ok-perform.ensures.performs
 
-pub returns-in-None-clause-took : goal.returns-in-None-clause-took
-returns-in-None-clause-took g c = takes_none _ _ _ _ _ _ _ _ c.in_ok-act.field-0 _ c.in-None.is refl c.in_ok-act.ensures.files c.in_ok-act.ensures.turn
+pub returns-in_default-clause-took : goal.returns-in_default-clause-took
+returns-in_default-clause-took g c = λ w conn stream left allowed x. takes_none c.args.self.now _ _ _ refl refl (c.in_default.ensures.took c.args.self.now.machine) w conn stream left x
