@@ -5,5 +5,8 @@ mod Steps
 mod OwnSnapshots
 mod Looks
 mod TwinKeeps
-mod Follows
+mod LogFollows
+mod CommitRises
+mod Tellings
+mod KeptParts
 mod MailPlaces

@@ -155,8 +155,8 @@ module _ (h : NodeValue) (i : ℕ) (ok : IsCoherent h) (has : HasTerm (node_of h
       known_map tells new _ (λ d. StopsIn (node_of h) t was bytes count total (folder d)) (stores (own_fits was bytes) has).1
       (λ d x. record {
         crash = λ g left fair. ⊎_elim (λ (a : kept_in g ≡ Loaded (kept_at (node_of h) was)). before e a)
-            (λ (b : IsLonger node_format 10000000000000000 g h.term h.vote (snap_of bytes) (log_from cut (node_of h).log)). after (omega arith)
-            (subst (λ (k : Kept). IsLonger node_format 10000000000000000 g k.term k.vote k.snap k.log) (own_written was bytes t o) b)) (x.crash g left fair);
+            (λ (b : IsLonger node_format 10000000000000000 g h.term h.vote (snap_of bytes) (kept_at (node_of h) was).log (log_from cut (node_of h).log)). after (omega arith)
+            (subst (λ (k : Kept). IsLonger node_format 10000000000000000 g k.term k.vote k.snap (kept_at (node_of h) was).log k.log) (own_written was bytes t o) b)) (x.crash g left fair);
         seen = x.seen;
       })
 

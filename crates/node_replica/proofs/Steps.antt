@@ -26,8 +26,9 @@ use Rattle.disk_model.proofs.Runs.{known_map}
 use Rattle.store_laws.specs.Names.{NodeFiles}
 use Rattle.store_laws.specs.Store.{Snap, Log, Kept, Loaded}
 use Rattle.store_laws.specs.Meta.{with_vote}
-use Rattle.store_laws.specs.Snapshots.{IsLonger, with_snapshot}
+use Rattle.store_laws.specs.Snapshots.{given, IsLonger, with_snapshot}
 use Rattle.store_format.specs.NodeFormat.{node_format}
+use Rattle.store_format.specs.FilesRead.{snap_kept}
 use Rattle.segment_store.specs.Open.{Open}
 use Rattle.segment_store.specs.declared.fault.StoreFault.{StoreFault}
 use Rattle.segment_store.specs.Keeps.{folder, OldOrNew}
@@ -35,12 +36,13 @@ use Rattle.segment_store.specs.Keeping.{OldOrKept, snap_value}
 use Rattle.segment_store.specs.Loading.{kept_in}
 use Rattle.node_replica.specs.Terms.{HasTerm}
 use Rattle.node_replica.specs.Keeping.{kept_at, log_from, voted, one_of, kept_snapshot, Has, Stores, KeepsLog}
-use Rattle.node_replica.specs.Replicas.{ReplicaValue, IsWhole, IsIntake, IsKept, kept_of, end_of, stepped, said, bytes_in, bytes_after}
+use Rattle.node_replica.specs.Replicas.{ReplicaValue, IsNoneAtZero, IsWhole, IsIntake, IsKept, kept_of, end_of, stepped, said, bytes_in, bytes_after, snap_after}
 use Rattle.node_replica.specs.Stops.{votes_between, before, between, after, StopsIn, Stops}
 use Rattle.node_replica.specs.Letters.{letter, Carries, CarriesIn, Tells}
 use Rattle.node_replica.proofs.StepShapes.{step_has_term, step_speaks, IsFront, IsIntake as IsRuleIntake, SpeaksOf, SpeakOf}
 use Rattle.node_replica.proofs.KeptLogs.{Stepped, stepped_of, nothing_written, batch_fits, batch_written, snapshot_fits, snapshot_written}
 use Rattle.node_replica.proofs.KeptStates.{seen}
+use Rattle.node_replica.proofs.CommitRises.{commit_rises}
 
 -- ---- the event
 
@@ -84,6 +86,18 @@ abbrev came_bytes : List ℕ → Option Snapshot → List ℕ
 came_bytes was None = was
 came_bytes was (Some s) = s.bytes
 
+abbrev pub came_snap : Snap → Option Snapshot → Snap
+came_snap was None = was
+came_snap was (Some s) = snap_value s
+
+snaps_are : (s t : rules.Node) (event : RaftEvent) (install : Option Snapshot) (batch : Option ℕ) (was : Snap) → s.snapshot.index ≤ s.commit → IsLogWrite s t (option_map snapshot_end install) batch → IsOffered event install → cond (nat_lt s.commit t.snapshot.index) (snap_kept (offered event)) was ≡ came_snap was install
+snaps_are s t event None batch was low w o = cond_both (nat_lt s.commit t.snapshot.index) _ _ (λ (l : Snap). l ≡ was)
+    (λ e. let lt = ltb-true _ _ e in let i : t.snapshot.index ≡ s.snapshot.index = ap (λ (x : LogEnd). x.index) w.0 in absurd (omega arith))
+    (λ e. refl)
+snaps_are s t event (Some snap) batch was low w o = cond_both (nat_lt s.commit t.snapshot.index) _ _ (λ (l : Snap). l ≡ snap_value snap)
+    (λ e. ap snap_kept o)
+    (λ e. let le = ltb-false _ _ e in let lt : s.commit < t.snapshot.index = w.0 in absurd (omega arith))
+
 bytes_are : (s t : rules.Node) (event : RaftEvent) (install : Option Snapshot) (batch : Option ℕ) (was : List ℕ) → s.snapshot.index ≤ s.commit → IsLogWrite s t (option_map snapshot_end install) batch → IsOffered event install → cond (nat_lt s.commit t.snapshot.index) (bytes_in (offered event)) was ≡ came_bytes was install
 bytes_are s t event None batch was low w o = cond_both (nat_lt s.commit t.snapshot.index) _ _ (λ (l : List ℕ). l ≡ was)
     (λ e. let lt = ltb-true _ _ e in let i : t.snapshot.index ≡ s.snapshot.index = ap (λ (x : LogEnd). x.index) w.0 in absurd (omega arith))
@@ -111,10 +125,10 @@ votes_are h n (Some meta) m = cond_both ((n.term == h.term) && (n.vote == h.vote
 
 -- ---- what a load may answer
 
-longer_same : (g : NodeFiles) (k : Kept) → kept_in g ≡ Loaded k → IsLonger node_format 10000000000000000 g k.term k.vote k.snap k.log
-longer_same g k e =
+longer_same : (g : NodeFiles) (old : Log) (k : Kept) → kept_in g ≡ Loaded k → IsLonger node_format 10000000000000000 g k.term k.vote k.snap old k.log
+longer_same g old k e =
     let z : k.log.first - k.log.first ≡ 0 = omega arith in
-    record { log = k.log; kept_is = e; longer = record { first = omega arith; upto = omega arith; entries = ap (λ n. drop n k.log.entries) (sym z) } }
+    record { log = k.log; kept_is = e; longer = record { first = omega arith; upto = omega arith; entries = ap (λ n. drop n k.log.entries) (sym z) }; left = given refl }
 
 pub stops_none : (tells : Bool) (states : Disk Text → Type 0) (store : Open) (s t : rules.Node) (was now : List ℕ) (count : ℕ) → Has tells states store (kept_at s was) → Stops tells states s t was now count count
 stops_none tells states store s t was now count has = known_map tells states _ (λ d. StopsIn s t was now count count (folder d)) has
@@ -129,7 +143,7 @@ stops_vote tells states s t was now count new is known = known_map tells states 
 
 pub stops_after : (tells : Bool) (states : Disk Text → Type 0) (store : Open) (s t : rules.Node) (was now : List ℕ) (count total : ℕ) → count + votes_between s t ≤ total → Has tells states store (kept_at t now) → Stops tells states s t was now count total
 stops_after tells states store s t was now count total le has = known_map tells states _ (λ d. StopsIn s t was now count total (folder d)) has
-    (λ d h. record { crash = λ g left fair. after le (longer_same g (kept_at t now) (h.crash g left)); seen = seen store (kept_at t now) (folder d) h })
+    (λ d h. record { crash = λ g left fair. after le (longer_same g (kept_at s was).log (kept_at t now) (h.crash g left)); seen = seen store (kept_at t now) (folder d) h })
 
 -- the log is kept or not, after the vote
 module _ (tells : Bool) (mid end : Disk Text → Type 0) (was_open now_open : Open) (s t : rules.Node) (was : List ℕ) (x : Stepped s t) where
@@ -139,7 +153,7 @@ module _ (tells : Bool) (mid end : Disk Text → Type 0) (was_open now_open : Op
   one_or_other : (now : List ℕ) (count : ℕ) (new : Kept) → new ≡ kept_at t now → Known tells end (λ d. OldOrNew V new (folder d)) → Stops tells end s t was now count (count + votes_between s t)
   one_or_other now count new is known = known_map tells end _ (λ d. StopsIn s t was now count (count + votes_between s t) (folder d)) known
       (λ d o. record {
-        crash = λ g left fair. ⊎_elim (λ (a : kept_in g ≡ Loaded V). between (omega arith) a) (λ (b : kept_in g ≡ Loaded new). after (omega arith) (longer_same g (kept_at t now) (b ∙ ap Loaded is))) (o.crash g left fair);
+        crash = λ g left fair. ⊎_elim (λ (a : kept_in g ≡ Loaded V). between (omega arith) a) (λ (b : kept_in g ≡ Loaded new). after (omega arith) (longer_same g (kept_at s was).log (kept_at t now) (b ∙ ap Loaded is))) (o.crash g left fair);
         seen = o.seen;
       })
 
@@ -147,7 +161,7 @@ module _ (tells : Bool) (mid end : Disk Text → Type 0) (was_open now_open : Op
   or_longer now count snap l is known = known_map tells end _ (λ d. StopsIn s t was now count (count + votes_between s t) (folder d)) known
       (λ d o. record {
         crash = λ g left fair. ⊎_elim (λ (a : kept_in g ≡ Loaded V). between (omega arith) a)
-            (λ (b : IsLonger node_format 10000000000000000 g t.term t.vote snap l). after (omega arith) (subst (λ (k : Kept). IsLonger node_format 10000000000000000 g t.term t.vote k.snap k.log) is b)) (o.crash g left fair);
+            (λ (b : IsLonger node_format 10000000000000000 g t.term t.vote snap (kept_at s was).log l). after (omega arith) (subst (λ (k : Kept). IsLonger node_format 10000000000000000 g t.term t.vote k.snap (kept_at s was).log k.log) is b)) (o.crash g left fair);
         seen = o.seen;
       })
 
@@ -267,12 +281,33 @@ module _ (r : ReplicaValue) (event : RaftEvent) (n : NodeValue) (meta : Option (
 
   -- ---- after Ok
 
+  pub snap_comes : snap_after r event ≡ came_snap r.snap install
+  snap_comes = subst (λ (t : rules.Node). cond (nat_lt r.raft.commit t.snapshot.index) (snap_kept (offered event)) r.snap ≡ came_snap r.snap install) m.node (snaps_are (node_of r.raft) (node_of n) event install batch r.snap m.whole.coherent.applied write m.offers)
+
+  pub snap_kept_as : (was kept : Snapshot) → snap_value was ≡ r.snap → kept ≡ kept_snapshot was install → snap_value kept ≡ came_snap r.snap install
+  snap_kept_as was kept s e = ap snap_value e ∙ by install
+    where
+      by : (i : Option Snapshot) → snap_value (kept_snapshot was i) ≡ came_snap r.snap i
+      by None = s
+      by (Some snap) = refl
+
+  came_none : IsNoneAtZero (came_snap r.snap install)
+  came_none = by install write
+    where
+      by : (i : Option Snapshot) → IsLogWrite (node_of r.raft) (node_of n) (option_map snapshot_end i) batch → IsNoneAtZero (came_snap r.snap i)
+      by None w = m.whole.none
+      by (Some snap) w = λ z. let e : snap.index ≡ n.snapshot.index = ap (λ (x : LogEnd). x.index) w.1 in let lt : r.raft.commit < n.snapshot.index = w.0 in absurd (omega arith)
+
+  pub commit_up : r.raft.commit ≤ n.commit
+  commit_up = subst (λ (t : rules.Node). r.raft.commit ≤ t.commit) (sym m.node) (commit_rises r.raft.id (node_of r.raft) (input_of event))
+
   pub whole_after : (was kept : Snapshot) (o : Open) (k : ℕ) → snap_value was ≡ r.snap → kept ≡ kept_snapshot was install → n.id ≡ r.raft.id → IsWhole (record { id = r.id; raft = n; snap = snap_value kept; store = o; keeps = k })
   whole_after was kept o k s e id = record {
     id = id ∙ m.whole.id;
     coherent = m.coherent;
     snap = by install write ∙ ap (λ (x : Snapshot). end_of (snap_value x)) (sym e);
     has_term = subst HasTerm (sym m.node) (step_has_term r.raft.id (node_of r.raft) (input_of event) (rule_intake event m.intake) m.whole.has_term);
+    none = subst (λ (x : Snap). IsNoneAtZero x) (sym (snap_kept_as was kept s e)) came_none;
   }
     where
       by : (i : Option Snapshot) → IsLogWrite (node_of r.raft) (node_of n) (option_map snapshot_end i) batch → n.snapshot ≡ end_of (snap_value (kept_snapshot was i))

@@ -28,4 +28,5 @@ twins_stop s v t u was now count total g a b (between l k) =
     (k ∙ ap (λ (n : Node). Loaded (with_vote n.term n.vote (kept_at v was))) b.node ∙ ap (λ (x : Kept). Loaded (with_vote t.term t.vote x)) (twins_keep s v was a))
 twins_stop s v t u was now count total g a b (after l k) =
     after (subst (λ n. count + n ≤ total) (same_votes s v t u a b) l)
-    (subst (λ (x : Kept). IsLonger node_format 10000000000000000 g x.term x.vote x.snap x.log) (twins_keep t u now b) k)
+    (subst (λ (x : Kept). IsLonger node_format 10000000000000000 g t.term t.vote (kept_at t now).snap x.log (kept_at t now).log) (twins_keep s v was a)
+    (subst (λ (x : Kept). IsLonger node_format 10000000000000000 g x.term x.vote x.snap (kept_at v was).log x.log) (twins_keep t u now b) k))

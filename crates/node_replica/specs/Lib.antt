@@ -6,4 +6,4 @@ pub mod Letters
 pub mod Looking
 pub mod Mails
 pub mod Twins
-pub mod Following
+pub mod Telling

@@ -1,5 +1,5 @@
 -- A replica as a value, and what its Raft's step makes of it.
-use Rattle.std.specs.Prelude.{◌≡◌, ℕ, Bool, true, false, ◌<◌, ◌≤◌, ◌+◌, suc, length, ◌-◌, ◌++◌, cond, nat_lt, List, [], Option, Some, None}
+use Rattle.std.specs.Prelude.{◌≡◌, ℕ, Bool, true, false, ◌<◌, ◌-◌, ◌++◌, cond, nat_lt, List, [], Option, Some, None}
 use Rattle.raft_rules.specs.Log.{LogEnd, term_at}
 use Rattle.raft_rules.specs.Node.{Node, Message}
 use Rattle.raft_rules.specs.Todo.{IsBatch}
@@ -12,7 +12,8 @@ use Rattle.raft_core.specs.declared.event.RaftEvent.TheVariants as events
 use Rattle.raft_core.specs.Events.{input_of, offered}
 use Rattle.disk_model.specs.Disk.{Disk}
 use Rattle.disk_model.specs.Trait.{Text}
-use Rattle.store_laws.specs.Store.{Snap, Kept}
+use Rattle.store_laws.specs.Store.{Snap, no_snap, Kept}
+use Rattle.store_format.specs.FilesRead.{snap_kept}
 use Rattle.segment_store.specs.Open.{Open}
 use Rattle.node_replica.specs.Terms.{HasTerm}
 use Rattle.node_replica.specs.Keeping.{kept_at, Has}
@@ -30,13 +31,18 @@ pub record ReplicaValue : Type 0 where
 abbrev pub end_of : Snap → LogEnd
 end_of s = record { index = s.index; term = s.term }
 
+-- a snapshot of index 0 is none: it has no term and no bytes
+abbrev pub IsNoneAtZero : Snap → Type 0
+IsNoneAtZero s = s.index ≡ 0 → s ≡ no_snap
+
 -- What holds of a replica between two calls: Raft's part is of its id and coherent, its snapshot is the kept one, and who leads, stands or has committed past the
--- snapshot has a term.
+-- snapshot has a term. The kept snapshot of index 0 is none.
 pub record IsWhole (r : ReplicaValue) : Type 0 where
   pub id : r.raft.id ≡ r.id
   pub coherent : IsCoherent r.raft
   pub snap : r.raft.snapshot ≡ end_of r.snap
   pub has_term : HasTerm (node_of r.raft)
+  pub none : IsNoneAtZero r.snap
 
 -- what the replica keeps
 abbrev pub kept_of : ReplicaValue → Kept
@@ -66,6 +72,10 @@ bytes_in (Some s) = s.bytes
 -- the bytes of the snapshot that is kept after a step: those that came with one past the commit index, else the old ones
 abbrev pub bytes_after : ReplicaValue → RaftEvent → List ℕ
 bytes_after r event = cond (nat_lt r.raft.commit (stepped r event).snapshot.index) (bytes_in (offered event)) r.snap.bytes
+
+-- the snapshot that is kept after a step: the very one that came, where it is past the commit index, else the old one
+abbrev pub snap_after : ReplicaValue → RaftEvent → Snap
+snap_after r event = cond (nat_lt r.raft.commit (stepped r event).snapshot.index) (snap_kept (offered event)) r.snap
 
 -- What a step has changed of the log: a snapshot came past the commit index, or the entries are others from this index on, or nothing.
 abbrev pub HasMoved : Node → Node → Option ℕ → Bool → Type 0

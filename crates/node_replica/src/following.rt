@@ -5,14 +5,13 @@ ghost use Rattle.raft_rules.specs.Node.{Server as ServerValue};
 ghost use Rattle.raft_rules.specs.NodeValues.{node_of};
 ghost use Rattle.raft_world.specs.Members.{configuration};
 ghost use Rattle.raft_vote.specs.Servers.{IsConfiguration};
-ghost use Rattle.raft_member.specs.Members.{AllStand, IsOf, last_index, last_servers, read_setup};
-ghost use Rattle.node_replica.specs.Following.{Joined};
+ghost use Rattle.raft_member.specs.Members.{AllStand, IsOf, read_setup};
 ghost use Rattle.node_replica.specs.Replicas.{IsWhole};
 
 use crate::keeper::one_more;
 use crate::replica::Replica;
 use raft_member::Members;
-use raft_vote::{Entry, Servers};
+use raft_vote::Servers;
 use std::alloc::{AllocError, Global};
 
 fn either(one: bool, other: bool) -> bool
@@ -21,30 +20,10 @@ fn either(one: bool, other: bool) -> bool
     one || other
 }
 
-// These entries join the log, the first one at this index. True where one of them is a change that reads.
-fn join(
-    alloc: Global,
-    members: &mut Members,
-    first: u64,
-    entries: &[Entry],
-) -> Result<bool, AllocError>
-    requires { last_index members.old < first }
-    ensures { IfOk result (λ told. Joined members.old members.new first entries.now told) }
-{
-    let mut told = false;
-    let mut index = first;
-    for entry in entries {
-        let changes = members.take_in(alloc, index, entry)?;
-        told = either(changes, told);
-        index = one_more(index)?;
-    }
-    Ok(told)
-}
-
 impl Replica {
     /// The configurations follow a step after which the log is another one from this index on: changes from there on are
-    /// gone, and those that stand there now join. Where the answer is false the current configuration is the one that it
-    /// was; where it is true, a node that doesn't lead tells its Raft the current one.
+    /// gone, and those that stand there now join. Where the answer is false the configurations are those that they were;
+    /// where it is true, a node that doesn't lead tells its Raft the current one.
     ///
     /// Reads each entry from there on once. `Err` is want of memory; the configurations are to be dropped then, with the
     /// replica.
@@ -55,10 +34,11 @@ impl Replica {
         ensures is { (opening : List ServerValue) (log : List EntryValue) → IsOf (read_setup opening) log members.old → first ≤ suc (length log) →
             OnOk result (IsOf (read_setup opening) (take (first - 1) log ++ drop (first - 1) (node_of self.now.raft).log) members.new) }
         ensures stand { AllStand members.old → OnOk result (AllStand members.new) }
-        ensures stays { IfOk result (λ told. told ≡ false → last_servers members.new ≡ last_servers members.old) }
+        ensures at { OnOk result (members.new.at ≡ members.old.at) }
+        ensures stays { IfOk result (λ told. told ≡ false → members.new ≡ members.old) }
     {
         let gone = members.cut_from(first);
-        let came = join(self.alloc, members, first, self.raft.tail(first))?;
+        let came = members.take_all(self.alloc, first, self.raft.tail(first))?;
         Ok(either(gone, came))
     }
 
@@ -69,12 +49,13 @@ impl Replica {
         ensures is { (opening : List ServerValue) (front : List EntryValue) → length front ≡ self.now.snap.index →
             configuration (read_setup opening) front ≡ servers →
             IfOk result (λ members. IsOf (read_setup opening) (front ++ drop self.now.snap.index (node_of self.now.raft).log) members) }
+        ensures at { IfOk result (λ members. members.at ≡ self.now.snap.index) }
         ensures stand { IsConfiguration servers → IfOk result (λ members. AllStand members) }
     {
         let index = self.keeper.snapshot.index;
         let mut members = Members::new(self.alloc, servers, index);
         let first = one_more(index)?;
-        join(self.alloc, &mut members, first, self.raft.tail(first))?;
+        members.take_all(self.alloc, first, self.raft.tail(first))?;
         Ok(members)
     }
 }

@@ -3,6 +3,7 @@
 
 mod following;
 mod keeper;
+mod kept;
 mod laws;
 mod letters;
 mod looking;
@@ -10,6 +11,6 @@ mod mail;
 mod queries;
 mod replica;
 
-pub use laws::{mails_ascend, twins_keep_alike};
+pub use laws::{mails_ascend, servers_change_nothing_else, twins_keep_alike};
 pub use mail::Mail;
 pub use replica::{Moved, Replica};

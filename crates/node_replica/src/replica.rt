@@ -6,14 +6,14 @@ ghost use Rattle.raft_rules.specs.Laws.{HasShortTerm};
 ghost use Rattle.raft_rules.specs.NodeValues.{node_of};
 ghost use Rattle.raft_vote.specs.Servers.{IsConfiguration};
 ghost use Rattle.raft_core.specs.Events.{EventFits};
-ghost use Rattle.store_format.specs.FilesRead.{snap_kept};
+ghost use Rattle.store_format.specs.FilesRead.{snap_kept, HasIndex};
 ghost use Rattle.store_format.specs.Starts.{CanStart};
 ghost use Rattle.segment_store.specs.Keeping.{snap_value};
 ghost use Rattle.segment_store.specs.Faults.{DiskCause};
 ghost use Rattle.node_replica.specs.Keeping.{StaysUnlessKept};
 ghost use Rattle.node_replica.specs.Letters.{Tells};
-ghost use Rattle.node_replica.specs.Replicas.{HasMoved, IsIntake, IsKept, IsWhole};
-ghost use Rattle.node_replica.specs.Replicas.{bytes_after, kept_of, log_count, own_snap, said, snapped, stepped, stored_at};
+ghost use Rattle.node_replica.specs.Replicas.{HasMoved, IsIntake, IsKept, IsNoneAtZero, IsWhole};
+ghost use Rattle.node_replica.specs.Replicas.{bytes_after, kept_of, log_count, own_snap, said, snap_after, snapped, stepped, stored_at};
 ghost use Rattle.node_replica.specs.Stops.{Stops, votes_between};
 
 use crate::keeper::Keeper;
@@ -68,7 +68,9 @@ fn sends_of(todo: Todo) -> Sendings
 
 // A snapshot that is kept; one of index 0 where there is none.
 fn held(alloc: Global, snapshot: Option<Snapshot>) -> Result<Snapshot, AllocError>
-    ensures { IfOk result (λ held. snap_value held ≡ snap_kept snapshot) }
+    requires { HasIndex snapshot }
+    ensures same { IfOk result (λ held. snap_value held ≡ snap_kept snapshot) }
+    ensures none { IfOk result (λ held. IsNoneAtZero (snap_value held)) }
 {
     match snapshot {
         Some(snapshot) => Ok(snapshot),
@@ -154,6 +156,9 @@ impl Replica {
         ensures whole { OnOk result (IsWhole self.new) }
         ensures raft { OnOk result (node_of self.new.raft ≡ stepped self.old event) }
         ensures short { HasShortTerm (node_of self.old.raft) → OnOk result (HasShortTerm (node_of self.new.raft)) }
+        ensures commit { OnOk result (self.old.raft.commit ≤ self.new.raft.commit) }
+        // The kept snapshot is the very one that came, where one came past the commit index.
+        ensures snap { OnOk result (self.new.snap ≡ snap_after self.old event) }
         ensures bytes { OnOk result (self.new.snap.bytes ≡ bytes_after self.old event) }
         ensures moved { IfOk result (λ moved. HasMoved (node_of self.old.raft) (node_of self.new.raft) moved.batch moved.installed) }
         ensures tells { IfOk result (λ moved. Tells (said self.old event) self.new.snap moved.messages.items) }
@@ -217,6 +222,7 @@ impl Replica {
         ensures whole { OnOk result (IsWhole self.new) }
         ensures raft { OnOk result (node_of self.new.raft ≡ stepped self.old (snapped self.old index)) }
         ensures short { HasShortTerm (node_of self.old.raft) → OnOk result (HasShortTerm (node_of self.new.raft)) }
+        ensures commit { OnOk result (self.old.raft.commit ≤ self.new.raft.commit) }
         ensures snap { OnOk result (self.new.snap ≡ own_snap self.old index bytes) }
         ensures tells { IfOk result (λ messages. Tells (said self.old (snapped self.old index)) self.new.snap messages.items) }
         ensures kept { IsKept D.tells (D.states disk.old) self.old → OnOk result (IsKept D.tells (D.states disk.new) self.new) }

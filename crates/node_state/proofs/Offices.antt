@@ -1,5 +1,5 @@
 -- What a leader owes fits its life, and leaves it in the office behind it.
-use Rattle.std.proofs.Common.{◌≡◌, ℕ, suc, ◌+◌, ◌≤◌, arith, Bool, true, false, cond, List, [], ◌∷◌, ◌++◌, length, take, Option, Some, None, refl, sym, ap, subst, ◌∙◌, append-nil, length-append}
+use Rattle.std.proofs.Common.{◌≡◌, ℕ, suc, ◌+◌, ◌≤◌, arith, Bool, true, false, true≢false, cond, List, [], ◌∷◌, ◌++◌, length, take, Option, Some, None, refl, sym, ap, subst, ◌∙◌, append-nil, length-append}
 use Rattle.std.specs.Prelude.{◌==◌}
 use Rattle.std.proofs.lemmas.Bool.{eqb-true}
 use Rattle.std.proofs.lemmas.List.{take_all}
@@ -9,13 +9,17 @@ use Rattle.sql_engine.specs.declared.kind.EngineKind.{EngineKind}
 use Rattle.sql_engine.specs.Meanings.{Meaning}
 use Rattle.frame_commands.specs.declared.command.Command.TheVariants.{Checkpoint}
 use Rattle.session_rules.specs.Entries.{Content, Does, Entry, entries_of}
+use Rattle.sql_engine.specs.Replies.{Statement}
+use Rattle.session_rules.specs.Engines.{Answer}
 use Rattle.session_rules.specs.Machine.{Machine, machine_of, files, base_at}
+use Rattle.session_rules.specs.Sessions.{Reply, Turned, later_query, lent_query}
 use Rattle.session_rules.specs.Restarts.{restarted}
 use Rattle.session_world.specs.Logs.{with_undo, undos_for, undos}
-use Rattle.session_world.specs.Nodes.{Node as Life, databases}
+use Rattle.session_world.specs.Nodes.{Node as Life, databases, Standing, view_of}
 use Rattle.session_rules.specs.Events.{connects}
-use Rattle.session_world.specs.Life.{Event, Connect, Hangup, Call, Apply, Lose, Lead, Serve, Append, Follow, ArePlain, AllFit, joined, happens, run_from}
-use Rattle.session_world.proofs.Alones.{Same, call_same, call_log}
+use Rattle.session_world.specs.Life.{Event, Connect, Hangup, Call, Resume, Done, Apply, Lose, Lead, Serve, Append, Follow, ArePlain, AllFit, joined, undue, resumed_by, resumed, told_at, read_by, read, happens, run_from}
+use Rattle.session_world.proofs.Alones.{Same, call_same, call_log, resumed_same, read_same}
+use Rattle.session_world.proofs.Ways.{later_both}
 use Rattle.session_world.proofs.Undos.{undos_clear_hold}
 use Rattle.node_state.specs.declared.effect.Effect.{Effect}
 use Rattle.node_state.specs.declared.effect.Effect.TheVariants as effect
@@ -136,6 +140,20 @@ stays (Undos last) w v same log h =
     (same.serving ∙ h.0, ap length (log h.0) ∙ h.1, record { front = h.2.front; is = log h.0 ∙ h.2.is ∙ ap (λ (t : ℕ). h.2.front ++ entries_of t (undos (files h.2.front))) (sym same.term) })
 stays Serving w v same log h = same.serving ∙ h
 
+-- a query that is run later appends nothing where the node doesn't serve, and a reader never does
+resumed_log : (w : Life) (conn : ℕ) (standing : Standing) (answers : List Answer) (o : Option Statement) → w.serving ≡ false → (resumed w conn standing answers o).log ≡ w.log
+resumed_log w conn standing answers None off = refl
+resumed_log w conn standing answers (Some statement) off =
+    later_both (λ (t : Turned). (resumed_by w conn t).log ≡ w.log) (view_of w standing) (databases w) (undue w conn).gate conn statement answers refl (λ on. absurd (true≢false (sym on ∙ off)))
+
+read_log : (w : Life) (conn : ℕ) (answers : List Answer) (o : Option Statement) → (read w conn answers o).log ≡ w.log
+read_log w conn answers None = refl
+read_log w conn answers (Some statement) = told (told_at w conn statement answers)
+  where
+    told : (reply : Option Reply) → (read_by w conn statement reply).log ≡ w.log
+    told None = refl
+    told (Some reply) = refl
+
 pub offices_stay_hold : OfficesStay
 unfolding happens
 offices_stay_hold office w (Connect conn) own h = stay_if (connects w.gate conn)
@@ -147,6 +165,14 @@ offices_stay_hold office w (Hangup conn) own h = h
 offices_stay_hold office w (Call conn standing request answers) own h =
     let same = call_same w conn standing request answers in
     (same.leads ∙ h.0, same.term ∙ h.1, stays office.phase w (happens w (Call conn standing request answers)) same (λ off. call_log w conn standing request answers off) h.2)
+offices_stay_hold office w (Resume conn standing answers) own h =
+    let o = later_query (w.gate.session conn).later in
+    let same = resumed_same w conn standing answers o in
+    (same.leads ∙ h.0, same.term ∙ h.1, stays office.phase w (resumed w conn standing answers o) same (resumed_log w conn standing answers o) h.2)
+offices_stay_hold office w (Done conn answers) own h =
+    let o = lent_query (w.gate.session conn).later in
+    let same = read_same w conn answers o in
+    (same.leads ∙ h.0, same.term ∙ h.1, stays office.phase w (read w conn answers o) same (λ off. read_log w conn answers o) h.2)
 offices_stay_hold office w Apply own h = h
 offices_stay_hold office w (Lose term) own h = absurd own
 offices_stay_hold office w (Lead term) own h = absurd own

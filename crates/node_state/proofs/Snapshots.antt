@@ -1,6 +1,10 @@
 -- A node's snapshot is read exactly where it is spelled, and gives back what was applied.
-use Rattle.std.proofs.Common.{◌≡◌, ℕ, List, ◌++◌, length, take, drop, Option, Some, None, Result, Ok, Err, refl, sym, ap, subst, ◌∙◌, take-append-drop}
+use Rattle.std.proofs.Common.{◌≡◌, ℕ, suc, Bool, true, false, true≢false, cond, List, [], ◌∷◌, ◌++◌, length, take, drop, Option, Some, None, Result, Ok, Err, refl, sym, ap, subst, ◌∙◌, take-append-drop}
+use Rattle.std.specs.Prelude.{◌==◌, IsSome}
 use Rattle.std.proofs.lemmas.List.{drop_at}
+use Rattle.dq_base.specs.declared.images.Image.{Image}
+use Rattle.checkpoint_core.specs.Store.{IsLive, fresh_store}
+use Rattle.checkpoint_core.proofs.History.{no_mark_at_first}
 use Rattle.wire_words.proofs.Numbers.{AreBytes-drop}
 use Rattle.raft_rules.specs.Log as raft
 use Rattle.raft_rules.specs.Node.{Server}
@@ -11,7 +15,9 @@ use Rattle.page_apply.specs.declared.fault.SnapFault.{SnapFault}
 use Rattle.page_apply.specs.Databases.{contents_of}
 use Rattle.page_apply.specs.Files.{Content}
 use Rattle.page_apply.specs.Machines.{IsMachine}
-use Rattle.page_apply.specs.Restoring.{snapshot_of, restored}
+use Rattle.page_apply.specs.declared.database.Database.{Database}
+use Rattle.page_apply.specs.Pins.{Pinning, at_place, is_live_in, IsPinned}
+use Rattle.page_apply.specs.Restoring.{snapshot_of, restored_at, restored_from, restored}
 use Rattle.page_apply.specs.Snapshot.{snapshot_text, IsSnapshot}
 use Rattle.page_apply.proofs.SnapshotLaws.{snapshot_passed, snapshot_stood}
 use Rattle.session_rules.specs.Machine.{files}
@@ -20,7 +26,7 @@ use Rattle.node_state.specs.declared.applied.Applied.{Applied}
 use Rattle.node_state.specs.Applied.{ShowsFiles, HasApplied}
 use Rattle.node_state.specs.Reading as reading
 use Rattle.node_state.specs.Laws.{SnapshotsRead, SnapshotsAreSpelled}
-use Rattle.node_state.specs.Snapshot.{NodeSnapshot, snapshot_value, SpellsSnapshot, with_databases, of_parts, snapshot_in, IsRestoredIf, HasAppliedIf, IsBehind, contents_in, made_by, commits_of}
+use Rattle.node_state.specs.Snapshot.{NodeSnapshot, snapshot_value, SpellsSnapshot, with_databases, of_parts, snapshot_in, IsRestoredIf, HasNoPinsIf, HasAppliedIf, IsBehind, contents_in, made_by, commits_of}
 use Rattle.node_state.proofs.Names.{own_contents, restored_shows, empty_files}
 
 -- ---- both ways
@@ -81,6 +87,23 @@ applied_if opening front index bytes (Some a) len spelled found =
       servers = ap (λ (s : NodeSnapshot). s.servers) same;
       databases = subst (ShowsFiles (commits_of front) m) (sym (found.fresh ∙ ap (λ (s : NodeSnapshot). restored s.contents) same)) (restored_shows m (empty_files (log_seen front)));
     }
+
+-- a database that was read has no live mark
+live_nowhere : (image : Image) (mark : ℕ) → IsLive (fresh_store image) mark → ⊥
+live_nowhere image mark h = true≢false (sym (subst (λ (o : Option ℕ). IsSome o) (no_mark_at_first mark) h))
+
+live_or : (b : Bool) (d : Database) (o : Option Database) (mark : ℕ) → (IsLive d.store mark → ⊥) → (is_live_in o mark → ⊥) → is_live_in (cond b (Some d) o) mark → ⊥
+live_or true d o mark own rest h = own h
+live_or false d o mark own rest h = rest h
+
+restored_pins : (contents : List Content) (place : ℕ) (pin : Pinning) → IsPinned (restored_from place contents) pin → ⊥
+restored_pins [] place pin h = h
+restored_pins (c ∷ contents) place pin h =
+    live_or (place == pin.place) (restored_at place c) (at_place pin.place (restored_from (suc place) contents)) pin.mark (live_nowhere c.image pin.mark) (restored_pins contents (suc place) pin) h
+
+pub unpinned_if : (index : ℕ) (bytes : List ℕ) (o : Option Applied) → IsRestoredIf index bytes o → HasNoPinsIf o
+unpinned_if index bytes None found = tt
+unpinned_if index bytes (Some a) found = λ pin h. restored_pins (contents_of a.machine) 0 pin (subst (λ (ds : List Database). IsPinned ds pin) found.fresh h)
 
 -- ---- what is written
 

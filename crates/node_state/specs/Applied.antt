@@ -3,6 +3,7 @@ use Rattle.std.specs.Prelude.{◌≡◌, ℕ, suc, Bool, List, length}
 use Rattle.std.specs.List.{list_all}
 use Rattle.page_apply.specs.declared.database.Database.{Database}
 use Rattle.page_apply.specs.Databases.{act}
+use Rattle.page_apply.specs.Pins.{Pinning, IsPinned}
 use Rattle.raft_rules.specs.Log as raft
 use Rattle.raft_rules.specs.Node.{Server}
 use Rattle.raft_world.specs.Members.{configuration}
@@ -47,6 +48,12 @@ pub record HasApplied (opening : List Server) (lacks : List ℕ → ℕ) (front 
   pub index : a.index ≡ length front
   pub servers : a.servers ≡ configuration (read_setup opening) front
   pub databases : ShowsFiles lacks (files (log_seen front)) a.machine
+
+-- ---- pins
+
+-- no image of these databases is pinned
+abbrev pub HasNoPins : List Database → Type 0
+HasNoPins databases = (pin : Pinning) → IsPinned databases pin → ⊥
 
 -- ---- names
 

@@ -9,7 +9,7 @@ use Rattle.session_rules.specs.Entries.{Entry}
 use Rattle.session_rules.specs.Machine.{machine_of}
 use Rattle.session_rules.specs.Seen.{log_seen}
 use Rattle.session_world.specs.Nodes.{Node as Life, databases}
-use Rattle.session_world.specs.Life.{Event, Connect, Hangup, Call, Apply, Lose, Lead, Serve, Append, Follow, AllFit, happens, run_from}
+use Rattle.session_world.specs.Life.{Event, Connect, Hangup, Call, Resume, Done, Apply, Lose, Lead, Serve, Append, Follow, AllFit, happens, run_from}
 use Rattle.page_apply.specs.declared.database.Database.{Database}
 use Rattle.node_state.specs.declared.effect.Effect.{Effect}
 use Rattle.node_state.specs.declared.office.Office.{Office}
@@ -43,6 +43,8 @@ abbrev pub IsOfClients : Event → Type 0
 IsOfClients (Connect conn) = Unit {0}
 IsOfClients (Hangup conn) = Unit {0}
 IsOfClients (Call conn standing request answers) = Unit {0}
+IsOfClients (Resume conn standing answers) = Unit {0}
+IsOfClients (Done conn answers) = Unit {0}
 IsOfClients Apply = Unit {0}
 IsOfClients (Lose term) = ⊥
 IsOfClients (Lead term) = ⊥

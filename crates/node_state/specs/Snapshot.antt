@@ -4,7 +4,7 @@ use Rattle.std.specs.Option.{option_map}
 use Rattle.raft_rules.specs.Log as raft
 use Rattle.raft_rules.specs.Node.{Server}
 use Rattle.raft_vote.specs.Servers.{servers_of, servers_bytes, WritesServers}
-use Rattle.raft_world.specs.Members.{configuration}
+use Rattle.raft_world.specs.Members.{Setup, configuration}
 use Rattle.raft_member.specs.Members.{read_setup}
 use Rattle.page_apply.specs.AsMap.{names_of}
 use Rattle.page_apply.specs.Databases.{contents_of}
@@ -14,7 +14,7 @@ use Rattle.page_apply.specs.Snapshot.{snapshot_text, IsSnapshot}
 use Rattle.session_rules.specs.Machine.{Machine, files}
 use Rattle.session_rules.specs.Seen.{log_seen}
 use Rattle.node_state.specs.declared.applied.Applied.{Applied}
-use Rattle.node_state.specs.Applied.{has_names, HasApplied}
+use Rattle.node_state.specs.Applied.{has_names, HasNoPins, HasApplied}
 use Rattle.node_state.specs.Reading.{servers_read, contents_read, IsMachineIf}
 
 -- what it says: the servers of a node, and its databases with what they show
@@ -67,12 +67,19 @@ abbrev pub contents_in : Machine → List Content
 contents_in m = map (λ (name : List ℕ). record { name = name; image = (m.base name).image; pending = (m.base name).pending }) m.names
 
 -- what these entries make, as a snapshot says it
+abbrev pub made_in : Setup → List raft.Entry → NodeSnapshot
+made_in setup front = record { servers = configuration setup front; contents = contents_in (files (log_seen front)) }
+
 abbrev pub made_by : List Server → List raft.Entry → NodeSnapshot
-made_by opening front = record { servers = configuration (read_setup opening) front; contents = contents_in (files (log_seen front)) }
+made_by opening front = made_in (read_setup opening) front
 
 -- the counts of commits after these entries
 abbrev pub commits_of : List raft.Entry → List ℕ → ℕ
 commits_of front name = ((files (log_seen front)).base name).newest
+
+abbrev pub HasNoPinsIf : Option Applied → Type 0
+HasNoPinsIf None = Unit {0}
+HasNoPinsIf (Some a) = HasNoPins a.machine
 
 abbrev pub HasAppliedIf : List Server → (List ℕ → ℕ) → List raft.Entry → Option Applied → Type 0
 HasAppliedIf opening lacks front None = Unit {0}

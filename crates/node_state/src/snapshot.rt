@@ -10,7 +10,7 @@ ghost use Rattle.raft_rules.specs.Node.{Server as ServerValue};
 ghost use Rattle.raft_vote.specs.Servers.{IsConfiguration};
 ghost use Rattle.node_state.specs.Applied.{HasApplied};
 ghost use Rattle.node_state.specs.Reading.{contents_read};
-ghost use Rattle.node_state.specs.Snapshot.{snapshot_value, SpellsSnapshot, snapshot_in, with_databases, IsBehind, IsRestoredIf, IsSameIf, HasAppliedIf, offered_to, made_by, commits_of};
+ghost use Rattle.node_state.specs.Snapshot.{snapshot_value, SpellsSnapshot, snapshot_in, with_databases, IsBehind, IsRestoredIf, IsSameIf, HasNoPinsIf, HasAppliedIf, offered_to, made_by, commits_of};
 
 use crate::applied::Applied;
 use crate::reading::{machine_in, servers_in};
@@ -71,6 +71,7 @@ impl Applied {
     ) -> Result<Option<Applied>, AllocError>
         ensures exact { IfOk result (λ read. option_map snapshot_value read ≡ snapshot_in bytes.now) }
         ensures found { IfOk result (IsRestoredIf index bytes.now) }
+        ensures unpinned { IfOk result HasNoPinsIf }
         // A snapshot of the front of a log gives what is applied there.
         ensures front { (opening : List ServerValue) (front : List EntryValue) → length front ≡ index → SpellsSnapshot (made_by opening front) bytes.now → IfOk result (HasAppliedIf opening (commits_of front) front) }
     {
@@ -92,6 +93,7 @@ impl Applied {
     ) -> Result<Option<Applied>, AllocError>
         ensures exact { IfOk result (λ read. option_map snapshot_value read ≡ offered_to (names_of self.now.machine) (snapshot_in bytes.now)) }
         ensures found { IfOk result (IsRestoredIf index bytes.now) }
+        ensures unpinned { IfOk result HasNoPinsIf }
         ensures front { (opening : List ServerValue) (front : List EntryValue) → length front ≡ index → SpellsSnapshot (made_by opening front) bytes.now → IfOk result (HasAppliedIf opening (commits_of front) front) }
     {
         let read = Applied::from_snapshot(alloc, index, bytes)?;

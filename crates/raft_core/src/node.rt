@@ -176,14 +176,6 @@ impl RaftNode {
         }
     }
 
-    /// The index up to which the log is cut off.
-    pub(crate) fn cut_index(&self) -> u64
-        ensures { result ≡ self.now.base }
-    {
-        let first = self.log.first();
-        first.index
-    }
-
     /// The index of the next entry to send to a peer.
     pub(crate) fn next_of(&self, peer: u64) -> u64
         ensures { result ≡ next_in self.now.rows peer }

@@ -58,6 +58,14 @@ impl RaftNode {
         self.log.tail(first - 1)
     }
 
+    /// The index up to which the log is cut off; the first entry that is held has the index after it. Constant cost.
+    pub fn cut_index(&self) -> u64
+        ensures { result ≡ self.now.base }
+    {
+        let first = self.log.first();
+        first.index
+    }
+
     /// The first index of the log that stays, where its owner keeps a snapshot at an index past the last one's: 16 entries up
     /// to there stay, as far as the log has them.
     pub fn kept_from(&self, index: u64) -> u64

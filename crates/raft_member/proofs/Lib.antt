@@ -1,3 +1,4 @@
 mod WholeLogs
 mod Readings
 mod Standing
+mod JoinedLogs

@@ -1,9 +1,9 @@
 -- The configurations of a whole log, as a node keeps them: that at the index up to which the log is applied, and those of the changes after it.
-use Rattle.std.specs.Prelude.{◌≡◌, ℕ, suc, ◌<◌, ◌≤◌, Bool, true, false, cond, nat_lt, nat_le, Option, Some, None, List, [], ◌∷◌, ◌++◌, length, take, drop}
+use Rattle.std.specs.Prelude.{◌≡◌, ℕ, suc, ◌+◌, ◌<◌, ◌≤◌, Bool, true, false, cond, nat_lt, nat_le, Option, Some, None, List, [], ◌∷◌, ◌++◌, length, take, drop}
 use Rattle.raft_rules.specs.Log.{Entry}
 use Rattle.raft_rules.specs.Node.{Server}
 use Rattle.raft_vote.specs.Servers.{IsConfiguration, configuration_of}
-use Rattle.raft_world.specs.Members.{Setup, is_change, servers_read, changes, configuration}
+use Rattle.raft_world.specs.Members.{Setup, is_change, servers_read, changes, any_change, configuration}
 use Rattle.raft_member.specs.declared.members.Change.{Change}
 
 -- The configurations: the index up to which the log is applied, the servers there, and the changes after it in their order.
@@ -106,6 +106,16 @@ pub record IsOf (setup : Setup) (log : List Entry) (m : Configurations) : Type 0
   pub within : m.at ≤ length log
   pub servers : m.servers ≡ configuration setup (take m.at log)
   pub later : m.later ≡ changes_from setup (suc m.at) (drop m.at log)
+
+-- These entries, of which the first has this index, have joined the log: the configurations are those of the log with them, and are
+-- told as others exactly where one of the entries is a change that reads. Each may stand, where each did.
+pub record Joined (old new : Configurations) (first : ℕ) (entries : List Entry) (told : Bool) : Type 0 where
+  pub is : (opening : List Server) (log : List Entry) → IsOf (read_setup opening) log old → first ≡ suc (length log) → IsOf (read_setup opening) (log ++ entries) new
+  pub at : new.at ≡ old.at
+  pub low : last_index new < first + length entries
+  pub told_so : told ≡ any_change (read_setup []) entries
+  pub stays : told ≡ false → new ≡ old
+  pub stand : AllStand old → AllStand new
 
 -- an entry that isn't a change that reads leaves them
 abbrev pub OthersStay : Type 0

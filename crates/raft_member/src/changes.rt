@@ -56,9 +56,10 @@ pub(crate) fn standing_change(alloc: Global, entry: &Entry) -> Result<Option<Ser
 }
 
 /// The configuration that an entry changes to, if any: it is a change, and its bytes are a configuration and end with the
-/// last server. Reads the entry once. `Err` is want of memory.
+/// last server. What reads may stand. Reads the entry once. `Err` is want of memory.
 pub fn change_in(alloc: Global, entry: &Entry) -> Result<Option<Servers>, AllocError>
-    ensures { IfOk result (λ read. read ≡ configuration_in entry.now) }
+    ensures is { IfOk result (λ read. read ≡ configuration_in entry.now) }
+    ensures stands { IfOk result (λ read. MatchOption read (Unit {0}) IsConfiguration) }
 {
     standing_change(alloc, entry)
 }

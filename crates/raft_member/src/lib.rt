@@ -2,6 +2,7 @@
 #![tactic(auto)]
 
 mod changes;
+mod joining;
 mod laws;
 mod members;
 

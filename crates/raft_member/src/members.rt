@@ -101,6 +101,8 @@ impl Members {
         requires { self.old.at < index }
         ensures cut { self.new ≡ cut_at self.old index }
         ensures told { result ≡ nat_lt (length self.new.later) (length self.old.later) }
+        ensures stays { result ≡ false → self.new ≡ self.old }
+        ensures low { last_index self.new < index }
         ensures stand { AllStand self.old → AllStand self.new }
         ensures is { (setup : Setup) (log : List EntryValue) → IsOf setup log self.old → IsOf setup (take (index - 1) log) self.new }
     {

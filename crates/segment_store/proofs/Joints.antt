@@ -36,7 +36,7 @@ one_up old new top g same (inr q) = inr (same ∙ q)
 
 pub longer_up : (old : Kept) (s : Snap) (new : Log) (top : ℕ) (g : NodeFiles) → kept node_format 10000000000000000 g ≡ kept node_format top g → BeforeOrLonger node_format top old s new g → BeforeOrLonger node_format 10000000000000000 old s new g
 longer_up old s new top g same (inl q) = inl (same ∙ q)
-longer_up old s new top g same (inr q) = inr (record { log = q.log; kept_is = same ∙ q.kept_is; longer = q.longer })
+longer_up old s new top g same (inr q) = inr (record { log = q.log; kept_is = same ∙ q.kept_is; longer = q.longer; left = q.left })
 
 -- ---- calls on files below a number
 

@@ -73,7 +73,7 @@ one_state old new g (inr q) = subst (OneState old new) (sym q) (inr refl)
 
 old_or_with : (old : Kept) (s : Snap) (new : Log) (g : NodeFiles) → BeforeOrLonger node_format 10000000000000000 old s new g → OldOrWith old s new (kept_in g)
 old_or_with old s new g (inl q) = subst (OldOrWith old s new) (sym q) (inl refl)
-old_or_with old s new g (inr q) = subst (OldOrWith old s new) (sym q.kept_is) (inr (record { log = q.log; is = refl; longer = q.longer }))
+old_or_with old s new g (inr q) = subst (OldOrWith old s new) (sym q.kept_is) (inr (record { log = q.log; is = refl; longer = q.longer; left = q.left }))
 
 pub old_or_new_starts : OldOrNewStarts
 old_or_new_starts old new d e m f n answer is failed begins leaves =

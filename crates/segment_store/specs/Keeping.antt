@@ -79,8 +79,8 @@ pub record CanKeep (k : Kept) (s : Snap) (new : Log) : Type 0 where
   pub upto : new.first ≤ suc s.index
   pub stays : Stays s k.log new
 
--- After each crash a load answers the state before, or the new snapshot with the log, maybe with a longer old part; and
--- what is read is what a crash may leave, so that it does so without one.
+-- After each crash a load answers the state before, or the new snapshot with the log, maybe with a longer part of the kept
+-- one; and what is read is what a crash may leave, so that it does so without one.
 pub record OldOrKept (old : Kept) (s : Snap) (new : Log) (d : NodeDisk) : Type 0 where
   pub crash : (g : NodeFiles) → Leaves d g → NoChance node_format d g → BeforeOrLonger node_format 10000000000000000 old s new g
   pub seen : Leaves d d.read

@@ -7,7 +7,7 @@ use Rattle.disk_model.specs.Trait.{Text}
 use Rattle.store_laws.specs.Names.{NodeFiles, NodeDisk}
 use Rattle.store_laws.specs.Store.{Outcome, Snap, Log, Kept, Loaded, Damaged, NoMeta, Gap}
 use Rattle.store_laws.specs.Chance.{NoChance}
-use Rattle.store_laws.specs.Snapshots.{Longer}
+use Rattle.store_laws.specs.Snapshots.{Longer, Left}
 use Rattle.store_format.specs.NodeFormat.{node_format}
 use Rattle.segment_store.specs.declared.load_fault.LoadFault.{LoadFault}
 use Rattle.segment_store.specs.declared.load_fault.LoadFault.TheVariants as fault
@@ -47,11 +47,12 @@ OneState old new Damaged = ⊥
 OneState old new NoMeta = ⊥
 OneState old new (Gap first last) = ⊥
 
--- the new snapshot with the log that was given, maybe with a longer old part
+-- the new snapshot with the log that was given, maybe with a longer part of the log that was kept before
 pub record IsWith (old : Kept) (s : Snap) (new : Log) (k : Kept) : Type 0 where
   pub log : Log
   pub is : k ≡ record { term = old.term; vote = old.vote; snap = s; log = log }
   pub longer : Longer log new
+  pub left : Left s old.log new log
 
 abbrev pub OldOrWith : Kept → Snap → Log → Outcome → Type 0
 OldOrWith old s new (Loaded k) = (k ≡ old) ⊎ IsWith old s new k

@@ -364,7 +364,7 @@ impl Store {
     /// entry or begins right past it, and else nothing. Where that isn't so nothing is said of what is kept.
     ///
     /// After `Ok` exactly the snapshot with this log is kept. After an `Err` it is that or what was kept before, or the
-    /// snapshot with a longer old part of the log; the store has to be loaded again.
+    /// snapshot with an end of the log that was kept, from an earlier index on; the store has to be loaded again.
     ///
     /// The snapshot's file is written and synced, and the names; an old file of its name is first cut to nothing. A new
     /// segment begins with the entries. Then older segments go ascending, with a sync of the names after each, and older

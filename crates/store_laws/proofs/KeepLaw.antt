@@ -15,7 +15,7 @@ use Rattle.disk_model.proofs.Elsewhere.{Elsewhere}
 use Rattle.store_laws.proofs.Answers.{segments_same, meta_same, kept_same}
 use Rattle.store_laws.proofs.Folders.{segments_suc, sound_last, kept_by, answer_is}
 use Rattle.store_laws.proofs.Snaps.{same_newest, newest_at, none_above, snap_images}
-use Rattle.store_laws.proofs.SnapshotLaw.{before_batch}
+use Rattle.store_laws.proofs.SnapshotLaw.{before_batch, left_before}
 use Rattle.store_laws.proofs.SnapshotFile.{SnapMoment, SnapEnded}
 
 module _ (f : Format) (law : Lawful f) (k : ℕ) (d : NodeDisk) (sd : Settled f (suc k) d) (gap : (file_log f (suc k) d.read).first ≤ suc (snap_in f d.read).index) (stamp : (meta_of f d.read).stamp ≢ 0)
@@ -92,7 +92,7 @@ module _ (f : Format) (law : Lawful f) (k : ℕ) (d : NodeDisk) (sd : Settled f 
   module _ (new : Log) (stays : Stays s (behind t L) new) (old : Kept) (is_old : kept f (suc k) d.read ≡ Loaded old) where
     -- an image at a moment of the file's writing
     pub file_image : (e : NodeDisk) (g : NodeFiles) → SnapMoment (Snapshot s.index) enc d e → Leaves e g → NoChance f e g
-        → (kept f (suc k) g ≡ Loaded old) ⊎ IsLonger f (suc k) g (meta_of f d.read).term (meta_of f d.read).vote s new
+        → (kept f (suc k) g ≡ Loaded old) ⊎ IsLonger f (suc k) g (meta_of f d.read).term (meta_of f d.read).vote s (behind t L) new
     file_image e g mo left fair =
         let so = mo.elsewhere in
         let one : g First ≡ d.read First = rest_only _ _ _ sd.first (so.left First (λ q. absurd cc) (rest_left _ _ sd.first) _ (left.each First)) in
@@ -102,7 +102,7 @@ module _ (f : Format) (law : Lawful f) (k : ℕ) (d : NodeDisk) (sd : Settled f 
         let same = others e g so left in
         elim (file_reads e g mo fair) [
           | inl z ↦ inl (kept_same f (suc k) g d.read metas (snaps_none g same z) segs ∙ is_old)
-          | inr q ↦ inr (record { log = behind s L; kept_is = with_new g metas (snaps_new g same q) segs; longer = before_batch t s past L new sd.steady stays })
+          | inr q ↦ inr (record { log = behind s L; kept_is = with_new g metas (snaps_new g same q) segs; longer = before_batch t s past L new sd.steady stays; left = left_before t s past L new sd.steady stays })
         ]
 
   -- the disk once the file is written and synced

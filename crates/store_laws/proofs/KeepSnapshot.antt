@@ -10,14 +10,14 @@ use Rattle.store_laws.specs.Load.{Still, tail_of, remove_from}
 use Rattle.store_laws.specs.Chance.{Lawful, NoChance}
 use Rattle.store_laws.specs.Append.{append_calls, with_log, Takes, Writes}
 use Rattle.store_laws.specs.Laws.{AnyMoment, Comes}
-use Rattle.store_laws.specs.Snapshots.{Longer, Stays, part, nothing, IsLonger, snapshot_calls, remove_snapshots, AllBelow, keep_calls, KeepSnapshot}
+use Rattle.store_laws.specs.Snapshots.{Longer, Stays, part, nothing, Left, given, IsLonger, snapshot_calls, remove_snapshots, AllBelow, keep_calls, KeepSnapshot}
 use Rattle.disk_model.proofs.Untils.{until_append, done_append}
 use Rattle.store_laws.proofs.Folders.{segments_suc, kept_by, answer_is, has_stamp}
 use Rattle.store_laws.proofs.AppendImages.{loaded_parts}
 use Rattle.store_laws.proofs.AppendLaw.{Grew, both, still_of, settled_of}
 use Rattle.store_laws.proofs.Logs.{log_one, behind_past}
 use Rattle.store_laws.proofs.SnapshotLogs.{longer_refl, put_longer, put_empty}
-use Rattle.store_laws.proofs.SnapshotLaw.{before_batch, with_batch_kept}
+use Rattle.store_laws.proofs.SnapshotLaw.{before_batch, left_before, with_batch_kept, with_batch_left}
 use Rattle.store_laws.proofs.SnapshotFile.{SnapEnded, file_moments, file_ended}
 use Rattle.store_laws.proofs.KeepLaw.{behind_it, with_new, file_image, file_snaps, file_metas, file_segment, file_segments, file_still}
 use Rattle.store_laws.proofs.Olders.{high, remove_older_holds}
@@ -61,13 +61,16 @@ module _ (f : Format) (law : Lawful f) (k : ℕ) (d : NodeDisk) (sd : Settled f 
   newer = behind s (put_batch L new)
 
   abbrev Ends : NodeFiles → Type 0
-  Ends g = IsLonger f (suc k) g term vote s new
+  Ends g = IsLonger f (suc k) g term vote s (behind t L) new
 
   no_gap : (put_batch L new).first ≤ suc s.index
   no_gap = omega (arith, (put_longer L new).first)
 
   with_batch : Longer newer new
   with_batch = with_batch_kept t s past L new sd.steady stays (put_batch L new) (put_longer L new) (longer_refl (put_batch L new))
+
+  batch_left : Left s (behind t L) new newer
+  batch_left = with_batch_left t s past L new sd.steady stays (put_batch L new) (put_longer L new) (longer_refl (put_batch L new))
 
   -- the new segment, behind the file
   module _ (e1 : NodeDisk) (z : SnapEnded (Snapshot s.index) enc d e1) where
@@ -104,8 +107,8 @@ module _ (f : Format) (law : Lawful f) (k : ℕ) (d : NodeDisk) (sd : Settled f 
 
     batch_image : (e : NodeDisk) → Until (append_calls k false 0 word batch) e1 e → (g : NodeFiles) → Leaves e g → NoChance f e g → Ends g
     batch_image e u g left fair = elim (batch1.0 e u g left fair) [
-      | inl q ↦ record { log = behind s L; kept_is = q; longer = before_batch t s past L new sd.steady stays }
-      | inr q ↦ record { log = newer; kept_is = q; longer = with_batch }
+      | inl q ↦ record { log = behind s L; kept_is = q; longer = before_batch t s past L new sd.steady stays; left = left_before t s past L new sd.steady stays }
+      | inr q ↦ record { log = newer; kept_is = q; longer = with_batch; left = batch_left }
     ]
 
     -- older segments, behind the batch
@@ -144,6 +147,7 @@ module _ (f : Format) (law : Lawful f) (k : ℕ) (d : NodeDisk) (sd : Settled f 
             log = o.log;
             kept_is = o.kept_is ∙ (λ i. Loaded (record { term = (metas2 i).term; vote = (metas2 i).vote; snap = snaps2 i; log = o.log }));
             longer = o.longer;
+            left = subst (λ (x : Snap). Left x (behind t L) new o.log) snaps2 (subst (λ (l : Log). Left (snap_in f e2.read) (behind t l) new o.log) old_log o.left);
           }
 
       removals : remove_from d.read 0 k ≡ remove_from e2.read 0 k
@@ -157,7 +161,7 @@ module _ (f : Format) (law : Lawful f) (k : ℕ) (d : NodeDisk) (sd : Settled f 
       older_image e u g left =
           let p = older.0 e (subst (λ (cs : List NodeCall). Until cs e2 e) removals u) g left in
           let o = tails p.0 p.1.0 in
-          record { log = o.log; kept_is = p.1.1 ∙ o.kept_is; longer = o.longer }
+          record { log = o.log; kept_is = p.1.1 ∙ o.kept_is; longer = o.longer; left = o.left }
 
       -- all older segments are gone
       module _ (e3 : NodeDisk) (u3 : Done (remove_from d.read 0 k) e2 e3) where
@@ -211,7 +215,7 @@ module _ (f : Format) (law : Lawful f) (k : ℕ) (d : NodeDisk) (sd : Settled f 
                   | inl v2 ↦ inr (older_image e1 z e2 grew e v2 g left)
                   | inr (e3, (v2, u3)) ↦
                       let c = older_moment f law (suc k) _ gone e3 e (settled3 e1 z e2 grew e3 v2) (loaded3 e1 z e2 grew e3 v2) (final e1 z e2 grew e3 v2) u3 in
-                      inr (record { log = new; kept_is = c.crash g left; longer = longer_refl new })
+                      inr (record { log = new; kept_is = c.crash g left; longer = longer_refl new; left = given refl })
                 ]
           ]
     ]
@@ -239,7 +243,7 @@ keep_snapshot_holds f law k d s0 old is_old s enc can new stays upto word batch 
     let iv = ap (λ (x : Kept). x.vote) p.is in (
       λ e u g left fair. elim (all_moments f law k d sd absent p.no_gap stamp old is s enc past can.within can.reads new st upto word batch w gone low e u g left fair) [
         | inl q ↦ inl q
-        | inr o ↦ inr (record { log = o.log; kept_is = o.kept_is ∙ (λ i. Loaded (record { term = sym it i; vote = sym iv i; snap = s; log = o.log })); longer = o.longer })
+        | inr o ↦ inr (record { log = o.log; kept_is = o.kept_is ∙ (λ i. Loaded (record { term = sym it i; vote = sym iv i; snap = s; log = o.log })); longer = o.longer; left = subst (λ (l : Log). Left s l new o.log) (sym (ap (λ (x : Kept). x.log) p.is)) o.left })
       ],
       λ e u. subst (Comes f (suc k) e) (λ i. record { term = sym it i; vote = sym iv i; snap = s; log = new })
           (all_done f law k d sd absent p.no_gap stamp old is s enc past can.within can.reads new st upto word batch w gone low e u),

@@ -7,7 +7,7 @@ use Rattle.disk_model.specs.Disk.{Found}
 use Rattle.store_laws.specs.Store.{snap_in, Format, Log, meta_of, segments, sound, all_batches, is_whole, log_of, empty_log, behind, put_batch}
 use Rattle.store_laws.specs.Settled.{Steady}
 use Rattle.store_laws.specs.Load.{Still, tail_of}
-use Rattle.store_laws.specs.Snapshots.{Longer, Stays, OlderLog}
+use Rattle.store_laws.specs.Snapshots.{Longer, Stays, Left, OlderLog}
 use Rattle.store_laws.proofs.Folders.{part, segments_suc, all_append, all_nil, sound_last, kept_by, answer_is}
 use Rattle.store_laws.proofs.Answers.{meta_same}
 use Rattle.store_laws.proofs.Logs.{log_push}
@@ -73,6 +73,7 @@ older_log_holds f law k d s new last stamp t lt steady stays low_enough m h = re
   kept_is = kept_by f (suc k) (tail_of d.read m) (meta_of f d.read) (snap_in f d.read) true (left ++ new ∷ []) (meta_same f (tail_of d.read m) d.read refl refl) refl sounds all
       ∙ answer_is (meta_of f d.read) (snap_in f d.read) (left ++ new ∷ []) gap stamp;
   longer = three.1;
+  left = subst (λ (l : List Log). Left (snap_in f d.read) (behind t (log_of empty_log l)) new (behind (snap_in f d.read) M)) (sym p.is) three.3;
 }
   where
     p : Front f d.read m k
@@ -84,7 +85,9 @@ older_log_holds f law k d s new last stamp t lt steady stays low_enough m h = re
     M : Log
     M = log_of empty_log (left ++ new ∷ [])
 
-    three : Longer (behind (snap_in f d.read) (log_of empty_log (p.gone ++ left))) new × Longer (behind (snap_in f d.read) M) new × Longer (log_of empty_log (p.gone ++ left ++ new ∷ [])) M
+    three : Longer (behind (snap_in f d.read) (log_of empty_log (p.gone ++ left))) new × Longer (behind (snap_in f d.read) M) new
+        × Left (snap_in f d.read) (behind t (log_of empty_log (p.gone ++ left))) new (behind (snap_in f d.read) (log_of empty_log (p.gone ++ left))) × Left (snap_in f d.read) (behind t (log_of empty_log (p.gone ++ left))) new (behind (snap_in f d.read) M)
+        × Longer (log_of empty_log (p.gone ++ left ++ new ∷ [])) M
     three = snapshot_log_holds t (snap_in f d.read) lt p.gone left new (subst (λ (l : List Log). Steady t (log_of empty_log l)) p.is steady) (subst (λ (l : List Log). Stays (snap_in f d.read) (behind t (log_of empty_log l)) new) p.is stays)
 
     all : all_batches f (segments (suc k) (tail_of d.read m)) ≡ left ++ new ∷ []

@@ -22,6 +22,12 @@ pub data Stays (s : Snap) (old new : Log) : Type 0 where
   part : behind s old ≡ old → Longer old new → behind s new ≡ new → Stays s old new
   nothing : behind s old ≡ record { first = suc s.index; entries = [] } → new ≡ record { first = suc s.index; entries = [] } → Stays s old new
 
+-- What a load finds behind the new snapshot: the log that is given; or the end of the kept one from an earlier index on, where the
+-- snapshot's entry stands in the kept one, or that begins past it. So each entry of a longer part is one that was kept.
+pub data Left (s : Snap) (old new log : Log) : Type 0 where
+  given : log ≡ new → Left s old new log
+  earlier : behind s old ≡ old → Longer old log → Left s old new log
+
 -- the folder's batches are `gone ++ left` and then the new batch; whatever older segments are gone already
 abbrev pub SnapshotLog : Type 0
 SnapshotLog = (t s : Snap) → t.index < s.index → (gone left : List Log) (new : Log)
@@ -30,14 +36,18 @@ SnapshotLog = (t s : Snap) → t.index < s.index → (gone left : List Log) (new
     → Longer (behind s (log_of empty_log (gone ++ left))) new
     -- and with it, some older batches being gone
     × Longer (behind s (log_of empty_log (left ++ new ∷ []))) new
+    -- each entry is one that was kept, or is given
+    × Left s (behind t (log_of empty_log (gone ++ left))) new (behind s (log_of empty_log (gone ++ left)))
+    × Left s (behind t (log_of empty_log (gone ++ left))) new (behind s (log_of empty_log (left ++ new ∷ [])))
     -- no entry is invented: what is left is the end of the whole log
     × Longer (log_of empty_log (gone ++ left ++ new ∷ [])) (log_of empty_log (left ++ new ∷ []))
 
--- the files stand for the new snapshot and a log that is the new one, maybe with a longer old part
-pub record IsLonger (f : Format) (top : ℕ) (g : NodeFiles) (term vote : ℕ) (s : Snap) (new : Log) : Type 0 where
+-- the files stand for the new snapshot and a log that is the new one, maybe with a longer part of the old one
+pub record IsLonger (f : Format) (top : ℕ) (g : NodeFiles) (term vote : ℕ) (s : Snap) (old new : Log) : Type 0 where
   pub log : Log
   pub kept_is : kept f top g ≡ Loaded (record { term = term; vote = vote; snap = s; log = log })
   pub longer : Longer log new
+  pub left : Left s old new log
 
 -- writing a snapshot's file: an old file of its name is first cut to nothing
 abbrev pub snapshot_calls : Name → Bool → List ℕ → List NodeCall
@@ -62,9 +72,9 @@ pub record IsNewer (f : Format) (k : Kept) (s : Snap) (enc : List ℕ) : Type 0 
 abbrev pub with_snapshot : Snap → Log → Kept → Kept
 with_snapshot s l k = record { term = k.term; vote = k.vote; snap = s; log = l }
 
--- the state before, or the new snapshot with the new log, maybe with a longer old part
+-- the state before, or the new snapshot with the new log, maybe with a longer part of the old one
 abbrev pub BeforeOrLonger : Format → ℕ → Kept → Snap → Log → NodeFiles → Type 0
-BeforeOrLonger f top old s new g = (kept f top g ≡ Loaded old) ⊎ IsLonger f top g old.term old.vote s new
+BeforeOrLonger f top old s new g = (kept f top g ≡ Loaded old) ⊎ IsLonger f top g old.term old.vote s old.log new
 
 -- the calls that keep a snapshot: its file, a new segment k with the log that stays, and then what is older goes
 abbrev pub keep_calls : NodeFiles → ℕ → ℕ → List ℕ → List ℕ → List ℕ → List ℕ → List NodeCall
@@ -90,4 +100,4 @@ OlderLog = (f : Format) → Lawful f → (k : ℕ) (d : NodeDisk) → Still f k 
     → Steady t (log_of empty_log (all_batches f (segments k d.read)))
     → Stays (snap_in f d.read) (behind t (log_of empty_log (all_batches f (segments k d.read)))) new
     → new.first ≤ suc (snap_in f d.read).index
-    → (m : ℕ) → m ≤ k → IsLonger f (suc k) (tail_of d.read m) (meta_of f d.read).term (meta_of f d.read).vote (snap_in f d.read) new
+    → (m : ℕ) → m ≤ k → IsLonger f (suc k) (tail_of d.read m) (meta_of f d.read).term (meta_of f d.read).vote (snap_in f d.read) (behind t (log_of empty_log (all_batches f (segments k d.read)))) new

@@ -1,3 +1,4 @@
+use Rattle.node_replica.proofs.LogFollows.{twins_follow}
 use Rattle.node_replica.proofs.TwinKeeps.{twins_keep, twins_stop}
 use Rattle.node_replica.proofs.laws.twins_keep_alike.Goals as goal
 
@@ -6,3 +7,6 @@ returns-clause-keep c = twins_keep
 
 pub returns-clause-stop : goal.returns-clause-stop
 returns-clause-stop c = twins_stop
+
+pub returns-clause-follow : goal.returns-clause-follow
+returns-clause-follow c = twins_follow

@@ -1,10 +1,12 @@
-use Rattle.std.proofs.Common.{◌<◌, sym, subst, ◌∙◌}
-use Rattle.raft_member.specs.Members.{Configurations, last_index}
-use Rattle.node_replica.proofs.Follows.{cut_low, current_stays}
+use Rattle.std.proofs.Common.{◌≡◌, Bool, true, false, sym, ◌∙◌, refl}
+use Rattle.std.specs.Prelude.{◌||◌}
 use Rattle.node_replica.proofs.replica.Replica.follow.Goals as goal
 
-pub join-requires : goal.join-requires
-join-requires c = subst (λ (m : Configurations). last_index m < c.args.first) (sym c.cut_from-gone.ensures.cut) (cut_low c.args.members.now c.args.first c.requires.past)
+neither : (a b : Bool) → (a || b) ≡ false → (a ≡ false) × (b ≡ false)
+neither true b e = absurd cc
+neither false b e = (refl, e)
 
 pub returns-clause-stays : goal.returns-clause-stays
-returns-clause-stays c e = current_stays c.args.members.now c.cut_from-gone.new.self c.join.new.members c.args.first c.tail.result.now c.cut_from-gone.result c.in_ok-came.came c.cut_from-gone.ensures.cut c.in_ok-came.ensures c.cut_from-gone.ensures.told (sym c.either.ensures ∙ e)
+returns-clause-stays c e =
+    let both = neither c.cut_from-gone.result c.in_ok-came.came (sym c.either.ensures ∙ e) in
+    c.in_ok-came.ensures.stays both.1 ∙ c.cut_from-gone.ensures.stays both.0

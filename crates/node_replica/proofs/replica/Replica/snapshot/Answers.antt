@@ -15,6 +15,8 @@ use Rattle.node_replica.proofs.StepShapes.{SpeakOf}
 use Rattle.node_replica.proofs.Steps.{stops_after, tells_of}
 use Rattle.node_replica.proofs.OwnSnapshots.{Own, own_step, own_speaks, cut, own_stops, own_stands, own_votes, own_has_term}
 use Rattle.std.specs.Prelude.{map}
+use Rattle.raft_core.specs.Events.{input_of}
+use Rattle.node_replica.proofs.CommitRises.{commit_rises}
 use Rattle.node_replica.proofs.replica.Replica.snapshot.Goals as goal
 
 pub returns-in_err-keep_snapshot-clause-stopped : goal.returns-in_err-keep_snapshot-clause-stopped
@@ -118,6 +120,7 @@ returns-clause-whole g c =
       coherent = c.in_ok-todo.ensures.coherent;
       snap = end;
       has_term = subst HasTerm (sym c.in_ok-todo.ensures.node) (own_has_term h i whole.coherent whole.has_term lt le t o);
+      none = λ z. let at : c.keep_snapshot.new.self.snapshot.index ≡ i = ap (λ (x : Snap). x.index) kept in absurd (omega arith);
     }
 
 pub returns-clause-tells : goal.returns-clause-tells
@@ -170,3 +173,9 @@ returns-clause-kept g c =
     subst (λ (v : ReplicaValue). IsKept g.D.Disk.tells (g.D.Disk.states c.args.disk.now) v → Has g.D.Disk.tells (g.D.Disk.states c.keep_snapshot.new.disk) c.keep_snapshot.new.self.store (kept_at (node_of c.step.new.self) c.keep_snapshot.new.self.snapshot.bytes)) c.self.view_is
     (λ has. subst (λ (b : List ℕ). Has g.D.Disk.tells (g.D.Disk.states c.keep_snapshot.new.disk) c.keep_snapshot.new.self.store (kept_at (node_of c.step.new.self) b)) (sym (ap (λ (s : Snap). s.bytes) kept))
     (subst (λ (n : Node). Has g.D.Disk.tells (g.D.Disk.states c.keep_snapshot.new.disk) c.keep_snapshot.new.self.store (kept_at n c.args.bytes)) (sym c.in_ok-todo.ensures.node) (own_stands h i whole.coherent whole.has_term lt le g.D.Disk.tells (g.D.Disk.states c.args.disk.now) (g.D.Disk.states c.keep_snapshot.new.disk) r.store c.keep_snapshot.new.self.store r.snap.bytes c.args.bytes t o stores has)))
+
+pub returns-clause-commit : goal.returns-clause-commit
+returns-clause-commit g c =
+    let h = c.self.inside.raft in
+    subst (λ (v : ReplicaValue). v.raft.commit ≤ c.step.new.self.commit) c.self.view_is
+    (subst (λ (n : Node). h.commit ≤ n.commit) (sym c.in_ok-todo.ensures.node) (commit_rises h.id (node_of h) (input_of (snapped (record { id = c.self.inside.id; raft = h; snap = snap_value c.self.inside.keeper.snapshot; store = c.self.inside.keeper.store; keeps = c.self.inside.keeper.keeps }) c.args.index))))

@@ -1,13 +1,13 @@
-use Rattle.std.proofs.Common.{◌≡◌, ◌+◌, refl, sym, ap, subst, ◌∙◌}
+use Rattle.std.proofs.Common.{◌≡◌, ◌≤◌, ◌+◌, refl, sym, ap, subst, ◌∙◌}
 use Rattle.std.proofs.lemmas.Result.{err_from_is_err_and}
 use Rattle.raft_rules.specs.NodeValues.{node_of}
 use Rattle.raft_core.specs.Messages.{sendings_value}
 use Rattle.segment_store.specs.Keeping.{snap_value}
 use Rattle.node_replica.specs.Keeping.{kept_at, one_of, writes_of, kept_snapshot, Has}
-use Rattle.node_replica.specs.Replicas.{ReplicaValue, IsWhole, IsKept, kept_of, stepped, said, bytes_after}
+use Rattle.node_replica.specs.Replicas.{ReplicaValue, IsWhole, IsKept, kept_of, stepped, said, bytes_after, snap_after}
 use Rattle.node_replica.specs.Stops.{Stops}
 use Rattle.node_replica.specs.Letters.{Tells}
-use Rattle.node_replica.proofs.Steps.{Made, stops_none, stops_at_vote, stops_at_log, stops_at_end, stands, whole_after, bytes_kept, all_told}
+use Rattle.node_replica.proofs.Steps.{Made, stops_none, stops_at_vote, stops_at_log, stops_at_end, stands, whole_after, snap_comes, snap_kept_as, commit_up, bytes_kept, all_told}
 use Rattle.node_replica.proofs.replica.Replica.step.Goals as goal
 
 pub returns-in_err-meta-clause-stopped : goal.returns-in_err-meta-clause-stopped
@@ -117,3 +117,33 @@ returns-clause-kept g c =
     subst (λ (v : ReplicaValue). IsKept g.D.Disk.tells (g.D.Disk.states c.args.disk.now) v → Has g.D.Disk.tells (g.D.Disk.states c.keep_log.new.disk) c.keep_log.new.self.store (kept_at (node_of c.step.new.self) c.keep_log.new.self.snapshot.bytes)) c.self.view_is
     (λ has. subst (λ b. Has g.D.Disk.tells (g.D.Disk.states c.keep_log.new.disk) c.keep_log.new.self.store (kept_at (node_of c.step.new.self) b)) (sym (bytes_kept r c.args.event c.step.new.self c.in_ok-meta.field-0.meta c.in_ok-meta.field-0.install c.in_ok-meta.field-0.batch m c.self.inside.keeper.snapshot c.keep_log.new.self.snapshot refl snapshot))
     (stands r c.args.event c.step.new.self c.in_ok-meta.field-0.meta c.in_ok-meta.field-0.install c.in_ok-meta.field-0.batch m g.D.Disk.tells (g.D.Disk.states c.args.disk.now) (g.D.Disk.states c.keep_vote.new.disk) (g.D.Disk.states c.keep_log.new.disk) c.keep_vote.new.self.store c.keep_log.new.self.store (c.in_ok-keep_vote.ensures.kept (kept_of r)) (λ k. c.in_ok-keep_log.ensures.kept k) has))
+
+pub returns-clause-commit : goal.returns-clause-commit
+returns-clause-commit g c =
+    let r : ReplicaValue = record { id = c.self.inside.id; raft = c.self.inside.raft; snap = snap_value c.self.inside.keeper.snapshot; store = c.self.inside.keeper.store; keeps = c.self.inside.keeper.keeps } in
+    let m : Made r c.args.event c.step.new.self c.in_ok-meta.field-0.meta c.in_ok-meta.field-0.install c.in_ok-meta.field-0.batch = record {
+      whole = subst IsWhole (sym c.self.view_is) c.requires.whole;
+      intake = c.requires.intake;
+      coherent = c.in_ok-meta.ensures.coherent;
+      node = c.in_ok-meta.ensures.node;
+      meta_is = c.in_ok-meta.ensures.meta;
+      log = c.in_ok-meta.ensures.log;
+      offers = c.in_ok-meta.ensures.install;
+    } in
+    subst (λ (v : ReplicaValue). v.raft.commit ≤ c.step.new.self.commit) c.self.view_is (commit_up r c.args.event c.step.new.self c.in_ok-meta.field-0.meta c.in_ok-meta.field-0.install c.in_ok-meta.field-0.batch m)
+
+pub returns-clause-snap : goal.returns-clause-snap
+returns-clause-snap g c =
+    let r : ReplicaValue = record { id = c.self.inside.id; raft = c.self.inside.raft; snap = snap_value c.self.inside.keeper.snapshot; store = c.self.inside.keeper.store; keeps = c.self.inside.keeper.keeps } in
+    let m : Made r c.args.event c.step.new.self c.in_ok-meta.field-0.meta c.in_ok-meta.field-0.install c.in_ok-meta.field-0.batch = record {
+      whole = subst IsWhole (sym c.self.view_is) c.requires.whole;
+      intake = c.requires.intake;
+      coherent = c.in_ok-meta.ensures.coherent;
+      node = c.in_ok-meta.ensures.node;
+      meta_is = c.in_ok-meta.ensures.meta;
+      log = c.in_ok-meta.ensures.log;
+      offers = c.in_ok-meta.ensures.install;
+    } in
+    let snapshot : c.keep_log.new.self.snapshot ≡ kept_snapshot c.self.inside.keeper.snapshot c.in_ok-meta.field-0.install = c.in_ok-keep_log.ensures.snapshot ∙ ap (λ s. kept_snapshot s c.in_ok-meta.field-0.install) c.in_ok-keep_vote.ensures.snapshot in
+    subst (λ (v : ReplicaValue). snap_value c.keep_log.new.self.snapshot ≡ snap_after v c.args.event) c.self.view_is
+    (snap_kept_as r c.args.event c.step.new.self c.in_ok-meta.field-0.meta c.in_ok-meta.field-0.install c.in_ok-meta.field-0.batch m c.self.inside.keeper.snapshot c.keep_log.new.self.snapshot refl snapshot ∙ sym (snap_comes r c.args.event c.step.new.self c.in_ok-meta.field-0.meta c.in_ok-meta.field-0.install c.in_ok-meta.field-0.batch m))

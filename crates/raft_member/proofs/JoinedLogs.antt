@@ -1,6 +1,8 @@
--- The configurations of a whole log follow a node's log.
+-- Entries that join a log, and a log that is another one from an index on.
 use Rattle.std.proofs.Common.{◌≡◌, ℕ, suc, ◌+◌, ◌<◌, ◌≤◌, Bool, true, false, cond, List, [], ◌∷◌, ◌++◌, length, take, refl, sym, ap, subst, ◌∙◌, arith, append_assoc, Option, Some, None}
 use Rattle.std.specs.Prelude.{◌&&◌, ◌||◌, nat_lt, slice_index_or}
+use Rattle.std.specs.List.{list_any}
+use Rattle.std.proofs.lemmas.List.Folds.{list_any-append}
 use Rattle.std.proofs.lemmas.Bool.{cond_both, ltb-true, ltb-false}
 use Rattle.std.proofs.lemmas.List.{length-append, take_more}
 use Rattle.raft_rules.specs.Log.{Entry}
@@ -8,8 +10,7 @@ use Rattle.raft_rules.specs.Node.{Server}
 use Rattle.raft_vote.specs.Servers.{configuration_of}
 use Rattle.raft_world.specs.Members.{is_change, reads, changes}
 use Rattle.raft_member.specs.declared.members.Change.{Change}
-use Rattle.raft_member.specs.Members.{Configurations, AllStand, last_from, last_index, last_servers, with_read, configuration_in, changed, below, cut_at, read_setup, IsOf}
-use Rattle.node_replica.specs.Following.{Joined}
+use Rattle.raft_member.specs.Members.{Configurations, AllStand, last_from, last_index, with_read, configuration_in, changed, below, cut_at, read_setup, IsOf, Joined}
 
 -- ---- the last change
 
@@ -20,6 +21,10 @@ last_of at (d ∷ cs) c = last_of d.index cs c
 read_low : (m : Configurations) (index : ℕ) (o : Option (List Server)) → last_index m < index → last_index (with_read m index o) ≤ index
 read_low m index None l = omega arith
 read_low m index (Some servers) l = let e = last_of m.at m.later (record { index = index; servers = servers }) in omega arith
+
+read_at : (m : Configurations) (index : ℕ) (o : Option (List Server)) → (with_read m index o).at ≡ m.at
+read_at m index None = refl
+read_at m index (Some servers) = refl
 
 changed_low : (m : Configurations) (index : ℕ) (e : Entry) → last_index m < index → last_index (changed m index e) ≤ index
 changed_low m index e l = read_low m index (configuration_in e) l
@@ -55,7 +60,9 @@ cut_none m index e = let l = ltb-false _ _ e in ap (λ cs. record m { later = cs
 pub none_joined : (m : Configurations) (first : ℕ) → last_index m < first → Joined m m first [] false
 none_joined m first l = record {
   is = λ opening log h e. subst (λ (es : List Entry). IsOf (read_setup opening) es m) (nil log) h;
+  at = refl;
   low = omega arith;
+  told_so = refl;
   stays = λ e. refl;
   stand = λ h. h;
 }
@@ -67,6 +74,15 @@ none_joined m first l = record {
 or_false : (a b : Bool) → (a || b) ≡ false → (a ≡ false) × (b ≡ false)
 or_false true b e = absurd cc
 or_false false b e = (refl, e)
+
+or_swapped : (a b : Bool) → (a || b) ≡ (b || (a || false))
+or_swapped true true = refl
+or_swapped true false = refl
+or_swapped false true = refl
+or_swapped false false = refl
+
+one_at_end : (p : Entry → Bool) (entries : List Entry) (e : Entry) → (p e || list_any p entries) ≡ list_any p (entries ++ e ∷ [])
+one_at_end p entries e = or_swapped (p e) (list_any p entries) ∙ sym (list_any-append p entries (e ∷ []))
 
 pub one_joined : (old m new : Configurations) (first index : ℕ) (entries : List Entry) (e : Entry) (told one : Bool) → Joined old m first entries told → index ≡ first + length entries → one ≡ changes (read_setup []) e → new ≡ changed m index e
     → ((opening : List Server) (log : List Entry) → IsOf (read_setup opening) log m → index ≡ suc (length log) → IsOf (read_setup opening) (log ++ e ∷ []) new)
@@ -81,18 +97,12 @@ one_joined old m new first index entries e told one j at c n is stand =
       is = λ opening log h f.
           let count : index ≡ suc (length (log ++ entries)) = let a = length-append log entries in omega arith in
           subst (λ (es : List Entry). IsOf (read_setup opening) es new) (append_assoc log entries (e ∷ [])) (is opening (log ++ entries) (j.is opening log h f) count);
+      at = ap (λ (x : Configurations). x.at) n ∙ read_at m index (configuration_in e) ∙ j.at;
       low = omega arith;
+      told_so = (λ i. c i || j.told_so i) ∙ one_at_end (λ (x : Entry). changes (read_setup []) x) entries e;
       stays = λ f. let both = or_false one told f in n ∙ unchanged m index e (sym c ∙ both.0) ∙ j.stays both.1;
       stand = λ h. stand (j.stand h);
     }
 
 pub one_more_taken : (all : List Entry) (i : ℕ) (e : Entry) → i < length all → e ≡ slice_index_or all i e → take (i + 1) all ≡ take i all ++ e ∷ []
 one_more_taken all i e lt is = take_more all i e lt ∙ ap (λ x. take i all ++ x ∷ []) (sym is)
-
--- ---- a log that is another one from an index on
-
-pub current_stays : (old cut new : Configurations) (first : ℕ) (tail : List Entry) (gone came : Bool) → cut ≡ cut_at old first → Joined cut new first tail came → gone ≡ nat_lt (length cut.later) (length old.later) → (gone || came) ≡ false → last_servers new ≡ last_servers old
-current_stays old cut new first tail gone came c j g f =
-    let both = or_false gone came f in
-    let same : cut_at old first ≡ old = cut_none old first (ap (λ (x : Configurations). nat_lt (length x.later) (length old.later)) (sym c) ∙ sym g ∙ both.0) in
-    ap last_servers (j.stays both.1 ∙ c ∙ same)

@@ -2,9 +2,9 @@ use Rattle.std.proofs.Common.{◌≡◌, ◌+◌, ◌<◌, Bool, suc, List, leng
 use Rattle.std.specs.Prelude.{◌||◌}
 use Rattle.std.proofs.lemmas.List.{length-take-le}
 use Rattle.raft_rules.specs.Log.{Entry}
-use Rattle.node_replica.specs.Following.{Joined}
-use Rattle.node_replica.proofs.Follows.{one_joined, one_more_taken}
-use Rattle.node_replica.proofs.following.join.Goals as goal
+use Rattle.raft_member.specs.Members.{Joined}
+use Rattle.raft_member.proofs.JoinedLogs.{one_joined, one_more_taken}
+use Rattle.raft_member.proofs.joining.join.Goals as goal
 
 pub loop-entry-preserved : goal.loop-entry-preserved
 loop-entry-preserved c =
