@@ -1,20 +1,22 @@
 -- Every request is answered.
-use Rattle.std.proofs.Common.{◌≡◌, ◌≢◌, ℕ, ◌+◌, ◌<◌, Bool, true, false, true≢false, cond, List, [], ◌∷◌, ◌++◌, length, map, drop, refl, sym, ap, ◌∙◌, subst, arith, length-append}
-use Rattle.std.specs.Prelude.{◌==◌, not, is_none, Option, Some, None}
+use Rattle.std.proofs.Common.{◌≡◌, inl, inr, ℕ, ◌+◌, ◌<◌, Bool, true, false, true≢false, cond, List, [], ◌∷◌, ◌++◌, length, map, drop, refl, sym, ap, ◌∙◌, subst, arith, length-append}
+use Rattle.std.specs.Prelude.{◌==◌, Option, Some, None}
 use Rattle.std.proofs.Math.Seq.{drop-append_seam}
 use Rattle.std.proofs.lemmas.List.{length-map}
 use Rattle.std.proofs.lemmas.Bool.{cond-true, eq-eqb}
 use Rattle.wire_msgs.specs.declared.request.Request.TheVariants as requests
+use Rattle.sql_engine.specs.Replies.{Statement}
 use Rattle.sql_engine.specs.declared.kind.EngineKind.{EngineKind}
 use Rattle.sql_engine.specs.Meanings.{Meaning}
-use Rattle.session_rules.specs.Sessions.{Flight, Session, Gateway, is_busy}
+use Rattle.session_rules.specs.Sessions.{Flight, Later, Due, Lent, later_query, is_due, Session, Gateway, is_busy}
 use Rattle.session_world.specs.Nodes.{Said, Trail, Node as Life}
 use Rattle.session_world.specs.Life.{Event as Doing, AllFit, run_from as lives_on}
 use Rattle.session_world.specs.Laws.{NoneComes}
 use Rattle.session_world.specs.Answering.{Handled, handled_in, said_to, IsOpen}
-use Rattle.session_world.proofs.Invariant.{NodeOk as LifeOk, FlightIs, FlightOk}
+use Rattle.session_world.proofs.Invariant.{NodeOk as LifeOk, FlightIs, FlightOk, IsFree, free_flies}
 use Rattle.session_world.proofs.Lives.{run_ok}
-use Rattle.session_world.proofs.Replying.{Pending, owed_by, pairs_count, open_back, fit_ok, long}
+use Rattle.session_world.proofs.Plains.{not_busy}
+use Rattle.session_world.proofs.Replying.{Pending, any_lands, owed_by, owes_by, pairs_count, open_back, fit_ok, long}
 use Rattle.raft_rules.specs.Node as raft
 use Rattle.raft_world.specs.Laws.{node_at}
 use Rattle.raft_world.specs.Members.{Setup}
@@ -25,21 +27,32 @@ use Rattle.cluster_world.proofs.Seeing.{life_later}
 use Rattle.node_rules.specs.Nodes.{Node, Stands}
 use Rattle.node_rules.specs.Steps.{Taken, AllTaken, calls, told}
 use Rattle.node_world.specs.Runs.{Up, Goes, taken, spoken, with_place, first_run, run_from, run}
-use Rattle.node_world.specs.Laws.{applied, owed, told_to, Waits, RunsComplete}
+use Rattle.node_world.specs.Laws.{owed, told_to, WaitsForEntry, Waits, RunsComplete}
 use Rattle.node_world.proofs.Lasts.{hold_parts}
 use Rattle.node_world.proofs.Letters.{causes}
 use Rattle.node_world.proofs.Runs.{goes, runs_make_acts_hold}
 use Rattle.node_world.proofs.Safes.{up_at, applied_is}
 use Rattle.node_world.proofs.Speaks.{last_fits, mine}
 
--- a request in flight at the beginning, of which nothing is asked but that it waits
-unknown : (c : ℕ) (s : Session) (t : Trail) (o : Option Flight) → s.flight ≡ o → s.hung ≡ false → (p : Option Handled) × Pending false c s t p
-unknown c s t None e h = (None, e)
-unknown c s t (Some f) e h = (Some (record { request = requests.Leader; before = []; own = [] }), record { flight = f; is = e; here = h; reply = λ z. absurd (true≢false (sym z)) })
+-- a request that is yet to be answered at the beginning, of which nothing is asked but that it waits
+some_request : Handled
+some_request = record { request = requests.Leader; before = []; own = [] }
+
+unknown : (c : ℕ) (s : Session) (t : Trail) → IsFree t.seen t.at s.later s.flight → s.hung ≡ false → (p : Option Handled) × Pending false c s t p
+unknown c s t free here = by s.flight s.later refl refl
+  where
+    deferred : (statement : Statement) → s.flight ≡ None → later_query s.later ≡ Some statement → (p : Option Handled) × Pending false c s t p
+    deferred statement e d = (Some some_request, inr (record { statement = statement; is = d; free = e; here = here; asks = λ z. absurd (true≢false (sym z)) }))
+
+    by : (o : Option Flight) (d : Option Later) → s.flight ≡ o → s.later ≡ d → (p : Option Handled) × Pending false c s t p
+    by (Some f) d e q = (Some some_request, inl (record { flight = f; is = e; here = here; later = free_flies t.seen t.at s.later f (subst (IsFree t.seen t.at s.later) e free); reply = any_lands c s.tx t some_request f f.kind }))
+    by None None e q = (None, (e, q))
+    by None (Some (Due statement)) e q = deferred statement e (ap later_query q)
+    by None (Some (Lent statement)) e q = deferred statement e (ap later_query q)
 
 busy_by : (c : ℕ) (s : Session) (t : Trail) (p : Option Handled) → Pending false c s t p → length (owed_by p) ≡ cond (is_busy s) 1 0
-busy_by c s t None a = ap (λ (o : Option Flight). cond (not (is_none o)) 1 0) (sym a)
-busy_by c s t (Some h) a = ap (λ (o : Option Flight). cond (not (is_none o)) 1 0) (sym a.is)
+busy_by c s t None a = ap (λ (b : Bool). cond b 1 0) (sym (owes_by false c s t None a))
+busy_by c s t (Some h) a = ap (λ (b : Bool). cond b 1 0) (sym (owes_by false c s t (Some h) a))
 
 told_count : (conn : ℕ) (xs : List Said) → told_to conn (map told xs) ≡ length (said_to conn xs)
 told_count conn [] = refl
@@ -57,7 +70,7 @@ module _ (mean : Meaning) (kind : EngineKind) where
   flight_of w conn o f e a = subst (FlightIs mean w.log w.applied w.term (w.trail conn)) e a
 
   -- a proposal in flight waits for an entry that isn't applied, at a node that leads its term
-  waits_so : (vs : Setup) (new : Node) (t : raft.Node) (v : Life) (conn : ℕ) (f : Flight) → Stands vs new t v → LifeOk mean v → (new.sessions.session conn).flight ≡ Some f → Waits new conn
+  waits_so : (vs : Setup) (new : Node) (t : raft.Node) (v : Life) (conn : ℕ) (f : Flight) → Stands vs new t v → LifeOk mean v → (new.sessions.session conn).flight ≡ Some f → WaitsForEntry new conn
   waits_so vs new t v conn f st ok e =
       let in_life : (v.gate.session conn).flight ≡ Some f = ap (λ (g : Gateway). (g.session conn).flight) st.sessions ∙ e in
       let x = flight_of v conn (v.gate.session conn).flight f in_life (ok.sessions conn).flight in
@@ -83,7 +96,7 @@ module _ (mean : Meaning) (kind : EngineKind) where
       let v = lives_on w life in
       let open_v : IsOpen (v.gate.session conn) = subst (λ (g : Gateway). IsOpen (g.session conn)) (sym su.sessions) (record { there = o.there; here = o.here }) in
       let open_w = open_back conn w life none open_v in
-      let p = unknown conn (w.gate.session conn) (w.trail conn) (w.gate.session conn).flight refl open_w.here in
+      let p = unknown conn (w.gate.session conn) (w.trail conn) (ok.sessions conn).free open_w.here in
       let l = long false mean conn w life p.0 (fit_ok mean kind w life fit ok) none open_v p.1 in
       let n = length (owed_by l.after) in
       let m = length (owed_by p.0) in
@@ -98,15 +111,18 @@ module _ (mean : Meaning) (kind : EngineKind) where
             ∙ ap (λ k. length (said_to conn l.more) + (length (new.waiting conn) + k)) (sym new_busy)
             ∙ sums (length (said_to conn l.more)) n m (length (calls conn life)) (length (new.waiting conn)) (length (old.waiting conn)) (length (x.asks conn)) (counts ∙ ap (λ k. m + k) same) asks
             ∙ ap (λ k. (length (old.waiting conn) + k) + length (x.asks conn)) old_busy,
-        (λ pos. waiting (new.sessions.session conn).flight refl pos),
+        (λ pos. waiting (new.sessions.session conn).flight (new.sessions.session conn).later refl refl pos),
       )
     where
-      waiting : (f : Option Flight) → (new.sessions.session conn).flight ≡ f → 0 < owed new conn → Waits new conn
-      waiting None e pos =
-          let nothing : length (new.waiting conn) ≡ 0 = ap length (all.waits e) in
-          let free : ◌≡◌ {A = ℕ} (cond (is_busy (new.sessions.session conn)) 1 0) 0 = ap (λ (q : Option Flight). cond (not (is_none q)) 1 0) e in
+      waiting : (f : Option Flight) (d : Option Later) → (new.sessions.session conn).flight ≡ f → (new.sessions.session conn).later ≡ d → 0 < owed new conn → Waits new conn
+      waiting None None e q pos =
+          let idle = not_busy (new.sessions.session conn) e q in
+          let nothing : length (new.waiting conn) ≡ 0 = ap length (all.waits idle) in
+          let free : ◌≡◌ {A = ℕ} (cond (is_busy (new.sessions.session conn)) 1 0) 0 = ap (λ (b : Bool). cond b 1 0) idle in
           absurd (omega (arith, nothing, free, pos))
-      waiting (Some f) e pos = waits_so vs new t (lives_on w life) conn f su (run_ok mean kind w life fit ok) e
+      waiting None (Some (Due statement)) e q pos = absurd (true≢false (sym (ap is_due q) ∙ all.run))
+      waiting None (Some (Lent statement)) e q pos = inr (statement, q)
+      waiting (Some f) d e q pos = inl (waits_so vs new t (lives_on w life) conn f su (run_ok mean kind w life fit ok) e)
 
   pub runs_complete_hold : RunsComplete mean kind
   unfolding run

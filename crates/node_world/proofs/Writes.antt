@@ -1,5 +1,5 @@
 -- The only voter elects itself, and a client writes there.
-use Rattle.std.proofs.Common.{◌≡◌, ◌≢◌, inl, ℕ, ◌+◌, Bool, true, false, true≢false, cond, List, [], ◌∷◌, ◌++◌, length, map, take, drop, refl, sym, ap, ◌∙◌, subst, arith}
+use Rattle.std.proofs.Common.{◌≡◌, inl, ℕ, ◌+◌, Bool, true, false, true≢false, cond, List, [], ◌∷◌, ◌++◌, length, map, take, drop, refl, sym, ap, ◌∙◌, subst, arith}
 use Rattle.std.specs.Prelude.{◌==◌, ◌&&◌, codes, Option, Some, None, Ok}
 use Rattle.std.specs.Option.{option_map}
 use Rattle.std.proofs.Math.Seq.{drop-append_seam}
@@ -15,13 +15,13 @@ use Rattle.page_apply.specs.Files.{empty_image}
 use Rattle.page_apply.specs.Machines.{IsMachine}
 use Rattle.page_apply.proofs.Acting.{act_machine}
 use Rattle.std.specs.List.Sorted.{IsStrictlySortedBy}
-use Rattle.session_rules.specs.Entries.{Content, Other, Entry, entries_of, written_in, written, tx_of}
+use Rattle.session_rules.specs.Entries.{Content, Other, entries_of, written_in, written, tx_of}
 use Rattle.session_rules.specs.Machine.{Machine, nothing, machine_of, with_commit, framed, act, files}
 use Rattle.session_rules.specs.Restarts.{shifted_tx, shifted_session, shifted, restarted}
 use Rattle.session_rules.specs.Seen.{log_seen}
-use Rattle.session_rules.specs.Sessions.{Reply, Kind, Opening, Writing, Flight, Session, Gateway, absent, no_sessions, db, result}
+use Rattle.session_rules.specs.Sessions.{is_due, Reply, Kind, Opening, Writing, Flight, Session, Gateway, absent, no_sessions, db, result}
 use Rattle.session_rules.proofs.Following.{machines_follow_hold}
-use Rattle.session_world.specs.Answering.{handed_by, outcome, transaction_ran, Handled, comes}
+use Rattle.session_world.specs.Answering.{asks_for, outcome, transaction_ran, Handled, comes}
 use Rattle.session_world.specs.Examples as lives
 use Rattle.session_world.specs.Life.{Event as Doing, Connect as Comes_in, Apply, Lose, Lead, Serve, Append, happens as goes_on, run_from as lives_on}
 use Rattle.session_world.specs.Nodes.{Said, Trail, Node as Life}
@@ -89,7 +89,7 @@ abbrev NoneOpen : Gateway → Type 0
 NoneOpen g = (conn : ℕ) → (g.session conn).tx ≡ None
 
 still_session : (lacks : List ℕ → ℕ) (s : Session) → s.tx ≡ None → shifted_session lacks s ≡ s
-still_session lacks s e = λ i. record { there = s.there; hung = s.hung; database = s.database; statements = s.statements; tx = (ap (option_map (shifted_tx lacks)) e ∙ sym e) i; flight = s.flight }
+still_session lacks s e = λ i. record { there = s.there; hung = s.hung; database = s.database; barriers = s.barriers; later = s.later; statements = s.statements; tx = (ap (option_map (shifted_tx lacks)) e ∙ sym e) i; flight = s.flight }
 
 still_gate : (lacks : List ℕ → ℕ) (g : Gateway) → NoneOpen g → shifted lacks g ≡ g
 still_gate lacks g none = λ i. record { conns = g.conns; session = λ conn. still_session lacks (g.session conn) (none conn) i; weight = g.weight }
@@ -104,7 +104,11 @@ none_in : NoneOpen no_sessions
 none_in conn = refl
 
 none_at : (name : List ℕ) → NoneOpen (client name)
-none_at name conn = cond_both (conn == 5) (record { there = true; hung = false; database = name; statements = []; tx = None; flight = None }) absent (λ (s : Session). s.tx ≡ None) (λ e. refl) (λ e. refl)
+none_at name conn = cond_both (conn == 5) (record { there = true; hung = false; database = name; barriers = false; later = None; statements = []; tx = None; flight = None }) absent (λ (s : Session). s.tx ≡ None) (λ e. refl) (λ e. refl)
+
+-- no query of a client is due
+client_runs : (name : List ℕ) (conn : ℕ) → is_due ((client name).session conn).later ≡ false
+client_runs name conn = cond_both (conn == 5) (record { there = true; hung = false; database = name; barriers = false; later = None; statements = []; tx = None; flight = None }) absent (λ (s : Session). is_due s.later ≡ false) (λ e. refl) (λ e. refl)
 
 -- the life of a leader of term 1 that has applied these contents
 abbrev life_of : List Content → Gateway → (ℕ → Trail) → List Said → Life
@@ -258,7 +262,7 @@ elects_so trail before =
       elects,
       record {
         weaves = (tt, tt);
-        fits = (tt, (refl, ((refl, (tt, tt)), (omega arith, ((refl, refl, λ n. refl), tt)))));
+        fits = (omega arith, ((refl, omega arith), ((refl, (tt, tt)), (omega arith, ((refl, refl, λ n. refl), tt)))));
         terms = subst (InTerm v) (sym quiet) tt;
         coherent = record { log = same_log (entries_of 1 (Other ∷ [])) (written 1 (Other ∷ [])) refl refl first_seen; applied = refl; term = refl; leads = refl };
       },
@@ -267,7 +271,7 @@ elects_so trail before =
       sym (ap (map told) quiet),
       (λ conn j. ((λ q. cc), ((λ q. cc), ((λ q. cc), ((λ q. cc), ((λ q. cc), tt)))))),
       (λ conn. tt),
-      (λ conn o j. record { all = refl; handled = refl; waits = λ e. refl }),
+      (λ conn o j. record { all = refl; handled = refl; waits = λ e. refl; run = refl }),
     )
 
 elects_hold : StepHolds {E = ℕ} cells Cells (fixed only) 1 (lone only) (leading (Other ∷ []) no_sessions []) (leading (Other ∷ []) no_sessions []).kept (taken first_run 1 Timeout []) (Ok ([], []))
@@ -299,7 +303,7 @@ comes_so trail before =
       sym (ap (map told) quiet),
       (λ conn j. ((λ q. j (ap (λ k. Some k) (same_number 5 conn q))), tt)),
       (λ conn. tt),
-      (λ conn o j. record { all = refl; handled = refl; waits = λ e. refl }),
+      (λ conn o j. record { all = refl; handled = refl; waits = λ e. refl; run = client_runs [] conn }),
     )
 
 -- ---- its requests
@@ -322,7 +326,7 @@ part_asked false r = tt
 
 -- the session of a client whose proposal is in flight, and then applied
 abbrev session_at : List ℕ → Option Flight → Session
-session_at name flight = record { there = true; hung = false; database = name; statements = []; tx = None; flight = flight }
+session_at name flight = record { there = true; hung = false; database = name; barriers = false; later = None; statements = []; tx = None; flight = flight }
 
 abbrev flying_at : ℕ → ℕ → Kind → Flight
 flying_at index pages kind = record { name = codes "d"; first = index; last = index; term = 1; pages = pages; kind = kind }
@@ -356,7 +360,7 @@ opens_so trail before =
       sym (ap (map told) says),
       (λ conn j. ((λ q. cc), ((λ q. cc), tt))),
       (λ conn. part_asked (5 == conn) asks_open),
-      (λ conn o j. record { all = all_asked (5 == conn) asks_open; handled = one_handled (5 == conn) (may_ask (w.gate.session 5) && comes (outcome w 5 lives.alone_here asks_open [])) (record { request = asks_open; before = transaction_ran w 5; own = handed_by w 5 lives.alone_here asks_open }) asks_open refl refl; waits = λ e. refl }),
+      (λ conn o j. record { all = all_asked (5 == conn) asks_open; handled = one_handled (5 == conn) (may_ask (w.gate.session 5) && comes (outcome w 5 lives.alone_here asks_open [])) (record { request = asks_open; before = transaction_ran w 5; own = asks_for w 5 lives.alone_here asks_open }) asks_open refl refl; waits = λ e. refl; run = client_runs (codes "d") conn }),
     )
 
 abbrev writes_life : List Doing
@@ -384,7 +388,7 @@ writes_so trail before =
       sym (ap (map told) says),
       (λ conn j. ((λ q. cc), ((λ q. cc), tt))),
       (λ conn. part_asked (5 == conn) asks_set),
-      (λ conn o j. record { all = all_asked (5 == conn) asks_set; handled = one_handled (5 == conn) (may_ask (w.gate.session 5) && comes (outcome w 5 lives.alone_here asks_set (Ok (lives.set_on empty_image 7) ∷ []))) (record { request = asks_set; before = transaction_ran w 5; own = handed_by w 5 lives.alone_here asks_set }) asks_set refl refl; waits = λ e. refl }),
+      (λ conn o j. record { all = all_asked (5 == conn) asks_set; handled = one_handled (5 == conn) (may_ask (w.gate.session 5) && comes (outcome w 5 lives.alone_here asks_set (Ok (lives.set_on empty_image 7) ∷ []))) (record { request = asks_set; before = transaction_ran w 5; own = asks_for w 5 lives.alone_here asks_set }) asks_set refl refl; waits = λ e. refl; run = client_runs (codes "d") conn }),
     )
 
 -- ---- the run
