@@ -42,6 +42,7 @@ abbrev pub reason_number : CloseReason → ℕ
 reason_number reasons.Version = 1
 reason_number reasons.TooLong = 2
 reason_number reasons.Limit = 3
+reason_number reasons.Peer = 5
 
 -- the reason of a fault of the stream
 abbrev pub reason_for : SplitFault → Option CloseReason

@@ -18,6 +18,8 @@ pub enum CloseReason {
     TooLong,
     /// Number 3: there is no room for a client or for a byte of it.
     Limit,
+    /// Number 5: a message isn't one of the peer whose messages the connection carries.
+    Peer,
 }
 
 impl CloseReason {
@@ -31,6 +33,7 @@ impl CloseReason {
             CloseReason::Version => 1,
             CloseReason::TooLong => 2,
             CloseReason::Limit => 3,
+            CloseReason::Peer => 5,
         }
     }
 }

@@ -10,7 +10,7 @@ ghost use Rattle.wire_msgs.specs.Reading.{request_of, may_take_memory};
 ghost use Rattle.session_rules.specs.Sessions.{may_ask, later_query, lent_query};
 ghost use Rattle.session_rules.specs.Machine.{machine_of};
 ghost use Rattle.session_rules.specs.Touched.{IsListed};
-ghost use Rattle.session_turns.specs.Reading.{read_named};
+ghost use Rattle.session_decisions.specs.Reading.{read_named};
 ghost use Rattle.gateway.specs.Calls.{HasNoNul, HasShortTerm, IsConfigured};
 ghost use Rattle.gateway.specs.Seen.{seen, pins_of, Agrees, PinsOf};
 ghost use Rattle.client_sessions.specs.Sending.{ActCanSend, ToldCanSend};

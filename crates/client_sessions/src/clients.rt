@@ -10,7 +10,7 @@ ghost use Rattle.page_apply.specs.Machines.{IsMachine};
 ghost use Rattle.session_rules.specs.Machine.{machine_of};
 ghost use Rattle.session_rules.specs.Sessions.{is_due, later_query, lent_query, may_ask};
 ghost use Rattle.session_rules.specs.Events as events;
-ghost use Rattle.session_turns.specs.Reading.{read_named};
+ghost use Rattle.session_decisions.specs.Reading.{read_named};
 ghost use Rattle.gateway.specs.Calls.{HasNoNul, HasShortTerm, IsConfigured};
 ghost use Rattle.gateway.specs.Seen.{pins_of};
 ghost use Rattle.client_sessions.specs.Sending.{ToldCanSend};

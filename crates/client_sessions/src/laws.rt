@@ -13,7 +13,8 @@ ghost use Rattle.session_rules.specs.Sessions.{Job};
 ghost use Rattle.client_sessions.specs.Sending.{ToldCanSend};
 ghost use Rattle.client_sessions.specs.declared.clients.Clients.{Clients as Held};
 ghost use Rattle.client_sessions.specs.Calls.{landed_at, lost_all};
-ghost use Rattle.client_sessions.specs.Clients.{Clients, no_clients, joined, without, hung_up, closed, heard, Offer, next_offer, IsOffered, freed, HasNoTransactions, Sound};
+ghost use Rattle.client_sessions.specs.Clients.{Clients, no_clients, joined, without, hung_up, closed};
+ghost use Rattle.client_sessions.specs.Clients.{heard, Offer, next_offer, IsOffered, freed, HasNoTransactions, Sound};
 ghost use Rattle.client_sessions.specs.Seen.{clients_of, Agrees, HasNoMarks, StandOver};
 
 /// A law: the message whose turn it is is the first that waits on a connection that is open and whose session has no proposal

@@ -9,9 +9,9 @@ use Rattle.session_rules.specs.Machine.{Machine}
 use Rattle.session_rules.specs.Causes.{Cause, failure}
 use Rattle.session_rules.specs.Requests.{handed, handed_later, on_later, on_request, with_session, affected_by}
 use Rattle.session_rules.specs.Sessions.{Gateway, View, Reply, responses_of, Turned, Refused, Lacks, Answers, Proposes, Lends, Affects}
-use Rattle.session_turns.specs.declared.turn.Turn.{Turn}
-use Rattle.session_turns.specs.declared.turn.Turn.TheVariants as turns
-use Rattle.session_turns.specs.Turning.{ComesBy, ComesTo}
+use Rattle.session_decisions.specs.declared.decision.Decision.{Decision}
+use Rattle.session_decisions.specs.declared.decision.Decision.TheVariants as decisions
+use Rattle.session_decisions.specs.Turning.{ComesBy, ComesTo}
 use Rattle.gateway.specs.declared.act.Act.{Act}
 use Rattle.gateway.specs.declared.act.Act.TheVariants as acts
 use Rattle.gateway.specs.Calls.{Is, TurnedBy, act_for}
@@ -24,73 +24,73 @@ stripped conn [] = refl
 stripped conn (r ∷ rs) = ap (λ (ss : List Response). r ∷ ss) (stripped conn rs)
 
 module _ (v : View) (m : Machine) (g : Gateway) (conn : ℕ) (now : Gateway) (act : Act) where
-  carried : (turned : Turned) (turn : Turn) → ComesTo v m (g.session conn) turned turn → Carries m g conn turn now act → Is v g conn turned now act
-  carried (Refused cause) (turns.Refused told) e c = (c.0, c.1 ∙ ap (λ (cause : Cause). acts.Reply (failure cause ∷ [])) (sym e))
-  carried (Refused cause) (turns.Answers change reply) e c = absurd e
-  carried (Refused cause) (turns.Begins at_once) e c = absurd e
-  carried (Refused cause) turns.Ends e c = absurd e
-  carried (Refused cause) (turns.Proposes flight entries) e c = absurd e
-  carried (Refused cause) (turns.Creates flight entries barriers) e c = absurd e
-  carried (Refused cause) (turns.Lends query job) e c = absurd e
-  carried (Refused cause) (turns.Affects effect) e c = absurd e
-  carried Lacks (turns.Refused told) e c = e
-  carried Lacks (turns.Answers change reply) e c = e
-  carried Lacks (turns.Begins at_once) e c = e
-  carried Lacks turns.Ends e c = e
-  carried Lacks (turns.Proposes flight entries) e c = e
-  carried Lacks (turns.Creates flight entries barriers) e c = e
-  carried Lacks (turns.Lends query job) e c = e
-  carried Lacks (turns.Affects effect) e c = e
-  carried (Answers to reply note) (turns.Refused told) e c = absurd e
-  carried (Answers to reply note) (turns.Answers change told) e c = (c.0 ∙ ap (with_session g conn) (sym e.0), c.1 ∙ ap (λ (r : Reply). acts.Reply (responses_of r)) (sym e.1))
-  carried (Answers to reply note) (turns.Begins at_once) e c = (c.0 ∙ ap (with_session g conn) (sym e.0), c.1 ∙ ap (λ (r : Reply). acts.Reply (responses_of r)) (sym e.1))
-  carried (Answers to reply note) turns.Ends e c = (c.0 ∙ ap (with_session g conn) (sym e.0), c.1 ∙ ap (λ (r : Reply). acts.Reply (responses_of r)) (sym e.1))
-  carried (Answers to reply note) (turns.Proposes flight entries) e c = absurd e
-  carried (Answers to reply note) (turns.Creates flight entries barriers) e c = absurd e
-  carried (Answers to reply note) (turns.Lends query job) e c = absurd e
-  carried (Answers to reply note) (turns.Affects effect) e c = absurd e
-  carried (Proposes to contents note) (turns.Refused told) e c = absurd e
-  carried (Proposes to contents note) (turns.Answers change reply) e c = absurd e
-  carried (Proposes to contents note) (turns.Begins at_once) e c = absurd e
-  carried (Proposes to contents note) turns.Ends e c = absurd e
-  carried (Proposes to contents note) (turns.Proposes flight entries) e c = (c.0 ∙ ap (with_session g conn) (sym e.0), c.1 ∙ ap acts.Propose e.1, e.2)
-  carried (Proposes to contents note) (turns.Creates flight entries barriers) e c = (c.0 ∙ ap (with_session g conn) (sym e.0), c.1 ∙ ap acts.Propose e.1, e.2)
-  carried (Proposes to contents note) (turns.Lends query job) e c = absurd e
-  carried (Proposes to contents note) (turns.Affects effect) e c = absurd e
-  carried (Lends to lent) (turns.Refused told) e c = absurd e
-  carried (Lends to lent) (turns.Answers change reply) e c = absurd e
-  carried (Lends to lent) (turns.Begins at_once) e c = absurd e
-  carried (Lends to lent) turns.Ends e c = absurd e
-  carried (Lends to lent) (turns.Proposes flight entries) e c = absurd e
-  carried (Lends to lent) (turns.Creates flight entries barriers) e c = absurd e
-  carried (Lends to lent) (turns.Lends query job) e c = (c.0 ∙ ap (with_session g conn) (sym e.0), c.1 ∙ ap acts.Lend (sym e.1))
-  carried (Lends to lent) (turns.Affects effect) e c = absurd e
-  carried (Affects effect) (turns.Refused told) e c = absurd e
-  carried (Affects effect) (turns.Answers change reply) e c = absurd e
-  carried (Affects effect) (turns.Begins at_once) e c = absurd e
-  carried (Affects effect) turns.Ends e c = absurd e
-  carried (Affects effect) (turns.Proposes flight entries) e c = absurd e
-  carried (Affects effect) (turns.Creates flight entries barriers) e c = absurd e
-  carried (Affects effect) (turns.Lends query job) e c = absurd e
-  carried (Affects effect) (turns.Affects told) e c = (c.0 ∙ ap (affected_by g) (sym e), c.1 ∙ ap act_for (sym e))
+  carried : (turned : Turned) (decision : Decision) → ComesTo v m (g.session conn) turned decision → Carries m g conn decision now act → Is v g conn turned now act
+  carried (Refused cause) (decisions.Refused told) e c = (c.0, c.1 ∙ ap (λ (cause : Cause). acts.Reply (failure cause ∷ [])) (sym e))
+  carried (Refused cause) (decisions.Answers change reply) e c = absurd e
+  carried (Refused cause) (decisions.Begins at_once) e c = absurd e
+  carried (Refused cause) decisions.Ends e c = absurd e
+  carried (Refused cause) (decisions.Proposes flight entries) e c = absurd e
+  carried (Refused cause) (decisions.Creates flight entries barriers) e c = absurd e
+  carried (Refused cause) (decisions.Lends query job) e c = absurd e
+  carried (Refused cause) (decisions.Affects effect) e c = absurd e
+  carried Lacks (decisions.Refused told) e c = e
+  carried Lacks (decisions.Answers change reply) e c = e
+  carried Lacks (decisions.Begins at_once) e c = e
+  carried Lacks decisions.Ends e c = e
+  carried Lacks (decisions.Proposes flight entries) e c = e
+  carried Lacks (decisions.Creates flight entries barriers) e c = e
+  carried Lacks (decisions.Lends query job) e c = e
+  carried Lacks (decisions.Affects effect) e c = e
+  carried (Answers to reply note) (decisions.Refused told) e c = absurd e
+  carried (Answers to reply note) (decisions.Answers change told) e c = (c.0 ∙ ap (with_session g conn) (sym e.0), c.1 ∙ ap (λ (r : Reply). acts.Reply (responses_of r)) (sym e.1))
+  carried (Answers to reply note) (decisions.Begins at_once) e c = (c.0 ∙ ap (with_session g conn) (sym e.0), c.1 ∙ ap (λ (r : Reply). acts.Reply (responses_of r)) (sym e.1))
+  carried (Answers to reply note) decisions.Ends e c = (c.0 ∙ ap (with_session g conn) (sym e.0), c.1 ∙ ap (λ (r : Reply). acts.Reply (responses_of r)) (sym e.1))
+  carried (Answers to reply note) (decisions.Proposes flight entries) e c = absurd e
+  carried (Answers to reply note) (decisions.Creates flight entries barriers) e c = absurd e
+  carried (Answers to reply note) (decisions.Lends query job) e c = absurd e
+  carried (Answers to reply note) (decisions.Affects effect) e c = absurd e
+  carried (Proposes to contents note) (decisions.Refused told) e c = absurd e
+  carried (Proposes to contents note) (decisions.Answers change reply) e c = absurd e
+  carried (Proposes to contents note) (decisions.Begins at_once) e c = absurd e
+  carried (Proposes to contents note) decisions.Ends e c = absurd e
+  carried (Proposes to contents note) (decisions.Proposes flight entries) e c = (c.0 ∙ ap (with_session g conn) (sym e.0), c.1 ∙ ap acts.Propose e.1, e.2)
+  carried (Proposes to contents note) (decisions.Creates flight entries barriers) e c = (c.0 ∙ ap (with_session g conn) (sym e.0), c.1 ∙ ap acts.Propose e.1, e.2)
+  carried (Proposes to contents note) (decisions.Lends query job) e c = absurd e
+  carried (Proposes to contents note) (decisions.Affects effect) e c = absurd e
+  carried (Lends to lent) (decisions.Refused told) e c = absurd e
+  carried (Lends to lent) (decisions.Answers change reply) e c = absurd e
+  carried (Lends to lent) (decisions.Begins at_once) e c = absurd e
+  carried (Lends to lent) decisions.Ends e c = absurd e
+  carried (Lends to lent) (decisions.Proposes flight entries) e c = absurd e
+  carried (Lends to lent) (decisions.Creates flight entries barriers) e c = absurd e
+  carried (Lends to lent) (decisions.Lends query job) e c = (c.0 ∙ ap (with_session g conn) (sym e.0), c.1 ∙ ap acts.Lend (sym e.1))
+  carried (Lends to lent) (decisions.Affects effect) e c = absurd e
+  carried (Affects effect) (decisions.Refused told) e c = absurd e
+  carried (Affects effect) (decisions.Answers change reply) e c = absurd e
+  carried (Affects effect) (decisions.Begins at_once) e c = absurd e
+  carried (Affects effect) decisions.Ends e c = absurd e
+  carried (Affects effect) (decisions.Proposes flight entries) e c = absurd e
+  carried (Affects effect) (decisions.Creates flight entries barriers) e c = absurd e
+  carried (Affects effect) (decisions.Lends query job) e c = absurd e
+  carried (Affects effect) (decisions.Affects told) e c = (c.0 ∙ ap (affected_by g) (sym e), c.1 ∙ ap act_for (sym e))
 
-module _ (m : Meaning) (kind : EngineKind) (v : View) (machine : Machine) (g : Gateway) (conn : ℕ) (before after : Option Told) (now : Gateway) (act : Act) (turn : Turn) (carries : Carries machine g conn turn now act) where
+module _ (m : Meaning) (kind : EngineKind) (v : View) (machine : Machine) (g : Gateway) (conn : ℕ) (before after : Option Told) (now : Gateway) (act : Act) (decision : Decision) (carries : Carries machine g conn decision now act) where
   -- of a request
-  pub turned_by : (request : Request) → ComesBy m kind v machine (g.session conn) (handed v machine g conn request) (on_request v machine g conn request) before after turn → TurnedBy m kind v machine g conn request before after now act
+  pub turned_by : (request : Request) → ComesBy m kind v machine (g.session conn) (handed v machine g conn request) (on_request v machine g conn request) before after decision → TurnedBy m kind v machine g conn request before after now act
   turned_by request ran = record {
     answers = ran.answers;
     allowed = ran.allowed;
     told = ran.told;
     exact = ran.exact;
-    is = carried v machine g conn now act (on_request v machine g conn request ran.answers) turn ran.is carries;
+    is = carried v machine g conn now act (on_request v machine g conn request ran.answers) decision ran.is carries;
   }
 
   -- of a query that is run later
-  pub later_by : (statement : Statement) → ComesBy m kind v machine (g.session conn) (handed_later v machine g conn statement) (on_later v machine g conn statement) before after turn → LaterBy m kind v machine g conn statement before after now act
+  pub later_by : (statement : Statement) → ComesBy m kind v machine (g.session conn) (handed_later v machine g conn statement) (on_later v machine g conn statement) before after decision → LaterBy m kind v machine g conn statement before after now act
   later_by statement ran = record {
     answers = ran.answers;
     allowed = ran.allowed;
     told = ran.told;
     exact = ran.exact;
-    is = carried v machine g conn now act (on_later v machine g conn statement ran.answers) turn ran.is carries;
+    is = carried v machine g conn now act (on_later v machine g conn statement ran.answers) decision ran.is carries;
   }

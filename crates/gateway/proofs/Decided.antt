@@ -38,17 +38,17 @@ use Rattle.session_table.proofs.Swept.{none_there}
 use Rattle.gateway.specs.Carrying.{CanCarry}
 use Rattle.session_asking.specs.declared.wanted.Wanted.{Wanted}
 use Rattle.session_asking.specs.Meant.{meant, IsPlainCause, NameHasNoNul}
-use Rattle.session_turns.specs.declared.turn.Turn.{Turn}
-use Rattle.session_turns.specs.declared.turn.Turn.TheVariants as turns
-use Rattle.session_turns.specs.Turning.{ComesTo, ComesBy, TurnsTo}
+use Rattle.session_decisions.specs.declared.decision.Decision.{Decision}
+use Rattle.session_decisions.specs.declared.decision.Decision.TheVariants as decisions
+use Rattle.session_decisions.specs.Turning.{ComesTo, ComesBy, TurnsTo}
 
 -- no answer of an engine is looked at
-pub nothing_handed : (m : Meaning) (kind : EngineKind) (v : View) (machine : Machine) (g : Gateway) (conn : ℕ) (s : Session) (params : List Value) (w known : Wanted) (told_now : Option Told) (turn : Turn) → w ≡ known
-    → handed_for machine s (meant params known) ≡ None → ComesTo v machine s (does v machine g conn s (meant params known) []) turn → TurnsTo m kind v machine g conn s (meant params w) told_now told_now turn
+pub nothing_handed : (m : Meaning) (kind : EngineKind) (v : View) (machine : Machine) (g : Gateway) (conn : ℕ) (s : Session) (params : List Value) (w known : Wanted) (told_now : Option Told) (decision : Decision) → w ≡ known
+    → handed_for machine s (meant params known) ≡ None → ComesTo v machine s (does v machine g conn s (meant params known) []) decision → TurnsTo m kind v machine g conn s (meant params w) told_now told_now decision
 unfolding TellsAll
-nothing_handed m kind v machine g conn s params w known told_now turn is none comes =
-    subst (λ (x : Wanted). TurnsTo m kind v machine g conn s (meant params x) told_now told_now turn) (sym is)
-    (subst (λ (o : Option Handed). ComesBy m kind v machine s o (does v machine g conn s (meant params known)) told_now told_now turn) (sym none)
+nothing_handed m kind v machine g conn s params w known told_now decision is none comes =
+    subst (λ (x : Wanted). TurnsTo m kind v machine g conn s (meant params x) told_now told_now decision) (sym is)
+    (subst (λ (o : Option Handed). ComesBy m kind v machine s o (does v machine g conn s (meant params known)) told_now told_now decision) (sym none)
     (record { answers = []; allowed = tt; told = refl; exact = refl; is = comes }))
 
 -- ---- files that an engine didn't open
@@ -67,7 +67,7 @@ IsPlainFor None = Unit {0}
 IsPlainFor (Some cause) = IsPlainCause cause
 
 module _ (v : View) (m : Machine) (s : Session) where
-  not_that : (turned : Turned) → IsPlain turned → ComesTo v m s turned (turns.Refused told.NotADatabase) → ⊥
+  not_that : (turned : Turned) → IsPlain turned → ComesTo v m s turned (decisions.Refused told.NotADatabase) → ⊥
   not_that (Refused cause) h e = subst IsPlainCause e h
   not_that Lacks h e = e
   not_that (Answers to reply note) h e = e
@@ -75,8 +75,8 @@ module _ (v : View) (m : Machine) (s : Session) where
   not_that (Lends to job) h e = e
   not_that (Affects effect) h e = e
 
-  pub never_unopened : (turned : Turned) (turn : Turn) → IsPlain turned → ComesTo v m s turned turn → turn ≡ turns.Refused told.NotADatabase → ⊥
-  never_unopened turned turn h e is = not_that turned h (subst (ComesTo v m s turned) is e)
+  pub never_unopened : (turned : Turned) (decision : Decision) → IsPlain turned → ComesTo v m s turned decision → decision ≡ decisions.Refused told.NotADatabase → ⊥
+  never_unopened turned decision h e is = not_that turned h (subst (ComesTo v m s turned) is e)
 
 either : (b : Bool) (x y : Turned) → IsPlain x → IsPlain y → IsPlain (cond b x y)
 either true x y a b = a
@@ -124,14 +124,14 @@ module _ (v : View) (m : Machine) (g : Gateway) (conn : ℕ) (s : Session) (answ
 
 -- ---- what is wanted by a request
 
-pub decided : (m : Meaning) (kind : EngineKind) (v : View) (machine : Machine) (g : Gateway) (conn own : ℕ) (s : Session) (params : List Value) (w : Wanted) (request : Request) (told_before told_now : Option Told) (turn : Turn)
-    → s ≡ g.session conn → own ≡ conn → meant params w ≡ asked_by v machine g s request → TurnsTo m kind v machine g own s (meant params w) told_before told_now turn
-    → ComesBy m kind v machine (g.session conn) (handed v machine g conn request) (on_request v machine g conn request) told_before told_now turn
+pub decided : (m : Meaning) (kind : EngineKind) (v : View) (machine : Machine) (g : Gateway) (conn own : ℕ) (s : Session) (params : List Value) (w : Wanted) (request : Request) (told_before told_now : Option Told) (decision : Decision)
+    → s ≡ g.session conn → own ≡ conn → meant params w ≡ asked_by v machine g s request → TurnsTo m kind v machine g own s (meant params w) told_before told_now decision
+    → ComesBy m kind v machine (g.session conn) (handed v machine g conn request) (on_request v machine g conn request) told_before told_now decision
 unfolding handed on_request
-decided m kind v machine g conn own s params w request told_before told_now turn is at wants comes =
-    let first : TurnsTo m kind v machine g own s (asked_by v machine g s request) told_before told_now turn = subst (λ (a : Asked). TurnsTo m kind v machine g own s a told_before told_now turn) wants comes in
-    let second : TurnsTo m kind v machine g conn s (asked_by v machine g s request) told_before told_now turn = subst (λ (c : ℕ). TurnsTo m kind v machine g c s (asked_by v machine g s request) told_before told_now turn) at first in
-    let third : TurnsTo m kind v machine g conn (g.session conn) (asked_by v machine g (g.session conn) request) told_before told_now turn = subst (λ (t : Session). TurnsTo m kind v machine g conn t (asked_by v machine g t request) told_before told_now turn) is second in
+decided m kind v machine g conn own s params w request told_before told_now decision is at wants comes =
+    let first : TurnsTo m kind v machine g own s (asked_by v machine g s request) told_before told_now decision = subst (λ (a : Asked). TurnsTo m kind v machine g own s a told_before told_now decision) wants comes in
+    let second : TurnsTo m kind v machine g conn s (asked_by v machine g s request) told_before told_now decision = subst (λ (c : ℕ). TurnsTo m kind v machine g c s (asked_by v machine g s request) told_before told_now decision) at first in
+    let third : TurnsTo m kind v machine g conn (g.session conn) (asked_by v machine g (g.session conn) request) told_before told_now decision = subst (λ (t : Session). TurnsTo m kind v machine g conn t (asked_by v machine g t request) told_before told_now decision) is second in
     record { answers = third.answers; allowed = third.allowed; told = third.told; exact = third.exact; is = third.is }
 
 -- ---- the session at a place of the table
@@ -160,25 +160,25 @@ none_mapped : {X Y : Type 0} (f : X → Y) (o : Option X) → option_map f o ≡
 none_mapped f None e = refl
 none_mapped f (Some x) e = (cc)
 
-pub can_carry : (v : View) (m : Machine) (databases : List Database) (s : CodeSession) (turned : Turned) (turn : Turn) → ComesTo v m (session_of databases s) turned turn → CanCarry s turn
-can_carry v m databases s turned (turns.Refused told) e = tt
-can_carry v m databases s turned turns.Ends e = tt
-can_carry v m databases s turned (turns.Proposes flight entries) e = tt
-can_carry v m databases s turned (turns.Creates flight entries barriers) e = tt
-can_carry v m databases s turned (turns.Lends query job) e = tt
-can_carry v m databases s turned (turns.Affects effect) e = tt
-can_carry v m databases s (Refused cause) (turns.Answers change reply) e = absurd e
-can_carry v m databases s Lacks (turns.Answers change reply) e = absurd e
-can_carry v m databases s (Answers to reply note) (turns.Answers change told) e = e.2
-can_carry v m databases s (Proposes to contents note) (turns.Answers change reply) e = absurd e
-can_carry v m databases s (Lends to job) (turns.Answers change reply) e = absurd e
-can_carry v m databases s (Affects effect) (turns.Answers change reply) e = absurd e
-can_carry v m databases s (Refused cause) (turns.Begins at_once) e = absurd e
-can_carry v m databases s Lacks (turns.Begins at_once) e = absurd e
-can_carry v m databases s (Answers to reply note) (turns.Begins at_once) e = (none_mapped (transaction_of databases) s.transaction e.2, some_name s.database e.3)
-can_carry v m databases s (Proposes to contents note) (turns.Begins at_once) e = absurd e
-can_carry v m databases s (Lends to job) (turns.Begins at_once) e = absurd e
-can_carry v m databases s (Affects effect) (turns.Begins at_once) e = absurd e
+pub can_carry : (v : View) (m : Machine) (databases : List Database) (s : CodeSession) (turned : Turned) (decision : Decision) → ComesTo v m (session_of databases s) turned decision → CanCarry s decision
+can_carry v m databases s turned (decisions.Refused told) e = tt
+can_carry v m databases s turned decisions.Ends e = tt
+can_carry v m databases s turned (decisions.Proposes flight entries) e = tt
+can_carry v m databases s turned (decisions.Creates flight entries barriers) e = tt
+can_carry v m databases s turned (decisions.Lends query job) e = tt
+can_carry v m databases s turned (decisions.Affects effect) e = tt
+can_carry v m databases s (Refused cause) (decisions.Answers change reply) e = absurd e
+can_carry v m databases s Lacks (decisions.Answers change reply) e = absurd e
+can_carry v m databases s (Answers to reply note) (decisions.Answers change told) e = e.2
+can_carry v m databases s (Proposes to contents note) (decisions.Answers change reply) e = absurd e
+can_carry v m databases s (Lends to job) (decisions.Answers change reply) e = absurd e
+can_carry v m databases s (Affects effect) (decisions.Answers change reply) e = absurd e
+can_carry v m databases s (Refused cause) (decisions.Begins at_once) e = absurd e
+can_carry v m databases s Lacks (decisions.Begins at_once) e = absurd e
+can_carry v m databases s (Answers to reply note) (decisions.Begins at_once) e = (none_mapped (transaction_of databases) s.transaction e.2, some_name s.database e.3)
+can_carry v m databases s (Proposes to contents note) (decisions.Begins at_once) e = absurd e
+can_carry v m databases s (Lends to job) (decisions.Begins at_once) e = absurd e
+can_carry v m databases s (Affects effect) (decisions.Begins at_once) e = absurd e
 
 -- ---- a connection that has a session stands somewhere
 
@@ -190,21 +190,21 @@ pub is_found : {X : Type 0} (o : Option X) (P : Type 0) (Q : X → Type 0) → M
 is_found {X} None P Q h never = absurd (never h)
 is_found {X} (Some x) P Q h never = refl
 
-pub moved : (m : Meaning) (kind : EngineKind) (v : View) (databases : List Database) (sessions known : List CodeSession) (weight conn : ℕ) (request : Request) (told_before told_now : Option Told) (turn : Turn) → known ≡ sessions
-    → ComesBy m kind v (machine_of databases) ((table_of databases known weight).session conn) (handed v (machine_of databases) (table_of databases known weight) conn request) (on_request v (machine_of databases) (table_of databases known weight) conn request) told_before told_now turn
-    → ComesBy m kind v (machine_of databases) ((table_of databases sessions weight).session conn) (handed v (machine_of databases) (table_of databases sessions weight) conn request) (on_request v (machine_of databases) (table_of databases sessions weight) conn request) told_before told_now turn
-moved m kind v databases sessions known weight conn request told_before told_now turn same comes =
-    subst (λ (ss : List CodeSession). ComesBy m kind v (machine_of databases) ((table_of databases ss weight).session conn) (handed v (machine_of databases) (table_of databases ss weight) conn request) (on_request v (machine_of databases) (table_of databases ss weight) conn request) told_before told_now turn) same comes
+pub moved : (m : Meaning) (kind : EngineKind) (v : View) (databases : List Database) (sessions known : List CodeSession) (weight conn : ℕ) (request : Request) (told_before told_now : Option Told) (decision : Decision) → known ≡ sessions
+    → ComesBy m kind v (machine_of databases) ((table_of databases known weight).session conn) (handed v (machine_of databases) (table_of databases known weight) conn request) (on_request v (machine_of databases) (table_of databases known weight) conn request) told_before told_now decision
+    → ComesBy m kind v (machine_of databases) ((table_of databases sessions weight).session conn) (handed v (machine_of databases) (table_of databases sessions weight) conn request) (on_request v (machine_of databases) (table_of databases sessions weight) conn request) told_before told_now decision
+moved m kind v databases sessions known weight conn request told_before told_now decision same comes =
+    subst (λ (ss : List CodeSession). ComesBy m kind v (machine_of databases) ((table_of databases ss weight).session conn) (handed v (machine_of databases) (table_of databases ss weight) conn request) (on_request v (machine_of databases) (table_of databases ss weight) conn request) told_before told_now decision) same comes
 
-pub carry_at : (m : Meaning) (kind : EngineKind) (v : View) (databases : List Database) (sessions known : List CodeSession) (weight conn place : ℕ) (d : CodeSession) (request : Request) (told_before told_now : Option Told) (turn : Turn)
+pub carry_at : (m : Meaning) (kind : EngineKind) (v : View) (databases : List Database) (sessions known : List CodeSession) (weight conn place : ℕ) (d : CodeSession) (request : Request) (told_before told_now : Option Told) (decision : Decision)
     → known ≡ sessions → AreApart sessions → StandsAt conn sessions place
-    → ComesBy m kind v (machine_of databases) ((table_of databases known weight).session conn) (handed v (machine_of databases) (table_of databases known weight) conn request) (on_request v (machine_of databases) (table_of databases known weight) conn request) told_before told_now turn
-    → CanCarry (get_or sessions place d) turn
-carry_at m kind v databases sessions known weight conn place d request told_before told_now turn same apart at comes =
-    let here : ComesBy m kind v (machine_of databases) ((table_of databases sessions weight).session conn) (handed v (machine_of databases) (table_of databases sessions weight) conn request) (on_request v (machine_of databases) (table_of databases sessions weight) conn request) told_before told_now turn =
-    moved m kind v databases sessions known weight conn request told_before told_now turn same comes in
-    can_carry v (machine_of databases) databases (get_or sessions place d) (on_request v (machine_of databases) (table_of databases sessions weight) conn request here.answers) turn
-    (subst (λ (s : Session). ComesTo v (machine_of databases) s (on_request v (machine_of databases) (table_of databases sessions weight) conn request here.answers) turn) (sym (here_at databases sessions weight conn place d apart at)) here.is)
+    → ComesBy m kind v (machine_of databases) ((table_of databases known weight).session conn) (handed v (machine_of databases) (table_of databases known weight) conn request) (on_request v (machine_of databases) (table_of databases known weight) conn request) told_before told_now decision
+    → CanCarry (get_or sessions place d) decision
+carry_at m kind v databases sessions known weight conn place d request told_before told_now decision same apart at comes =
+    let here : ComesBy m kind v (machine_of databases) ((table_of databases sessions weight).session conn) (handed v (machine_of databases) (table_of databases sessions weight) conn request) (on_request v (machine_of databases) (table_of databases sessions weight) conn request) told_before told_now decision =
+    moved m kind v databases sessions known weight conn request told_before told_now decision same comes in
+    can_carry v (machine_of databases) databases (get_or sessions place d) (on_request v (machine_of databases) (table_of databases sessions weight) conn request here.answers) decision
+    (subst (λ (s : Session). ComesTo v (machine_of databases) s (on_request v (machine_of databases) (table_of databases sessions weight) conn request here.answers) decision) (sym (here_at databases sessions weight conn place d apart at)) here.is)
 
 pub its_name : (request : Request) → HasNoNul request → NameHasNoNul request
 its_name requests.Leader h = tt

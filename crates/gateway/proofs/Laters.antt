@@ -27,11 +27,11 @@ use Rattle.session_table.specs.Table.{has_conn, session_found, session_at, sessi
 use Rattle.session_table.specs.Working.{works_of}
 use Rattle.session_table.proofs.Placing.{stands}
 use Rattle.session_table.proofs.Swept.{none_there}
-use Rattle.session_turns.specs.declared.turn.Turn.{Turn}
-use Rattle.session_turns.specs.declared.turn.Turn.TheVariants as turns
-use Rattle.session_turns.specs.Numbers.{work_in, works_in}
-use Rattle.session_turns.specs.Runs.{RunsTo}
-use Rattle.session_turns.specs.Turning.{ComesBy, ComesTo}
+use Rattle.session_decisions.specs.declared.decision.Decision.{Decision}
+use Rattle.session_decisions.specs.declared.decision.Decision.TheVariants as decisions
+use Rattle.session_decisions.specs.Numbers.{work_in, works_in}
+use Rattle.session_decisions.specs.Runs.{RunsTo}
+use Rattle.session_decisions.specs.Turning.{ComesBy, ComesTo}
 use Rattle.gateway.specs.declared.act.Act.{Act}
 use Rattle.gateway.specs.declared.act.Act.TheVariants as acts
 use Rattle.gateway.specs.Carrying.{AgreesOn, CanCarry}
@@ -43,23 +43,23 @@ use Rattle.gateway.proofs.Numbering.{with_some}
 
 module _ (m : Meaning) (kind : EngineKind) (v : View) (machine : Machine) (g : Gateway) (conn : ℕ) (s : Session) (statement : Statement) where
   -- by whether the node serves, and the session of the connection
-  abbrev By : Option Told → Option Told → Turn → Bool → Session → Type 0
-  By before now turn serves t =
-      ComesBy m kind v machine s (cond serves (handed_over (ground machine t t.tx) (statement ∷ [])) None) (λ (answers : List Answer). cond serves (run_in v machine g conn t t.tx (statement ∷ []) true answers) (Refused NotLeader)) before now turn
+  abbrev By : Option Told → Option Told → Decision → Bool → Session → Type 0
+  By before now decision serves t =
+      ComesBy m kind v machine s (cond serves (handed_over (ground machine t t.tx) (statement ∷ [])) None) (λ (answers : List Answer). cond serves (run_in v machine g conn t t.tx (statement ∷ []) true answers) (Refused NotLeader)) before now decision
 
   -- the node doesn't serve any more
-  pub not_leader : (told : Option Told) → v.serving ≡ false → ComesBy m kind v machine s (handed_later v machine g conn statement) (on_later v machine g conn statement) told told (turns.Refused causes.NotLeader)
+  pub not_leader : (told : Option Told) → v.serving ≡ false → ComesBy m kind v machine s (handed_later v machine g conn statement) (on_later v machine g conn statement) told told (decisions.Refused causes.NotLeader)
   unfolding handed_later on_later TellsAll
-  not_leader told is = subst (λ (b : Bool). By told told (turns.Refused causes.NotLeader) b (g.session conn)) (sym is) (record { answers = []; allowed = tt; told = refl; exact = refl; is = refl })
+  not_leader told is = subst (λ (b : Bool). By told told (decisions.Refused causes.NotLeader) b (g.session conn)) (sym is) (record { answers = []; allowed = tt; told = refl; exact = refl; is = refl })
 
   -- it serves, and the query runs
-  pub leads : (these : Statement) (before now : Option Told) (turn : Turn) → these ≡ statement → v.serving ≡ true → g.session conn ≡ s → RunsTo m kind v machine g conn s (these ∷ []) true before now turn
-      → ComesBy m kind v machine s (handed_later v machine g conn statement) (on_later v machine g conn statement) before now turn
+  pub leads : (these : Statement) (before now : Option Told) (decision : Decision) → these ≡ statement → v.serving ≡ true → g.session conn ≡ s → RunsTo m kind v machine g conn s (these ∷ []) true before now decision
+      → ComesBy m kind v machine s (handed_later v machine g conn statement) (on_later v machine g conn statement) before now decision
   unfolding handed_later on_later
-  leads these before now turn query is same ran =
-      let r : RunsTo m kind v machine g conn s (statement ∷ []) true before now turn = subst (λ (one : Statement). RunsTo m kind v machine g conn s (one ∷ []) true before now turn) query ran in
-      subst (λ (b : Bool). By before now turn b (g.session conn)) (sym is)
-      (subst (By before now turn true) (sym same) (record { answers = r.answers; allowed = r.allowed; told = r.told; exact = r.exact; is = r.is }))
+  leads these before now decision query is same ran =
+      let r : RunsTo m kind v machine g conn s (statement ∷ []) true before now decision = subst (λ (one : Statement). RunsTo m kind v machine g conn s (one ∷ []) true before now decision) query ran in
+      subst (λ (b : Bool). By before now decision b (g.session conn)) (sym is)
+      (subst (By before now decision true) (sym same) (record { answers = r.answers; allowed = r.allowed; told = r.told; exact = r.exact; is = r.is }))
 
 -- ---- where it was set aside, and is put back
 
@@ -143,27 +143,27 @@ module _ (databases : List Database) (items known : List CodeSession) (conn plac
   opened_there weight opened = ap has_database (there weight) ∙ opened
 
   -- what it comes to there is what it comes to at the connection's session
-  pub came_later : (m : Meaning) (kind : EngineKind) (v : View) (weight : ℕ) (statement : Statement) (before now : Option Told) (turn : Turn)
-      → ((table_of databases known weight).session found.conn ≡ session_of databases found → ComesBy m kind v (machine_of databases) (session_of databases found) (handed_later v (machine_of databases) (table_of databases known weight) found.conn statement) (on_later v (machine_of databases) (table_of databases known weight) found.conn statement) before now turn)
-      → ComesBy m kind v (machine_of databases) ((table_of databases items weight).session conn) (handed_later v (machine_of databases) (table_of databases items weight) conn statement) (on_later v (machine_of databases) (table_of databases items weight) conn statement) before now turn
-  came_later m kind v weight statement before now turn comes =
+  pub came_later : (m : Meaning) (kind : EngineKind) (v : View) (weight : ℕ) (statement : Statement) (before now : Option Told) (decision : Decision)
+      → ((table_of databases known weight).session found.conn ≡ session_of databases found → ComesBy m kind v (machine_of databases) (session_of databases found) (handed_later v (machine_of databases) (table_of databases known weight) found.conn statement) (on_later v (machine_of databases) (table_of databases known weight) found.conn statement) before now decision)
+      → ComesBy m kind v (machine_of databases) ((table_of databases items weight).session conn) (handed_later v (machine_of databases) (table_of databases items weight) conn statement) (on_later v (machine_of databases) (table_of databases items weight) conn statement) before now decision
+  came_later m kind v weight statement before now decision comes =
       let here : (table_of databases known weight).session found.conn ≡ session_of databases found = ap (λ (ss : List CodeSession). (table_of databases ss weight).session found.conn) same ∙ ap (table_of databases items weight).session its_conn ∙ sym (there weight) in
-      subst (λ (s : Session). ComesBy m kind v (machine_of databases) s (handed_later v (machine_of databases) (table_of databases items weight) conn statement) (on_later v (machine_of databases) (table_of databases items weight) conn statement) before now turn) (there weight)
-      (subst (λ (c : ℕ). ComesBy m kind v (machine_of databases) (session_of databases found) (handed_later v (machine_of databases) (table_of databases items weight) c statement) (on_later v (machine_of databases) (table_of databases items weight) c statement) before now turn) its_conn
-      (subst (λ (ss : List CodeSession). ComesBy m kind v (machine_of databases) (session_of databases found) (handed_later v (machine_of databases) (table_of databases ss weight) found.conn statement) (on_later v (machine_of databases) (table_of databases ss weight) found.conn statement) before now turn) same (comes here)))
+      subst (λ (s : Session). ComesBy m kind v (machine_of databases) s (handed_later v (machine_of databases) (table_of databases items weight) conn statement) (on_later v (machine_of databases) (table_of databases items weight) conn statement) before now decision) (there weight)
+      (subst (λ (c : ℕ). ComesBy m kind v (machine_of databases) (session_of databases found) (handed_later v (machine_of databases) (table_of databases items weight) c statement) (on_later v (machine_of databases) (table_of databases items weight) c statement) before now decision) its_conn
+      (subst (λ (ss : List CodeSession). ComesBy m kind v (machine_of databases) (session_of databases found) (handed_later v (machine_of databases) (table_of databases ss weight) found.conn statement) (on_later v (machine_of databases) (table_of databases ss weight) found.conn statement) before now decision) same (comes here)))
 
   -- and can be carried out there
-  pub can_later : (v : View) (weight : ℕ) (turned : Turned) (turn : Turn) (d : CodeSession) → ComesTo v (machine_of databases) ((table_of databases items weight).session conn) turned turn → CanCarry (get_or items place d) turn
-  can_later v weight turned turn d comes =
-      can_carry v (machine_of databases) databases (get_or items place d) turned turn (subst (λ (s : Session). ComesTo v (machine_of databases) s turned turn) (sym (here_at databases items weight conn place d apart at)) comes)
+  pub can_later : (v : View) (weight : ℕ) (turned : Turned) (decision : Decision) (d : CodeSession) → ComesTo v (machine_of databases) ((table_of databases items weight).session conn) turned decision → CanCarry (get_or items place d) decision
+  can_later v weight turned decision d comes =
+      can_carry v (machine_of databases) databases (get_or items place d) turned decision (subst (λ (s : Session). ComesTo v (machine_of databases) s turned decision) (sym (here_at databases items weight conn place d apart at)) comes)
 
   -- no number stands for two images then
-  pub ran_agree : (engine : List Known) (next : ℕ) (turn : Turn) (after : List CodeSession) (new : List Database) → Agree engine (works_in (Ok turn) found.transaction ++ works_of known) next (map numbered databases)
-      → ((own : CodeSession) → AgreesOn (work_in turn (get_or items place own).transaction) items databases after new) → Agree engine (works_of after) next (map numbered new)
-  ran_agree engine next turn after new given carries =
+  pub ran_agree : (engine : List Known) (next : ℕ) (decision : Decision) (after : List CodeSession) (new : List Database) → Agree engine (works_in (Ok decision) found.transaction ++ works_of known) next (map numbered databases)
+      → ((own : CodeSession) → AgreesOn (work_in decision (get_or items place own).transaction) items databases after new) → Agree engine (works_of after) next (map numbered new)
+  ran_agree engine next decision after new given carries =
       let from : get_or items place found ≡ found = ap (λ (ss : List CodeSession). get_or ss place found) (sym same) ∙ sym is in
-      subst (λ (s : CodeSession). AgreesOn (work_in turn s.transaction) items databases after new) from (carries found) engine next
-      (subst (λ (ss : List CodeSession). Agree engine (work_in turn found.transaction ++ works_of ss) next (map numbered databases)) same given)
+      subst (λ (s : CodeSession). AgreesOn (work_in decision s.transaction) items databases after new) from (carries found) engine next
+      (subst (λ (ss : List CodeSession). Agree engine (work_in decision found.transaction ++ works_of ss) next (map numbered databases)) same given)
 
   pub failed_there : (engine : List Known) (next : ℕ) (e : AllocError) → Agree engine (works_in (Err e) found.transaction ++ works_of known) next (map numbered databases) → Agree engine (works_of items) next (map numbered databases)
   failed_there engine next e given = subst (λ (ss : List CodeSession). Agree engine (works_of ss) next (map numbered databases)) same given

@@ -18,9 +18,9 @@ use Rattle.session_table.specs.declared.session.Session.{Session}
 use Rattle.session_table.specs.declared.session.Transaction.{Transaction}
 use Rattle.session_table.specs.Working.{works_of, AreAmong, IsNewest}
 use Rattle.session_table.proofs.Placing.{at_place}
-use Rattle.session_turns.specs.declared.turn.Turn.{Turn}
-use Rattle.session_turns.specs.Numbers.{work_in, works_in}
-use Rattle.session_turns.proofs.Works.{agree_fewer, agree_later}
+use Rattle.session_decisions.specs.declared.decision.Decision.{Decision}
+use Rattle.session_decisions.specs.Numbers.{work_in, works_in}
+use Rattle.session_decisions.proofs.Works.{agree_fewer, agree_later}
 use Rattle.gateway.specs.Carrying.{AgreesOn}
 use Rattle.gateway.specs.Seen.{Held, Agrees}
 use Rattle.gateway.proofs.Holding.{held}
@@ -51,14 +51,14 @@ started_agree databases machine = went_on [] [] 0 [] databases none_agree (recor
 pub acted_agree : (known : List Known) (held : Held) (databases : List Database) (command : Command) → IsMachine databases → IsMachine (act databases command) → Agrees known held databases → Agrees known held (act databases command)
 acted_agree known held databases command old new a = went_on known (works_of held.sessions) held.next databases (act databases command) a (numbers_after_act databases command) old new
 
--- ---- a turn that makes no working image
+-- ---- a decision that makes no working image
 
-pub idle_agrees : (known works : List Known) (number : ℕ) (bases : List Numbered) (r : Result Turn AllocError) (tx : Option Transaction) → IfOk r (λ turn. (t : Option Transaction) → work_in turn t ≡ []) → Agree known works number bases
+pub idle_agrees : (known works : List Known) (number : ℕ) (bases : List Numbered) (r : Result Decision AllocError) (tx : Option Transaction) → IfOk r (λ decision. (t : Option Transaction) → work_in decision t ≡ []) → Agree known works number bases
     → Agree known (works_in r tx ++ works) (number + 1) bases
-idle_agrees known works number bases (Ok turn) tx none a = subst (λ (these : List Known). Agree known (these ++ works) (number + 1) bases) (sym (none tx)) (agree_later known works number bases empty_image a)
+idle_agrees known works number bases (Ok decision) tx none a = subst (λ (these : List Known). Agree known (these ++ works) (number + 1) bases) (sym (none tx)) (agree_later known works number bases empty_image a)
 idle_agrees known works number bases (Err e) tx none a = agree_later known works number bases empty_image a
 
--- ---- a turn that is carried out
+-- ---- a decision that is carried out
 
 -- the working images are fewer
 pub fewer_agree : (made : List Known) (before after : List Session) (old new : List Database) → NumbersStay old new → AreAmong (made ++ works_of before) (works_of after) → AgreesOn made before old after new
@@ -91,11 +91,11 @@ with_some [] place within f = absurd (omega (arith, within))
 with_some (s ∷ ss) place within f = f s
 
 module _ (known : List Known) (all there lent : List Session) (place next : ℕ) (old : List Database) (within : place < length all) (same : there ≡ all) (back : lent ≡ all) where
-  pub carried_agree : (turn : Turn) (after : List Session) (new : List Database) → ((own : Session) → Agree known (works_in (Ok turn) (get_or there place own).transaction ++ works_of there) next (map numbered old))
-      → ((own : Session) → AgreesOn (work_in turn (get_or lent place own).transaction) lent old after new) → Agree known (works_of after) next (map numbered new)
-  carried_agree turn after new given carries = with_some all place within (λ own.
-      subst (λ (ss : List Session). AgreesOn (work_in turn (get_or ss place own).transaction) ss old after new) back (carries own) known next
-      (subst (λ (ss : List Session). Agree known (work_in turn (get_or ss place own).transaction ++ works_of ss) next (map numbered old)) same (given own)))
+  pub carried_agree : (decision : Decision) (after : List Session) (new : List Database) → ((own : Session) → Agree known (works_in (Ok decision) (get_or there place own).transaction ++ works_of there) next (map numbered old))
+      → ((own : Session) → AgreesOn (work_in decision (get_or lent place own).transaction) lent old after new) → Agree known (works_of after) next (map numbered new)
+  carried_agree decision after new given carries = with_some all place within (λ own.
+      subst (λ (ss : List Session). AgreesOn (work_in decision (get_or ss place own).transaction) ss old after new) back (carries own) known next
+      (subst (λ (ss : List Session). Agree known (work_in decision (get_or ss place own).transaction ++ works_of ss) next (map numbered old)) same (given own)))
 
   pub failed_agree : (e : AllocError) → ((own : Session) → Agree known (works_in (Err e) (get_or there place own).transaction ++ works_of there) next (map numbered old)) → Agree known (works_of lent) next (map numbered old)
   failed_agree e given = with_some all place within (λ own.

@@ -23,10 +23,10 @@ use Rattle.session_table.proofs.Works.{own_among}
 use Rattle.statement_runs.specs.Agreeing.{Agree}
 use Rattle.session_asking.specs.declared.wanted.Wanted.{Wanted}
 use Rattle.session_asking.specs.Meant.{meant, CanBeDone, IsAllowed, FitsStatements}
-use Rattle.session_turns.specs.declared.turn.Turn.{Turn}
-use Rattle.session_turns.specs.Numbers.{works_in}
-use Rattle.session_turns.specs.Turning.{TurnsTo}
-use Rattle.session_turns.proofs.Placed.{found_at}
+use Rattle.session_decisions.specs.declared.decision.Decision.{Decision}
+use Rattle.session_decisions.specs.Numbers.{works_in}
+use Rattle.session_decisions.specs.Turning.{TurnsTo}
+use Rattle.session_decisions.proofs.Placed.{found_at}
 
 module _ (sessions : List Session) (place : ℕ) (found : Session) (within : place < length sessions) (is : found ≡ get_or sessions place found) where
   at_place : (own : Session) → get_or sessions place own ≡ found
@@ -36,7 +36,7 @@ module _ (sessions : List Session) (place : ℕ) (found : Session) (within : pla
   pub own_there : AreAmong (works_of sessions) (work_of found.transaction)
   own_there = subst (λ (s : Session). AreAmong (works_of sessions) (work_of s.transaction)) (at_place found) (own_among sessions place found within)
 
-  pub agree_there : (known : List Known) (number : ℕ) (bases : List Numbered) (result : Result Turn AllocError) (own : Session) → Agree known (works_in result found.transaction ++ works_of sessions) number bases
+  pub agree_there : (known : List Known) (number : ℕ) (bases : List Numbered) (result : Result Decision AllocError) (own : Session) → Agree known (works_in result found.transaction ++ works_of sessions) number bases
       → Agree known (works_in result (get_or sessions place own).transaction ++ works_of sessions) number bases
   agree_there known number bases result own a = subst (λ (s : Session). Agree known (works_in result s.transaction ++ works_of sessions) number bases) (sym (at_place own)) a
 
@@ -62,12 +62,12 @@ module _ (sessions : List Session) (place : ℕ) (found : Session) (within : pla
       subst (λ (s : Session). CanBeDone v (session_of databases s) params wanted) (sym (at_place own)) (subst (λ (ps : List Value). CanBeDone v (session_of databases found) ps wanted) (sym same) can)
 
   module _ (m : Meaning) (kind : EngineKind) (v : View) (databases : List Database) (params : List Value) (wanted : Wanted) (before now : Option Told) (own : Session) (weight : ℕ) where
-    pub turned_there : (turn : Turn) → TurnsTo m kind v (machine_of databases) (table_of databases sessions weight) found.conn (session_of databases found) (meant params wanted) before now turn
-        → TurnsTo m kind v (machine_of databases) (table_of databases sessions weight) (get_or sessions place own).conn (session_of databases (get_or sessions place own)) (meant params wanted) before now turn
-    turned_there turn turns =
-        subst (λ (s : Session). TurnsTo m kind v (machine_of databases) (table_of databases sessions weight) s.conn (session_of databases s) (meant params wanted) before now turn) (sym (at_place own)) turns
+    pub turned_there : (decision : Decision) → TurnsTo m kind v (machine_of databases) (table_of databases sessions weight) found.conn (session_of databases found) (meant params wanted) before now decision
+        → TurnsTo m kind v (machine_of databases) (table_of databases sessions weight) (get_or sessions place own).conn (session_of databases (get_or sessions place own)) (meant params wanted) before now decision
+    turned_there decision turns =
+        subst (λ (s : Session). TurnsTo m kind v (machine_of databases) (table_of databases sessions weight) s.conn (session_of databases s) (meant params wanted) before now decision) (sym (at_place own)) turns
 
-    pub came_there : {E : Type 0} (result : Result Turn E) → IfOk result (TurnsTo m kind v (machine_of databases) (table_of databases sessions weight) found.conn (session_of databases found) (meant params wanted) before now)
+    pub came_there : {E : Type 0} (result : Result Decision E) → IfOk result (TurnsTo m kind v (machine_of databases) (table_of databases sessions weight) found.conn (session_of databases found) (meant params wanted) before now)
         → IfOk result (TurnsTo m kind v (machine_of databases) (table_of databases sessions weight) (get_or sessions place own).conn (session_of databases (get_or sessions place own)) (meant params wanted) before now)
     came_there result turns =
         subst (λ (s : Session). IfOk result (TurnsTo m kind v (machine_of databases) (table_of databases sessions weight) s.conn (session_of databases s) (meant params wanted) before now)) (sym (at_place own)) turns

@@ -10,20 +10,20 @@ use Rattle.session_rules.specs.Requests.{does}
 use Rattle.session_rules.specs.Sessions.{Session, Gateway, View}
 use Rattle.session_asking.specs.declared.wanted.Wanted.{Wanted}
 use Rattle.session_asking.specs.Meant.{meant}
-use Rattle.session_turns.specs.declared.turn.Turn.{Turn}
-use Rattle.session_turns.specs.Turning.{TurnsTo}
-use Rattle.session_turns.specs.Runs.{RunsTo}
+use Rattle.session_decisions.specs.declared.decision.Decision.{Decision}
+use Rattle.session_decisions.specs.Turning.{TurnsTo}
+use Rattle.session_decisions.specs.Runs.{RunsTo}
 
-module _ (m : Meaning) (kind : EngineKind) (v : View) (machine : Machine) (g : Gateway) (conn : ℕ) (s : Session) (before now : Option Told) (turn : Turn) where
+module _ (m : Meaning) (kind : EngineKind) (v : View) (machine : Machine) (g : Gateway) (conn : ℕ) (s : Session) (before now : Option Told) (decision : Decision) where
   -- statements whose rows are dropped
-  dropped : (ss : List Statement) → RunsTo m kind v machine g conn s ss false before now turn → TurnsTo m kind v machine g conn s (Runs ss) before now turn
+  dropped : (ss : List Statement) → RunsTo m kind v machine g conn s ss false before now decision → TurnsTo m kind v machine g conn s (Runs ss) before now decision
   unfolding does
   dropped ss r = record { answers = r.answers; allowed = r.allowed; told = r.told; exact = r.exact; is = r.is }
 
   -- those of what is wanted
-  pub ran : (params : List Value) (w known : Wanted) (ss these : List Statement) → w ≡ known → meant params known ≡ Runs ss → these ≡ ss → RunsTo m kind v machine g conn s these false before now turn
-      → TurnsTo m kind v machine g conn s (meant params w) before now turn
+  pub ran : (params : List Value) (w known : Wanted) (ss these : List Statement) → w ≡ known → meant params known ≡ Runs ss → these ≡ ss → RunsTo m kind v machine g conn s these false before now decision
+      → TurnsTo m kind v machine g conn s (meant params w) before now decision
   ran params w known ss these is means same r =
-      subst (λ (x : Wanted). TurnsTo m kind v machine g conn s (meant params x) before now turn) (sym is)
-      (subst (λ a. TurnsTo m kind v machine g conn s a before now turn) (sym means)
-      (subst (λ (xs : List Statement). TurnsTo m kind v machine g conn s (Runs xs) before now turn) same (dropped these r)))
+      subst (λ (x : Wanted). TurnsTo m kind v machine g conn s (meant params x) before now decision) (sym is)
+      (subst (λ a. TurnsTo m kind v machine g conn s a before now decision) (sym means)
+      (subst (λ (xs : List Statement). TurnsTo m kind v machine g conn s (Runs xs) before now decision) same (dropped these r)))

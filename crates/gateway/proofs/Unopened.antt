@@ -16,9 +16,9 @@ use Rattle.session_table.specs.declared.cause.Cause.{Cause}
 use Rattle.session_table.specs.declared.cause.Cause.TheVariants as told
 use Rattle.session_table.specs.Named.{cause_named}
 use Rattle.session_asking.specs.declared.wanted.Effect.TheVariants as effects
-use Rattle.session_turns.specs.declared.turn.Turn.{Turn}
-use Rattle.session_turns.specs.declared.turn.Turn.TheVariants as turns
-use Rattle.session_turns.specs.Turning.{ComesTo}
+use Rattle.session_decisions.specs.declared.decision.Decision.{Decision}
+use Rattle.session_decisions.specs.declared.decision.Decision.TheVariants as decisions
+use Rattle.session_decisions.specs.Turning.{ComesTo}
 use Rattle.gateway.specs.declared.act.Act.{Act}
 use Rattle.gateway.specs.declared.act.Act.TheVariants as acts
 use Rattle.gateway.specs.Carrying.{Carries}
@@ -80,33 +80,33 @@ no_failure (Rows answer) plain e = rows_differ _ _ _ e
 
 -- where no answer at once is a refusal
 module _ (v : View) (m : Machine) (g : Gateway) (conn : ℕ) (outcome : Turned) (plain : (to : Session) (reply : Reply) (note : Note) → outcome ≡ Answers to reply note → IsRefusal reply → ⊥) (now : Gateway) (act : Act) (is : act ≡ acts.Reply (failure NotADatabase ∷ [])) where
-  answered : (turned : Turned) (turn : Turn) → outcome ≡ turned → ComesTo v m (g.session conn) turned turn → Carries m g conn turn now act → turn ≡ turns.Refused told.NotADatabase
-  answered turned (turns.Refused cause) e comes carries = ap turns.Refused (by_code cause (code_of (failure NotADatabase) (failure NotADatabase) _ _ _ _ (sym carries.1 ∙ is)))
-  answered (Refused cause) (turns.Answers change reply) e comes carries = absurd comes
-  answered Lacks (turns.Answers change reply) e comes carries = absurd comes
-  answered (Answers to reply note) (turns.Answers change told) e comes carries =
+  answered : (turned : Turned) (decision : Decision) → outcome ≡ turned → ComesTo v m (g.session conn) turned decision → Carries m g conn decision now act → decision ≡ decisions.Refused told.NotADatabase
+  answered turned (decisions.Refused cause) e comes carries = ap decisions.Refused (by_code cause (code_of (failure NotADatabase) (failure NotADatabase) _ _ _ _ (sym carries.1 ∙ is)))
+  answered (Refused cause) (decisions.Answers change reply) e comes carries = absurd comes
+  answered Lacks (decisions.Answers change reply) e comes carries = absurd comes
+  answered (Answers to reply note) (decisions.Answers change told) e comes carries =
       absurd (no_failure reply (plain to reply note e) (ap (λ (r : Reply). acts.Reply (responses_of r)) comes.1 ∙ sym carries.1 ∙ is))
-  answered (Proposes to contents note) (turns.Answers change reply) e comes carries = absurd comes
-  answered (Lends to job) (turns.Answers change reply) e comes carries = absurd comes
-  answered (Affects effect) (turns.Answers change reply) e comes carries = absurd comes
-  answered turned (turns.Begins at_once) e comes carries = let other : acts.Reply (responses.Result 0 0 ∷ []) ≡ acts.Reply (failure NotADatabase ∷ []) = sym carries.1 ∙ is in (cc)
-  answered turned turns.Ends e comes carries = let other : acts.Reply (responses.Result 0 0 ∷ []) ≡ acts.Reply (failure NotADatabase ∷ []) = sym carries.1 ∙ is in (cc)
-  answered turned (turns.Proposes flight entries) e comes carries = let other : acts.Propose entries ≡ acts.Reply (failure NotADatabase ∷ []) = sym carries.1 ∙ is in (cc)
-  answered turned (turns.Creates flight entries barriers) e comes carries = let other : acts.Propose entries ≡ acts.Reply (failure NotADatabase ∷ []) = sym carries.1 ∙ is in (cc)
-  answered turned (turns.Lends query job) e comes carries = let other : acts.Lend job ≡ acts.Reply (failure NotADatabase ∷ []) = sym carries.1 ∙ is in (cc)
-  answered turned (turns.Affects (effects.HandsOver id)) e comes carries = let other : acts.Transfer id ≡ acts.Reply (failure NotADatabase ∷ []) = sym carries.1 ∙ is in (cc)
-  answered turned (turns.Affects (effects.JoinsPeer id)) e comes carries = let other : acts.Peer id ≡ acts.Reply (failure NotADatabase ∷ []) = sym carries.1 ∙ is in (cc)
-  answered turned (turns.Affects (effects.Weighs weight)) e comes carries = let other : acts.Reply (responses.Empty ∷ []) ≡ acts.Reply (failure NotADatabase ∷ []) = sym carries.1 ∙ is in (cc)
+  answered (Proposes to contents note) (decisions.Answers change reply) e comes carries = absurd comes
+  answered (Lends to job) (decisions.Answers change reply) e comes carries = absurd comes
+  answered (Affects effect) (decisions.Answers change reply) e comes carries = absurd comes
+  answered turned (decisions.Begins at_once) e comes carries = let other : acts.Reply (responses.Result 0 0 ∷ []) ≡ acts.Reply (failure NotADatabase ∷ []) = sym carries.1 ∙ is in (cc)
+  answered turned decisions.Ends e comes carries = let other : acts.Reply (responses.Result 0 0 ∷ []) ≡ acts.Reply (failure NotADatabase ∷ []) = sym carries.1 ∙ is in (cc)
+  answered turned (decisions.Proposes flight entries) e comes carries = let other : acts.Propose entries ≡ acts.Reply (failure NotADatabase ∷ []) = sym carries.1 ∙ is in (cc)
+  answered turned (decisions.Creates flight entries barriers) e comes carries = let other : acts.Propose entries ≡ acts.Reply (failure NotADatabase ∷ []) = sym carries.1 ∙ is in (cc)
+  answered turned (decisions.Lends query job) e comes carries = let other : acts.Lend job ≡ acts.Reply (failure NotADatabase ∷ []) = sym carries.1 ∙ is in (cc)
+  answered turned (decisions.Affects (effects.HandsOver id)) e comes carries = let other : acts.Transfer id ≡ acts.Reply (failure NotADatabase ∷ []) = sym carries.1 ∙ is in (cc)
+  answered turned (decisions.Affects (effects.JoinsPeer id)) e comes carries = let other : acts.Peer id ≡ acts.Reply (failure NotADatabase ∷ []) = sym carries.1 ∙ is in (cc)
+  answered turned (decisions.Affects (effects.Weighs weight)) e comes carries = let other : acts.Reply (responses.Empty ∷ []) ≡ acts.Reply (failure NotADatabase ∷ []) = sym carries.1 ∙ is in (cc)
 
-  unopened_outcome : (turn : Turn) → ComesTo v m (g.session conn) outcome turn → Carries m g conn turn now act → turn ≡ turns.Refused told.NotADatabase
-  unopened_outcome turn comes carries = answered outcome turn refl comes carries
+  unopened_outcome : (decision : Decision) → ComesTo v m (g.session conn) outcome decision → Carries m g conn decision now act → decision ≡ decisions.Refused told.NotADatabase
+  unopened_outcome decision comes carries = answered outcome decision refl comes carries
 
 -- of a request
-pub unopened_turn : (v : View) (m : Machine) (g : Gateway) (conn : ℕ) (request : Request) (answers : List Answer) (now : Gateway) (act : Act) → act ≡ acts.Reply (failure NotADatabase ∷ []) → (turn : Turn)
-    → ComesTo v m (g.session conn) (on_request v m g conn request answers) turn → Carries m g conn turn now act → turn ≡ turns.Refused told.NotADatabase
+pub unopened_turn : (v : View) (m : Machine) (g : Gateway) (conn : ℕ) (request : Request) (answers : List Answer) (now : Gateway) (act : Act) → act ≡ acts.Reply (failure NotADatabase ∷ []) → (decision : Decision)
+    → ComesTo v m (g.session conn) (on_request v m g conn request answers) decision → Carries m g conn decision now act → decision ≡ decisions.Refused told.NotADatabase
 unopened_turn v m g conn request answers now act is = unopened_outcome v m g conn (on_request v m g conn request answers) (answers_plain v m g conn request answers) now act is
 
 -- of a query that is run later
-pub unopened_later : (v : View) (m : Machine) (g : Gateway) (conn : ℕ) (statement : Statement) (answers : List Answer) (now : Gateway) (act : Act) → act ≡ acts.Reply (failure NotADatabase ∷ []) → (turn : Turn)
-    → ComesTo v m (g.session conn) (on_later v m g conn statement answers) turn → Carries m g conn turn now act → turn ≡ turns.Refused told.NotADatabase
+pub unopened_later : (v : View) (m : Machine) (g : Gateway) (conn : ℕ) (statement : Statement) (answers : List Answer) (now : Gateway) (act : Act) → act ≡ acts.Reply (failure NotADatabase ∷ []) → (decision : Decision)
+    → ComesTo v m (g.session conn) (on_later v m g conn statement answers) decision → Carries m g conn decision now act → decision ≡ decisions.Refused told.NotADatabase
 unopened_later v m g conn statement answers now act is = unopened_outcome v m g conn (on_later v m g conn statement answers) (later_answers_plain v m g conn statement answers) now act is

@@ -1,6 +1,6 @@
 use dq_base::Items;
 use raft_vote::Entries;
-use session_turns::ReadJob;
+use session_decisions::ReadJob;
 use wire_msgs::Response;
 
 /// What a node has to do for a request.

@@ -16,9 +16,9 @@ ghost use Rattle.session_table.specs.Marks.{AreMarks};
 ghost use Rattle.session_table.specs.Table.{AreApart, pin_of, pins_of, session_of, table_of};
 ghost use Rattle.session_table.specs.Working.{works_of};
 ghost use Rattle.session_asking.specs.Meant.{meant, CanBeDone, NameHasNoNul};
-ghost use Rattle.session_turns.specs.declared.turn.Turn.TheVariants as turns;
-ghost use Rattle.session_turns.specs.Numbers.{works_in};
-ghost use Rattle.session_turns.specs.Turning.{ComesBy, TurnsTo};
+ghost use Rattle.session_decisions.specs.declared.decision.Decision.TheVariants as decisions;
+ghost use Rattle.session_decisions.specs.Numbers.{works_in};
+ghost use Rattle.session_decisions.specs.Turning.{ComesBy, TurnsTo};
 ghost use Rattle.gateway.specs.Calls.{AddressHasNoNul, HasShortTerm, IsConfigured, MayConfigure};
 
 use crate::call::{Call, Seat};
@@ -26,11 +26,11 @@ use crate::params::into_params;
 use dq_base::Items;
 use page_apply::Machine;
 use session_asking::{Wanted, wanted_by};
-use session_table::{Cause, Session};
-use session_turns::{
-    Turn, beginning, changing, commit_turn, creating, finalizing, opened, preparing,
+use session_decisions::{
+    Decision, Setting, beginning, changing, committing, creating, finalizing, opened, preparing,
     read_statement, run_script, run_single, telling,
 };
+use session_table::{Cause, Session};
 use sql_engine::Engine;
 use std::alloc::AllocError;
 use wire_msgs::Request;
@@ -38,7 +38,7 @@ use wire_words::Value;
 
 /// What comes of what is wanted of the session at a place. The number was drawn for the image that its statements leave. `Err` is
 /// want of memory; nothing has changed but what the engine told.
-fn turn_of<E: Engine>(
+fn decision_of<E: Engine>(
     call: &Call,
     sessions: &mut [Session],
     place: usize,
@@ -46,7 +46,7 @@ fn turn_of<E: Engine>(
     params: Items<Value>,
     machine: &Machine,
     engine: &mut E,
-) -> Result<Turn, AllocError>
+) -> Result<Decision, AllocError>
     requires apart { AreApart sessions.old }
     requires within { place < length sessions.old }
     requires term { HasShortTerm call.now.view.now }
@@ -55,12 +55,12 @@ fn turn_of<E: Engine>(
     requires configures { MayConfigure wanted }
     requires can { (own : SessionValue) → CanBeDone call.now.view.now (session_of machine.now (get_or sessions.old place own)) params wanted }
     requires agree { Agree (E.known engine.old) (works_of sessions.old) call.now.number (map numbered machine.now) }
-    // No number stands for two images then either, with the working image that the turn makes.
+    // No number stands for two images then either, with the working image that the decision makes.
     ensures agree { (own : SessionValue) → Agree (E.known engine.new)
         (works_in result (get_or sessions.old place own).transaction ++ works_of sessions.old) (call.now.number + 1) (map numbered machine.now) }
     ensures kept { sessions.new ≡ sessions.old }
     ensures stays { Stays (E.kind engine.old) (E.kind engine.new) (E.refused_openings engine.old) (E.refused_openings engine.new) }
-    ensures unopened { IfOk result (λ turn. turn ≡ turns.Refused NotADatabase → E.refused_openings engine.old < E.refused_openings engine.new) }
+    ensures unopened { IfOk result (λ decision. decision ≡ decisions.Refused NotADatabase → E.refused_openings engine.old < E.refused_openings engine.new) }
     ensures ran { (own : SessionValue) (weight : ℕ) → IfOk result (TurnsTo (E.meaning (E.kind engine.old)) (E.kind engine.old) call.now.view.now
         (machine_of machine.now) (table_of machine.now sessions.old weight) (get_or sessions.old place own).conn
         (session_of machine.now (get_or sessions.old place own)) (meant params wanted) (E.told engine.old) (E.told engine.new)) }
@@ -70,12 +70,18 @@ fn turn_of<E: Engine>(
         view,
         number,
     } = *call;
+    let setting = Setting {
+        alloc,
+        view,
+        machine,
+        number,
+    };
     let known = &*sessions;
     let session = &known[place];
     match wanted {
-        Wanted::Never(cause) => Ok(Turn::Refused(cause)),
+        Wanted::Never(cause) => Ok(Decision::Refused(cause)),
         Wanted::Tells(response) => Ok(telling(response)),
-        Wanted::Sets(effect) => Ok(Turn::Affects(effect)),
+        Wanted::Sets(effect) => Ok(Decision::Affects(effect)),
         Wanted::Opens(name, barriers) => Ok(opened(name, barriers)),
         Wanted::Creates(name, barriers) => {
             creating(alloc, view, machine, known, session, name, barriers)
@@ -84,26 +90,20 @@ fn turn_of<E: Engine>(
         Wanted::Prepares(prepared, tail) => Ok(preparing(session, prepared, tail)),
         Wanted::Drops(id) => Ok(finalizing(session, id)),
         Wanted::Begins(at_once) => Ok(beginning(known, session.conn, session, at_once)),
-        Wanted::Commits => commit_turn(alloc, view, machine, known, session),
-        Wanted::RollsBack => Ok(Turn::Ends),
+        Wanted::Commits => committing(alloc, view, machine, known, session),
+        Wanted::RollsBack => Ok(Decision::Ends),
         Wanted::RunsOne(prepared) => {
             let text = prepared.text.as_str();
             let params = params.as_slice();
-            run_single(
-                alloc, view, machine, known, session, false, text, params, number, engine,
-            )
+            run_single(&setting, known, session, false, text, params, engine)
         }
         Wanted::RunsAll(script) => {
             let params = params.as_slice();
-            run_script(
-                alloc, view, machine, sessions, place, &script, params, number, engine,
-            )
+            run_script(&setting, sessions, place, &script, params, engine)
         }
         Wanted::Reads(prepared) => {
             let text = prepared.text;
-            read_statement(
-                alloc, view, machine, known, session, text, params, number, engine,
-            )
+            read_statement(&setting, known, session, text, params, engine)
         }
     }
 }
@@ -118,7 +118,7 @@ pub(crate) fn decide<E: Engine>(
     request: Request,
     machine: &Machine,
     engine: &mut E,
-) -> Result<Turn, AllocError>
+) -> Result<Decision, AllocError>
     requires apart { AreApart sessions.old }
     requires place { StandsAt seat.conn sessions.old seat.place }
     requires marks { AllByRecursion (IsPinned machine.now) (pins_of sessions.old) }
@@ -128,12 +128,12 @@ pub(crate) fn decide<E: Engine>(
     requires configured { IsConfigured call.now.view.now }
     requires address { AddressHasNoNul request }
     requires agree { Agree (E.known engine.old) (works_of sessions.old) call.now.number (map numbered machine.now) }
-    // No number stands for two images then either, with the working image that the turn makes.
+    // No number stands for two images then either, with the working image that the decision makes.
     ensures agree { (own : SessionValue) → Agree (E.known engine.new)
         (works_in result (get_or sessions.old seat.place own).transaction ++ works_of sessions.old) (call.now.number + 1) (map numbered machine.now) }
     ensures kept { sessions.new ≡ sessions.old }
     ensures stays { Stays (E.kind engine.old) (E.kind engine.new) (E.refused_openings engine.old) (E.refused_openings engine.new) }
-    ensures unopened { IfOk result (λ turn. turn ≡ turns.Refused NotADatabase → E.refused_openings engine.old < E.refused_openings engine.new) }
+    ensures unopened { IfOk result (λ decision. decision ≡ decisions.Refused NotADatabase → E.refused_openings engine.old < E.refused_openings engine.new) }
     ensures ran { IfOk result (ComesBy (E.meaning (E.kind engine.old)) (E.kind engine.old) call.now.view.now (machine_of machine.now)
         ((table_of machine.now sessions.old weight).session seat.conn)
         (handed call.now.view.now (machine_of machine.now) (table_of machine.now sessions.old weight) seat.conn request)
@@ -146,5 +146,5 @@ pub(crate) fn decide<E: Engine>(
         call.alloc, call.view, machine, known, weight, session, &request,
     )?;
     let params = into_params(call.alloc, request);
-    turn_of(call, sessions, seat.place, wanted, params, machine, engine)
+    decision_of(call, sessions, seat.place, wanted, params, machine, engine)
 }

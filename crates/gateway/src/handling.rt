@@ -15,8 +15,8 @@ ghost use Rattle.gateway.specs.Calls.{AddressHasNoNul, HasShortTerm, IsConfigure
 
 use crate::act::Act;
 use crate::call::{Call, Seat};
+use crate::carrying::carry_out;
 use crate::deciding::decide;
-use crate::turning::carry_out;
 use page_apply::Machine;
 use session_table::{Session, find};
 use sql_engine::Engine;
@@ -57,6 +57,6 @@ pub(crate) fn handle<E: Engine>(
     let place = find(sessions.as_slice(), conn).unwrap();
     let known = sessions.as_mut_slice();
     let seat = Seat { conn, place };
-    let turn = decide(call, known, *weight, seat, request, machine, engine)?;
-    carry_out(call.alloc, sessions, weight, place, conn, machine, turn)
+    let decision = decide(call, known, *weight, seat, request, machine, engine)?;
+    carry_out(call.alloc, sessions, weight, place, conn, machine, decision)
 }

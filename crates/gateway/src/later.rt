@@ -17,10 +17,10 @@ ghost use Rattle.session_table.specs.Marks.{AreMarks};
 ghost use Rattle.session_table.specs.Named.{later_named};
 ghost use Rattle.session_table.specs.Table.{AreApart, IsTable, pins_of, session_of, table_of};
 ghost use Rattle.session_table.specs.Working.{work_of, works_of, AreAmong};
-ghost use Rattle.session_turns.specs.declared.turn.Turn.TheVariants as turns;
-ghost use Rattle.session_turns.specs.Numbers.{works_in};
-ghost use Rattle.session_turns.specs.Reading.{read_named};
-ghost use Rattle.session_turns.specs.Turning.{ComesBy};
+ghost use Rattle.session_decisions.specs.declared.decision.Decision.TheVariants as decisions;
+ghost use Rattle.session_decisions.specs.Numbers.{works_in};
+ghost use Rattle.session_decisions.specs.Reading.{read_named};
+ghost use Rattle.session_decisions.specs.Turning.{ComesBy};
 ghost use Rattle.statement_runs.specs.Agreeing.{Agree};
 ghost use Rattle.gateway.specs.declared.act.Act.TheVariants as acts;
 ghost use Rattle.gateway.specs.Calls.{HasShortTerm};
@@ -28,10 +28,10 @@ ghost use Rattle.gateway.specs.Later.{LaterBy, ReadDone, Resumed};
 
 use crate::act::Act;
 use crate::call::{Call, Seat};
-use crate::turning::{answered, carry_out, refused};
+use crate::carrying::{answered, carry_out, refused};
 use page_apply::Machine;
+use session_decisions::{Decision, Read, Setting, run_single};
 use session_table::{Cause, Later, Query, Session, find, take_later};
-use session_turns::{Read, Turn, run_single};
 use sql_engine::Engine;
 use std::alloc::{AllocError, Global};
 
@@ -114,7 +114,7 @@ fn decide<E: Engine>(
     query: &Query,
     machine: &Machine,
     engine: &mut E,
-) -> Result<Turn, AllocError>
+) -> Result<Decision, AllocError>
     requires apart { AreApart sessions.now }
     requires own { AreAmong (works_of sessions.now) (work_of session.now.transaction) }
     requires opened { has_database (session_of machine.now session.now) ≡ true }
@@ -123,7 +123,8 @@ fn decide<E: Engine>(
     ensures agree { Agree (E.known engine.new) (works_in result session.now.transaction ++ works_of sessions.now)
         (call.now.number + 1) (map numbered machine.now) }
     ensures stays { Stays (E.kind engine.old) (E.kind engine.new) (E.refused_openings engine.old) (E.refused_openings engine.new) }
-    ensures unopened { IfOk result (λ turn. turn ≡ turns.Refused causes.NotADatabase → E.refused_openings engine.old < E.refused_openings engine.new) }
+    ensures unopened { IfOk result (λ decision. decision ≡ decisions.Refused causes.NotADatabase
+        → E.refused_openings engine.old < E.refused_openings engine.new) }
     ensures ran { (weight : ℕ) → (table_of machine.now sessions.now weight).session session.now.conn ≡ session_of machine.now session.now
         → IfOk result (ComesBy (E.meaning (E.kind engine.old)) (E.kind engine.old) call.now.view.now (machine_of machine.now)
         (session_of machine.now session.now)
@@ -133,18 +134,21 @@ fn decide<E: Engine>(
 {
     let view = call.view;
     if !view.serving {
-        return Ok(Turn::Refused(Cause::NotLeader));
+        return Ok(Decision::Refused(Cause::NotLeader));
     }
-    run_single(
-        call.alloc,
+    let setting = Setting {
+        alloc: call.alloc,
         view,
         machine,
+        number: call.number,
+    };
+    run_single(
+        &setting,
         sessions,
         session,
         true,
         query.text(),
         query.params(),
-        call.number,
         engine,
     )
 }
@@ -179,9 +183,9 @@ fn run<E: Engine>(
 {
     let known = sessions.as_slice();
     let session = &known[seat.place];
-    let turn = decide(call, known, session, query, machine, engine)?;
+    let decision = decide(call, known, session, query, machine, engine)?;
     carry_out(
-        call.alloc, sessions, weight, seat.place, seat.conn, machine, turn,
+        call.alloc, sessions, weight, seat.place, seat.conn, machine, decision,
     )
 }
 

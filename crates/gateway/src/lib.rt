@@ -4,16 +4,16 @@
 
 mod act;
 mod call;
+mod carrying;
 mod deciding;
 mod handling;
 mod later;
 mod laws;
 mod params;
 mod sessions;
-mod turning;
 
 pub use act::Act;
 pub use laws::commands_keep_sessions;
 pub use session_asking::{StepLimits, View};
-pub use session_turns::{Read, ReadJob, run_job};
+pub use session_decisions::{Read, ReadJob, run_job};
 pub use sessions::Gateway;

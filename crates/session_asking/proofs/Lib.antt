@@ -1,4 +1,5 @@
 pub mod Counted
+pub mod Cutting
 pub mod Naming
 pub mod Proposed
 pub mod Finding

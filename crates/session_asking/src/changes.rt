@@ -17,17 +17,15 @@ use dq_base::Items;
 use raft_vote::{
     LONGEST_ADDRESS, MOST_SERVERS, MOST_VOTERS, Server, ServerRole, Servers, voter_count,
 };
-use session_table::{Cause, Session};
+use session_table::{Cause, GREATEST_ID, Session};
 use std::alloc::{AllocError, Global};
 use wire_words::WireText;
-
-/// The greatest id of a server.
-const GREATEST_ID: u64 = 9;
 
 /// Why ADD, ASSIGN and REMOVE are refused, whatever they want.
 pub(crate) fn change_hindrance(view: &View, sessions: &[Session]) -> Option<Cause>
     requires { AreApart sessions.now }
-    ensures { (databases : List Database) (weight : ℕ) (asked : Asked) → rules.at_leader view.now (rules.if_settled (table_of databases sessions.now weight) asked) ≡ refused_by result asked }
+    ensures { (databases : List Database) (weight : ℕ) (asked : Asked) →
+        rules.at_leader view.now (rules.if_settled (table_of databases sessions.now weight) asked) ≡ refused_by result asked }
 {
     if !view.serving {
         return Some(Cause::NotLeader);
@@ -144,7 +142,8 @@ fn with_role(
 
 /// Why a server can't have a role.
 fn role_hindrance(view: &View, id: u64, role: ServerRole) -> Option<Cause>
-    ensures { rules.asks_role view.now id (role_number role) ≡ refused_by result (rules.Changes (rule_servers.with_role id (role_number role) view.now.servers)) }
+    ensures { rules.asks_role view.now id (role_number role) ≡ refused_by result
+        (rules.Changes (rule_servers.with_role id (role_number role) view.now.servers)) }
 {
     let servers = view.servers.as_slice();
     if !is_promotion(servers, id, role) {

@@ -6,27 +6,20 @@ ghost use Rattle.page_apply.specs.declared.database.Database.{Database};
 ghost use Rattle.page_apply.specs.Databases.{named};
 ghost use Rattle.checkpoint_core.specs.Store.{newest_image};
 ghost use Rattle.session_rules.specs.Asking as rules;
-ghost use Rattle.session_rules.specs.Limits as limits;
 ghost use Rattle.session_rules.specs.Machine.{is_named, machine_of};
 ghost use Rattle.session_table.specs.Table.{AreApart, session_of, table_of};
 ghost use Rattle.session_asking.specs.Meant.{meant};
 ghost use Rattle.session_asking.specs.Looking.{padded, files_size};
 
 use crate::names::one_too_many;
-use crate::view::View;
+use crate::view::{View, log_full};
 use crate::wanted::Wanted;
 use dq_base::{Image, Items, Lengths, Name};
 use page_apply::{Database, Machine};
-use session_table::{Cause, Session};
+use session_table::{Cause, LARGEST_ANSWER, Session};
 use std::alloc::{AllocError, Global};
 use wire_msgs::{File, Response};
 use wire_words::WireText;
-
-/// From this index on, nothing more is appended to a log.
-const LAST_INDEX: u64 = 4_294_900_000;
-
-/// How many bytes the body of an answer may have.
-const LARGEST_BODY: u64 = 16_777_216;
 
 /// Whether a session has opened a database.
 pub(crate) fn has_database(session: &Session) -> bool
@@ -65,13 +58,6 @@ fn is_there(machine: &Machine, name: &str) -> bool
     machine.newest(name).is_some()
 }
 
-/// Whether nothing more is appended to a node's log.
-fn log_full(view: &View) -> bool
-    ensures { result ≡ limits.log_full view.now }
-{
-    view.last >= LAST_INDEX
-}
-
 /// What OPEN wants by a name of which there is no database, with barrier reads or not. `Err` is want of memory.
 fn wanted_by_new(
     alloc: Global,
@@ -82,7 +68,8 @@ fn wanted_by_new(
     barriers: bool,
 ) -> Result<Wanted, AllocError>
     requires { AreApart sessions.now }
-    ensures { (weight : ℕ) → IfOk result (λ wanted. meant [] wanted ≡ rules.asks_new view.now (machine_of machine.now) (table_of machine.now sessions.now weight) name barriers) }
+    ensures { (weight : ℕ) → IfOk result (λ wanted. meant [] wanted ≡ rules.asks_new view.now (machine_of machine.now)
+        (table_of machine.now sessions.now weight) name barriers) }
 {
     if one_too_many(alloc, machine, sessions, &name)? {
         return Ok(Wanted::Never(Cause::TooManyDatabases));
@@ -105,7 +92,8 @@ pub(crate) fn wanted_by_open(
 ) -> Result<Wanted, AllocError>
     requires apart { AreApart sessions.now }
     requires text { has_nul name.now ≡ false }
-    ensures { (weight : ℕ) → IfOk result (λ wanted. meant [] wanted ≡ rules.asks_open view.now (machine_of machine.now) (table_of machine.now sessions.now weight) (session_of machine.now session.now) name.now barriers) }
+    ensures { (weight : ℕ) → IfOk result (λ wanted. meant [] wanted ≡ rules.asks_open view.now (machine_of machine.now)
+        (table_of machine.now sessions.now weight) (session_of machine.now session.now) name.now barriers) }
 {
     if has_database(session) {
         return Ok(Wanted::Never(Cause::DatabaseOpen));
@@ -139,7 +127,7 @@ fn files_size(name: u64, main: u64, side: u64) -> u64
 fn is_too_big(name: &str, lengths: Lengths) -> bool
     ensures { result ≡ nat_lt 16777216 (files_size (length name.now) lengths.main lengths.side) }
 {
-    files_size(name.len() as u64, lengths.main as u64, lengths.side as u64) > LARGEST_BODY
+    files_size(name.len() as u64, lengths.main as u64, lengths.side as u64) > LARGEST_ANSWER
 }
 
 /// The name of the side file of a database. `Err` is want of memory.

@@ -10,12 +10,9 @@ ghost use Rattle.session_asking.specs.Looking.{proposed_by, BelongsAt};
 
 use dq_base::Name;
 use page_apply::Machine;
-use session_table::{FlightKind, Session};
+use session_table::{FlightKind, MOST_DATABASES, Session};
 use std::alloc::{AllocError, Global};
 use std::cmp::Ordering;
-
-/// How many databases there may be.
-const MOST_DATABASES: usize = 16;
 
 /// How two names stand to each other, by their bytes.
 fn order(name: &Name, other: &Name) -> Ordering

@@ -10,7 +10,7 @@ ghost use Rattle.session_asking.specs.Looking.{pages_beside};
 use crate::names::all_names;
 use dq_base::Name;
 use page_apply::Machine;
-use session_table::{Session, flown};
+use session_table::{MOST_PAGES, Session, flown};
 use std::alloc::{AllocError, Global};
 
 /// The greater one of two numbers.
@@ -53,7 +53,8 @@ fn pages_beside(machine: &Machine, sessions: &[Session], name: &str, other: &str
 /// The pages of these databases other than the one of a name, as far as a number of 64 bits counts.
 fn all_beside(machine: &Machine, sessions: &[Session], names: &[Name], name: &str) -> u64
     requires { AreApart sessions.now }
-    ensures { (weight : ℕ) → result ≡ min (sum_by (pages_beside (machine_of machine.now) (table_of machine.now sessions.now weight) name.now) names.now) (2 ^ 64 - 1) }
+    ensures { (weight : ℕ) → result ≡ min (sum_by (pages_beside (machine_of machine.now) (table_of machine.now sessions.now weight) name.now) names.now)
+        (2 ^ 64 - 1) }
 {
     let mut pages: u64 = 0;
     for other in names {
@@ -67,7 +68,7 @@ fn all_beside(machine: &Machine, sessions: &[Session], names: &[Name], name: &st
 fn is_full(own: u64, others: u64) -> bool
     ensures { (all : ℕ) → others ≡ min all (2 ^ 64 - 1) → result ≡ nat_lt 16384 (own + all) }
 {
-    own.saturating_add(others) > 16384
+    own.saturating_add(others) > MOST_PAGES
 }
 
 /// Whether all databases would have more than 16,384 pages together, those that are proposed counted, if the one of a name had
@@ -80,7 +81,8 @@ pub fn pages_full(
     pages: u64,
 ) -> Result<bool, AllocError>
     requires { AreApart sessions.now }
-    ensures { (weight : ℕ) → IfOk result (λ full. full ≡ nat_lt 16384 (limits.pages_with (machine_of machine.now) (table_of machine.now sessions.now weight) name.now pages)) }
+    ensures { (weight : ℕ) → IfOk result (λ full. full ≡ nat_lt 16384 (limits.pages_with (machine_of machine.now)
+        (table_of machine.now sessions.now weight) name.now pages)) }
 {
     let names = all_names(alloc, machine, sessions)?;
     let own = greater(held_pages(machine, sessions, name), pages);

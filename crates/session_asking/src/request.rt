@@ -13,19 +13,16 @@ use crate::cluster::{
     wanted_by_cluster, wanted_by_connect, wanted_by_describe, wanted_by_leader, wanted_by_transfer,
 };
 use crate::databases::{wanted_by_dump, wanted_by_open};
-use crate::statements::{
+use crate::statement_requests::{
     executes, executes_text, finalizes, interrupts, prepares, queries, queries_text,
 };
 use crate::view::View;
 use crate::wanted::{Effect, Wanted};
 use page_apply::Machine;
-use session_table::{Cause, Session};
+use session_table::{Cause, HEARTBEAT_TIMEOUT, Session};
 use std::alloc::{AllocError, Global};
 use wire_msgs::{Request, Response};
 use wire_words::{Value, WireText};
-
-/// For how many milliseconds a client may be silent.
-const HEARTBEAT_TIMEOUT: u64 = 15_000;
 
 /// The flag of OPEN that asks for barrier reads.
 const BARRIERS: u64 = 4_294_967_296;
@@ -62,7 +59,9 @@ fn opens(
 ) -> Result<Wanted, AllocError>
     requires apart { AreApart sessions.now }
     requires text { has_nul name.now ≡ false }
-    ensures { (weight : ℕ) → IfOk result (λ wanted. meant [] wanted ≡ rules.at_leader view.now (rules.asks_open view.now (machine_of machine.now) (table_of machine.now sessions.now weight) (session_of machine.now session.now) name.now (rules.barriers_asked flags))) }
+    ensures { (weight : ℕ) → IfOk result (λ wanted. meant [] wanted ≡ rules.at_leader view.now
+        (rules.asks_open view.now (machine_of machine.now) (table_of machine.now sessions.now weight) (session_of machine.now session.now) name.now
+        (rules.barriers_asked flags))) }
 {
     if !view.serving {
         return Ok(Wanted::Never(Cause::NotLeader));
@@ -87,7 +86,8 @@ fn adds(
     address: &WireText,
 ) -> Result<Wanted, AllocError>
     requires { AreApart sessions.now }
-    ensures { (databases : List Database) (weight : ℕ) → IfOk result (λ wanted. meant [] wanted ≡ rules.at_leader view.now (rules.if_settled (table_of databases sessions.now weight) (rules.asks_add view.now.servers id address.now))) }
+    ensures { (databases : List Database) (weight : ℕ) → IfOk result (λ wanted. meant [] wanted ≡
+        rules.at_leader view.now (rules.if_settled (table_of databases sessions.now weight) (rules.asks_add view.now.servers id address.now))) }
 {
     match change_hindrance(view, sessions) {
         Some(cause) => Ok(Wanted::Never(cause)),
@@ -104,7 +104,8 @@ fn assigns(
     role: u64,
 ) -> Result<Wanted, AllocError>
     requires { AreApart sessions.now }
-    ensures { (databases : List Database) (weight : ℕ) → IfOk result (λ wanted. meant [] wanted ≡ rules.at_leader view.now (rules.if_settled (table_of databases sessions.now weight) (rules.asks_assign view.now id role))) }
+    ensures { (databases : List Database) (weight : ℕ) → IfOk result (λ wanted. meant [] wanted ≡
+        rules.at_leader view.now (rules.if_settled (table_of databases sessions.now weight) (rules.asks_assign view.now id role))) }
 {
     match change_hindrance(view, sessions) {
         Some(cause) => Ok(Wanted::Never(cause)),
@@ -115,7 +116,8 @@ fn assigns(
 /// What REMOVE wants. `Err` is want of memory.
 fn removes(alloc: Global, view: &View, sessions: &[Session], id: u64) -> Result<Wanted, AllocError>
     requires { AreApart sessions.now }
-    ensures { (databases : List Database) (weight : ℕ) → IfOk result (λ wanted. meant [] wanted ≡ rules.at_leader view.now (rules.if_settled (table_of databases sessions.now weight) (rules.asks_remove view.now id))) }
+    ensures { (databases : List Database) (weight : ℕ) → IfOk result (λ wanted. meant [] wanted ≡
+        rules.at_leader view.now (rules.if_settled (table_of databases sessions.now weight) (rules.asks_remove view.now id))) }
 {
     match change_hindrance(view, sessions) {
         Some(cause) => Ok(Wanted::Never(cause)),
@@ -146,7 +148,8 @@ fn ask(
 ) -> Result<Wanted, AllocError>
     requires apart { AreApart sessions.now }
     requires name { NameHasNoNul request.now }
-    ensures wants { IfOk result (λ wanted. meant (params_of request.now) wanted ≡ rules.asked_by view.now (machine_of machine.now) (table_of machine.now sessions.now weight) (session_of machine.now session.now) request.now) }
+    ensures wants { IfOk result (λ wanted. meant (params_of request.now) wanted ≡
+        rules.asked_by view.now (machine_of machine.now) (table_of machine.now sessions.now weight) (session_of machine.now session.now) request.now) }
     ensures fits { IfOk result (FitsStatements session.now.statements.items (params_of request.now)) }
 {
     match request {
@@ -229,7 +232,8 @@ pub fn wanted_by(
 ) -> Result<Wanted, AllocError>
     requires apart { AreApart sessions.now }
     requires name { NameHasNoNul request.now }
-    ensures wants { IfOk result (λ wanted. meant (params_of request.now) wanted ≡ rules.asked_by view.now (machine_of machine.now) (table_of machine.now sessions.now weight) (session_of machine.now session.now) request.now) }
+    ensures wants { IfOk result (λ wanted. meant (params_of request.now) wanted ≡
+        rules.asked_by view.now (machine_of machine.now) (table_of machine.now sessions.now weight) (session_of machine.now session.now) request.now) }
     ensures can { IfOk result (CanBeDone view.now (session_of machine.now session.now) (params_of request.now)) }
 {
     ask(alloc, view, machine, sessions, weight, session, request)

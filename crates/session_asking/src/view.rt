@@ -1,7 +1,11 @@
 //! What a node is for its sessions.
 
+ghost use Rattle.std.specs.Prelude.{◌≡◌};
+ghost use Rattle.session_rules.specs.Limits as limits;
+
 use dq_base::Items;
 use raft_vote::Servers;
+use session_table::LAST_INDEX;
 use std::marker::Model;
 
 /// How many steps statements may take, where there is a limit; an engine gives up one that would take more. Clauses see none of
@@ -58,5 +62,22 @@ impl Model for View {
 
     ghost Value = { RuleView };
 
-    ghost view = { λ v. record { id = v.id; leader = v.leader; serving = v.serving; term = v.term; last = v.last; servers = v.servers; links = v.links; readers = v.readers; even = v.even } };
+    ghost view = { λ v. record {
+      id = v.id;
+      leader = v.leader;
+      serving = v.serving;
+      term = v.term;
+      last = v.last;
+      servers = v.servers;
+      links = v.links;
+      readers = v.readers;
+      even = v.even;
+    } };
+}
+
+/// Whether nothing more is appended to the node's log for its sessions. Takes no memory.
+pub fn log_full(view: &View) -> bool
+    ensures { result ≡ limits.log_full view.now }
+{
+    view.last >= LAST_INDEX
 }

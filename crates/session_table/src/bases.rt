@@ -1,10 +1,11 @@
 //! The database of a session, as the machine has it.
 
-ghost use Rattle.std.specs.Prelude.{◌≡◌, IfOk};
+ghost use Rattle.std.specs.Prelude.{◌≡◌, IsSome, IfOk};
 ghost use Rattle.std.specs.Arc.{arc_value};
 ghost use Rattle.session_rules.specs.Machine.{machine_of};
 ghost use Rattle.session_table.specs.Table.{database_of};
 
+use crate::session::Session;
 use dq_base::{Image, Name};
 use page_apply::Machine;
 use std::alloc::{AllocError, Global};
@@ -20,11 +21,26 @@ pub fn name_of(database: &Option<Name>) -> &str
     }
 }
 
+/// The name of the database that a session has opened.
+pub fn opened_name(session: &Session) -> &Name
+    requires { IsSome session.now.database }
+    ensures { database_of session.now.database ≡ result.now }
+{
+    session.database.as_ref().unwrap()
+}
+
 /// How many commits the database of a name had; 0 where the machine has none. Takes no memory.
 pub fn newest(machine: &Machine, name: &str) -> u64
     ensures { result ≡ ((machine_of machine.now).base name.now).newest }
 {
     machine.newest(name).unwrap_or(0)
+}
+
+/// The same by a name that was read. Takes no memory.
+pub fn newest_of(machine: &Machine, name: &Name) -> u64
+    ensures { result ≡ ((machine_of machine.now).base name.now).newest }
+{
+    newest(machine, name.as_str())
 }
 
 /// The newest image of the database of a name, copied; the empty one where the machine has none. `Err` is want of memory.
@@ -35,6 +51,13 @@ pub fn newest_image(alloc: Global, machine: &Machine, name: &str) -> Result<Imag
         Some(image) => Ok(image),
         None => Ok(Image::new(alloc)),
     }
+}
+
+/// The same by a name that was read. `Err` is want of memory.
+pub fn newest_image_of(alloc: Global, machine: &Machine, name: &Name) -> Result<Image, AllocError>
+    ensures { IfOk result (λ image. image ≡ ((machine_of machine.now).base name.now).image) }
+{
+    newest_image(alloc, machine, name.as_str())
 }
 
 /// The newest image of the database of a name, shared; the empty one where the machine has none. Where the machine keeps the image

@@ -11,30 +11,11 @@ ghost use Rattle.session_table.specs.Changing.{StandsAt, with_transaction};
 ghost use Rattle.session_table.specs.Working.{work_of, works_of, IsNewest};
 ghost use Rattle.page_apply.specs.ImageNumbers.{NumbersStay};
 
+use crate::bases::{newest_image_of, newest_of};
 use crate::session::{Session, Transaction};
-use dq_base::{Image, Name};
+use dq_base::Name;
 use page_apply::{Machine, Pin};
 use std::alloc::{AllocError, Global};
-
-/// The newest image of a database, copied; the empty one where the machine has no such database.
-fn image_of(alloc: Global, machine: &Machine, name: &Name) -> Result<Image, AllocError>
-    ensures { IfOk result (λ image. image ≡ ((machine_of machine.now).base name.now).image) }
-{
-    match machine.newest_image(name.as_str())? {
-        Some(image) => Ok(image),
-        None => Ok(Image::new(alloc)),
-    }
-}
-
-/// How many commits a database had; 0 where the machine has no such database.
-fn commits_of(machine: &Machine, name: &Name) -> u64
-    ensures { result ≡ ((machine_of machine.now).base name.now).newest }
-{
-    match machine.newest(name.as_str()) {
-        Some(commits) => commits,
-        None => 0,
-    }
-}
 
 /// A read mark of the newest image of a database; none where the machine has no such database.
 fn pin_of_name(machine: &mut Machine, name: &Name) -> Option<Pin>
@@ -63,8 +44,8 @@ fn transaction_over(
     ensures kept { OnErr result (machine.new ≡ machine.old) }
 {
     let own_name = name.try_clone(alloc)?;
-    let working = image_of(alloc, machine, name)?;
-    let mark = commits_of(machine, name);
+    let working = newest_image_of(alloc, machine, name)?;
+    let mark = newest_of(machine, name);
     let number = machine.number(name.as_str());
     let pin = pin_of_name(machine, name);
     Ok(Transaction {
@@ -87,7 +68,8 @@ fn transaction_of_session(
 ) -> Result<Transaction, AllocError>
     requires open { IsSome session.now.database }
     requires room { HasRoom machine.old }
-    ensures begun { IfOk result (λ x. (name : List ℕ) → session.now.database ≡ Some name → transaction_of machine.new x ≡ begun_over name ((machine_of machine.old).base name) turn) }
+    ensures begun { IfOk result (λ x. (name : List ℕ) → session.now.database ≡ Some name → transaction_of machine.new x ≡ begun_over name
+        ((machine_of machine.old).base name) turn) }
     ensures gained { IfOk result (λ x. Gained (pin_of (Some x)) machine.old machine.new) }
     ensures work { IfOk result (λ x. AllByRecursion (IsNewest machine.old) (work_of (Some x))) }
     ensures kept { OnErr result (machine.new ≡ machine.old) }
@@ -122,7 +104,9 @@ pub fn begin(
     requires marks { AreMarks (pins_of sessions.old.items) machine.old }
     requires idle { (session : Session) → (get_or sessions.old.items place session).transaction ≡ None }
     requires open { (session : Session) → IsSome (get_or sessions.old.items place session).database }
-    ensures ok { OnOk result ((weight : ℕ) → table_of machine.new sessions.new.items weight ≡ with_session (table_of machine.old sessions.old.items weight) conn (begun (machine_of machine.old) ((table_of machine.old sessions.old.items weight).session conn) at_once)) }
+    ensures ok { OnOk result ((weight : ℕ) → table_of machine.new sessions.new.items weight ≡ with_session
+        (table_of machine.old sessions.old.items weight) conn (begun (machine_of machine.old)
+        ((table_of machine.old sessions.old.items weight).session conn) at_once)) }
     ensures kept { OnErr result ((weight : ℕ) → table_of machine.new sessions.new.items weight ≡ table_of machine.old sessions.old.items weight) }
     ensures files { machine_of machine.new ≡ machine_of machine.old }
     ensures numbers { NumbersStay machine.old machine.new }

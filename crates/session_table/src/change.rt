@@ -69,8 +69,10 @@ fn work(
     pages: &[NumberedPage],
     number: u64,
 ) -> Result<(), AllocError>
-    ensures ok { OnOk result ((databases : List Database) → option_map (transaction_of databases) transaction.new ≡ worked_on pages.now (option_map (transaction_of databases) transaction.old)) }
-    ensures kept { OnErr result ((databases : List Database) → option_map (transaction_of databases) transaction.new ≡ option_map (transaction_of databases) transaction.old) }
+    ensures ok { OnOk result ((databases : List Database) → option_map (transaction_of databases) transaction.new ≡ worked_on pages.now
+        (option_map (transaction_of databases) transaction.old)) }
+    ensures kept { OnErr result ((databases : List Database) → option_map (transaction_of databases) transaction.new ≡ option_map
+        (transaction_of databases) transaction.old) }
     ensures pin { pin_of transaction.new ≡ pin_of transaction.old }
     ensures works { AreAmong (work_with pages.now number transaction.old ++ work_of transaction.old) (work_of transaction.new) }
 {
@@ -129,12 +131,15 @@ pub fn make_change(
     requires apart { AreApart sessions.old.items }
     requires place { StandsAt conn sessions.old.items place }
     requires can { (session : Session) → CanChange (get_or sessions.old.items place session).statements.items change }
-    ensures ok { OnOk result ((databases : List Database) (weight : ℕ) → table_of databases sessions.new.items weight ≡ with_session (table_of databases sessions.old.items weight) conn (changed_by ((table_of databases sessions.old.items weight).session conn) change)) }
-    ensures kept { OnErr result ((databases : List Database) (weight : ℕ) → table_of databases sessions.new.items weight ≡ table_of databases sessions.old.items weight) }
+    ensures ok { OnOk result ((databases : List Database) (weight : ℕ) → table_of databases sessions.new.items weight ≡ with_session
+        (table_of databases sessions.old.items weight) conn (changed_by ((table_of databases sessions.old.items weight).session conn) change)) }
+    ensures kept { OnErr result ((databases : List Database) (weight : ℕ)
+        → table_of databases sessions.new.items weight ≡ table_of databases sessions.old.items weight) }
     ensures pins { pins_of sessions.new.items ≡ pins_of sessions.old.items }
     ensures fit { IsTable sessions.old.items → IsTable sessions.new.items }
     // A working image is one of before by its number, or the one that the change makes by the number drawn for it.
-    ensures works { (own : Session) → AreAmong (work_made change (get_or sessions.old.items place own).transaction ++ works_of sessions.old.items) (works_of sessions.new.items) }
+    ensures works { (own : Session) → AreAmong (work_made change (get_or sessions.old.items place own).transaction ++ works_of sessions.old.items)
+        (works_of sessions.new.items) }
 {
     sessions[place].change(change)
 }

@@ -8,6 +8,7 @@ mod cause;
 mod change;
 mod laws;
 mod limits;
+mod open_work;
 mod query;
 mod reply;
 mod session;
@@ -16,12 +17,18 @@ mod sweep;
 mod table;
 mod told;
 
-pub use bases::{name_of, newest, newest_image, newest_shared};
+pub use bases::{
+    name_of, newest, newest_image, newest_image_of, newest_of, newest_shared, opened_name,
+};
 pub use beginning::begin;
 pub use cause::Cause;
 pub use change::{Change, make_change};
 pub use laws::{commands_make_no_marks, marks_change_no_database, released_marks_are_spent};
-pub use limits::{flown, other_holds};
+pub use limits::{
+    GREATEST_ID, HEARTBEAT_TIMEOUT, LARGEST_ANSWER, LAST_INDEX, MOST_DATABASES, MOST_PAGES,
+    MOST_SESSIONS, MOST_STATEMENTS,
+};
+pub use open_work::{flown, other_holds};
 pub use query::Query;
 pub use reply::{Reply, ToldRows};
 pub use session::{Flight, FlightKind, Later, Prepared, Session, Transaction};

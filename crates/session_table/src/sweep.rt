@@ -1,6 +1,7 @@
 //! What happens to all sessions at once.
 
-ghost use Rattle.std.specs.Prelude.{◌≡◌, ◌<◌, ◌≤◌, ◌+◌, ◌++◌, ℕ, true, false, [], ◌∷◌, List, length, take, drop, vec_len, vec_capacity, OnOk, OnErr, IfOk, Some, MatchOption};
+ghost use Rattle.std.specs.Prelude.{◌≡◌, ◌<◌, ◌≤◌, ◌+◌, ◌++◌, ℕ, true, false, [], ◌∷◌};
+ghost use Rattle.std.specs.Prelude.{List, length, take, drop, vec_len, vec_capacity, OnOk, OnErr, IfOk, Some, MatchOption};
 ghost use Rattle.std.specs.List.{AllByRecursion};
 ghost use Rattle.page_apply.specs.Pins.{IsPinned};
 ghost use Rattle.session_rules.specs.Sessions.{responses_of};
@@ -12,7 +13,8 @@ ghost use Rattle.session_table.specs.Table.{mark_of, pin_of, pins_of, table_of, 
 ghost use Rattle.session_table.specs.Marks.{AreMarks, AreDifferent, Released};
 ghost use Rattle.session_table.specs.Working.{works_of, AreAmong};
 ghost use Rattle.page_apply.specs.ImageNumbers.{NumbersStay};
-ghost use Rattle.session_table.specs.Sweeping.{ends_at, done, freed_done, still_lent, landed_responses, told_landed, all_kept, all_freed, said, all_said, told_in, all_told, SweptOne, after};
+ghost use Rattle.session_table.specs.Sweeping.{ends_at, done, freed_done, still_lent, landed_responses, told_landed, all_kept};
+ghost use Rattle.session_table.specs.Sweeping.{all_freed, said, all_said, told_in, all_told, SweptOne, after};
 
 use crate::reply::Reply;
 use crate::session::{Flight, FlightKind, Later, Session, Transaction};
@@ -56,7 +58,8 @@ fn release(transaction: Option<Transaction>, machine: &mut Machine)
 
 /// Takes the proposal that ends at an index.
 fn take_ended(flight: &mut Option<Flight>, index: u64) -> Option<Flight>
-    ensures { MatchOption result ((flight.new ≡ flight.old) × (ends_at index flight.old ≡ false)) (λ ended. (flight.old ≡ Some ended) × (ends_at index flight.old ≡ true)) }
+    ensures { MatchOption result ((flight.new ≡ flight.old) × (ends_at index flight.old ≡ false))
+        (λ ended. (flight.old ≡ Some ended) × (ends_at index flight.old ≡ true)) }
 {
     match flight {
         Some(ended) => {
@@ -263,7 +266,8 @@ pub fn applied(
 ) -> Result<Vec<(u64, Response)>, AllocError>
     requires apart { AreApart sessions.old.items }
     requires marks { AreMarks (pins_of sessions.old.items) machine.old }
-    ensures table { OnOk result ((weight : ℕ) → table_of machine.new sessions.new.items weight ≡ events.on_applied index (table_of machine.old sessions.old.items weight)) }
+    ensures table { OnOk result ((weight : ℕ) → table_of machine.new sessions.new.items weight ≡ events.on_applied index
+        (table_of machine.old sessions.old.items weight)) }
     ensures told { IfOk result (λ told. (weight : ℕ) → told.items ≡ all_told (events.told_applied index (table_of machine.old sessions.old.items weight))) }
     ensures kept { OnErr result (sessions.new.items ≡ sessions.old.items) }
     ensures machine_kept { OnErr result (machine.new ≡ machine.old) }
@@ -292,7 +296,8 @@ pub fn lost(
 ) -> Result<Vec<(u64, Response)>, AllocError>
     requires apart { AreApart sessions.old.items }
     requires marks { AreMarks (pins_of sessions.old.items) machine.old }
-    ensures table { OnOk result ((weight : ℕ) → table_of machine.new sessions.new.items weight ≡ events.on_lost (table_of machine.old sessions.old.items weight)) }
+    ensures table { OnOk result ((weight : ℕ) → table_of machine.new sessions.new.items weight ≡ events.on_lost
+        (table_of machine.old sessions.old.items weight)) }
     ensures told { IfOk result (λ told. (weight : ℕ) → told.items ≡ all_told (events.told_lost (table_of machine.old sessions.old.items weight))) }
     ensures unmarked { OnOk result (pins_of sessions.new.items ≡ []) }
     ensures kept { OnErr result (sessions.new.items ≡ sessions.old.items) }

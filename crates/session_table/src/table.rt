@@ -10,12 +10,10 @@ ghost use Rattle.session_table.specs.Named.{later_named};
 ghost use Rattle.session_rules.specs.Sessions.{later_query};
 ghost use Rattle.session_rules.specs.Requests.{without_later};
 
+use crate::limits::MOST_SESSIONS;
 use crate::query::Query;
 use crate::session::{Later, Session};
 use std::alloc::{AllocError, Global};
-
-/// How many sessions a node has at most, those that have hung up counted.
-const MOST_SESSIONS: usize = 64;
 
 impl Session {
     /// Whether it is that of a connection.
@@ -59,7 +57,8 @@ fn fresh(alloc: Global, conn: u64) -> Session
 fn join_new(alloc: Global, sessions: &mut Vec<Session>, conn: u64) -> Result<bool, AllocError>
     requires table { IsTable sessions.old.items }
     requires absent { IsAbsent conn sessions.old.items }
-    ensures table { IfOk result (λ new. (databases : List Database) (weight : ℕ) → Joined (table_of databases sessions.old.items weight) conn new (table_of databases sessions.new.items weight)) }
+    ensures table { IfOk result (λ new. (databases : List Database) (weight : ℕ) → Joined (table_of databases sessions.old.items weight) conn new
+        (table_of databases sessions.new.items weight)) }
     ensures kept { OnErr result (sessions.new.items ≡ sessions.old.items) }
     ensures pins { pins_of sessions.new.items ≡ pins_of sessions.old.items }
     ensures works { works_of sessions.new.items ≡ works_of sessions.old.items }
@@ -76,7 +75,8 @@ fn join_new(alloc: Global, sessions: &mut Vec<Session>, conn: u64) -> Result<boo
 /// want of memory; nothing has changed then either.
 pub fn join(alloc: Global, sessions: &mut Vec<Session>, conn: u64) -> Result<bool, AllocError>
     requires { IsTable sessions.old.items }
-    ensures table { IfOk result (λ new. (databases : List Database) (weight : ℕ) → Joined (table_of databases sessions.old.items weight) conn new (table_of databases sessions.new.items weight)) }
+    ensures table { IfOk result (λ new. (databases : List Database) (weight : ℕ) → Joined (table_of databases sessions.old.items weight) conn new
+        (table_of databases sessions.new.items weight)) }
     ensures kept { OnErr result (sessions.new.items ≡ sessions.old.items) }
     ensures pins { pins_of sessions.new.items ≡ pins_of sessions.old.items }
     ensures works { works_of sessions.new.items ≡ works_of sessions.old.items }
@@ -119,7 +119,8 @@ pub fn take_later(sessions: &mut Vec<Session>, place: usize, conn: u64) -> Optio
     requires apart { AreApart sessions.old.items }
     requires place { StandsAt conn sessions.old.items place }
     ensures query { (databases : List Database) (weight : ℕ) → result ≡ later_query ((table_of databases sessions.old.items weight).session conn).later }
-    ensures table { (databases : List Database) (weight : ℕ) → table_of databases sessions.new.items weight ≡ without_later (table_of databases sessions.old.items weight) conn }
+    ensures table { (databases : List Database) (weight : ℕ) → table_of databases sessions.new.items weight ≡ without_later
+        (table_of databases sessions.old.items weight) conn }
     ensures pins { pins_of sessions.new.items ≡ pins_of sessions.old.items }
     ensures works { works_of sessions.new.items ≡ works_of sessions.old.items }
     ensures fit { IsTable sessions.old.items → IsTable sessions.new.items }

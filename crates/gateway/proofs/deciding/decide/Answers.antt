@@ -9,26 +9,26 @@ use Rattle.gateway.proofs.Decided.{decided, here_at, pins_part}
 use Rattle.gateway.proofs.Placed.{can_at, wants_at}
 use Rattle.gateway.proofs.deciding.decide.Goals as goal
 
-pub turn_of-requires-clause-live : goal.turn_of-requires-clause-live
-turn_of-requires-clause-live g c = λ own. pins_part c.args.machine.now c.args.sessions.now c.args.seat.place own c.requires.place.within c.requires.marks
+pub decision_of-requires-clause-live : goal.decision_of-requires-clause-live
+decision_of-requires-clause-live g c = λ own. pins_part c.args.machine.now c.args.sessions.now c.args.seat.place own c.requires.place.within c.requires.marks
 
-pub turn_of-requires-clause-listed : goal.turn_of-requires-clause-listed
-turn_of-requires-clause-listed g c = λ own.
+pub decision_of-requires-clause-listed : goal.decision_of-requires-clause-listed
+decision_of-requires-clause-listed g c = λ own.
     subst (λ (s : RuleSession). IsListed s.tx) (sym (here_at c.args.machine.now c.args.sessions.now c.args.weight c.args.seat.conn c.args.seat.place own c.requires.apart c.requires.place)) c.requires.listed
 
-pub turn_of-requires-clause-can : goal.turn_of-requires-clause-can
-turn_of-requires-clause-can g c = λ own.
+pub decision_of-requires-clause-can : goal.decision_of-requires-clause-can
+decision_of-requires-clause-can g c = λ own.
     can_at c.args.sessions.now c.args.seat.place c.index-known-seat.result c.requires.place.within c.index-known-seat.is c.args.call.now.view.now c.args.machine.now c.into_params-params.result _ c.in_ok-wanted.wanted own c.into_params-params.ensures c.in_ok-wanted.ensures.can
 
 pub returns-clause-ran : goal.returns-clause-ran
 returns-clause-ran g c =
     let found = c.index-known-seat.result in
-    IfOk-weaker c.turn_of.result _ _
-    (λ turn h. decided _ _ c.args.call.now.view.now (machine_of c.args.machine.now) (table_of c.args.machine.now c.args.sessions.now c.args.weight) c.args.seat.conn (get_or c.args.sessions.now c.args.seat.place found).conn (session_of c.args.machine.now (get_or c.args.sessions.now c.args.seat.place found)) c.into_params-params.result c.in_ok-wanted.wanted c.args.request _ _ turn
+    IfOk-weaker c.decision_of.result _ _
+    (λ decision h. decided _ _ c.args.call.now.view.now (machine_of c.args.machine.now) (table_of c.args.machine.now c.args.sessions.now c.args.weight) c.args.seat.conn (get_or c.args.sessions.now c.args.seat.place found).conn (session_of c.args.machine.now (get_or c.args.sessions.now c.args.seat.place found)) c.into_params-params.result c.in_ok-wanted.wanted c.args.request _ _ decision
     (here_at c.args.machine.now c.args.sessions.now c.args.weight c.args.seat.conn c.args.seat.place found c.requires.apart c.requires.place)
     (c.requires.place.own found)
     (wants_at c.args.call.now.view.now c.args.machine.now c.args.sessions.now c.args.weight found (get_or c.args.sessions.now c.args.seat.place found) c.into_params-params.result _ c.in_ok-wanted.wanted c.args.request c.into_params-params.ensures c.index-known-seat.is c.in_ok-wanted.ensures.wants) h)
-    (c.turn_of.ensures.ran found c.args.weight)
+    (c.decision_of.ensures.ran found c.args.weight)
 
-pub turn_of-requires-clause-configures : goal.turn_of-requires-clause-configures
-turn_of-requires-clause-configures g c = configured c.args.call.now.view.now (machine_of c.args.machine.now) (table_of c.args.machine.now c.args.sessions.now c.args.weight) (session_of c.args.machine.now c.index-known-seat.result) c.args.request _ c.in_ok-wanted.wanted c.requires.configured c.requires.address c.in_ok-wanted.ensures.wants
+pub decision_of-requires-clause-configures : goal.decision_of-requires-clause-configures
+decision_of-requires-clause-configures g c = configured c.args.call.now.view.now (machine_of c.args.machine.now) (table_of c.args.machine.now c.args.sessions.now c.args.weight) (session_of c.args.machine.now c.index-known-seat.result) c.args.request _ c.in_ok-wanted.wanted c.requires.configured c.requires.address c.in_ok-wanted.ensures.wants

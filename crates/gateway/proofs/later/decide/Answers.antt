@@ -5,13 +5,13 @@ use Rattle.session_rules.specs.Machine.{machine_of}
 use Rattle.session_rules.specs.Sessions.{View}
 use Rattle.session_table.specs.declared.cause.Cause.TheVariants as causes
 use Rattle.session_table.specs.Table.{session_of, table_of}
-use Rattle.session_turns.specs.declared.turn.Turn.TheVariants as turns
+use Rattle.session_decisions.specs.declared.decision.Decision.TheVariants as decisions
 use Rattle.gateway.proofs.Laters.{leads, not_leader}
 use Rattle.gateway.proofs.Numbering.{idle_agrees}
 use Rattle.gateway.proofs.later.decide.Goals as goal
 
 pub returns-then-not-view-clause-agree : goal.returns-then-not-view-clause-agree
-returns-then-not-view-clause-agree g c = idle_agrees _ _ c.args.call.now.number _ (Ok (turns.Refused causes.NotLeader)) c.args.session.now.transaction (λ tx. refl) c.requires.agree
+returns-then-not-view-clause-agree g c = idle_agrees _ _ c.args.call.now.number _ (Ok (decisions.Refused causes.NotLeader)) c.args.session.now.transaction (λ tx. refl) c.requires.agree
 
 pub returns-then-not-view-clause-ran : goal.returns-then-not-view-clause-ran
 returns-then-not-view-clause-ran g c = λ weight same.
@@ -26,5 +26,5 @@ returns-clause-ran g c = λ weight same.
     let is : query ≡ c.args.query.now = (λ i. record { text = c.text.ensures i; params = c.params.ensures i }) in
     let serves : c.args.call.now.view.now.serving ≡ true = sym (ap (λ (v : View). v.serving) c.view.view_is) ∙ c.if-not-view.false in
     IfOk-weaker c.run_single.result _ _
-    (λ turn ran. leads _ _ c.args.call.now.view.now (machine_of c.args.machine.now) (table_of c.args.machine.now c.args.sessions.now weight) c.args.session.now.conn (session_of c.args.machine.now c.args.session.now) c.args.query.now query _ _ turn is serves same ran)
+    (λ decision ran. leads _ _ c.args.call.now.view.now (machine_of c.args.machine.now) (table_of c.args.machine.now c.args.sessions.now weight) c.args.session.now.conn (session_of c.args.machine.now c.args.session.now) c.args.query.now query _ _ decision is serves same ran)
     (c.run_single.ensures.ran weight)

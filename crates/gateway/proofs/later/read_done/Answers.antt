@@ -3,7 +3,7 @@ use Rattle.session_rules.specs.Sessions.{lent_query}
 use Rattle.session_table.specs.declared.session.Session.{Session}
 use Rattle.session_table.specs.Changing.{IsAbsent, StandsAt}
 use Rattle.session_table.specs.Table.{table_of}
-use Rattle.session_turns.specs.Reading.{read_named}
+use Rattle.session_decisions.specs.Reading.{read_named}
 use Rattle.gateway.proofs.Laters.{done_none, done_told, later_there, not_lent, nothing_nowhere}
 use Rattle.gateway.proofs.later.read_done.Goals as goal
 

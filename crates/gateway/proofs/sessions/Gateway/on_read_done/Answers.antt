@@ -1,7 +1,7 @@
 use Rattle.std.proofs.Common.{◌∙◌}
 use Rattle.std.proofs.lemmas.Result.{IfOk-weaker, on_err_weaker}
 use Rattle.session_table.specs.Table.{table_of}
-use Rattle.session_turns.specs.Reading.{read_named}
+use Rattle.session_decisions.specs.Reading.{read_named}
 use Rattle.gateway.specs.Seen.{seen}
 use Rattle.gateway.proofs.Holding.{pins_now, seen_now}
 use Rattle.gateway.proofs.Laters.{done_so}

@@ -1,0 +1,97 @@
+-- The ending of the rules, by that of code.
+use Rattle.std.proofs.Common.{◌≡◌, ℕ, zero, suc, Bool, true, false, cond, bytes_eq, List, [], ◌∷◌, ◌++◌, length, Option, Some, None, refl, sym, ap, subst, ◌∙◌}
+use Rattle.std.specs.Prelude.{◌==◌}
+use Rattle.std.specs.List.{AllByRecursion}
+use Rattle.dq_base.specs.declared.images.Image.{Image}
+use Rattle.dq_base.specs.declared.pages.NumberedPage.{NumberedPage}
+use Rattle.dq_base.specs.Images.{page_at, page_from, page_start, file_of, sizes_page, reaches}
+use Rattle.dq_base.specs.Applying.{applied}
+use Rattle.dq_base.specs.Changes.{same_image, changed_page, changed_from, numbers_above_one, sizes_of, changed}
+use Rattle.dq_base.proofs.ChangeLaw.{length-sizes_page}
+use Rattle.dq_base.proofs.FileBytes.{length-page_from}
+use Rattle.frame_commands.specs.Spelling.{HaveSizes}
+use Rattle.sql_engine.specs.declared.answer.Ran.{Ran}
+use Rattle.sql_engine.specs.declared.fault.EngineFault.{EngineFault}
+use Rattle.sql_engine.specs.declared.kind.EngineKind.{EngineKind}
+use Rattle.sql_engine.specs.Meanings.{Meaning, Told}
+use Rattle.sql_engine.specs.Replies.{Statement}
+use Rattle.session_rules.specs.Engines.{Ending, Lacking, TooLarge, Stopped, Ended}
+use Rattle.statement_runs.specs.declared.ending.AllRan.{AllRan}
+use Rattle.statement_runs.specs.declared.ending.Ending.{Ending as CodeEnding}
+use Rattle.statement_runs.specs.declared.ending.Ending.TheVariants as codes
+use Rattle.statement_runs.specs.Running.{RanTo, Shows, change_in}
+use Rattle.session_decisions.specs.Hindered.{LeadsTo}
+use Rattle.session_table.proofs.Releasing.{all_both}
+
+pub shows_stopped : (tx : ℕ) (from : Image) (e : Ending) (fault : EngineFault) → Shows tx from e (codes.Stopped fault) → e ≡ Stopped fault
+shows_stopped tx from Lacking fault shows = absurd shows
+shows_stopped tx from (TooLarge answer) fault shows = absurd cc
+shows_stopped tx from (Stopped other) fault shows = let same : fault ≡ other = cc in ap Stopped (sym same)
+shows_stopped tx from (Ended to answer) fault shows = let wrong : codes.Stopped fault ≡ codes.Ended shows.0 = shows.1 in absurd cc
+
+pub shows_large : (tx : ℕ) (from : Image) (e : Ending) (answer : Ran) → Shows tx from e (codes.TooLarge answer) → e ≡ TooLarge answer
+shows_large tx from Lacking answer shows = absurd shows
+shows_large tx from (TooLarge other) answer shows = let same : answer ≡ other = cc in ap TooLarge (sym same)
+shows_large tx from (Stopped fault) answer shows = absurd cc
+shows_large tx from (Ended to other) answer shows = let wrong : codes.TooLarge answer ≡ codes.Ended shows.0 = shows.1 in absurd cc
+
+-- all ran
+pub record AllShown (tx : ℕ) (from : Image) (e : Ending) (ran : AllRan) : Type 0 where
+  pub to : Image
+  pub is : e ≡ Ended to ran.answer
+  pub change : change_in ran ≡ record { tx = tx; pages = changed from to }
+  pub leads : applied from (changed from to) ≡ to
+
+pub shows_ended : (tx : ℕ) (from : Image) (e : Ending) (ran : AllRan) → Shows tx from e (codes.Ended ran) → AllShown tx from e ran
+shows_ended tx from Lacking ran shows = absurd shows
+shows_ended tx from (TooLarge other) ran shows = absurd cc
+shows_ended tx from (Stopped fault) ran shows = absurd cc
+shows_ended tx from (Ended to answer) ran shows =
+    let same : ran ≡ shows.0 = (let both : codes.Ended ran ≡ codes.Ended shows.0 = shows.1 in cc) in
+    record {
+      to = to;
+      is = ap (Ended to) (sym (ap (λ (r : AllRan). r.answer) same ∙ shows.2));
+      change = ap change_in same ∙ shows.3;
+      leads = shows.4;
+    }
+
+-- what ran, by another name of its statement
+pub ran_of : (m : Meaning) (kind : EngineKind) (tx : ℕ) (image : Image) (before now : Option Told) (ending : CodeEnding) (statement asked : Statement) → statement ≡ asked → RanTo m kind tx image (statement ∷ []) before now ending → RanTo m kind tx image (asked ∷ []) before now ending
+ran_of m kind tx image before now ending statement asked is ran = subst (λ (s : Statement). RanTo m kind tx image (s ∷ []) before now ending) is ran
+
+-- ---- the pages of a change have their bytes
+
+abbrev HasSize : NumberedPage → Type 0
+HasSize p = length p.page ≡ 4096
+
+size_at : (image : Image) (n : ℕ) (page : List ℕ) → page_at image n ≡ Some page → length page ≡ 4096
+unfolding page_at
+size_at image n page e = by (n == 1) (reaches image n) e
+  where
+    by : (one there : Bool) → cond one (Some (sizes_page (length image.main) (length image.side))) (cond there (Some (page_from (file_of image n) (page_start n))) None) ≡ Some page → length page ≡ 4096
+    by true there f = let same : sizes_page (length image.main) (length image.side) ≡ page = cc in ap length (sym same) ∙ length-sizes_page (length image.main) (length image.side)
+    by false true f = let same : page_from (file_of image n) (page_start n) ≡ page = cc in ap length (sym same) ∙ length-page_from (file_of image n) (page_start n)
+    by false false f = absurd cc
+
+sizes_one : (n : ℕ) (old new : Option (List ℕ)) → ((page : List ℕ) → new ≡ Some page → length page ≡ 4096) → AllByRecursion HasSize (changed_page n old new)
+sizes_one n old None sized = tt
+sizes_one n None (Some page) sized = (sized page refl, tt)
+sizes_one n (Some was) (Some page) sized = elim (bytes_eq was page) as (λ (b : Bool). AllByRecursion HasSize (cond b [] (record { number = n; page = page } ∷ []))) [
+  | true ↦ tt
+  | false ↦ (sized page refl, tt)
+]
+
+sizes_from : (n count : ℕ) (a b : Image) → AllByRecursion HasSize (changed_from n count a b)
+unfolding changed_from
+sizes_from n zero a b = tt
+sizes_from n (suc count) a b = all_both HasSize (changed_page n (page_at a n) (page_at b n)) (changed_from (suc n) count a b) (sizes_one n (page_at a n) (page_at b n) (size_at b n)) (sizes_from (suc n) count a b)
+
+pub change_sizes : (a b : Image) → HaveSizes (changed a b)
+unfolding changed
+change_sizes a b = elim (same_image a b) as (λ (same : Bool). AllByRecursion HasSize (cond same [] (changed_from 2 (numbers_above_one b) a b ++ sizes_of b ∷ []))) [
+  | true ↦ tt
+  | false ↦ all_both HasSize (changed_from 2 (numbers_above_one b) a b) (sizes_of b ∷ []) (sizes_from 2 (numbers_above_one b) a b) (length-sizes_page (length b.main) (length b.side), tt)
+]
+
+pub change_leads : (a b : Image) → applied a (changed a b) ≡ b → LeadsTo (changed a b) b
+change_leads a b leads = λ taken. (change_sizes a b, (a, leads))

@@ -1,6 +1,0 @@
-use Rattle.std.proofs.Common.{ℕ, List, ap, ◌∙◌}
-use Rattle.session_rules.specs.Machine.{machine_of}
-use Rattle.session_turns.proofs.hindered.newest_of.Goals as goal
-
-pub returns : goal.returns
-returns c = c.newest.ensures ∙ ap (λ (name : List ℕ). ((machine_of c.args.machine.now).base name).newest) c.as_str.ensures.value
