@@ -1,9 +1,9 @@
 -- A change that was let pass may be proposed.
 use Rattle.std.proofs.Common.{◌≡◌, ℕ, suc, Bool, true, false, cond, List, [], ◌∷◌, ◌++◌, take, drop, refl, sym, ap, ◌∙◌, subst, take-append-drop}
-use Rattle.std.specs.Prelude.{◌==◌, ◌&&◌, ◌||◌, not}
+use Rattle.std.specs.Prelude.{◌&&◌, ◌||◌, not}
 use Rattle.std.proofs.lemmas.Bool.{cond-false, eq-eqb}
-use Rattle.raft_rules.specs.Log.{Entry, term_at}
-use Rattle.raft_rules.specs.Node.{Node, Server, voters}
+use Rattle.raft_rules.specs.Log.{Entry}
+use Rattle.raft_rules.specs.Node.{Server, voters}
 use Rattle.raft_world.specs.Members.{Setup, servers_read, voters_read, changes, any_change, configuration_from, configuration, voters_after, may_change}
 use Rattle.raft_member.specs.declared.members.Change.{Change}
 use Rattle.raft_member.specs.Members.{Configurations, changes_from, read_setup, IsOf}

@@ -1,10 +1,9 @@
 -- A snapshot behind each step of an event.
-use Rattle.std.proofs.Common.{◌≡◌, ◌⊎◌, ⊎_elim, ℕ, zero, suc, ◌<◌, ◌≤◌, Bool, true, List, [], ◌∷◌, take, refl, sym, ap, ◌∙◌, subst, arith}
-use Rattle.std.specs.Prelude.{cond, slice_get, Option, Some, None}
+use Rattle.std.proofs.Common.{◌≡◌, ◌⊎◌, ⊎_elim, ℕ, zero, suc, ◌<◌, ◌≤◌, List, [], ◌∷◌, take, sym, ap, ◌∙◌, subst, arith}
+use Rattle.std.specs.Prelude.{slice_get, Some}
 use Rattle.std.proofs.lemmas.List.{take-take}
 use Rattle.raft_rules.specs.Log.{Entry, LogEnd}
 use Rattle.raft_rules.specs.Node as raft
-use Rattle.raft_rules.specs.Account.{steps}
 use Rattle.raft_rules.specs.Steps.{raft_step}
 use Rattle.raft_rules.specs.Laws.{BringsSnapshot}
 use Rattle.raft_rules.proofs.SnapshotEnds.{snapshots_come_holds}
