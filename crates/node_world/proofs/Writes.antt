@@ -37,9 +37,10 @@ use Rattle.cluster_world.specs.Examples.{opening, writing}
 use Rattle.cluster_world.proofs.Examples.{opening_spelled, same_log, first_seen, two_seen, three_seen, plain_weaves, writing_weaves}
 use Rattle.node_rules.specs.Nodes.{Node, Stands}
 use Rattle.node_rules.specs.Steps.{Letter, Taken, ArePartOf, JoinsOnly, Handles, Completes, StepHolds, told}
-use Rattle.node_rules.proofs.Voters.{fixed_tells_hold}
+use Rattle.node_rules.proofs.Voters.{fixed_tells_hold, fixed_counts_hold}
 use Rattle.node_world.specs.Runs.{Connect, Asks, Timeout, first_run, nothing_kept, taken}
 use Rattle.node_world.specs.Examples.{lone, only, client, opens_it, writes_it, opened, wrote, leading, asks_open, asks_set, RunWrites}
+use Rattle.raft_member.specs.Members.{Configurations}
 use Rattle.node_world.proofs.Examples.{lone_starts}
 use Rattle.sql_scan.specs.Bytes.{is_space, is_digit, is_letter, is_word_start, is_word_part, is_sigil, is_quote, is_in_line}
 use Rattle.sql_scan.specs.Grammar.{has_end}
@@ -175,10 +176,11 @@ at_life old new x letters replies s t w v is js p q r h =
 
 -- a call at a leader that has applied these contents, which takes in what is local
 holds_at : (contents : List Content) (g : Gateway) (m : List Database) (new : Node) (x : Taken) (replies : List (ℕ × Reply)) (js : List raft.Input) → log_seen (written 1 contents) ≡ entries_of 1 contents → NoneOpen g → SameVoters (raft.voters only) x.inputs → ((is : List raft.Input) → AlikeInputs is x.inputs → is ≡ js) →
-    ((trail : ℕ → Trail) (before : List Said) → Shows (leading contents g m) new x [] replies (node_of (leading contents g m).raft) (life_of contents g trail before) js) → StepHolds {E = ℕ} cells Cells (fixed only) 1 (leading contents g m) new new.kept x (Ok ([], replies))
-holds_at contents g m new x replies js seen none voters only_these shows = record {
+    new.members ≡ record { at = 0; servers = only; later = [] } → ((trail : ℕ → Trail) (before : List Said) → Shows (leading contents g m) new x [] replies (node_of (leading contents g m).raft) (life_of contents g trail before) js) → StepHolds {E = ℕ} cells Cells (fixed only) 1 (leading contents g m) new new.kept x (Ok ([], replies))
+holds_at contents g m new x replies js seen none voters only_these members shows = record {
   tells = fixed_tells_hold only 1 (leading contents g m) x voters;
-  whole = λ s w is st t told_so.
+  counts = fixed_counts_hold only 1 (leading contents g m) new x voters (let at : new.members.at ≡ 0 = ap (λ (c : Configurations). c.at) members in omega (arith, at)) (ap (λ (c : Configurations). c.servers) members) (ap (λ (c : Configurations). c.later) members);
+  whole = λ s w is st t told_so reads served.
       let node = twin_is s (node_of (leading contents g m).raft) refl st.twin in
       at_life (leading contents g m) new x [] replies s (node_of (leading contents g m).raft) w (life_of contents g w.trail w.said) is js node (life_is contents g m s w seen none node st) (only_these is t.alike) (shows w.trail w.said);
   sent = tt;
@@ -239,7 +241,7 @@ stands_after contents g m t v trail before p q h = subst (λ (z : raft.Node). St
 abbrev blank_life : (ℕ → Trail) → List Said → Life
 blank_life trail before = record { term = 0; leads = false; serving = false; log = []; applied = 0; gate = no_sessions; trail = trail; said = before }
 
-blank_is : (s : raft.Node) (w : Life) → s ≡ node_of (lone only).raft → Stands (fixed only) (lone only) s w → w ≡ blank_life w.trail w.said
+blank_is : (s : raft.Node) (w : Life) → s ≡ node_of (lone only only).raft → Stands (fixed only) (lone only only) s w → w ≡ blank_life w.trail w.said
 blank_is s w is st =
     let term : w.term ≡ 0 = st.coherent.term ∙ ap (λ (z : raft.Node). z.term) is in
     let leads : w.leads ≡ false = st.coherent.leads ∙ ap (λ (z : raft.Node). raft.is_leader z.role) is in
@@ -254,7 +256,7 @@ elects = Lose 1 ∷ Lead 1 ∷ Append (Other ∷ []) ∷ Apply ∷ Serve ∷ []
 nothing_said : (before : List Said) → drop (length before) ((before ++ []) ++ []) ≡ []
 nothing_said before = ap (drop (length before)) (append-nil (before ++ []) ∙ append-nil before) ∙ drop_all (length before) before (omega arith)
 
-elects_so : (trail : ℕ → Trail) (before : List Said) → Shows (lone only) (leading (Other ∷ []) no_sessions []) (taken first_run 1 Timeout []) [] [] (node_of (lone only).raft) (blank_life trail before) (raft.Local raft.Timeout ∷ [])
+elects_so : (trail : ℕ → Trail) (before : List Said) → Shows (lone only only) (leading (Other ∷ []) no_sessions []) (taken first_run 1 Timeout []) [] [] (node_of (lone only only).raft) (blank_life trail before) (raft.Local raft.Timeout ∷ [])
 unfolding is_space is_digit is_letter is_word_start is_word_part is_sigil is_quote is_in_line has_end kind_of quoted starred decimal in_range parameter solid extended finished statements_from scan_of sigil_token dash_token slash_token sign_token token_of tokens_past is_write is_left_out keyword_of followed_by kind_so_far parts_of first_count cut first_nul zeros resized page_from sizes_page page_at stated_main stated_side replaced put_pages applied is_sizes order_fault length_fault fault_before changed_from changed at_name change_first split_from asked_by takes runs tx_of tidy on_applied told_applied on_lost told_lost on_hangup connects connected holds other_holds change_in_flight all_names one_too_many flown pages_with too_full hindrance with_commit framed act files row_cause outside_write outside inside committed does on_request handed with_session may_ask goes_on cell_page with_page with_cell wiped outcome_of change_at configuration voters_after may_change member_step log_end matches merged conflict_place accept first_replaced accept_above first_replaced_above is_up_to_date term_at voters others peers majority on_grants may_start_election start_election on_ask_vote grants_with on_vote agrees take_entries replaces_committed on_append on_install on_snapped on_ack message_in_range on_message on_propose on_beat on_transfer on_servers majority_stores commit_below commit_index needs_snapshot message_to finish serve raft_step step_acts put run is_stored_by_majority commit_up_to may_grant compacted_step writes_it writing
 elects_so trail before =
     let v = lives_on (blank_life trail before) elects in
@@ -266,7 +268,7 @@ elects_so trail before =
         terms = subst (InTerm v) (sym quiet) tt;
         coherent = record { log = same_log (entries_of 1 (Other ∷ [])) (written 1 (Other ∷ [])) refl refl first_seen; applied = refl; term = refl; leads = refl };
       },
-      stands_after (Other ∷ []) no_sessions [] (steps (member_step (fixed only) 1) (node_of (lone only).raft) (raft.Local raft.Timeout ∷ [])) v v.trail v.said refl refl (stands_leading (Other ∷ []) no_sessions [] v.trail v.said first_seen none_in machine_none files_none),
+      stands_after (Other ∷ []) no_sessions [] (steps (member_step (fixed only) 1) (node_of (lone only only).raft) (raft.Local raft.Timeout ∷ [])) v v.trail v.said refl refl (stands_leading (Other ∷ []) no_sessions [] v.trail v.said first_seen none_in machine_none files_none),
       refl,
       sym (ap (map told) quiet),
       (λ conn j. ((λ q. cc), ((λ q. cc), ((λ q. cc), ((λ q. cc), ((λ q. cc), tt)))))),
@@ -274,12 +276,13 @@ elects_so trail before =
       (λ conn o j. record { all = refl; handled = refl; waits = λ e. refl; run = refl }),
     )
 
-elects_hold : StepHolds {E = ℕ} cells Cells (fixed only) 1 (lone only) (leading (Other ∷ []) no_sessions []) (leading (Other ∷ []) no_sessions []).kept (taken first_run 1 Timeout []) (Ok ([], []))
+elects_hold : StepHolds {E = ℕ} cells Cells (fixed only) 1 (lone only only) (leading (Other ∷ []) no_sessions []) (leading (Other ∷ []) no_sessions []).kept (taken first_run 1 Timeout []) (Ok ([], []))
 elects_hold = record {
-  tells = fixed_tells_hold only 1 (lone only) (taken first_run 1 Timeout []) tt;
-  whole = λ s w is st t told_so.
-      let node = twin_is s (node_of (lone only).raft) refl st.twin in
-      at_life (lone only) (leading (Other ∷ []) no_sessions []) (taken first_run 1 Timeout []) [] [] s (node_of (lone only).raft) w (blank_life w.trail w.said) is (raft.Local raft.Timeout ∷ []) node (blank_is s w node st) (one_input raft.Timeout is t.alike) (elects_so w.trail w.said);
+  tells = fixed_tells_hold only 1 (lone only only) (taken first_run 1 Timeout []) tt;
+  counts = fixed_counts_hold only 1 (lone only only) (leading (Other ∷ []) no_sessions []) (taken first_run 1 Timeout []) tt (omega arith) refl refl;
+  whole = λ s w is st t told_so reads served.
+      let node = twin_is s (node_of (lone only only).raft) refl st.twin in
+      at_life (lone only only) (leading (Other ∷ []) no_sessions []) (taken first_run 1 Timeout []) [] [] s (node_of (lone only only).raft) w (blank_life w.trail w.said) is (raft.Local raft.Timeout ∷ []) node (blank_is s w node st) (one_input raft.Timeout is t.alike) (elects_so w.trail w.said);
   sent = tt;
   failed = tt;
 }
@@ -398,13 +401,13 @@ unfolding voters configuration voters_after peers others
 run_writes_holds = (
   (nothing_kept, refl, lone_starts (fixed only) only refl refl),
   (
-    (lone only, refl, elects_hold),
+    (lone only only, refl, elects_hold),
     (
-      (leading (Other ∷ []) no_sessions [], refl, holds_at (Other ∷ []) no_sessions [] (leading (Other ∷ []) (client []) []) _ [] [] first_seen none_in tt (λ is a. no_more is a) comes_so),
+      (leading (Other ∷ []) no_sessions [], refl, holds_at (Other ∷ []) no_sessions [] (leading (Other ∷ []) (client []) []) _ [] [] first_seen none_in tt (λ is a. no_more is a) refl comes_so),
       (
-        (leading (Other ∷ []) (client []) [], refl, holds_at (Other ∷ []) (client []) [] (leading (Other ∷ opening ∷ []) (client (codes "d")) opened) _ ((5, db) ∷ []) (raft.Local (raft.Propose (written 0 (opening ∷ []))) ∷ []) first_seen (none_at []) tt (λ is a. one_input (raft.Propose (written 0 (opening ∷ []))) is a) opens_so),
+        (leading (Other ∷ []) (client []) [], refl, holds_at (Other ∷ []) (client []) [] (leading (Other ∷ opening ∷ []) (client (codes "d")) opened) _ ((5, db) ∷ []) (raft.Local (raft.Propose (written 0 (opening ∷ []))) ∷ []) first_seen (none_at []) tt (λ is a. one_input (raft.Propose (written 0 (opening ∷ []))) is a) refl opens_so),
         (
-          (leading (Other ∷ opening ∷ []) (client (codes "d")) opened, refl, holds_at (Other ∷ opening ∷ []) (client (codes "d")) opened (leading (Other ∷ opening ∷ writing ∷ []) (client (codes "d")) wrote) _ ((5, result 1) ∷ []) (raft.Local (raft.Propose (written 0 (writing ∷ []))) ∷ []) two_seen (none_at (codes "d")) tt (λ is a. one_input (raft.Propose (written 0 (writing ∷ []))) is a) writes_so),
+          (leading (Other ∷ opening ∷ []) (client (codes "d")) opened, refl, holds_at (Other ∷ opening ∷ []) (client (codes "d")) opened (leading (Other ∷ opening ∷ writing ∷ []) (client (codes "d")) wrote) _ ((5, result 1) ∷ []) (raft.Local (raft.Propose (written 0 (writing ∷ []))) ∷ []) two_seen (none_at (codes "d")) tt (λ is a. one_input (raft.Propose (written 0 (writing ∷ []))) is a) refl writes_so),
           tt,
         ),
       ),
