@@ -1,18 +1,15 @@
 //! The two disks beneath an open connection of `sqlite`, which go on being its own.
 #![tactic(auto)]
 
-ghost use Rattle.std.specs.Prelude.{◌≡◌, IfOk};
-ghost use Rattle.std.specs.Prelude.{IsTrue};
+ghost use Rattle.std.specs.Prelude.{◌≡◌, IsTrue};
 ghost use Rattle.sqlite_store.specs.FileStore.{files, view, recovers};
 ghost use Rattle.sqlite.specs.Held.{IsConnected};
 ghost use Rattle.sqlite.specs.Files.{file_state, HoldsDatabase};
 ghost use Rattle.open_files.specs.Held.{image_in};
 
-use dq_base::{Bytes, Image};
 use record_disk::PageFile;
 use sqlite::{Connection, FileStore};
 use sqlite_disk::Files;
-use std::alloc::{AllocError, Global};
 
 /// A connection of the crate `sqlite` over two files in memory.
 pub type Conn = Connection<FileStore<PageFile>>;
@@ -41,27 +38,4 @@ pub fn held(conn: &Conn)
     ensures { IsTrue (file_state conn.now).is_open → ∥ HoldsDatabase (image_in (files conn.now.store)) (file_state conn.now).committed.trees ∥₁ }
 {
     connected(conn)
-}
-
-/// The image that the files beneath an open connection are, copied.
-fn copied(alloc: Global, conn: &Conn) -> Result<Image, AllocError>
-    ensures { IfOk result (λ image. image_in (files conn.now.store) ≡ record { log = image.side; db = image.main }) }
-{
-    let side = Vec::from_slice(alloc, log_of(conn).bytes())?;
-    let main = Vec::from_slice(alloc, main_of(conn).bytes())?;
-    Ok(Image {
-        main: Bytes::new(main),
-        side: Bytes::new(side),
-    })
-}
-
-/// The image that the files beneath an open connection are, copied: it holds the last commit. The connection goes on.
-pub fn image_of(alloc: Global, conn: &Conn) -> Result<Image, AllocError>
-    ensures { IfOk result (λ image. IsTrue (file_state conn.now).is_open → ∥ HoldsDatabase (record { log = image.side; db = image.main }) (file_state conn.now).committed.trees ∥₁) }
-{
-    held(conn);
-    match copied(alloc, conn) {
-        Ok(image) => Ok(image),
-        Err(error) => Err(error),
-    }
 }

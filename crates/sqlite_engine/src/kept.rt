@@ -10,19 +10,19 @@ ghost use Rattle.sqlite_engine.specs.Sql.{Closed, HasColumns, Stands, RanOn, Fai
 ghost use Rattle.sqlite_engine.specs.Led.{Led, IsRefused, IsLedTo};
 ghost use Rattle.sqlite_engine.specs.Looking.{HasReturning};
 ghost use Rattle.sqlite_engine.specs.Refusing.{IsRefusedOpening};
-ghost use Rattle.sqlite_engine.specs.Settling.{Asked, Settled};
+ghost use Rattle.sqlite_engine.specs.Settling.{files_beneath, Asked, Settled};
 ghost use Rattle.sqlite_engine.specs.Shows.{showing, FailsSomehow};
 
 use crate::connection::{Conn, OpenFault, close, execute, let_go, open, outline, query};
 use crate::errors::is_of_store;
 use crate::plan::looks_only;
 use crate::shows::Shows;
-use dq_base::{Image, PAGE_SIZE, PageSet};
-use open_files::{connected, image_of, log_of};
+use dq_base::{Image, PAGE_SIZE, PageSet, apply};
+use open_files::{connected, held, log_of, main_of};
 use record_disk::changes_between;
 use sqlite::types::ValueRef;
 use sqlite::{Error, ErrorCode, Row, Statement};
-use std::alloc::Global;
+use std::alloc::{AllocError, Global};
 
 /// A connection that is kept open over an image. But for what it has counted, and its limit of steps, it stands to that image as
 /// one that was just opened over it.
@@ -184,10 +184,7 @@ fn settled(alloc: Global, base: Image, conn: Conn, tx: u64) -> Option<(Option<Ke
     ensures over { IfSome result (λ r. IfSome r.0 (λ kept. IsLedTo base r.1 kept.base)) }
 {
     if conn.is_autocommit() && has_short_log(&conn) {
-        match followed(alloc, base, conn, tx) {
-            Some((kept, set)) => Some((Some(kept), set)),
-            None => None,
-        }
+        followed(alloc, base, conn, tx)
     } else {
         match closed(alloc, base, conn, tx) {
             Some(set) => Some((None, set)),
@@ -204,22 +201,21 @@ fn has_short_log(conn: &Conn) -> bool {
     log_of(conn).bytes().len() <= LONGEST_LOG
 }
 
-/// The connection over the image that its files are now, and the pages that lead to it.
-fn followed(alloc: Global, base: Image, conn: Conn, tx: u64) -> Option<(Kept, PageSet)>
+/// The pages that lead to what the files of a connection are now, and the connection over these files. It has no copy of them
+/// made but of the pages that differ, which the image before takes over.
+fn followed(alloc: Global, base: Image, conn: Conn, tx: u64) -> Option<(Option<Kept>, PageSet)>
     requires open { IsTrue (file_state conn).is_open }
     requires autocommit { (file_state conn).in_transaction ≡ false }
-    ensures pages { IfSome result (λ r. r.1 ≡ record { tx = tx; pages = changed base r.0.base }) }
-    ensures short { IfSome result (λ r. IsShort r.0.base) }
-    ensures closed { IfSome result (λ r. Closed r.0.base (file_state conn)) }
+    ensures settled { IfSome result (λ r. Settled base conn tx r.1) }
+    ensures over { IfSome result (λ r. IfSome r.0 (λ kept. IsLedTo base r.1 kept.base)) }
 {
     connected(&conn);
-    let Ok(after) = image_of(alloc, &conn) else {
-        let_go(conn);
-        return None;
-    };
-    is_short(&after);
-    match changes_between(alloc, base, &after, tx) {
-        Ok(set) => Some((kept_over(after, conn), set)),
+    held(&conn);
+    match changes_beneath(alloc, &base, &conn, tx) {
+        Ok(set) => {
+            let left = moved_on(base, conn, &set);
+            Some((left, set))
+        }
         Err(_) => {
             let_go(conn);
             None
@@ -227,16 +223,61 @@ fn followed(alloc: Global, base: Image, conn: Conn, tx: u64) -> Option<(Kept, Pa
     }
 }
 
+/// The pages that lead from an image to what the files of a connection are. It compares all bytes of both.
+fn changes_beneath(alloc: Global, base: &Image, conn: &Conn, tx: u64) -> Result<PageSet, AllocError>
+    ensures pages { IfOk result (λ set. set ≡ record { tx = tx; pages = changed base.now (files_beneath conn.now) }) }
+    ensures short { IsShort (files_beneath conn.now) }
+{
+    let main = main_of(conn).bytes();
+    let side = log_of(conn).bytes();
+    let _lengths = (main.len(), side.len());
+    changes_between(alloc, base, main, side, tx)
+}
+
+/// The connection over what its files are, to which these pages lead from the image. `None` where no memory is left to grow the
+/// image, or where the pages state a file that is longer than any may be.
+fn moved_on(base: Image, conn: Conn, set: &PageSet) -> Option<Kept>
+    requires pages { set.now.pages ≡ changed base (files_beneath conn) }
+    requires short { IsShort (files_beneath conn) }
+    requires stands { ∥ Stands (files_beneath conn) conn ∥₁ }
+    ensures { IfSome result (λ kept. kept.base ≡ files_beneath conn) }
+{
+    let mut base = base;
+    if takes_over(&mut base, set) {
+        Some(kept_over(base, conn))
+    } else {
+        let_go(conn);
+        None
+    }
+}
+
+/// Has an image take over the pages that lead to another one. `false` is that the set isn't one that can be applied, or that
+/// memory ran out.
+fn takes_over(image: &mut Image, set: &PageSet) -> bool
+    ensures { IsTrue result → (after : _) → IsShort after → set.now.pages ≡ changed image.old after → image.new ≡ after }
+{
+    if set.pages.is_empty() {
+        return true;
+    }
+    match apply(image, set) {
+        Ok(()) => true,
+        Err(_) => false,
+    }
+}
+
 /// The pages that lead to what the files of a connection are once they are closed.
 fn closed(alloc: Global, base: Image, conn: Conn, tx: u64) -> Option<PageSet>
     ensures { IfSome result (λ set. Settled base conn tx set) }
 {
-    let pair = close(conn)?;
-    let Ok((after, _set)) = pair.changes(alloc, tx) else {
-        return None;
-    };
+    let after = close(conn)?;
     is_short(&after);
-    match changes_between(alloc, base, &after, tx) {
+    match changes_between(
+        alloc,
+        &base,
+        after.main.as_slice(),
+        after.side.as_slice(),
+        tx,
+    ) {
         Ok(set) => Some(set),
         Err(_) => None,
     }
