@@ -1,0 +1,342 @@
+-- Turns of a node join to what happened since an act began, and that is an act, or one that was stopped.
+use Rattle.std.proofs.Common.{◌≡◌, ◌⊎◌, inl, inr, ⊎_elim, ℕ, Bool, false, List, [], ◌∷◌, ◌++◌, refl, sym, ap, ◌∙◌, subst, append-nil, append_assoc}
+use Rattle.std.specs.Prelude.{map, ◌||◌}
+use Rattle.std.specs.List.{AllByRecursion, flat_map}
+use Rattle.std.proofs.lemmas.List.{map-append}
+use Rattle.wire_msgs.specs.declared.request.Request.{Request}
+use Rattle.sql_engine.specs.declared.kind.EngineKind.{EngineKind}
+use Rattle.sql_engine.specs.Meanings.{Meaning}
+use Rattle.session_rules.specs.Sessions.{Reply}
+use Rattle.page_apply.specs.Machines.{IsMachine}
+use Rattle.raft_rules.specs.Node as raft
+use Rattle.raft_vote.specs.declared.message.RaftMessage.{RaftMessage}
+use Rattle.raft_world.specs.Members.{Setup}
+use Rattle.store_laws.specs.Store.{Kept}
+use Rattle.node_replica.specs.Mails.{MailValue, no_mail, posted, all_posted, sent}
+use Rattle.node_replica.specs.Replicas.{kept_of}
+use Rattle.node_rules.specs.Accounts.{Moment, resting, Piece, no_piece, both, read_by, Goes, Begins, SameTerm, MayEnd, with_input, LeftBy}
+use Rattle.node_rules.specs.Steps.{Letter, AllSent}
+use Rattle.node_rules.specs.ClientTurns.{Hears}
+use Rattle.node_rules.proofs.Connecting.{hearing_goes_holds}
+use Rattle.node_rules.proofs.Ends.{goes_to_end_holds, stops_between_holds, stops_within_holds}
+use Rattle.node_rules.proofs.Stretches.{nothing_goes_holds, goes_begins_holds, begins_on_holds, sent_on_holds}
+use Rattle.node_core.specs.declared.event.Event.{Event}
+use Rattle.node_core.specs.declared.outs.Outs.{Outs}
+use Rattle.node_core.specs.declared.running.Running.{Running}
+use Rattle.node_core.specs.Values.{seen}
+use Rattle.node_core.specs.Account.{moment_of, letter_of, lived, responses_in, sent_so, Sends, Says, Brought, IsOwn, Adds, Turns, Since, Begin, IsLost, Brings, Comes_in, Takes, Act, Acts, Stopped, Fresh, IsResting, Between, Went, IsMore, Happens, AreOf, waits, runs, Underway, StepsBy, StopsBy}
+
+-- ---- what is said
+
+flat_append : {A B : Type 0} (f : A → List B) (xs ys : List A) → flat_map f (xs ++ ys) ≡ flat_map f xs ++ flat_map f ys
+flat_append f [] ys = refl
+flat_append f (x ∷ xs) ys = ap (λ l. f x ++ l) (flat_append f xs ys) ∙ sym (append_assoc (f x) (flat_map f xs) (flat_map f ys))
+
+pub sends_none : Sends [] []
+sends_none = record { items = []; lives = refl; sends = refl }
+
+pub sends_join : (replies more : List (ℕ × Reply)) (bytes others : List (ℕ × List ℕ)) → Sends replies bytes → Sends more others → Sends (replies ++ more) (bytes ++ others)
+sends_join replies more bytes others a b = record {
+  items = a.items ++ b.items;
+  lives = ap (λ l. l ++ more) a.lives ∙ ap (λ l. flat_map lived a.items ++ l) b.lives ∙ sym (flat_append lived a.items b.items);
+  sends = ap (λ l. l ++ others) a.sends ∙ ap (λ l. map sent_so (flat_map responses_in a.items) ++ l) b.sends ∙ sym (map-append sent_so (flat_map responses_in a.items) (flat_map responses_in b.items)) ∙ ap (map sent_so) (sym (flat_append responses_in a.items b.items));
+}
+
+posted_join : (mail : MailValue) (xs ys : List RaftMessage) → all_posted mail (xs ++ ys) ≡ all_posted (all_posted mail xs) ys
+posted_join mail [] ys = refl
+posted_join mail (x ∷ xs) ys = posted_join (posted mail x) xs ys
+
+-- nothing is said
+pub says_none : (old new : Running) → new.mail ≡ old.mail → new.outs.replies.items ≡ old.outs.replies.items → Says old new [] []
+says_none old new mail outs = record { posted = []; letters_are = refl; mail = mail; told = []; outs = outs ∙ sym (append-nil old.outs.replies.items); tells = sends_none }
+
+pub says_join : (a b c : Running) (xs ys : List Letter) (rs qs : List (ℕ × Reply)) → Says a b xs rs → Says b c ys qs → Says a c (xs ++ ys) (rs ++ qs)
+says_join a b c xs ys rs qs x y = record {
+  posted = x.posted ++ y.posted;
+  letters_are = ap (λ l. l ++ ys) x.letters_are ∙ ap (λ l. map letter_of x.posted ++ l) y.letters_are ∙ sym (map-append letter_of x.posted y.posted);
+  mail = y.mail ∙ ap (λ m. all_posted m y.posted) x.mail ∙ sym (posted_join a.mail x.posted y.posted);
+  told = x.told ++ y.told;
+  outs = y.outs ∙ ap (λ l. l ++ y.told) x.outs ∙ append_assoc a.outs.replies.items x.told y.told;
+  tells = sends_join rs qs x.told y.told x.tells y.tells;
+}
+
+-- ---- what is taken in
+
+own_join : (xs ys : List raft.Input) → AllByRecursion IsOwn xs → AllByRecursion IsOwn ys → AllByRecursion IsOwn (xs ++ ys)
+own_join [] ys a b = b
+own_join (x ∷ xs) ys a b = (a.0, own_join xs ys a.1 b)
+
+pub adds_none : (given : List raft.Input) → Adds given given
+adds_none given = record { own = []; each = tt; is = sym (append-nil given) }
+
+adds_join : (xs ys given : List raft.Input) → Adds xs given → Adds ys [] → Adds (xs ++ ys) given
+adds_join xs ys given a b = record {
+  own = a.own ++ b.own;
+  each = own_join a.own b.own a.each b.each;
+  is = ap (λ l. l ++ ys) a.is ∙ append_assoc given a.own ys ∙ ap (λ l. given ++ (a.own ++ l)) b.is;
+}
+
+-- ---- the account
+
+-- nothing was brought but what may come with an event beside Raft's inputs and requests
+pub since_nothing : (m : Meaning) (kind : EngineKind) (setup : Setup) (x : Brought) (n : Running) → x.inputs ≡ [] → ((conn : ℕ) → x.asks conn ≡ []) → Since m kind setup x false n n
+since_nothing m kind setup x n inputs asks = record {
+  piece = no_piece;
+  goes = goes_begins_holds m kind setup n.replica.id x.bytes x.joins x.read (moment_of n) (moment_of n) no_piece (nothing_goes_holds m kind setup n.replica.id x.bytes x.joins (moment_of n));
+  inputs = subst (Adds []) (sym inputs) (adds_none []);
+  asks = λ conn. sym (asks conn);
+  is_late = refl;
+  says = says_none n n refl refl;
+  sent = tt;
+  id = refl;
+}
+
+-- one turn more
+pub since_on : (m : Meaning) (kind : EngineKind) (setup : Setup) (x : Brought) (late : Bool) (a b c : Running) → Since m kind setup x late a b → (t : Turns m kind setup x.bytes x.joins b c) →
+    (late ≡ false) ⊎ SameTerm (moment_of b) (moment_of c) → ((kept_of a.replica).snap ≡ (kept_of b.replica).snap) ⊎ ((kept_of b.replica).snap ≡ (kept_of c.replica).snap) →
+    Since m kind setup x (late || t.piece.late) a c
+since_on m kind setup x late a b c s t when once = record {
+  piece = both s.piece t.piece;
+  goes = begins_on_holds m kind setup a.replica.id x.bytes x.joins x.read (moment_of a) (moment_of b) (moment_of c) s.piece t.piece s.goes
+      (subst (λ me. Goes m kind setup me x.bytes x.joins (moment_of b) (moment_of c) t.piece) s.id t.goes) (⊎_elim (λ e. inl (s.is_late ∙ e)) (λ e. inr e) when);
+  inputs = adds_join s.piece.inputs t.piece.inputs x.inputs s.inputs t.inputs;
+  asks = λ conn. ap (λ l. l ++ t.piece.asks conn) (s.asks conn) ∙ ap (λ l. x.asks conn ++ l) (t.asks conn) ∙ append-nil (x.asks conn);
+  is_late = ap (λ z. z || t.piece.late) s.is_late;
+  says = says_join a b c s.piece.letters t.piece.letters s.piece.replies t.piece.replies s.says t.says;
+  sent = sent_on_holds (kept_of a.replica) (kept_of b.replica) (kept_of c.replica) s.piece.letters t.piece.letters s.sent t.sent once;
+  id = t.id ∙ s.id;
+}
+
+pub since_fresh : (m : Meaning) (kind : EngineKind) (setup : Setup) (x : Brought) (late : Bool) (a b c : Running) → Fresh a b → Since m kind setup x late b c → Since m kind setup x late a c
+since_fresh m kind setup x late a b c f s = record {
+  piece = s.piece;
+  goes = subst (λ me. Begins m kind setup me x.bytes x.joins x.read (moment_of a) (moment_of c) s.piece) f.id (subst (λ z. Begins m kind setup b.replica.id x.bytes x.joins x.read z (moment_of c) s.piece) f.moment s.goes);
+  inputs = s.inputs;
+  asks = s.asks;
+  is_late = s.is_late;
+  says = says_join a b c [] s.piece.letters [] s.piece.replies (says_none a b f.mail f.replies) s.says;
+  sent = subst (λ k. AllSent k (kept_of c.replica) s.piece.letters) f.kept s.sent;
+  id = s.id ∙ f.id;
+}
+
+-- ---- acts
+
+taken_so : (old : Running) (begin : Begin) (x : Brought) (p : Piece) → Comes_in old begin x → Adds p.inputs x.inputs → ((conn : ℕ) → p.asks conn ≡ x.asks conn) → Takes old begin (read_by x.bytes x.joins x.read p)
+taken_so old begin x p c inputs asks = record {
+  inputs = ⊎_elim (λ e. inl (subst (Adds p.inputs) e inputs)) (λ (e : IsLost old begin × (x.inputs ≡ [])). inr (e.0, subst (Adds p.inputs) e.1 inputs)) c.inputs;
+  bytes = c.bytes;
+  joins = c.joins;
+  read = c.read;
+  asks = subst (Brings old begin) (λ i. λ conn. sym (asks conn) i) c.asks;
+}
+
+-- what happened until nothing was left to do is an act, and it was said
+pub since_ends : (m : Meaning) (kind : EngineKind) (setup : Setup) (x : Brought) (late : Bool) (a b : Running) (begin : Begin) → IsResting a → Comes_in a begin x → Since m kind setup x late a b → MayEnd (moment_of b) →
+    (letters : List Letter) × (replies : List (ℕ × Reply)) × Act m kind setup a b begin letters replies × Says a b letters replies
+since_ends m kind setup x late a b begin rests comes s end = (
+  s.piece.letters,
+  s.piece.replies,
+  record {
+    taken = read_by x.bytes x.joins x.read s.piece;
+    takes = taken_so a begin x s.piece comes s.inputs s.asks;
+    steps = goes_to_end_holds m kind setup a.replica.id x.bytes x.joins x.read (seen a) (moment_of b) s.piece (subst (λ z. Begins m kind setup a.replica.id x.bytes x.joins x.read z (moment_of b) s.piece) rests s.goes) end;
+    sent = s.sent;
+  },
+  s.says,
+)
+
+-- a stop between two turns
+pub since_stops : (m : Meaning) (kind : EngineKind) (setup : Setup) (x : Brought) (late : Bool) (a b : Running) (begin : Begin) → IsResting a → Comes_in a begin x → Since m kind setup x late a b → Stopped m kind setup a begin (kept_of b.replica)
+since_stops m kind setup x late a b begin rests comes s = record {
+  taken = read_by x.bytes x.joins x.read s.piece;
+  takes = taken_so a begin x s.piece comes s.inputs s.asks;
+  stops = stops_between_holds m kind setup a.replica.id x.bytes x.joins x.read (seen a) (moment_of b) s.piece (subst (λ z. Begins m kind setup a.replica.id x.bytes x.joins x.read z (moment_of b) s.piece) rests s.goes);
+}
+
+-- a stop within the step of one input more, which the node added
+pub since_within : (m : Meaning) (kind : EngineKind) (setup : Setup) (x : Brought) (late : Bool) (a b : Running) (begin : Begin) (i : raft.Input) (kept : Kept) → IsResting a → Comes_in a begin x → Since m kind setup x late a b → IsOwn i →
+    LeftBy setup a.replica.id x.bytes x.joins (moment_of b) i kept → Stopped m kind setup a begin kept
+since_within m kind setup x late a b begin i kept rests comes s own left = record {
+  taken = read_by x.bytes x.joins x.read (with_input s.piece i);
+  takes = taken_so a begin x (with_input s.piece i) comes (adds_join s.piece.inputs (i ∷ []) x.inputs s.inputs (record { own = i ∷ []; each = (own, tt); is = refl })) s.asks;
+  stops = stops_within_holds m kind setup a.replica.id x.bytes x.joins x.read (seen a) (moment_of b) s.piece i kept (subst (λ z. Begins m kind setup a.replica.id x.bytes x.joins x.read z (moment_of b) s.piece) rests s.goes) left;
+}
+
+-- or within the act's own input
+pub fresh_within : (m : Meaning) (kind : EngineKind) (setup : Setup) (x : Brought) (a b : Running) (begin : Begin) (i : raft.Input) (kept : Kept) → IsResting a → Comes_in a begin x → Fresh a b → x.inputs ≡ i ∷ [] → ((conn : ℕ) → x.asks conn ≡ []) →
+    LeftBy setup a.replica.id x.bytes x.joins (moment_of b) i kept → Stopped m kind setup a begin kept
+fresh_within m kind setup x a b begin i kept rests comes f is asks left = record {
+  taken = read_by x.bytes x.joins x.read (with_input no_piece i);
+  takes = taken_so a begin x (with_input no_piece i) comes (subst (Adds (i ∷ [])) (sym is) (adds_none (i ∷ []))) (λ conn. sym (asks conn));
+  stops = stops_within_holds m kind setup a.replica.id x.bytes x.joins x.read (seen a) (resting (seen a)) no_piece i kept
+      (goes_begins_holds m kind setup a.replica.id x.bytes x.joins x.read (resting (seen a)) (resting (seen a)) no_piece (nothing_goes_holds m kind setup a.replica.id x.bytes x.joins (resting (seen a))))
+      (subst (λ z. LeftBy setup a.replica.id x.bytes x.joins z i kept) (f.moment ∙ rests) left);
+}
+
+-- ---- the acts of a step
+
+-- an act more behind those that there are, where only what the rules don't see has changed before it
+acts_end : (m : Meaning) (kind : EngineKind) (setup : Setup) (a b c d : Running) (begins : List Begin) (begin : Begin) (xs ys : List Letter) (rs qs : List (ℕ × Reply)) →
+    Acts m kind setup a b begins xs rs → seen c ≡ seen b → Act m kind setup c d begin ys qs → Acts m kind setup a d (begins ++ begin ∷ []) (xs ++ ys) (rs ++ qs)
+acts_end m kind setup a b c d [] begin xs ys rs qs all same act =
+    (c, d, ys, [], qs, [], same ∙ all.0, act, (refl, refl, refl), ap (λ l. l ++ ys) all.1 ∙ sym (append-nil ys), ap (λ l. l ++ qs) all.2 ∙ sym (append-nil qs))
+acts_end m kind setup a b c d (first ∷ begins) begin xs ys rs qs all same act = (
+  all.0,
+  all.1,
+  all.2,
+  all.3 ++ ys,
+  all.4,
+  all.5 ++ qs,
+  all.6,
+  all.7,
+  acts_end m kind setup all.1 b c d begins begin all.3 ys all.5 qs all.8 same act,
+  ap (λ l. l ++ ys) all.9 ∙ append_assoc all.2 all.3 ys,
+  ap (λ l. l ++ qs) all.10 ∙ append_assoc all.4 all.5 qs,
+)
+
+acts_still : (m : Meaning) (kind : EngineKind) (setup : Setup) (a b c : Running) (begins : List Begin) (xs : List Letter) (rs : List (ℕ × Reply)) → Acts m kind setup a b begins xs rs → seen c ≡ seen b → Acts m kind setup a c begins xs rs
+acts_still m kind setup a b c [] xs rs all same = (same ∙ all.0, all.1, all.2)
+acts_still m kind setup a b c (first ∷ begins) xs rs all same =
+    (all.0, all.1, all.2, all.3, all.4, all.5, all.6, all.7, acts_still m kind setup all.1 b c begins all.3 all.5 all.8 same, all.9, all.10)
+
+-- none yet
+pub went_none : (m : Meaning) (kind : EngineKind) (setup : Setup) (a : Running) → Went m kind setup a a []
+went_none m kind setup a = record { letters = []; replies = []; acts = (refl, refl, refl); says = says_none a a refl refl }
+
+pub went_on : (m : Meaning) (kind : EngineKind) (setup : Setup) (a b c d : Running) (begins : List Begin) (begin : Begin) (ys : List Letter) (qs : List (ℕ × Reply)) →
+    Went m kind setup a b begins → Between b c → Act m kind setup c d begin ys qs → Says c d ys qs → Went m kind setup a d (begins ++ begin ∷ [])
+went_on m kind setup a b c d begins begin ys qs w between act says = record {
+  letters = w.letters ++ ys;
+  replies = w.replies ++ qs;
+  acts = acts_end m kind setup a b c d begins begin w.letters ys w.replies qs w.acts between.same act;
+  says = says_join a b d w.letters ys w.replies qs w.says (says_join b c d [] ys [] qs (says_none b c between.mail between.replies) says);
+}
+
+-- what is said at the end is what was said since the begin, where nothing had been
+pub went_steps : (m : Meaning) (kind : EngineKind) (setup : Setup) (a b c : Running) (begins : List Begin) (event : Event) (outs : Outs) → a.mail ≡ no_mail → a.outs.replies.items ≡ [] → AreOf event begins → Went m kind setup a b begins → seen c ≡ seen b →
+    outs.messages.items ≡ sent b.mail → outs.replies.items ≡ b.outs.replies.items → StepsBy m kind setup a c event outs
+went_steps m kind setup a b c begins event outs quiet silent are w same messages replies = record {
+  begins = begins;
+  are = are;
+  posted = w.says.posted;
+  replies = w.replies;
+  acts = subst (λ ls. Acts m kind setup a c begins ls w.replies) w.says.letters_are (acts_still m kind setup a b c begins w.letters w.replies w.acts same);
+  messages = messages ∙ ap sent w.says.mail ∙ ap (λ z. sent (all_posted z w.says.posted)) quiet;
+  tells = subst (Sends w.replies) (sym (replies ∙ w.says.outs ∙ ap (λ l. l ++ w.says.told) silent)) w.says.tells;
+}
+
+-- what the last act left, behind those before it
+pub went_stops : (m : Meaning) (kind : EngineKind) (setup : Setup) (a b c : Running) (begins : List Begin) (last : Begin) (event : Event) (kept : Kept) → AreOf event (begins ++ last ∷ []) → Went m kind setup a b begins → Between b c → Stopped m kind setup c last kept → StopsBy m kind setup a event kept
+went_stops m kind setup a b c begins last event kept are w between stopped = record {
+  begins = begins;
+  last = last;
+  are = are;
+  mid = c;
+  letters = w.letters;
+  replies = w.replies;
+  acts = acts_still m kind setup a b c begins w.letters w.replies w.acts between.same;
+  stopped = stopped;
+}
+
+-- ---- a stop before anything was done
+
+-- what is asked waits behind what waits, and nothing else
+asked_by : Moment → (ℕ → List Request) → Moment
+asked_by a asks = record a { node = record a.node { waiting = λ conn. a.node.waiting conn ++ asks conn } }
+
+pub begun_stops : (m : Meaning) (kind : EngineKind) (setup : Setup) (x : Brought) (a : Running) (begin : Begin) → IsMachine a.applied.machine → IsResting a → Comes_in a begin x → x.inputs ≡ [] → Stopped m kind setup a begin (kept_of a.replica)
+unfolding asked_by
+begun_stops m kind setup x a begin machine rests comes none =
+    let p : Piece = record no_piece { asks = x.asks } in
+    let heard : Hears (moment_of a) (asked_by (moment_of a) x.asks) x.asks = record { sessions = refl; waiting = λ conn. refl; due = refl; rest = record { raft = refl; kept = refl; applied = refl; serving = refl; machine = machine; files = refl } } in
+    let goes = goes_begins_holds m kind setup a.replica.id x.bytes x.joins x.read (moment_of a) (asked_by (moment_of a) x.asks) p (hearing_goes_holds m kind setup a.replica.id x.bytes x.joins (moment_of a) (asked_by (moment_of a) x.asks) x.asks heard) in
+    record {
+      taken = read_by x.bytes x.joins x.read p;
+      takes = taken_so a begin x p comes (subst (Adds []) (sym none) (adds_none [])) (λ conn. refl);
+      stops = stops_between_holds m kind setup a.replica.id x.bytes x.joins x.read (seen a) (asked_by (moment_of a) x.asks) p (subst (λ z. Begins m kind setup a.replica.id x.bytes x.joins x.read z (asked_by (moment_of a) x.asks) p) rests goes);
+    }
+
+-- ---- a step under way
+
+are_more : (event : Event) (begins : List Begin) (begin next : Begin) → AreOf event (begins ++ begin ∷ []) → IsMore next → AreOf event ((begins ++ begin ∷ []) ++ next ∷ [])
+are_more event [] begin next are more = (are.0, (more, tt))
+are_more event (first ∷ begins) begin next are more = (are.0, all begins are.1)
+  where
+    all : (xs : List Begin) → AllByRecursion IsMore (xs ++ begin ∷ []) → AllByRecursion IsMore ((xs ++ begin ∷ []) ++ next ∷ [])
+    all [] h = (h.0, (more, tt))
+    all (x ∷ xs) h = (h.0, all xs h.1)
+
+-- the event begins the first act
+pub underway_starts : (m : Meaning) (kind : EngineKind) (setup : Setup) (a : Running) (event : Event) → IsResting a → Underway m kind setup a a event
+underway_starts m kind setup a event rests = record {
+  begins = [];
+  begin = Happens event;
+  are = (refl, tt);
+  mid = a;
+  went = went_none m kind setup a;
+  from = a;
+  between = record { same = refl; mail = refl; replies = refl };
+  rests = rests;
+  so_far = waits (record { moment = refl; mail = refl; replies = refl; kept = refl; id = refl });
+}
+
+-- it is given to Raft, or is still due
+pub underway_waits : (m : Meaning) (kind : EngineKind) (setup : Setup) (a b c : Running) (event : Event) (u : Underway m kind setup a b event) → Fresh u.from c → Underway m kind setup a c event
+underway_waits m kind setup a b c event u f = record { begins = u.begins; begin = u.begin; are = u.are; mid = u.mid; went = u.went; from = u.from; between = u.between; rests = u.rests; so_far = waits f }
+
+-- its first turn
+pub underway_first : (m : Meaning) (kind : EngineKind) (setup : Setup) (a b c : Running) (event : Event) (u : Underway m kind setup a b event) (x : Brought) (late : Bool) → Fresh u.from b → Comes_in u.from u.begin x → Since m kind setup x late b c → Underway m kind setup a c event
+underway_first m kind setup a b c event u x late f comes s = record {
+  begins = u.begins;
+  begin = u.begin;
+  are = u.are;
+  mid = u.mid;
+  went = u.went;
+  from = u.from;
+  between = u.between;
+  rests = u.rests;
+  so_far = runs x late comes (since_fresh m kind setup x late u.from b c f s);
+}
+
+-- a turn more, in which nothing comes in, and which leaves term, leadership and the kept snapshot
+pub underway_on : (m : Meaning) (kind : EngineKind) (setup : Setup) (a b c : Running) (event : Event) (u : Underway m kind setup a b event) (x : Brought) (late : Bool) → Comes_in u.from u.begin x → Since m kind setup x late u.from b →
+    Turns m kind setup x.bytes x.joins b c → SameTerm (moment_of b) (moment_of c) → (kept_of b.replica).snap ≡ (kept_of c.replica).snap → Underway m kind setup a c event
+underway_on m kind setup a b c event u x late comes s t same snap = record {
+  begins = u.begins;
+  begin = u.begin;
+  are = u.are;
+  mid = u.mid;
+  went = u.went;
+  from = u.from;
+  between = u.between;
+  rests = u.rests;
+  so_far = runs x (late || t.piece.late) comes (since_on m kind setup x late u.from b c s t (inr same) (inr snap));
+}
+
+-- the node rests again, and another act begins
+pub underway_next : (m : Meaning) (kind : EngineKind) (setup : Setup) (a b c : Running) (event : Event) (u : Underway m kind setup a b event) (x : Brought) (late : Bool) → Comes_in u.from u.begin x → Since m kind setup x late u.from b →
+    MayEnd (moment_of b) → Between b c → IsResting c → (next : Begin) → IsMore next → Underway m kind setup a c event
+underway_next m kind setup a b c event u x late comes s end between rests next more =
+    let r = since_ends m kind setup x late u.from b u.begin u.rests comes s end in
+    record {
+      begins = u.begins ++ u.begin ∷ [];
+      begin = next;
+      are = are_more event u.begins u.begin next u.are more;
+      mid = b;
+      went = went_on m kind setup a u.mid u.from b u.begins u.begin r.0 r.1 u.went u.between r.2 r.3;
+      from = c;
+      between = between;
+      rests = rests;
+      so_far = waits (record { moment = refl; mail = refl; replies = refl; kept = refl; id = refl });
+    }
+
+-- the step ends, and what was said is taken from it
+pub underway_ends : (m : Meaning) (kind : EngineKind) (setup : Setup) (a b c : Running) (event : Event) (outs : Outs) (u : Underway m kind setup a b event) (x : Brought) (late : Bool) → Comes_in u.from u.begin x → Since m kind setup x late u.from b →
+    MayEnd (moment_of b) → a.mail ≡ no_mail → a.outs.replies.items ≡ [] → seen c ≡ seen b → outs.messages.items ≡ sent b.mail → outs.replies.items ≡ b.outs.replies.items → StepsBy m kind setup a c event outs
+underway_ends m kind setup a b c event outs u x late comes s end quiet silent same messages replies =
+    let r = since_ends m kind setup x late u.from b u.begin u.rests comes s end in
+    went_steps m kind setup a b c (u.begins ++ u.begin ∷ []) event outs quiet silent u.are (went_on m kind setup a u.mid u.from b u.begins u.begin r.0 r.1 u.went u.between r.2 r.3) same messages replies
+
+-- the act under way was stopped
+pub underway_stops : (m : Meaning) (kind : EngineKind) (setup : Setup) (a b : Running) (event : Event) (kept : Kept) (u : Underway m kind setup a b event) → Stopped m kind setup u.from u.begin kept → StopsBy m kind setup a event kept
+underway_stops m kind setup a b event kept u stopped = went_stops m kind setup a u.mid u.from u.begins u.begin event kept u.are u.went u.between stopped

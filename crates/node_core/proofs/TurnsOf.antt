@@ -1,0 +1,179 @@
+-- Each turn of a node, by its facts as the rules have them, is a turn of the account.
+use Rattle.std.proofs.Common.{◌≡◌, inl, ℕ, true, false, List, [], ◌∷◌, refl}
+use Rattle.std.specs.Prelude.{Option, Some, None}
+use Rattle.wire_msgs.specs.declared.request.Request.{Request}
+use Rattle.sql_engine.specs.declared.kind.EngineKind.{EngineKind}
+use Rattle.sql_engine.specs.Meanings.{Meaning}
+use Rattle.session_rules.specs.Entries.{Content}
+use Rattle.session_rules.specs.Sessions.{Reply}
+use Rattle.raft_rules.specs.Log.{Entry}
+use Rattle.raft_rules.specs.Node as raft
+use Rattle.raft_world.specs.Members.{Setup}
+use Rattle.node_replica.specs.Replicas.{kept_of}
+use Rattle.node_rules.specs.Accounts.{no_piece}
+use Rattle.node_rules.specs.ClientTurns.{Stays, Connects, HangsUp, Hears, Applies, Resumes, ResumingGoes, Reads, Serves}
+use Rattle.node_rules.specs.RaftTurns.{Leaves, LeavingGoes, Follows, FollowingGoes, Installs, InstallGoes, TakesSnapshot, SnapshotGoes}
+use Rattle.node_rules.specs.Steps.{Letter, AllSent}
+use Rattle.node_rules.specs.Turns.{Handles, HandlingGoes, Proposes, Owes}
+use Rattle.node_rules.proofs.Applying.{applying_goes_holds}
+use Rattle.node_rules.proofs.Connecting.{staying_goes_holds, connecting_goes_holds, hanging_goes_holds, hearing_goes_holds}
+use Rattle.node_rules.proofs.Later.{reading_begins_holds}
+use Rattle.node_rules.proofs.Owing.{owing_goes_holds}
+use Rattle.node_rules.proofs.Serving.{serving_goes_holds}
+use Rattle.node_rules.proofs.Stretches.{goes_begins_holds}
+use Rattle.node_rules.proofs.Taking.{proposal_goes_holds}
+use Rattle.node_core.specs.declared.running.Running.{Running}
+use Rattle.node_core.specs.Account.{moment_of, Says, Brought, IsOwn, Turns, Since}
+use Rattle.node_core.proofs.Accounting.{adds_none, since_nothing, since_on}
+
+module _ (m : Meaning) (kind : EngineKind) (setup : Setup) (a b : Running) (id : b.replica.id ≡ a.replica.id) where
+  module _ (bytes : List ℕ) (joins : Option ℕ) where
+    abbrev So : Type 0
+    So = Turns m kind setup bytes joins a b
+
+    -- ---- what is done for clients
+
+    pub turns_stays : Stays (moment_of a) (moment_of b) → Says a b [] [] → So
+    turns_stays x says = record { piece = no_piece; goes = staying_goes_holds m kind setup a.replica.id bytes joins (moment_of a) (moment_of b) x; inputs = adds_none []; asks = λ conn. refl; says = says; sent = tt; id = id }
+
+    pub turns_hangs : (conn : ℕ) → HangsUp (moment_of a) (moment_of b) conn → Says a b [] [] → So
+    turns_hangs conn x says = record { piece = no_piece; goes = hanging_goes_holds m kind setup a.replica.id bytes joins (moment_of a) (moment_of b) conn x; inputs = adds_none []; asks = λ conn. refl; says = says; sent = tt; id = id }
+
+    pub turns_handles : HandlingGoes m kind → (conn : ℕ) (request : Request) (replies : List (ℕ × Reply)) → Handles m kind (moment_of a) (moment_of b) conn request replies → Says a b [] replies → So
+    turns_handles law conn request replies x says = record { piece = record no_piece { replies = replies }; goes = law setup a.replica.id bytes joins (moment_of a) (moment_of b) conn request replies x; inputs = adds_none []; asks = λ conn. refl; says = says; sent = tt; id = id }
+
+    pub turns_resumes : ResumingGoes m kind → (conn : ℕ) (replies : List (ℕ × Reply)) → Resumes m kind (moment_of a) (moment_of b) conn replies → Says a b [] replies → So
+    turns_resumes law conn replies x says = record { piece = record no_piece { replies = replies }; goes = law setup a.replica.id bytes joins (moment_of a) (moment_of b) conn replies x; inputs = adds_none []; asks = λ conn. refl; says = says; sent = tt; id = id }
+
+    -- this one is late
+    pub turns_applies : (replies : List (ℕ × Reply)) → Applies (moment_of a) (moment_of b) replies → Says a b [] replies → So
+    turns_applies replies x says = record { piece = record no_piece { replies = replies; late = true }; goes = applying_goes_holds m kind setup a.replica.id bytes joins (moment_of a) (moment_of b) replies x; inputs = adds_none []; asks = λ conn. refl; says = says; sent = tt; id = id }
+
+    pub turns_owes : (contents : List Content) → Owes (moment_of a) (moment_of b) contents → Says a b [] [] → So
+    turns_owes contents x says = record { piece = no_piece; goes = owing_goes_holds m kind setup a.replica.id bytes joins (moment_of a) (moment_of b) contents x; inputs = adds_none []; asks = λ conn. refl; says = says; sent = tt; id = id }
+
+    pub turns_serves : Serves (moment_of a) (moment_of b) → Says a b [] [] → So
+    turns_serves x says = record { piece = no_piece; goes = serving_goes_holds m kind setup a.replica.id bytes joins (moment_of a) (moment_of b) x; inputs = adds_none []; asks = λ conn. refl; says = says; sent = tt; id = id }
+
+    -- ---- Raft's own inputs
+
+    pub turns_proposes : (es : List Entry) (letters : List Letter) → Proposes a.replica.id (moment_of a) (moment_of b) es letters → Says a b letters [] → AllSent (kept_of a.replica) (kept_of b.replica) letters → So
+    turns_proposes es letters x says sent = record {
+      piece = record no_piece { inputs = raft.Local (raft.Propose es) ∷ []; letters = letters };
+      goes = proposal_goes_holds m kind setup a.replica.id bytes joins (moment_of a) (moment_of b) es letters x;
+      inputs = record { own = raft.Local (raft.Propose es) ∷ []; each = (tt, tt); is = refl };
+      asks = λ conn. refl;
+      says = says;
+      sent = sent;
+      id = id;
+    }
+
+    pub turns_leaves : LeavingGoes m kind → (i : raft.Input) (letters : List Letter) → IsOwn i → Leaves a.replica.id (moment_of a) (moment_of b) i letters → Says a b letters [] → AllSent (kept_of a.replica) (kept_of b.replica) letters → So
+    turns_leaves law i letters own x says sent = record {
+      piece = record no_piece { inputs = i ∷ []; letters = letters };
+      goes = law setup a.replica.id bytes joins (moment_of a) (moment_of b) i letters x;
+      inputs = record { own = i ∷ []; each = (own, tt); is = refl };
+      asks = λ conn. refl;
+      says = says;
+      sent = sent;
+      id = id;
+    }
+
+  -- ---- what an event brings
+
+  -- a turn in which nothing comes in may be the first
+  pub since_turn : (x : Brought) → x.inputs ≡ [] → ((conn : ℕ) → x.asks conn ≡ []) → (t : Turns m kind setup x.bytes x.joins a b) → Since m kind setup x t.piece.late a b
+  since_turn x inputs asks t = since_on m kind setup x false a a b (since_nothing m kind setup x a inputs asks) t (inl refl) (inl refl)
+
+  pub since_connects : (conn : ℕ) → Connects (moment_of a) (moment_of b) conn → Says a b [] [] → Since m kind setup (record { inputs = []; bytes = []; joins = Some conn; read = None; asks = λ other. [] }) false a b
+  since_connects conn x says = record {
+    piece = no_piece;
+    goes = goes_begins_holds m kind setup a.replica.id [] (Some conn) None (moment_of a) (moment_of b) no_piece (connecting_goes_holds m kind setup a.replica.id [] (moment_of a) (moment_of b) conn x);
+    inputs = adds_none [];
+    asks = λ other. refl;
+    is_late = refl;
+    says = says;
+    sent = tt;
+    id = id;
+  }
+
+  pub since_hears : (asks : ℕ → List Request) → Hears (moment_of a) (moment_of b) asks → Says a b [] [] → Since m kind setup (record { inputs = []; bytes = []; joins = None; read = None; asks = asks }) false a b
+  since_hears asks x says = record {
+    piece = record no_piece { asks = asks };
+    goes = goes_begins_holds m kind setup a.replica.id [] None None (moment_of a) (moment_of b) (record no_piece { asks = asks }) (hearing_goes_holds m kind setup a.replica.id [] None (moment_of a) (moment_of b) asks x);
+    inputs = adds_none [];
+    asks = λ other. refl;
+    is_late = refl;
+    says = says;
+    sent = tt;
+    id = id;
+  }
+
+  pub since_reads : (conn : ℕ) (reply : Reply) → Reads (moment_of a) (moment_of b) conn → Says a b [] ((conn, reply) ∷ []) → Since m kind setup (record { inputs = []; bytes = []; joins = None; read = Some (conn, reply); asks = λ other. [] }) false a b
+  since_reads conn reply x says = record {
+    piece = record no_piece { replies = (conn, reply) ∷ [] };
+    goes = reading_begins_holds m kind setup a.replica.id [] None (moment_of a) (moment_of b) conn reply x;
+    inputs = adds_none [];
+    asks = λ other. refl;
+    is_late = refl;
+    says = says;
+    sent = tt;
+    id = id;
+  }
+
+  module _ (bytes : List ℕ) where
+    -- an input of Raft that comes in, with these bytes of a snapshot
+    abbrev pub came : raft.Input → Brought
+    came i = record { inputs = i ∷ []; bytes = bytes; joins = None; read = None; asks = λ other. [] }
+
+    pub since_follows : FollowingGoes m kind → (i : raft.Input) (letters : List Letter) (replies : List (ℕ × Reply)) → Follows a.replica.id (moment_of a) (moment_of b) i letters replies →
+        Says a b letters replies → AllSent (kept_of a.replica) (kept_of b.replica) letters → Since m kind setup (came i) false a b
+    since_follows law i letters replies x says sent = record {
+      piece = record no_piece { inputs = i ∷ []; letters = letters; replies = replies };
+      goes = goes_begins_holds m kind setup a.replica.id bytes None None (moment_of a) (moment_of b) (record no_piece { inputs = i ∷ []; letters = letters; replies = replies }) (law setup a.replica.id bytes None (moment_of a) (moment_of b) i letters replies x);
+      inputs = adds_none (i ∷ []);
+      asks = λ other. refl;
+      is_late = refl;
+      says = says;
+      sent = sent;
+      id = id;
+    }
+
+    pub since_leaves : LeavingGoes m kind → (i : raft.Input) (letters : List Letter) → Leaves a.replica.id (moment_of a) (moment_of b) i letters →
+        Says a b letters [] → AllSent (kept_of a.replica) (kept_of b.replica) letters → Since m kind setup (came i) false a b
+    since_leaves law i letters x says sent = record {
+      piece = record no_piece { inputs = i ∷ []; letters = letters };
+      goes = goes_begins_holds m kind setup a.replica.id bytes None None (moment_of a) (moment_of b) (record no_piece { inputs = i ∷ []; letters = letters }) (law setup a.replica.id bytes None (moment_of a) (moment_of b) i letters x);
+      inputs = adds_none (i ∷ []);
+      asks = λ other. refl;
+      is_late = refl;
+      says = says;
+      sent = sent;
+      id = id;
+    }
+
+    pub since_installs : InstallGoes m kind → (message : raft.Message) (letters : List Letter) (replies : List (ℕ × Reply)) → Installs setup a.replica.id (moment_of a) (moment_of b) bytes message letters replies →
+        Says a b letters replies → AllSent (kept_of a.replica) (kept_of b.replica) letters → Since m kind setup (came (raft.Receive message)) false a b
+    since_installs law message letters replies x says sent = record {
+      piece = record no_piece { inputs = raft.Receive message ∷ []; letters = letters; replies = replies };
+      goes = goes_begins_holds m kind setup a.replica.id bytes None None (moment_of a) (moment_of b) (record no_piece { inputs = raft.Receive message ∷ []; letters = letters; replies = replies }) (law setup a.replica.id bytes None (moment_of a) (moment_of b) message letters replies x);
+      inputs = adds_none (raft.Receive message ∷ []);
+      asks = λ other. refl;
+      is_late = refl;
+      says = says;
+      sent = sent;
+      id = id;
+    }
+
+    pub since_snapshot : SnapshotGoes m kind → (index : ℕ) (letters : List Letter) → TakesSnapshot setup a.replica.id (moment_of a) (moment_of b) index letters →
+        Says a b letters [] → AllSent (kept_of a.replica) (kept_of b.replica) letters → Since m kind setup (came (raft.Local (raft.Snapped index))) false a b
+    since_snapshot law index letters x says sent = record {
+      piece = record no_piece { inputs = raft.Local (raft.Snapped index) ∷ []; letters = letters };
+      goes = goes_begins_holds m kind setup a.replica.id bytes None None (moment_of a) (moment_of b) (record no_piece { inputs = raft.Local (raft.Snapped index) ∷ []; letters = letters }) (law setup a.replica.id bytes None (moment_of a) (moment_of b) index letters x);
+      inputs = adds_none (raft.Local (raft.Snapped index) ∷ []);
+      asks = λ other. refl;
+      is_late = refl;
+      says = says;
+      sent = sent;
+      id = id;
+    }

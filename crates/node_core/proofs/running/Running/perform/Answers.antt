@@ -1,0 +1,14 @@
+use Rattle.node_core.proofs.Performing.{performed_propose, performed_transfer}
+use Rattle.node_core.proofs.running.Running.perform.Goals as goal
+
+pub returns-in_ok-give-in-Propose-clause-performed :
+    goal.returns-in_ok-give-in-Propose-clause-performed
+returns-in_ok-give-in-Propose-clause-performed c =
+    performed_propose c.args.self.now c.give.new.self c.args.act c.in-Propose.conn c.in-Propose.entries c.in-Propose.is c.databases_stand.ensures
+    c.in_ok-give-in-Propose.ensures.due c.in_ok-give-in-Propose.ensures.is
+
+pub returns-in_ok-give-in-Transfer-clause-performed :
+    goal.returns-in_ok-give-in-Transfer-clause-performed
+returns-in_ok-give-in-Transfer-clause-performed c =
+    performed_transfer c.args.self.now c.give-in-Transfer.new.self _ c.args.act c.in-Transfer.conn c.in-Transfer.to c.in-Transfer.reply c.in-Transfer.is c.databases_stand.ensures
+    c.in_ok-push-in-Transfer.ensures.items c.in_ok-give-in-Transfer.ensures.due c.in_ok-give-in-Transfer.ensures.is

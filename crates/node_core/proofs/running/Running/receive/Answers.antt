@@ -1,0 +1,16 @@
+use Rattle.std.proofs.Common.{Some, refl}
+use Rattle.node_core.specs.declared.running.Running.{Running}
+use Rattle.node_core.proofs.ClientMoves.{hears_so, hears_none}
+use Rattle.node_core.proofs.running.Running.receive.Goals as goal
+
+pub returns-then-is_open-clause-goes : goal.returns-then-is_open-clause-goes
+returns-then-is_open-clause-goes c =
+    let new : Running = record c.args.self.now { clients = c.receive.new.self; heard = Some c.args.conn } in
+    hears_so c.args.self.now new c.args.conn c.args.bytes.now (record { replica = refl; index = refl; serving = refl; due = refl; machine = c.databases_stand.ensures; files = refl })
+    (c.in_ok-receive.ensures.heard c.args.self.now.applied.machine)
+
+pub returns-clause-goes : goal.returns-clause-goes
+returns-clause-goes c =
+    let new : Running = record c.args.self.now { links = c.receive-2.new.self; heard = Some c.args.conn } in
+    hears_none c.args.self.now new c.args.conn c.args.bytes.now c.is_open.result (c.is_open.ensures c.args.self.now.applied.machine) c.if-is_open.false
+    (record { replica = refl; index = refl; serving = refl; due = refl; machine = c.databases_stand.ensures; files = refl }) refl

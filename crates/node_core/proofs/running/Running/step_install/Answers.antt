@@ -1,0 +1,19 @@
+use Rattle.std.proofs.Common.{sym, ap, subst, ◌∙◌}
+use Rattle.node_replica.specs.Replicas.{ReplicaValue, IsKept}
+use Rattle.node_core.specs.declared.running.Running.{Running}
+use Rattle.node_core.specs.Waiting.{HasTurns}
+use Rattle.node_core.proofs.Installing.{holds_installed}
+use Rattle.node_core.proofs.running.Running.step_install.Goals as goal
+
+pub look_at_servers-requires-clause-holds : goal.look_at_servers-requires-clause-holds
+look_at_servers-requires-clause-holds g c =
+    holds_installed c.args.self.now c.keep_step.new.self c.lose.new.self c.replace.new.self c.tell_servers.new.self c.args.event c.in_ok-keep_step.field-0 c.args.applied c.requires.going c.requires.brings c.in_ok-keep_step.ensures.stepped
+    c.lose.ensures.replica c.lose.ensures.rest c.in_ok-replace.ensures.applied c.in_ok-replace.ensures.at c.in_ok-replace.ensures.stand c.in_ok-replace.ensures.is
+    c.requires.brings.restored.spelled.servers.is (c.clients_change_databases.ensures.stand c.lose.new.self.clients c.lose.new.self.applied.machine c.args.applied.machine c.in_ok-lose.ensures.unmarked c.requires.brings.unpinned c.in_ok-lose.ensures.stand)
+    (subst HasTurns (sym (c.clients_change_databases.ensures.clients c.lose.new.self.clients c.lose.new.self.applied.machine c.args.applied.machine c.in_ok-lose.ensures.unmarked c.in_ok-lose.ensures.stand)) c.in_ok-lose.ensures.turns)
+    c.in_ok-tell_servers.ensures.told
+
+pub returns-clause-stored : goal.returns-clause-stored
+returns-clause-stored g c = λ has.
+    subst (λ (r : ReplicaValue). IsKept g.D.Disk.tells (g.D.Disk.states c.tell_servers.new.disk) r) (sym (ap (λ (n : Running). n.replica) c.look_at_servers.ensures.rest))
+    (c.in_ok-tell_servers.ensures.stored (subst (λ (r : ReplicaValue). IsKept g.D.Disk.tells (g.D.Disk.states c.keep_step.new.disk) r) (sym (ap (λ (n : Running). n.replica) c.in_ok-replace.ensures.is ∙ c.lose.ensures.replica)) (c.in_ok-keep_step.ensures.stored has)))

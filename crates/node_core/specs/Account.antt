@@ -1,0 +1,364 @@
+-- What a step of a node makes: acts of the rules of nodes, one after another, each from rest to rest, and what they say. The first act
+-- is that of the event; each message of a peer that came on a connection begins one of its own, and so does each own snapshot.
+use Rattle.std.specs.Prelude.{◌≡◌, ◌≢◌, ◌⊎◌, ℕ, Bool, true, List, [], ◌∷◌, ◌++◌, map, Option, Some, None}
+use Rattle.std.specs.List.{AllByRecursion, flat_map}
+use Rattle.wire_msgs.specs.declared.fault.MsgFault.{MsgFault}
+use Rattle.wire_msgs.specs.declared.request.Request.{Request}
+use Rattle.wire_msgs.specs.declared.response.Response.{Response}
+use Rattle.wire_msgs.specs.Responses.{response_bytes}
+use Rattle.sql_engine.specs.declared.kind.EngineKind.{EngineKind}
+use Rattle.sql_engine.specs.Meanings.{Meaning}
+use Rattle.session_rules.specs.Causes.{failure, unread_cause}
+use Rattle.session_rules.specs.Sessions.{Reply, responses_of}
+use Rattle.session_decisions.specs.Reading.{read_named}
+use Rattle.client_connection.specs.Connection.{Conn, received}
+use Rattle.page_apply.specs.Machines.{names_of}
+use Rattle.raft_rules.specs.Log.{Entry}
+use Rattle.raft_rules.specs.Node as raft
+use Rattle.raft_vote.specs.declared.message.RaftMessage.{RaftMessage}
+use Rattle.raft_vote.specs.declared.message.What.{What}
+use Rattle.raft_vote.specs.declared.message.What.TheVariants as whats
+use Rattle.raft_vote.specs.Messages.{message_value}
+use Rattle.raft_core.specs.declared.event.RaftEvent.{RaftEvent}
+use Rattle.raft_core.specs.declared.event.RaftEvent.TheVariants as due
+use Rattle.raft_world.specs.Members.{Setup}
+use Rattle.store_laws.specs.Store.{Kept}
+use Rattle.node_replica.specs.Looking.{puts_snapshot}
+use Rattle.node_replica.specs.Mails.{no_mail, all_posted, sent}
+use Rattle.node_replica.specs.Replicas.{kept_of}
+use Rattle.node_state.specs.Snapshot.{snapshot_in, offered_to}
+use Rattle.node_rules.specs.Accounts.{Moment, resting, Piece, Goes, Begins}
+use Rattle.node_rules.specs.Steps.{Letter, Taken, StepsSo, StopsSo, AllSent}
+use Rattle.node_core.specs.declared.event.Event.{Event}
+use Rattle.node_core.specs.declared.event.Event.TheVariants as events
+use Rattle.node_core.specs.declared.outs.Outs.{Outs}
+use Rattle.node_core.specs.declared.running.Running.{Running}
+use Rattle.node_core.specs.Values.{seen, clients_in, requests_in, waiting_on}
+
+-- ---- a moment of a step
+
+-- the proposals among what is due at Raft
+abbrev pub proposals_in : List RaftEvent → List (List Entry)
+proposals_in [] = []
+proposals_in (due.Propose es ∷ rest) = es ∷ proposals_in rest
+proposals_in (due.Timeout ∷ rest) = proposals_in rest
+proposals_in (due.Beat ∷ rest) = proposals_in rest
+proposals_in (due.Message m ∷ rest) = proposals_in rest
+proposals_in (due.Transfer to ∷ rest) = proposals_in rest
+proposals_in (due.Snapped at ∷ rest) = proposals_in rest
+proposals_in (due.Servers servers ∷ rest) = proposals_in rest
+
+-- what runs, as the rules see it at a moment of an act
+abbrev pub moment_of : Running → Moment
+moment_of n = record { node = seen n; applied = n.applied.index; due = proposals_in n.due.items }
+
+-- ---- what is said
+
+-- the bytes of a snapshot that a message brings
+abbrev pub bytes_in : What → List ℕ
+bytes_in (whats.Install snapshot) = snapshot.bytes
+bytes_in (whats.AskVote last) = []
+bytes_in (whats.Vote granted) = []
+bytes_in (whats.Append prev commit entries) = []
+bytes_in (whats.Ack good index) = []
+bytes_in whats.TimeoutNow = []
+
+-- a message with the bytes of its snapshot
+abbrev pub letter_of : RaftMessage → Letter
+letter_of m = record { message = message_value m; bytes = bytes_in m.what }
+
+-- A reply of a node's life, or the refusal of a message that doesn't read as a request, which is none of its life's.
+pub data Item : Type 0 where
+  Lived : (conn : ℕ) (reply : Reply) → Item
+  Unread : (conn : ℕ) (fault : MsgFault) → Item
+
+abbrev pub lived : Item → List (ℕ × Reply)
+lived (Lived conn reply) = (conn, reply) ∷ []
+lived (Unread conn fault) = []
+
+abbrev pub responses_in : Item → List (ℕ × Response)
+responses_in (Lived conn reply) = map (λ (r : Response). (conn, r)) (responses_of reply)
+responses_in (Unread conn fault) = (conn, failure (unread_cause fault)) ∷ []
+
+abbrev pub sent_so : ℕ × Response → ℕ × List ℕ
+sent_so told = (told.0, response_bytes told.1)
+
+-- Replies as they are sent, with such refusals between them.
+pub record Sends (replies : List (ℕ × Reply)) (bytes : List (ℕ × List ℕ)) : Type 0 where
+  pub items : List Item
+  pub lives : replies ≡ flat_map lived items
+  pub sends : bytes ≡ map sent_so (flat_map responses_in items)
+
+-- What a part of a step says: these letters are posted, and these replies are told behind the others.
+pub record Says (old new : Running) (letters : List Letter) (replies : List (ℕ × Reply)) : Type 0 where
+  pub posted : List RaftMessage
+  pub letters_are : letters ≡ map letter_of posted
+  pub mail : new.mail ≡ all_posted old.mail posted
+  pub told : List (ℕ × List ℕ)
+  pub outs : new.outs.replies.items ≡ old.outs.replies.items ++ told
+  pub tells : Sends replies told
+
+-- ---- turns
+
+-- What comes in: inputs of Raft, the bytes of a snapshot with them, a connection, what connections ask, and what a reader tells.
+pub record Brought : Type 0 where
+  pub inputs : List raft.Input
+  pub bytes : List ℕ
+  pub joins : Option ℕ
+  pub read : Option (ℕ × Reply)
+  pub asks : ℕ → List Request
+
+-- what a node adds by itself: proposals, a leadership handed over, and the servers of its log
+abbrev pub IsOwn : raft.Input → Type 0
+IsOwn (raft.Local (raft.Propose entries)) = Unit {0}
+IsOwn (raft.Local (raft.Transfer to)) = Unit {0}
+IsOwn (raft.Local (raft.UseServers servers)) = Unit {0}
+IsOwn (raft.Local (raft.Snapped index)) = ⊥
+IsOwn (raft.Local raft.Timeout) = ⊥
+IsOwn (raft.Local raft.Beat) = ⊥
+IsOwn (raft.Receive m) = ⊥
+
+-- what is taken in is this, and then what the node adds
+pub record Adds (inputs given : List raft.Input) : Type 0 where
+  pub own : List raft.Input
+  pub each : AllByRecursion IsOwn own
+  pub is : inputs ≡ given ++ own
+
+-- A turn in which nothing comes in from outside: from the moment before it the rules come to the one after it, and it says what they say.
+pub record Turns (m : Meaning) (kind : EngineKind) (setup : Setup) (bytes : List ℕ) (joins : Option ℕ) (old new : Running) : Type 0 where
+  pub piece : Piece
+  pub goes : Goes m kind setup old.replica.id bytes joins (moment_of old) (moment_of new) piece
+  pub inputs : Adds piece.inputs []
+  pub asks : (conn : ℕ) → piece.asks conn ≡ []
+  pub says : Says old new piece.letters piece.replies
+  pub sent : AllSent (kept_of old.replica) (kept_of new.replica) piece.letters
+  pub id : new.replica.id ≡ old.replica.id
+
+-- What happened since an act began, in which this came in. It is late where a reply may have waited for a proposal.
+pub record Since (m : Meaning) (kind : EngineKind) (setup : Setup) (x : Brought) (late : Bool) (old new : Running) : Type 0 where
+  pub piece : Piece
+  pub goes : Begins m kind setup old.replica.id x.bytes x.joins x.read (moment_of old) (moment_of new) piece
+  pub inputs : Adds piece.inputs x.inputs
+  pub asks : (conn : ℕ) → piece.asks conn ≡ x.asks conn
+  pub is_late : piece.late ≡ late
+  pub says : Says old new piece.letters piece.replies
+  pub sent : AllSent (kept_of old.replica) (kept_of new.replica) piece.letters
+  pub id : new.replica.id ≡ old.replica.id
+
+-- ---- acts
+
+-- how an act of a step begins: with its event; with a message of a peer that came on a connection; with an own snapshot
+pub data Begin : Type 0 where
+  Happens : (event : Event) → Begin
+  Comes : (message : RaftMessage) → Begin
+  Compacts : (index : ℕ) → Begin
+
+-- the input of Raft that it begins with, if any
+abbrev pub inputs_of : Begin → List raft.Input
+inputs_of (Happens events.Timeout) = raft.Local raft.Timeout ∷ []
+inputs_of (Happens events.Beat) = raft.Local raft.Beat ∷ []
+inputs_of (Happens (events.Peer m)) = raft.Receive (message_value m) ∷ []
+inputs_of (Happens (events.Connect conn)) = []
+inputs_of (Happens (events.Bytes conn bytes)) = []
+inputs_of (Happens (events.Hangup conn)) = []
+inputs_of (Happens (events.ReadDone conn read)) = []
+inputs_of (Comes m) = raft.Receive (message_value m) ∷ []
+inputs_of (Compacts index) = raft.Local (raft.Snapped index) ∷ []
+
+-- the bytes of the snapshot that comes with it
+abbrev pub bytes_of : Begin → List ℕ
+bytes_of (Happens (events.Peer m)) = bytes_in m.what
+bytes_of (Happens events.Timeout) = []
+bytes_of (Happens events.Beat) = []
+bytes_of (Happens (events.Connect conn)) = []
+bytes_of (Happens (events.Bytes conn bytes)) = []
+bytes_of (Happens (events.Hangup conn)) = []
+bytes_of (Happens (events.ReadDone conn read)) = []
+bytes_of (Comes m) = bytes_in m.what
+bytes_of (Compacts index) = []
+
+-- who connects
+abbrev pub joins_of : Begin → Option ℕ
+joins_of (Happens (events.Connect conn)) = Some conn
+joins_of (Happens (events.Peer m)) = None
+joins_of (Happens events.Timeout) = None
+joins_of (Happens events.Beat) = None
+joins_of (Happens (events.Bytes conn bytes)) = None
+joins_of (Happens (events.Hangup conn)) = None
+joins_of (Happens (events.ReadDone conn read)) = None
+joins_of (Comes m) = None
+joins_of (Compacts index) = None
+
+-- what a reader tells; nothing where it gives its query back
+abbrev pub told_of : ℕ → Option Reply → Option (ℕ × Reply)
+told_of conn None = None
+told_of conn (Some reply) = Some (conn, reply)
+
+abbrev pub read_of : Begin → Option (ℕ × Reply)
+read_of (Happens (events.ReadDone conn read)) = told_of conn (read_named read)
+read_of (Happens (events.Connect conn)) = None
+read_of (Happens (events.Peer m)) = None
+read_of (Happens events.Timeout) = None
+read_of (Happens events.Beat) = None
+read_of (Happens (events.Bytes conn bytes)) = None
+read_of (Happens (events.Hangup conn)) = None
+read_of (Comes m) = None
+read_of (Compacts index) = None
+
+-- A message counts as lost: its snapshot would be put in the place of entries, and its bytes are none, or lack a database of the node.
+pub record LosesMessage (old : Running) (m : RaftMessage) : Type 0 where
+  pub puts : puts_snapshot old.replica m ≡ true
+  pub unread : offered_to (names_of old.applied.machine) (snapshot_in (bytes_in m.what)) ≡ None
+
+abbrev pub IsLost : Running → Begin → Type 0
+IsLost old (Happens (events.Peer m)) = LosesMessage old m
+IsLost old (Comes m) = LosesMessage old m
+IsLost old (Happens events.Timeout) = ⊥
+IsLost old (Happens events.Beat) = ⊥
+IsLost old (Happens (events.Connect conn)) = ⊥
+IsLost old (Happens (events.Bytes conn bytes)) = ⊥
+IsLost old (Happens (events.Hangup conn)) = ⊥
+IsLost old (Happens (events.ReadDone conn read)) = ⊥
+IsLost old (Compacts index) = ⊥
+
+-- the requests that wait on a connection, once these bytes have come on it
+abbrev pub heard_on : Option Conn → List ℕ → List Request
+heard_on None bytes = []
+heard_on (Some stream) bytes = requests_in (received stream bytes).waiting
+
+abbrev pub NoneAsks : (ℕ → List Request) → Type 0
+NoneAsks asks = (conn : ℕ) → asks conn ≡ []
+
+-- these are the requests that bytes bring, behind those that wait
+pub record BytesAsk (old : Running) (conn : ℕ) (bytes : List ℕ) (asks : ℕ → List Request) : Type 0 where
+  pub here : waiting_on ((clients_in old).streams conn) ++ asks conn ≡ heard_on ((clients_in old).streams conn) bytes
+  pub others : (other : ℕ) → other ≢ conn → asks other ≡ []
+
+abbrev pub Brings : Running → Begin → (ℕ → List Request) → Type 0
+Brings old (Happens (events.Bytes conn bytes)) asks = BytesAsk old conn bytes asks
+Brings old (Happens (events.Peer m)) asks = NoneAsks asks
+Brings old (Happens events.Timeout) asks = NoneAsks asks
+Brings old (Happens events.Beat) asks = NoneAsks asks
+Brings old (Happens (events.Connect conn)) asks = NoneAsks asks
+Brings old (Happens (events.Hangup conn)) asks = NoneAsks asks
+Brings old (Happens (events.ReadDone conn read)) asks = NoneAsks asks
+Brings old (Comes m) asks = NoneAsks asks
+Brings old (Compacts index) asks = NoneAsks asks
+
+-- This comes in by it: unless its message counts as lost, the input of Raft that it is.
+pub record Comes_in (old : Running) (begin : Begin) (x : Brought) : Type 0 where
+  pub inputs : (x.inputs ≡ inputs_of begin) ⊎ (IsLost old begin × (x.inputs ≡ []))
+  pub bytes : x.bytes ≡ bytes_of begin
+  pub joins : x.joins ≡ joins_of begin
+  pub read : x.read ≡ read_of begin
+  pub asks : Brings old begin x.asks
+
+-- and this is taken in: that first of all, and then what the node adds
+pub record Takes (old : Running) (begin : Begin) (x : Taken) : Type 0 where
+  pub inputs : Adds x.inputs (inputs_of begin) ⊎ (IsLost old begin × Adds x.inputs [])
+  pub bytes : x.bytes ≡ bytes_of begin
+  pub joins : x.joins ≡ joins_of begin
+  pub read : x.read ≡ read_of begin
+  pub asks : Brings old begin x.asks
+
+-- An act of a step that ended well, with what it says.
+pub record Act (m : Meaning) (kind : EngineKind) (setup : Setup) (old new : Running) (begin : Begin) (letters : List Letter) (replies : List (ℕ ×
+    Reply)) : Type 0 where
+  pub taken : Taken
+  pub takes : Takes old begin taken
+  pub steps : StepsSo m kind setup old.replica.id (seen old) (seen new) taken letters replies
+  pub sent : AllSent (kept_of old.replica) (kept_of new.replica) letters
+
+-- These acts lead from one node to another, and say this. Before each of them, and after the last, only what the rules don't see changes.
+abbrev pub Acts : Meaning → EngineKind → Setup → Running → Running → List Begin → List Letter → List (ℕ × Reply) → Type 0
+Acts m kind setup old new [] letters replies = (seen new ≡ seen old) × (letters ≡ []) × (replies ≡ [])
+Acts m kind setup old new (begin ∷ begins) letters replies =
+    (from : Running) × (mid : Running) × (first : List Letter) × (rest : List Letter) × (told : List (ℕ × Reply)) × (left : List (ℕ × Reply)) ×
+    (seen from ≡ seen old) × Act m kind setup from mid begin first told × Acts m kind setup mid new begins rest left × (letters ≡ first ++ rest) ×
+    (replies ≡ told ++ left)
+
+-- What the last of them left when it failed or was stopped.
+pub record Stopped (m : Meaning) (kind : EngineKind) (setup : Setup) (old : Running) (begin : Begin) (kept : Kept) : Type 0 where
+  pub taken : Taken
+  pub takes : Takes old begin taken
+  pub stops : StopsSo m kind setup old.replica.id (seen old) kept taken
+
+-- ---- the acts of a step
+
+-- Acts led from one node to another, and what they say was said.
+pub record Went (m : Meaning) (kind : EngineKind) (setup : Setup) (old new : Running) (begins : List Begin) : Type 0 where
+  pub letters : List Letter
+  pub replies : List (ℕ × Reply)
+  pub acts : Acts m kind setup old new begins letters replies
+  pub says : Says old new letters replies
+
+-- a step goes on behind its event by messages of peers that came on connections, and by own snapshots
+abbrev pub IsMore : Begin → Type 0
+IsMore (Happens event) = ⊥
+IsMore (Comes message) = Unit {0}
+IsMore (Compacts index) = Unit {0}
+
+abbrev pub AreOf : Event → List Begin → Type 0
+AreOf event [] = ⊥
+AreOf event (begin ∷ begins) = (begin ≡ Happens event) × AllByRecursion IsMore begins
+
+-- nothing is said between two acts, and only what the rules don't see changes
+pub record Between (old new : Running) : Type 0 where
+  pub same : seen new ≡ seen old
+  pub mail : new.mail ≡ old.mail
+  pub replies : new.outs.replies.items ≡ old.outs.replies.items
+
+-- ---- a step that is under way
+
+-- a node that rests: all that is committed is applied, and nothing is due
+abbrev pub IsResting : Running → Type 0
+IsResting n = moment_of n ≡ resting (seen n)
+
+-- A node that only has it due: the moment is the same, and nothing is said.
+pub record Fresh (old new : Running) : Type 0 where
+  pub moment : moment_of new ≡ moment_of old
+  pub mail : new.mail ≡ old.mail
+  pub replies : new.outs.replies.items ≡ old.outs.replies.items
+  pub kept : kept_of new.replica ≡ kept_of old.replica
+  pub id : new.replica.id ≡ old.replica.id
+
+-- Of an act that began at this node: its input is only due yet; or this came in by it, and this happened since.
+pub data SoFar (m : Meaning) (kind : EngineKind) (setup : Setup) (from now : Running) (begin : Begin) : Type 0 where
+  waits : Fresh from now → SoFar m kind setup from now begin
+  runs : (x : Brought) (late : Bool) → Comes_in from begin x → Since m kind setup x late from now → SoFar m kind setup from now begin
+
+-- A step of an event is under way: these acts have ended, and this one began where the node last rested.
+pub record Underway (m : Meaning) (kind : EngineKind) (setup : Setup) (start now : Running) (event : Event) : Type 0 where
+  pub begins : List Begin
+  pub begin : Begin
+  pub are : AreOf event (begins ++ begin ∷ [])
+  pub mid : Running
+  pub went : Went m kind setup start mid begins
+  pub from : Running
+  pub between : Between mid from
+  pub rests : IsResting from
+  pub so_far : SoFar m kind setup from now begin
+
+-- ---- what a step shows
+
+-- A step that ended well: its acts are those of the rules, the first one that of the event, and it says what they say: of the Appends and
+-- Installs to one peer the last one.
+pub record StepsBy (m : Meaning) (kind : EngineKind) (setup : Setup) (old new : Running) (event : Event) (outs : Outs) : Type 0 where
+  pub begins : List Begin
+  pub are : AreOf event begins
+  pub posted : List RaftMessage
+  pub replies : List (ℕ × Reply)
+  pub acts : Acts m kind setup old new begins (map letter_of posted) replies
+  pub messages : outs.messages.items ≡ sent (all_posted no_mail posted)
+  pub tells : Sends replies outs.replies.items
+
+-- A step that failed or was stopped: what is kept is what the last of its acts left, and those before it ended well.
+pub record StopsBy (m : Meaning) (kind : EngineKind) (setup : Setup) (old : Running) (event : Event) (kept : Kept) : Type 0 where
+  pub begins : List Begin
+  pub last : Begin
+  pub are : AreOf event (begins ++ last ∷ [])
+  pub mid : Running
+  pub letters : List Letter
+  pub replies : List (ℕ × Reply)
+  pub acts : Acts m kind setup old mid begins letters replies
+  pub stopped : Stopped m kind setup mid last kept

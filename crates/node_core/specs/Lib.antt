@@ -1,0 +1,10 @@
+pub mod Faults
+pub mod Values
+pub mod Whole
+pub mod Starting
+pub mod Stepping
+pub mod Waiting
+pub mod Acts
+pub mod Account
+pub mod Performing
+pub mod Applying

@@ -1,0 +1,189 @@
+//! A node's turn in which it applies an entry, and what a leader does then.
+
+ghost use Rattle.std.specs.Prelude.{◌≡◌, ◌≢◌, ◌<◌, ◌^◌, ◌++◌, suc, false, ℕ, List, [], Option, Err, OnOk, IfOk, IfErr};
+ghost use Rattle.sql_engine.specs.Known.{Known};
+ghost use Rattle.raft_vote.specs.Servers.{IsConfiguration};
+ghost use Rattle.client_sessions.specs.declared.clients.Clients.{Clients as Held};
+ghost use Rattle.node_state.specs.declared.effect.Effect.TheVariants as effects;
+ghost use Rattle.sql_engine.specs.Meanings.{Stays};
+ghost use Rattle.session_rules.specs.Machine.{machine_of};
+ghost use Rattle.client_sessions.specs.Calls.{landed_at, told_at};
+ghost use Rattle.client_sessions.specs.Seen.{clients_of, Agrees, StandOver};
+ghost use Rattle.node_state.specs.Applied.{with_entry};
+ghost use Rattle.raft_world.specs.Members.{Setup};
+ghost use Rattle.node_core.specs.Account.{Turns};
+ghost use Rattle.node_core.specs.Applying.{TakesEntry, AppliesSo};
+ghost use Rattle.node_core.specs.Values.{clients_in};
+ghost use Rattle.node_core.specs.declared.fault.NodeFault.TheVariants as fault;
+ghost use Rattle.node_core.specs.Stepping.{StaysAgreed};
+ghost use Rattle.node_core.specs.Whole.{IsGoing};
+
+use crate::fault::NodeFault;
+use crate::running::{Running, one_more};
+use node_rules::stretches_join;
+use node_state::{Applied, Effect};
+use raft_core::RaftEvent;
+use raft_vote::Entry;
+use sql_engine::Engine;
+use std::alloc::{AllocError, Global};
+
+/// Whether an entry changed the servers.
+fn changes_servers(effect: &Effect) -> bool
+    ensures { result ≡ false → effect.now ≢ effects.Configured }
+{
+    match effect {
+        Effect::Configured => true,
+        Effect::Committed(..) | Effect::Other => false,
+    }
+}
+
+/// Applies the next entry. Clients stand over the databases as before, and no number stands for two images where none did.
+fn apply(alloc: Global, applied: &mut Applied, entry: &Entry) -> Result<Effect, AllocError>
+    requires room { suc applied.old.index < 2 ^ 64 }
+    ensures index { OnOk result (applied.new.index ≡ suc applied.old.index) }
+    ensures configured { IsConfiguration applied.old.servers → IsConfiguration applied.new.servers }
+    ensures servers { IfOk result (λ effect. effect ≢ effects.Configured → applied.new.servers ≡ applied.old.servers) }
+    ensures stand { (held : Held) → StandOver held applied.old.machine → StandOver held applied.new.machine }
+    ensures entry { OnOk result (applied.new ≡ with_entry applied.old entry.now) }
+    ensures clients { (held : Held) → StandOver held applied.old.machine → clients_of held applied.new.machine ≡ clients_of held applied.old.machine }
+    ensures agrees { (known : List Known) (held : Held) → Agrees known held applied.old.machine → Agrees known held applied.new.machine }
+{
+    let _before = applied.machine.databases();
+    let effect = applied.apply(alloc, entry);
+    let _after = applied.machine.databases();
+    effect
+}
+
+impl Running {
+    /// Applies the next entry, which is committed.
+    pub(crate) fn apply_next<E: Engine>(&mut self, engine: &mut E) -> Result<(), NodeFault>
+        requires going { IsGoing self.old }
+        requires more { self.old.applied.index < self.old.replica.raft.commit }
+        requires idle { self.old.due.items ≡ [] }
+        requires agrees { Agrees (E.known engine.old) self.old.clients self.old.applied.machine }
+        ensures going { OnOk result (IsGoing self.new) }
+        ensures index { OnOk result (self.new.applied.index ≡ suc self.old.applied.index) }
+        ensures replica { self.new.replica ≡ self.old.replica }
+        ensures wants { IfErr result (λ f. f ≡ fault.NoMemory) }
+        ensures agrees { OnOk result (Agrees (E.known engine.new) self.new.clients self.new.applied.machine) }
+        ensures engine { Stays (E.kind engine.old) (E.kind engine.new) (E.refused_openings engine.old) (E.refused_openings engine.new) }
+    {
+        let effect = self.apply_one()?;
+        self.run_due(engine)?;
+        self.do_duties(&effect)
+    }
+
+    /// Applies the next entry, and tells the client whose proposal ends with it.
+    fn apply_one(&mut self) -> Result<Effect, NodeFault>
+        requires going { IsGoing self.old }
+        requires more { self.old.applied.index < self.old.replica.raft.commit }
+        ensures going { OnOk result (IsGoing self.new) }
+        ensures index { OnOk result (self.new.applied.index ≡ suc self.old.applied.index) }
+        ensures replica { self.new.replica ≡ self.old.replica }
+        ensures wants { IfErr result (λ f. f ≡ fault.NoMemory) }
+        ensures agrees { StaysAgreed self.old self.new }
+        ensures due { self.new.due.items ≡ self.old.due.items }
+        ensures applies { OnOk result (AppliesSo self.old self.new) }
+    {
+        self.databases_stand();
+        let effect = self.apply_entry()?;
+        self.tell_applied()?;
+        self.databases_stand();
+        Ok(effect)
+    }
+
+    /// Applies the next entry, and tells what it was.
+    fn apply_entry(&mut self) -> Result<Effect, NodeFault>
+        requires going { IsGoing self.old }
+        requires more { self.old.applied.index < self.old.replica.raft.commit }
+        ensures going { OnOk result (IsGoing self.new) }
+        ensures index { OnOk result (self.new.applied.index ≡ suc self.old.applied.index) }
+        ensures replica { self.new.replica ≡ self.old.replica }
+        ensures wants { IfErr result (λ f. f ≡ fault.NoMemory) }
+        ensures agrees { StaysAgreed self.old self.new }
+        ensures due { self.new.due.items ≡ self.old.due.items }
+        ensures entry { OnOk result (TakesEntry self.old self.new) }
+        ensures clients { OnOk result (clients_in self.new ≡ clients_in self.old) }
+        ensures rest { self.new ≡ record self.old { applied = self.new.applied; members = self.new.members; view = self.new.view } }
+        ensures serving { self.new.view.serving ≡ self.old.view.serving }
+    {
+        let index = one_more(self.applied.index)?;
+        let entry = self.replica.entry(index).unwrap();
+        let effect = apply(self.alloc, &mut self.applied, entry)?;
+        self.members.settle(index);
+        if changes_servers(&effect) {
+            self.look_at_servers()?;
+        }
+        Ok(effect)
+    }
+
+    /// The client whose proposal ends with the entry that was applied last is told.
+    fn tell_applied(&mut self) -> Result<(), NodeFault>
+        requires going { IsGoing self.old }
+        ensures going { OnOk result (IsGoing self.new) }
+        ensures index { self.new.applied.index ≡ self.old.applied.index }
+        ensures replica { self.new.replica ≡ self.old.replica }
+        ensures wants { IfErr result (λ f. f ≡ fault.NoMemory) }
+        ensures agrees { StaysAgreed self.old self.new }
+        ensures due { self.new.due.items ≡ self.old.due.items }
+        ensures landed { OnOk result (clients_in self.new ≡ landed_at self.old.applied.index (clients_in self.old)) }
+        ensures said { OnOk result (self.new.outs.replies.items ≡ self.old.outs.replies.items ++ told_at self.old.applied.index (clients_in self.old)) }
+        ensures files { machine_of self.new.applied.machine ≡ machine_of self.old.applied.machine }
+        ensures is { self.new ≡ record self.old {
+          clients = self.new.clients;
+          applied = record self.old.applied { machine = self.new.applied.machine };
+          outs = self.new.outs;
+        } }
+    {
+        let index = self.applied.index;
+        let told = self.clients.on_applied(index, &mut self.applied.machine)?;
+        self.outs.tell_all(told)?;
+        Ok(())
+    }
+
+    /// Runs a query whose barrier is applied: right behind the entry that was its barrier, and before any other entry is proposed, so
+    /// its view ends with the log's end. False where none is due, and then nothing has changed.
+    pub(crate) fn run_due<E: Engine>(&mut self, engine: &mut E) -> Result<bool, NodeFault>
+        requires going { IsGoing self.old }
+        requires idle { self.old.due.items ≡ [] }
+        requires agrees { Agrees (E.known engine.old) self.old.clients self.old.applied.machine }
+        ensures going { OnOk result (IsGoing self.new) }
+        ensures replica { self.new.replica ≡ self.old.replica }
+        ensures index { self.new.applied.index ≡ self.old.applied.index }
+        ensures wants { IfErr result (λ f. f ≡ fault.NoMemory) }
+        ensures agrees { OnOk result (Agrees (E.known engine.new) self.new.clients self.new.applied.machine) }
+        ensures engine { Stays (E.kind engine.old) (E.kind engine.new) (E.refused_openings engine.old) (E.refused_openings engine.new) }
+        ensures none { IfOk result (λ more. more ≡ false → self.new ≡ self.old) }
+        ensures goes { (setup : Setup) (bytes : List ℕ) (joins : Option ℕ) →
+            OnOk result (Turns (E.meaning (E.kind engine.old)) (E.kind engine.old) setup bytes joins self.old self.new) }
+    {
+        stretches_join::<E>();
+        let Some(conn) = self.clients.next_due() else {
+            return Ok(false);
+        };
+        self.run_later(conn, engine)?;
+        Ok(true)
+    }
+
+    /// What a leader owes behind an entry: its Undos, or a checkpoint; and it may serve from then on.
+    fn do_duties(&mut self, effect: &Effect) -> Result<(), NodeFault>
+        requires going { IsGoing self.old }
+        ensures going { OnOk result (IsGoing self.new) }
+        ensures applied { self.new.applied ≡ self.old.applied }
+        ensures replica { self.new.replica ≡ self.old.replica }
+        ensures wants { IfErr result (λ f. f ≡ fault.NoMemory) }
+        ensures agrees { StaysAgreed self.old self.new }
+    {
+        let Some(office) = &mut self.office else {
+            return Ok(());
+        };
+        let next = one_more(self.applied.index)?;
+        let waiting = self.replica.tail(next);
+        let entries = office.on_applied(self.alloc, &self.applied, effect, waiting)?;
+        self.view.serving = office.serves();
+        if entries.is_empty() {
+            return Ok(());
+        }
+        self.give(RaftEvent::Propose(entries))
+    }
+}

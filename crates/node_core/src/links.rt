@@ -1,0 +1,144 @@
+//! Connections that carry the messages of peers.
+
+ghost use Rattle.std.specs.Prelude.{◌<◌, length, MatchOption};
+
+use client_connection::{CloseReason, PeerStream};
+use raft_vote::{PeerFault, RaftMessage, read_message};
+use std::alloc::{AllocError, Global};
+use wire_words::Message;
+
+/// A connection that carries the messages of one peer.
+#[derive(Drop)]
+pub(crate) struct Link {
+    conn: u64,
+    peer: u64,
+    stream: PeerStream,
+}
+
+/// The connections that carry messages of peers.
+#[derive(Drop)]
+pub(crate) struct Links {
+    alloc: Global,
+    all: Vec<Link>,
+}
+
+/// What comes of the next message of a link.
+#[derive(Drop)]
+pub(crate) enum Letter {
+    /// A message of the peer.
+    Message(RaftMessage),
+    /// What came is none, or is not of the peer whose messages the connection of this number carries.
+    Wrong(u64),
+}
+
+/// Only want of memory is a reason to give up; any other fault says that the bytes are no message.
+fn give_up_for_memory(fault: PeerFault) -> Result<(), AllocError> {
+    match fault {
+        PeerFault::NoMemory => Err(AllocError),
+        _ => Ok(()),
+    }
+}
+
+/// The message of the peer of this id to the node of another, if it is one. `Err` is want of memory.
+fn message_of(
+    alloc: Global,
+    message: &Message,
+    peer: u64,
+    me: u64,
+) -> Result<Option<RaftMessage>, AllocError> {
+    match read_message(alloc, message, me) {
+        Ok(read) if read.from == peer => Ok(Some(read)),
+        Ok(_) => Ok(None),
+        Err(fault) => {
+            give_up_for_memory(fault)?;
+            Ok(None)
+        }
+    }
+}
+
+/// The place of a connection among links.
+fn place_of(links: &[Link], conn: u64) -> Option<usize>
+    ensures { MatchOption result (Unit {0}) (λ place. place < length links.now) }
+{
+    for (place, link) in links.iter().enumerate() {
+        if link.conn == conn {
+            return Some(place);
+        }
+    }
+    None
+}
+
+impl Link {
+    /// Takes the next message that waits, which is for the node of this id.
+    fn next(&mut self, alloc: Global, me: u64) -> Result<Option<Letter>, AllocError> {
+        let Some(message) = self.stream.next() else {
+            return Ok(None);
+        };
+        match message_of(alloc, &message, self.peer, me)? {
+            Some(message) => Ok(Some(Letter::Message(message))),
+            None => Ok(Some(Letter::Wrong(self.conn))),
+        }
+    }
+}
+
+/// Takes the next message that waits on one of these.
+fn next_of(alloc: Global, links: &mut Vec<Link>, me: u64) -> Result<Option<Letter>, AllocError> {
+    for place in 0..links.len() {
+        if let Some(letter) = links[place].next(alloc, me)? {
+            return Ok(Some(letter));
+        }
+    }
+    Ok(None)
+}
+
+impl Links {
+    /// No links. Takes no memory.
+    pub(crate) fn new(alloc: Global) -> Links {
+        Links {
+            alloc,
+            all: Vec::new(alloc),
+        }
+    }
+
+    /// Whether a connection carries a peer's messages.
+    pub(crate) fn has(&self, conn: u64) -> bool {
+        place_of(self.all.as_slice(), conn).is_some()
+    }
+
+    /// A connection carries the messages of a peer from now on.
+    pub(crate) fn join(
+        &mut self,
+        conn: u64,
+        peer: u64,
+        stream: PeerStream,
+    ) -> Result<(), AllocError> {
+        self.all.push(Link { conn, peer, stream })?;
+        Ok(())
+    }
+
+    /// A connection is gone, and what waits on it.
+    pub(crate) fn leave(&mut self, conn: u64) {
+        self.all.retain(|link| link.conn != conn);
+    }
+
+    /// The next bytes come on a connection. Where it isn't one of these nothing happens.
+    pub(crate) fn receive(&mut self, conn: u64, bytes: &[u8]) -> Result<(), AllocError> {
+        match place_of(self.all.as_slice(), conn) {
+            Some(place) => self.all[place].stream.receive(bytes),
+            None => Ok(()),
+        }
+    }
+
+    /// Takes the next message that waits, which is for the node of this id. None where none waits.
+    pub(crate) fn next(&mut self, me: u64) -> Result<Option<Letter>, AllocError> {
+        next_of(self.alloc, &mut self.all, me)
+    }
+
+    /// Why a connection is to be closed, if it carries a peer's messages and is at its end.
+    pub(crate) fn reason(&self, conn: u64) -> Option<CloseReason> {
+        match place_of(self.all.as_slice(), conn) {
+            Some(place) => self.all[place].stream.close_reason(),
+            None => None,
+        }
+    }
+}

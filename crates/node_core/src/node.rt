@@ -1,0 +1,138 @@
+//! A node, and its calls.
+
+ghost use Rattle.std.specs.Prelude.{◌≡◌, [], Err, IfOk, OnOk, OnErr};
+ghost use Rattle.sql_engine.specs.Meanings.{Stays};
+ghost use Rattle.raft_vote.specs.Servers.{IsConfiguration};
+ghost use Rattle.raft_core.specs.Roles.{role_value};
+ghost use Rattle.node_core.specs.declared.fault.NodeFault.TheVariants as fault;
+ghost use Rattle.node_core.specs.Faults.{StartCause, StepCause};
+ghost use Rattle.raft_member.specs.Members.{read_setup};
+ghost use Rattle.node_rules.specs.Steps.{StartsSo};
+ghost use Rattle.node_core.specs.Starting.{StartsOver};
+ghost use Rattle.node_core.specs.Stepping.{CanBeTold, IsDown, IsUp, StaysDown, StaysStored};
+ghost use Rattle.node_core.specs.Values.{applied_of, databases_of, keeps_of, kept_by, node_of, raft_of, replica_of, servers_told};
+ghost use Rattle.node_core.specs.Whole.{Agrees, IsSound};
+
+use crate::event::{Event, NodeSpec, NodeState};
+use crate::fault::{NodeFault, StartFault};
+use crate::outs::Outs;
+use crate::running::Running;
+use disk_model::Disk;
+use page_apply::Machine;
+use segment_store::{Kept, Store};
+use sql_engine::Engine;
+use std::alloc::{AllocError, Global};
+
+/// A whole node: Raft over its store, databases, clients, and what it owes while it leads.
+///
+/// Its disk and its engine are lent to it for a step. After a step that failed it is down for good; a new one starts from what
+/// the disk has kept.
+#[derive(Drop)]
+pub struct Node {
+    running: Running,
+    is_down: bool,
+}
+
+impl Node {
+    /// Starts a node over its disk: a follower that has applied its snapshot alone, and knows the configurations of the log
+    /// behind it. No client is there. The servers are those with which the cluster was opened, and may stand together.
+    ///
+    /// `Damaged` says what of the disk's files isn't what a node leaves, `Snapshot` that the newest snapshot's bytes are none;
+    /// `DiskFault` comes only where the disk counted one. After an `Err` what was kept is kept, and a start may be tried
+    /// again.
+    pub fn start<D: Disk>(alloc: Global, spec: NodeSpec, disk: &mut D) -> Result<Node, StartFault>
+        requires opening { IsConfiguration spec.servers }
+        ensures starts { StartsOver (D.states disk.old) (D.states disk.new) result }
+        ensures stands { IfOk result (λ node. StartsSo (read_setup spec.servers) (kept_by node) (node_of node) (servers_told node)) }
+        ensures sound { IfOk result IsSound }
+        ensures up { IfOk result IsUp }
+        // No number stands for two images, for an engine that knows none.
+        ensures agrees { IfOk result (Agrees []) }
+        ensures keeps { IfOk result (λ node. keeps_of node ≡ 0) }
+        ensures cause { StartCause (D.faults disk.old) (D.faults disk.new) result }
+    {
+        let (store, kept) = Store::load(alloc, disk)?;
+        let running = Running::over(alloc, spec, store, kept)?;
+        Ok(Node {
+            running,
+            is_down: false,
+        })
+    }
+
+    /// One step. What it answers may be said, as all that stands behind it is kept.
+    ///
+    /// After an `Err` the node is down, and each later step answers `Down`. The disk then keeps what stands after a part of
+    /// what the step does. `DiskFault` comes only where the disk counted one.
+    pub fn step<D: Disk, E: Engine>(
+        &mut self,
+        event: Event,
+        disk: &mut D,
+        engine: &mut E,
+    ) -> Result<Outs, NodeFault>
+        requires sound { IsSound self.old }
+        // What a reader tells is what a job comes to, which can be sent.
+        requires told { CanBeTold event }
+        // No number stands for two images, for the engine, the transactions and the databases; and so it is afterwards.
+        requires agrees { IsUp self.old → Agrees (E.known engine.old) self.old }
+        ensures agrees { OnOk result (Agrees (E.known engine.new) self.new) }
+        ensures sound { IsSound self.new }
+        // A node that is down stays so, and one that fails is down.
+        ensures down { IsDown self.old → StaysDown self.old self.new disk.old disk.new engine.old engine.new result }
+        ensures falls { OnErr result (IsDown self.new) }
+        ensures up { OnOk result (IsUp self.new) }
+        ensures refused { result ≡ Err fault.Down → IsDown self.old }
+        // The disk keeps what Raft is, before the step and after it: what is said then rests on nothing else.
+        ensures stored { StaysStored D.tells (D.states disk.old) (D.states disk.new) (replica_of self.old) (replica_of self.new) result }
+        // All that is committed is applied.
+        ensures applied { OnOk result (applied_of self.new ≡ (raft_of self.new).commit) }
+        ensures cause { StepCause (D.faults disk.old) (D.faults disk.new) result }
+        ensures engine { Stays (E.kind engine.old) (E.kind engine.new) (E.refused_openings engine.old) (E.refused_openings engine.new) }
+    {
+        if self.is_down {
+            return Err(NodeFault::Down);
+        }
+        // It is down until the step has ended well.
+        self.is_down = true;
+        let outs = self.running.step(event, disk, engine)?;
+        self.is_down = false;
+        Ok(outs)
+    }
+
+    /// How it stands. Takes no memory.
+    pub fn state(&self) -> NodeState
+        ensures term { result.term ≡ (raft_of self.now).term }
+        ensures role { role_value result.role ≡ (raft_of self.now).role }
+        ensures applied { result.applied ≡ applied_of self.now }
+    {
+        let view = self.running.replica.view();
+        NodeState {
+            term: view.term,
+            role: view.role,
+            applied: self.running.applied.index,
+        }
+    }
+
+    /// Its databases, lent.
+    pub fn machine(&self) -> &Machine
+        ensures { result.now ≡ databases_of self.now }
+    {
+        &self.running.applied.machine
+    }
+
+    /// What it keeps, as a load of the disk would answer it; right behind a start, what that has loaded. Entries and the snapshot
+    /// share their bytes with the node's. `Err` is want of memory.
+    pub fn loaded(&self) -> Result<Kept, AllocError>
+        requires sound { IsSound self.now }
+        requires up { IsUp self.now }
+        ensures { IfOk result (λ kept. kept ≡ kept_by self.now) }
+    {
+        self.running.kept()
+    }
+
+    /// How often the last step kept something whole: a term with a vote, a batch of entries, or a snapshot. 0 after a start.
+    pub fn keeps(&self) -> u64
+        ensures { result ≡ keeps_of self.now }
+    {
+        self.running.replica.keeps()
+    }
+}

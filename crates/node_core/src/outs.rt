@@ -1,0 +1,60 @@
+//! What a step says.
+
+ghost use Rattle.std.specs.Prelude.{◌≡◌, ◌++◌, ℕ, List, [], map, OnOk};
+
+use client_connection::CloseReason;
+use dq_base::Items;
+use gateway::ReadJob;
+use raft_vote::RaftMessage;
+use std::alloc::{AllocError, Global};
+use wire_words::WireBytes;
+
+/// What a step says. All that stands behind it is kept.
+#[derive(Drop)]
+pub struct Outs {
+    /// Messages to clients, in order, each with the number of its connection.
+    pub replies: Vec<(u64, WireBytes)>,
+    /// Connections that are closed behind these replies, and why.
+    pub closed: Vec<(u64, CloseReason)>,
+    /// Messages to other nodes: Appends and Installs stand behind the others, one a peer, ascending by peer.
+    pub messages: Vec<RaftMessage>,
+    /// Queries for readers, each with the number of its connection. A job has its image: the newest one of its database when
+    /// the query was asked. What the reader tells is to come back as `Event::ReadDone`.
+    pub reads: Vec<(u64, ReadJob)>,
+}
+
+impl Outs {
+    /// Nothing is said. Takes no memory.
+    pub(crate) fn new(alloc: Global) -> Outs
+        ensures replies { result.replies.items ≡ [] }
+        ensures closed { result.closed.items ≡ [] }
+        ensures messages { result.messages.items ≡ [] }
+        ensures reads { result.reads.items ≡ [] }
+    {
+        Outs {
+            replies: Vec::new(alloc),
+            closed: Vec::new(alloc),
+            messages: Vec::new(alloc),
+            reads: Vec::new(alloc),
+        }
+    }
+
+    /// Messages to clients are said, behind the others.
+    pub(crate) fn tell_all(&mut self, told: Vec<(u64, WireBytes)>) -> Result<(), AllocError>
+        ensures { OnOk result (self.new.replies.items ≡ self.old.replies.items ++ told.items) }
+    {
+        let mut told = told;
+        self.replies.append(&mut told)?;
+        Ok(())
+    }
+
+    /// Messages to one client are said, behind the others.
+    pub(crate) fn reply(&mut self, conn: u64, messages: Items<WireBytes>) -> Result<(), AllocError>
+        ensures { OnOk result (self.new.replies.items ≡ self.old.replies.items ++ map (λ (m : List ℕ). (conn, m)) messages) }
+    {
+        for message in messages.into_vec() {
+            self.replies.push((conn, message))?;
+        }
+        Ok(())
+    }
+}

@@ -1,0 +1,360 @@
+//! A node's turn in which an event of Raft happens: what it leaves is kept and posted, and then sessions, databases,
+//! configurations and office follow.
+
+ghost use Rattle.std.specs.Prelude.{◌≡◌, ◌≢◌, ◌<◌, ◌==◌, ◌&&◌, false, List, [], None, Err, OnOk, IfOk, MatchOption, IfErr};
+ghost use Rattle.sql_engine.specs.Meanings.{Stays};
+ghost use Rattle.page_apply.specs.declared.database.Database.{Database};
+ghost use Rattle.page_apply.specs.Machines.{IsMachine};
+ghost use Rattle.client_sessions.specs.Seen.{Agrees, HasNoMarks, StandOver};
+ghost use Rattle.raft_rules.specs.Laws.{HasShortTerm};
+ghost use Rattle.raft_rules.specs.Node.{Candidate, is_leader};
+ghost use Rattle.raft_rules.specs.NodeValues.{node_of};
+ghost use Rattle.raft_vote.specs.Servers.{IsConfiguration};
+ghost use Rattle.raft_member.specs.Members.{AllStand};
+ghost use Rattle.raft_core.specs.Events.{EventFits};
+ghost use Rattle.node_replica.specs.Replicas.{HasMoved, IsIntake, IsWhole};
+ghost use Rattle.node_core.specs.declared.fault.NodeFault.TheVariants as fault;
+ghost use Rattle.node_core.specs.Faults.{StepCause};
+ghost use Rattle.node_core.specs.Stepping.{Brings, HasFollowed, HasStepped, HasTold, IsOffer, KeepsRest, PutsNone, StaysAgreed, StaysStored};
+ghost use Rattle.node_core.specs.Values.{clients_in};
+ghost use Rattle.node_core.specs.Waiting.{HasTurns};
+ghost use Rattle.node_core.specs.Whole.{InOffice, IsDue, IsGoing};
+
+use crate::fault::NodeFault;
+use crate::running::Running;
+use crate::view::copied;
+use client_sessions::clients_change_databases;
+use disk_model::Disk;
+use node_replica::Moved;
+use node_state::{Applied, Office};
+use raft_core::RaftEvent;
+use raft_member::change_in;
+use raft_vote::{Servers, What};
+use sql_engine::Engine;
+use std::alloc::AllocError;
+
+/// What comes with an event of Raft beside it.
+#[derive(Drop)]
+pub(crate) enum Offer {
+    /// Nothing.
+    Nothing,
+    /// What a snapshot brings that will stand in the place of entries.
+    Snapshot(Applied),
+    /// A snapshot whose bytes are none, or that lacks a database of the node: the message counts as lost.
+    Lost,
+}
+
+impl Running {
+    /// What comes with an event of Raft. The bytes of a snapshot are read only where a step of the event would put it in the
+    /// place of entries.
+    fn offered(&self, event: &RaftEvent) -> Result<Offer, AllocError>
+        requires going { IsGoing self.now }
+        ensures { IfOk result (IsOffer self.now.replica event.now) }
+    {
+        let RaftEvent::Message(message) = event else {
+            return Ok(Offer::Nothing);
+        };
+        if !self.replica.takes_snapshot(message) {
+            return Ok(Offer::Nothing);
+        }
+        let What::Install { snapshot } = &message.what else {
+            return Ok(Offer::Lost);
+        };
+        let bytes = snapshot.bytes.as_slice();
+        match self.applied.offered(self.alloc, snapshot.index, bytes)? {
+            Some(applied) => Ok(Offer::Snapshot(applied)),
+            None => Ok(Offer::Lost),
+        }
+    }
+
+    /// An event of Raft happens. A message whose snapshot can't be taken changes nothing, not even the term.
+    pub(crate) fn take_raft<D: Disk, E: Engine>(
+        &mut self,
+        event: RaftEvent,
+        disk: &mut D,
+        engine: &mut E,
+    ) -> Result<(), NodeFault>
+        requires due { IsDue event }
+        requires going { IsGoing self.old }
+        requires agrees { Agrees (E.known engine.old) self.old.clients self.old.applied.machine }
+        ensures going { OnOk result (IsGoing self.new) }
+        ensures stored { StaysStored D.tells (D.states disk.old) (D.states disk.new) self.old.replica self.new.replica result }
+        ensures cause { StepCause (D.faults disk.old) (D.faults disk.new) result }
+        ensures agrees { OnOk result (Agrees (E.known engine.new) self.new.clients self.new.applied.machine) }
+        ensures engine { Stays (E.kind engine.old) (E.kind engine.new) (E.refused_openings engine.old) (E.refused_openings engine.new) }
+        ensures runs { result ≢ Err fault.Down }
+    {
+        match self.offered(&event)? {
+            Offer::Nothing => self.step_raft(event, disk),
+            Offer::Snapshot(applied) => {
+                self.step_install(event, applied, disk)?;
+                // The images of other databases stand there under numbers that those of the old ones had.
+                engine.forget();
+                Ok(())
+            }
+            Offer::Lost => Ok(()),
+        }
+    }
+
+    /// One step of Raft, kept and posted; and sessions hear of a leadership that was lost, before anything else follows. Answers
+    /// from which index on the log is another one now, where it is.
+    fn keep_step<D: Disk>(
+        &mut self,
+        event: RaftEvent,
+        disk: &mut D,
+    ) -> Result<Option<u64>, NodeFault>
+        requires whole { IsWhole self.old.replica }
+        requires short { HasShortTerm (node_of self.old.replica.raft) }
+        requires stand { StandOver self.old.clients self.old.applied.machine }
+        requires turns { HasTurns (clients_in self.old) }
+        requires unserved { self.old.office ≡ None → self.old.view.serving ≡ false }
+        requires fits { EventFits self.old.replica.raft event }
+        requires intake { IsIntake event }
+        ensures stepped { IfOk result (λ batch. HasStepped self.old self.new event batch) }
+        ensures stored { StaysStored D.tells (D.states disk.old) (D.states disk.new) self.old.replica self.new.replica result }
+        ensures cause { StepCause (D.faults disk.old) (D.faults disk.new) result }
+        ensures agrees { StaysAgreed self.old self.new }
+        ensures runs { result ≢ Err fault.Down }
+    {
+        let Moved {
+            batch,
+            messages,
+            ..
+        } = self.replica.step(event, disk)?;
+        self.mail.post_all(messages)?;
+        self.note_loss()?;
+        Ok(batch)
+    }
+
+    /// A step of Raft in which no snapshot comes.
+    fn step_raft<D: Disk>(&mut self, event: RaftEvent, disk: &mut D) -> Result<(), NodeFault>
+        requires due { IsDue event }
+        requires none { PutsNone self.old.replica event }
+        requires going { IsGoing self.old }
+        ensures going { OnOk result (IsGoing self.new) }
+        ensures stored { StaysStored D.tells (D.states disk.old) (D.states disk.new) self.old.replica self.new.replica result }
+        ensures cause { StepCause (D.faults disk.old) (D.faults disk.new) result }
+        ensures agrees { OnOk result (StaysAgreed self.old self.new) }
+        ensures runs { result ≢ Err fault.Down }
+    {
+        self.tell_change(&event, disk)?;
+        let batch = self.keep_step(event, disk)?;
+        self.follow_log(batch, disk)?;
+        self.note_win();
+        self.look()?;
+        Ok(())
+    }
+
+    /// The configurations follow the log, which is another one from this index on; and where others are current now, a node that
+    /// follows tells its Raft so.
+    fn follow_log<D: Disk>(&mut self, batch: Option<u64>, disk: &mut D) -> Result<(), NodeFault>
+        requires whole { IsWhole self.old.replica }
+        requires short { HasShortTerm (node_of self.old.replica.raft) }
+        requires stand { AllStand self.old.members }
+        requires office { InOffice self.old.office self.old.view.serving self.old.replica.raft }
+        requires past { MatchOption batch (Unit {0}) (λ first. (self.old.replica.raft.base < first) × (self.old.members.at < first)) }
+        ensures followed { OnOk result (HasFollowed self.old self.new) }
+        ensures stored { StaysStored D.tells (D.states disk.old) (D.states disk.new) self.old.replica self.new.replica result }
+        ensures cause { StepCause (D.faults disk.old) (D.faults disk.new) result }
+        ensures runs { result ≢ Err fault.Down }
+    {
+        let Some(first) = batch else {
+            return Ok(());
+        };
+        if !self.replica.follow(&mut self.members, first)? {
+            return Ok(());
+        }
+        self.tell_servers(disk)
+    }
+
+    /// A step of Raft that puts a snapshot in the place of entries: databases, servers and index become the snapshot's, and the
+    /// configurations those of the log behind it. Transactions have ended before, since the images that they read stand in the
+    /// old databases.
+    fn step_install<D: Disk>(
+        &mut self,
+        event: RaftEvent,
+        applied: Applied,
+        disk: &mut D,
+    ) -> Result<(), NodeFault>
+        requires due { IsDue event }
+        requires brings { Brings self.old.replica event applied }
+        requires going { IsGoing self.old }
+        ensures going { OnOk result (IsGoing self.new) }
+        ensures stored { StaysStored D.tells (D.states disk.old) (D.states disk.new) self.old.replica self.new.replica result }
+        ensures cause { StepCause (D.faults disk.old) (D.faults disk.new) result }
+        ensures runs { result ≢ Err fault.Down }
+        ensures anew { OnOk result (Agrees [] self.new.clients self.new.applied.machine) }
+    {
+        self.keep_step(event, disk)?;
+        self.lose()?;
+        clients_change_databases();
+        self.replace(applied)?;
+        self.tell_servers(disk)?;
+        self.look_at_servers()?;
+        Ok(())
+    }
+
+    /// Databases, servers and index become those of a snapshot that has come, and the configurations those of the log behind it.
+    fn replace(&mut self, applied: Applied) -> Result<(), NodeFault>
+        requires whole { IsWhole self.old.replica }
+        requires servers { IsConfiguration applied.servers }
+        ensures applied { OnOk result (self.new.applied ≡ applied) }
+        ensures at { OnOk result (self.new.members.at ≡ self.old.replica.snap.index) }
+        ensures stand { OnOk result (AllStand self.new.members) }
+        ensures machine { OnOk result (IsMachine self.new.applied.machine) }
+        ensures is { OnOk result (self.new ≡ record self.old { members = self.new.members; applied = self.new.applied }) }
+        ensures wants { IfErr result (λ f. f ≡ fault.NoMemory) }
+    {
+        let servers = copied(self.alloc, applied.servers.as_slice())?;
+        self.members = self.replica.members(servers)?;
+        self.applied = applied;
+        self.applied.keep_whole()?;
+        let _databases = self.applied.machine.databases();
+        Ok(())
+    }
+
+    /// A leader that proposes a change tells Raft its servers first, so that its entry is counted by them.
+    fn tell_change<D: Disk>(&mut self, event: &RaftEvent, disk: &mut D) -> Result<(), NodeFault>
+        requires whole { IsWhole self.old.replica }
+        requires short { HasShortTerm (node_of self.old.replica.raft) }
+        requires none { PutsNone self.old.replica event.now }
+        ensures told { OnOk result (HasTold self.old self.new) }
+        ensures none { OnOk result (PutsNone self.new.replica event.now) }
+        ensures stored { StaysStored D.tells (D.states disk.old) (D.states disk.new) self.old.replica self.new.replica result }
+        ensures cause { StepCause (D.faults disk.old) (D.faults disk.new) result }
+        ensures runs { result ≢ Err fault.Down }
+    {
+        let RaftEvent::Propose(entries) = event else {
+            return Ok(());
+        };
+        let [entry] = entries.as_slice() else {
+            return Ok(());
+        };
+        if !self.leads() {
+            return Ok(());
+        }
+        match change_in(self.alloc, entry)? {
+            Some(servers) => self.tell(servers, disk),
+            None => Ok(()),
+        }
+    }
+
+    /// Raft is told servers.
+    fn tell<D: Disk>(&mut self, servers: Servers, disk: &mut D) -> Result<(), NodeFault>
+        requires whole { IsWhole self.old.replica }
+        requires short { HasShortTerm (node_of self.old.replica.raft) }
+        requires stands { IsConfiguration servers }
+        requires settled { self.old.replica.raft.role ≢ Candidate }
+        ensures told { OnOk result (HasTold self.old self.new) }
+        ensures stored { StaysStored D.tells (D.states disk.old) (D.states disk.new) self.old.replica self.new.replica result }
+        ensures cause { StepCause (D.faults disk.old) (D.faults disk.new) result }
+        ensures runs { result ≢ Err fault.Down }
+    {
+        let moved = self.replica.step(RaftEvent::Servers(servers), disk)?;
+        self.mail.post_all(moved.messages)?;
+        Ok(())
+    }
+
+    /// A node that follows tells its Raft the current configuration. A leader told it before it proposed the change, and the log of
+    /// a candidate doesn't change.
+    fn tell_servers<D: Disk>(&mut self, disk: &mut D) -> Result<(), NodeFault>
+        requires whole { IsWhole self.old.replica }
+        requires short { HasShortTerm (node_of self.old.replica.raft) }
+        requires stand { AllStand self.old.members }
+        requires office { InOffice self.old.office self.old.view.serving self.old.replica.raft }
+        ensures told { OnOk result (HasTold self.old self.new) }
+        ensures office { OnOk result (InOffice self.new.office self.new.view.serving self.new.replica.raft) }
+        ensures stored { StaysStored D.tells (D.states disk.old) (D.states disk.new) self.old.replica self.new.replica result }
+        ensures cause { StepCause (D.faults disk.old) (D.faults disk.new) result }
+        ensures runs { result ≢ Err fault.Down }
+    {
+        if !self.follows() {
+            return Ok(());
+        }
+        let servers = copied(self.alloc, self.members.current())?;
+        self.tell(servers, disk)
+    }
+
+    /// Leadership that was lost: transactions and proposals end, and their clients are told.
+    fn note_loss(&mut self) -> Result<(), NodeFault>
+        requires unserved { self.old.office ≡ None → self.old.view.serving ≡ false }
+        requires stand { StandOver self.old.clients self.old.applied.machine }
+        requires turns { HasTurns (clients_in self.old) }
+        ensures stand { OnOk result (StandOver self.new.clients self.new.applied.machine) }
+        ensures turns { OnOk result (HasTurns (clients_in self.new)) }
+        ensures office { OnOk result (InOffice self.new.office self.new.view.serving self.new.replica.raft) }
+        ensures replica { self.new.replica ≡ self.old.replica }
+        ensures rest { KeepsRest self.old self.new }
+        ensures wants { IfErr result (λ f. f ≡ fault.NoMemory) }
+        ensures agrees { StaysAgreed self.old self.new }
+    {
+        if !self.has_lost() {
+            return Ok(());
+        }
+        self.leave_office();
+        self.lose()
+    }
+
+    /// Whether the leadership of its office is lost.
+    fn has_lost(&self) -> bool
+        ensures { result ≡ false → (self.now.office ≡ None → self.now.view.serving ≡ false) →
+            InOffice self.now.office self.now.view.serving self.now.replica.raft }
+    {
+        match self.office {
+            Some(office) => !self.is_in(office),
+            None => false,
+        }
+    }
+
+    /// It is in no office, and serves no more.
+    fn leave_office(&mut self)
+        ensures { self.new ≡ record self.old { office = None; view = record self.old.view { serving = false } } }
+    {
+        self.office = None;
+        self.view.serving = false;
+    }
+
+    /// Whether an office is the one of its term, in which it leads.
+    fn is_in(&self, office: Office) -> bool
+        ensures { result ≡ (is_leader self.now.replica.raft.role && (office.term == self.now.replica.raft.term)) }
+    {
+        let raft = self.replica.view();
+        raft.role.leads() && office.term == raft.term
+    }
+
+    /// Transactions and proposals end, where there are any, and no image of a database is read any more.
+    fn lose(&mut self) -> Result<(), NodeFault>
+        requires stand { StandOver self.old.clients self.old.applied.machine }
+        requires turns { HasTurns (clients_in self.old) }
+        ensures stand { OnOk result (StandOver self.new.clients self.new.applied.machine) }
+        ensures turns { OnOk result (HasTurns (clients_in self.new)) }
+        ensures unmarked { OnOk result (HasNoMarks self.new.applied.machine) }
+        // No number stands for two images over any databases then, where no engine knows one.
+        ensures anew { OnOk result ((databases : List Database) → IsMachine databases → Agrees [] self.new.clients databases) }
+        ensures office { (self.new.office ≡ self.old.office) × (self.new.view.serving ≡ self.old.view.serving) }
+        ensures replica { self.new.replica ≡ self.old.replica }
+        ensures rest { KeepsRest self.old self.new }
+        ensures wants { IfErr result (λ f. f ≡ fault.NoMemory) }
+        ensures agrees { StaysAgreed self.old self.new }
+    {
+        let told = self.clients.on_lost(&mut self.applied.machine)?;
+        self.clients.have_ended();
+        self.outs.tell_all(told)?;
+        Ok(())
+    }
+
+    /// Leadership that was won: the log ends with the node's barrier.
+    fn note_win(&mut self)
+        requires office { InOffice self.old.office self.old.view.serving self.old.replica.raft }
+        ensures office { InOffice self.new.office self.new.view.serving self.new.replica.raft }
+        ensures is { self.new ≡ record self.old { office = self.new.office } }
+    {
+        if self.office.is_some() {
+            return;
+        }
+        let raft = self.replica.view();
+        if raft.role.leads() {
+            self.office = Some(Office::won(raft.term, raft.last.index));
+        }
+    }
+}

@@ -1,0 +1,64 @@
+//! What runs of a node.
+
+ghost use Rattle.std.specs.Prelude.{◌≡◌, suc, IfOk};
+ghost use Rattle.node_replica.specs.Replicas.{kept_of};
+ghost use Rattle.node_core.specs.Whole.{Rests};
+
+use crate::links::Links;
+use crate::outs::Outs;
+use client_sessions::Clients;
+use gateway::View;
+use node_replica::{Mail, Replica};
+use node_state::{Applied, Office};
+use raft_core::RaftEvent;
+use raft_member::Members;
+use segment_store::Kept;
+use std::alloc::{AllocError, Global};
+use std::collections::VecDeque;
+
+/// What runs of a node that isn't down: Raft over its store, databases, clients, and what it owes while it leads.
+#[derive(Drop)]
+pub(crate) struct Running {
+    pub(crate) alloc: Global,
+    pub(crate) replica: Replica,
+    /// The configurations of the whole log.
+    pub(crate) members: Members,
+    pub(crate) applied: Applied,
+    pub(crate) clients: Clients,
+    /// Connections that carry the messages of peers.
+    pub(crate) links: Links,
+    /// Whether readers answer queries beside it, and the connections whose queries are at readers.
+    pub(crate) has_readers: bool,
+    pub(crate) lent: Vec<u64>,
+    /// What it is for its sessions.
+    pub(crate) view: View,
+    /// Its office while it leads.
+    pub(crate) office: Option<Office>,
+    /// Events of Raft that are due, in order: the event of a step, and what the node itself gives Raft.
+    pub(crate) due: VecDeque<RaftEvent>,
+    /// The connection on which the bytes of this step came, until it was looked at whether it has to be closed.
+    pub(crate) heard: Option<u64>,
+    /// What the step that is under way says to clients, and to other nodes.
+    pub(crate) outs: Outs,
+    pub(crate) mail: Mail,
+}
+
+/// The index behind this one. There is no memory for so many entries that there is none.
+pub(crate) fn one_more(index: u64) -> Result<u64, AllocError>
+    ensures { IfOk result (λ next. next ≡ suc index) }
+{
+    match index.checked_add(1) {
+        Some(next) => Ok(next),
+        None => Err(AllocError),
+    }
+}
+
+impl Running {
+    /// What a node that rests keeps.
+    pub(crate) fn kept(&self) -> Result<Kept, AllocError>
+        requires { Rests self.now }
+        ensures { IfOk result (λ kept. kept ≡ kept_of self.now.replica) }
+    {
+        self.replica.kept()
+    }
+}

@@ -1,0 +1,287 @@
+//! A node's turn in which the message of a client or of a peer is handled, and connections that come and go.
+
+ghost use Rattle.std.specs.Prelude.{◌≡◌, ◌≢◌, ◌++◌, ◌∷◌, ℕ, List, Option, [], map, false, None, Err, OnOk, IfOk, IfErr};
+ghost use Rattle.page_apply.specs.Machines.{IsMachine};
+ghost use Rattle.session_rules.specs.Machine.{machine_of};
+ghost use Rattle.raft_world.specs.Members.{Setup};
+ghost use Rattle.client_sessions.specs.Clients.{hung_up};
+ghost use Rattle.node_rules.specs.ClientTurns.{Stays as StaysSo};
+ghost use Rattle.node_core.specs.Account.{Turns, moment_of};
+ghost use Rattle.node_core.specs.Performing.{ComesOr, GoesOr, HearsSo, Performed, SaysNothing};
+ghost use Rattle.sql_engine.specs.Meanings.{Stays};
+ghost use Rattle.client_sessions.specs.Seen.{Agrees};
+ghost use Rattle.node_core.specs.declared.fault.NodeFault.TheVariants as fault;
+ghost use Rattle.node_core.specs.Stepping.{StaysAgreed};
+ghost use Rattle.node_core.specs.Values.{clients_in};
+ghost use Rattle.node_core.specs.Whole.{IsDue, IsGoing};
+
+use crate::fault::NodeFault;
+use crate::links::Letter;
+use crate::running::Running;
+use client_connection::CloseReason;
+use client_sessions::{Act, Joining};
+use dq_base::Items;
+use node_rules::{clients_turn, stretches_join};
+use raft_core::RaftEvent;
+use sql_engine::Engine;
+use wire_words::WireBytes;
+
+impl Running {
+    /// Gives Raft an event, behind those that are due.
+    pub(crate) fn give(&mut self, event: RaftEvent) -> Result<(), NodeFault>
+        requires due { IsDue event }
+        requires going { IsGoing self.old }
+        ensures going { OnOk result (IsGoing self.new) }
+        ensures applied { self.new.applied ≡ self.old.applied }
+        ensures replica { self.new.replica ≡ self.old.replica }
+        ensures wants { IfErr result (λ f. f ≡ fault.NoMemory) }
+        ensures agrees { StaysAgreed self.old self.new }
+        ensures due { OnOk result (self.new.due.items ≡ self.old.due.items ++ event ∷ []) }
+        ensures is { self.new ≡ record self.old { due = self.new.due } }
+    {
+        self.due.push_back(event)?;
+        Ok(())
+    }
+
+    /// A client connects; it is closed again where no session is left for it. Where the number is taken nothing happens.
+    #[tactic(auto, using(crate::proofs::Waiting::came_turns))]
+    pub(crate) fn connect(&mut self, conn: u64) -> Result<(), NodeFault>
+        requires going { IsGoing self.old }
+        ensures going { OnOk result (IsGoing self.new) }
+        ensures replica { self.new.replica ≡ self.old.replica }
+        ensures index { self.new.applied.index ≡ self.old.applied.index }
+        ensures wants { IfErr result (λ f. f ≡ fault.NoMemory) }
+        ensures agrees { StaysAgreed self.old self.new }
+        ensures goes { OnOk result (ComesOr self.old self.new conn) }
+        ensures quiet { OnOk result (SaysNothing self.old self.new) }
+    {
+        self.databases_stand();
+        if self.links.has(conn) {
+            return Ok(());
+        }
+        match self.clients.connect(conn)? {
+            Joining::Joined | Joining::Taken => {}
+            Joining::Full => self.outs.closed.push((conn, CloseReason::Limit))?,
+        }
+        Ok(())
+    }
+
+    /// Bytes come on a connection of a client or of a peer.
+    #[tactic(auto, using(crate::proofs::Waiting::heard_turns))]
+    pub(crate) fn receive(&mut self, conn: u64, bytes: &[u8]) -> Result<(), NodeFault>
+        requires going { IsGoing self.old }
+        ensures going { OnOk result (IsGoing self.new) }
+        ensures replica { self.new.replica ≡ self.old.replica }
+        ensures index { self.new.applied.index ≡ self.old.applied.index }
+        ensures wants { IfErr result (λ f. f ≡ fault.NoMemory) }
+        ensures agrees { StaysAgreed self.old self.new }
+        ensures goes { OnOk result (HearsSo self.old self.new conn bytes.now) }
+        ensures quiet { SaysNothing self.old self.new }
+    {
+        self.heard = Some(conn);
+        self.databases_stand();
+        if self.clients.is_open(conn) {
+            self.clients.receive(conn, bytes)?;
+            return Ok(());
+        }
+        self.links.receive(conn, bytes)?;
+        Ok(())
+    }
+
+    /// A connection is gone.
+    pub(crate) fn hang_up(&mut self, conn: u64)
+        requires going { IsGoing self.old }
+        ensures going { IsGoing self.new }
+        ensures replica { self.new.replica ≡ self.old.replica }
+        ensures index { self.new.applied.index ≡ self.old.applied.index }
+        ensures agrees { StaysAgreed self.old self.new }
+        ensures goes { GoesOr self.old self.new conn }
+        ensures quiet { SaysNothing self.old self.new }
+    {
+        self.links.leave(conn);
+        self.clients.hang_up(conn, &mut self.applied.machine);
+        self.databases_stand();
+    }
+
+    /// Takes the next message of a peer: it is due at Raft, or its connection is closed. False where none waits.
+    pub(crate) fn take_letter(&mut self) -> Result<bool, NodeFault>
+        requires going { IsGoing self.old }
+        ensures going { OnOk result (IsGoing self.new) }
+        ensures replica { self.new.replica ≡ self.old.replica }
+        ensures index { self.new.applied.index ≡ self.old.applied.index }
+        ensures wants { IfErr result (λ f. f ≡ fault.NoMemory) }
+        ensures agrees { StaysAgreed self.old self.new }
+        ensures none { IfOk result (λ more. more ≡ false → self.new ≡ record self.old { links = self.new.links }) }
+        ensures goes { OnOk result (StaysSo (moment_of self.old) (moment_of self.new)) }
+        ensures quiet { SaysNothing self.old self.new }
+    {
+        self.databases_stand();
+        let me = self.id();
+        match self.links.next(me)? {
+            Some(Letter::Message(message)) => {
+                self.give(RaftEvent::Message(message))?;
+                Ok(true)
+            }
+            Some(Letter::Wrong(conn)) => {
+                self.links.leave(conn);
+                self.outs.closed.push((conn, CloseReason::Peer))?;
+                Ok(true)
+            }
+            None => Ok(false),
+        }
+    }
+
+    /// Takes the message of a client whose turn it is. False where none is left.
+    #[tactic(auto, using(crate::proofs::Waiting::took_turns, crate::proofs::Waiting::none_turn))]
+    pub(crate) fn take_message<E: Engine>(&mut self, engine: &mut E) -> Result<bool, NodeFault>
+        requires going { IsGoing self.old }
+        requires idle { self.old.due.items ≡ [] }
+        requires agrees { Agrees (E.known engine.old) self.old.clients self.old.applied.machine }
+        ensures going { OnOk result (IsGoing self.new) }
+        ensures replica { self.new.replica ≡ self.old.replica }
+        ensures index { self.new.applied.index ≡ self.old.applied.index }
+        ensures wants { IfErr result (λ f. f ≡ fault.NoMemory) }
+        ensures agrees { OnOk result (Agrees (E.known engine.new) self.new.clients self.new.applied.machine) }
+        ensures engine { Stays (E.kind engine.old) (E.kind engine.new) (E.refused_openings engine.old) (E.refused_openings engine.new) }
+        ensures none { IfOk result (λ more. more ≡ false → self.new.due.items ≡ self.old.due.items) }
+        ensures turns { IfOk result (λ more. more ≡ false → (clients_in self.new).turns ≡ []) }
+        ensures goes { (setup : Setup) (bytes : List ℕ) (joins : Option ℕ) →
+            OnOk result (Turns (E.meaning (E.kind engine.old)) (E.kind engine.old) setup bytes joins self.old self.new) }
+    {
+        clients_turn::<E>();
+        stretches_join::<E>();
+        let machine = &mut self.applied.machine;
+        let act = self.clients.next(&self.view, machine, engine)?;
+        self.databases_stand();
+        match act {
+            Some(act) => {
+                self.perform(act)?;
+                Ok(true)
+            }
+            None => Ok(false),
+        }
+    }
+
+    /// The node's id.
+    fn id(&self) -> u64 {
+        self.view.id
+    }
+
+    /// A law: the databases are those of a machine.
+    pub(crate) fn databases_stand(&self)
+        ensures { IsMachine self.now.applied.machine }
+    {
+        let _databases = self.applied.machine.databases();
+    }
+
+    /// Does what came of a message; what it gives Raft is due then.
+    pub(crate) fn perform(&mut self, act: Act) -> Result<(), NodeFault>
+        requires going { IsGoing self.old }
+        ensures going { OnOk result (IsGoing self.new) }
+        ensures replica { self.new.replica ≡ self.old.replica }
+        ensures index { self.new.applied.index ≡ self.old.applied.index }
+        ensures wants { IfErr result (λ f. f ≡ fault.NoMemory) }
+        ensures agrees { StaysAgreed self.old self.new }
+        ensures performed { OnOk result (Performed self.old self.new act) }
+    {
+        self.databases_stand();
+        match act {
+            Act::Reply { conn, messages } => self.reply(conn, messages)?,
+            Act::Propose { entries, .. } => self.give(RaftEvent::Propose(entries))?,
+            Act::Lend { conn, job } => self.lend(conn, job)?,
+            Act::Transfer { conn, to, reply } => {
+                self.outs.replies.push((conn, reply))?;
+                self.give(RaftEvent::Transfer(to))?;
+            }
+            Act::Peer { conn, id, reply } => {
+                self.outs.replies.push((conn, reply))?;
+                self.hand_over(conn, id)?;
+            }
+        }
+        Ok(())
+    }
+
+    fn reply(&mut self, conn: u64, messages: Items<WireBytes>) -> Result<(), NodeFault>
+        requires going { IsGoing self.old }
+        ensures going { OnOk result (IsGoing self.new) }
+        ensures replica { self.new.replica ≡ self.old.replica }
+        ensures index { self.new.applied.index ≡ self.old.applied.index }
+        ensures wants { IfErr result (λ f. f ≡ fault.NoMemory) }
+        ensures agrees { StaysAgreed self.old self.new }
+        ensures said { OnOk result (self.new.outs.replies.items ≡ self.old.outs.replies.items ++ map (λ (m : List ℕ). (conn, m)) messages) }
+        ensures is { self.new ≡ record self.old { outs = self.new.outs } }
+    {
+        self.outs.reply(conn, messages)?;
+        Ok(())
+    }
+
+    /// A connection carries the messages of a peer from now on: it is no client's any more.
+    #[tactic(auto, using(crate::proofs::Waiting::left_turns))]
+    fn hand_over(&mut self, conn: u64, peer: u64) -> Result<(), NodeFault>
+        requires going { IsGoing self.old }
+        ensures going { OnOk result (IsGoing self.new) }
+        ensures replica { self.new.replica ≡ self.old.replica }
+        ensures index { self.new.applied.index ≡ self.old.applied.index }
+        ensures wants { IfErr result (λ f. f ≡ fault.NoMemory) }
+        ensures agrees { StaysAgreed self.old self.new }
+        ensures gone { OnOk result (clients_in self.new ≡ hung_up (clients_in self.old) conn) }
+        ensures files { machine_of self.new.applied.machine ≡ machine_of self.old.applied.machine }
+        ensures machine { OnOk result (IsMachine self.new.applied.machine) }
+        ensures is { self.new ≡ record self.old {
+          clients = self.new.clients;
+          applied = record self.old.applied { machine = self.new.applied.machine };
+          links = self.new.links;
+        } }
+    {
+        if let Some(stream) = self.clients.hand_over(conn, &mut self.applied.machine) {
+            self.links.join(conn, peer, stream)?;
+        }
+        self.databases_stand();
+        Ok(())
+    }
+
+    /// Closes the connection whose bytes came, where its stream has ended. False where that was looked at before.
+    pub(crate) fn close_heard(&mut self) -> Result<bool, NodeFault>
+        requires going { IsGoing self.old }
+        ensures going { OnOk result (IsGoing self.new) }
+        ensures replica { self.new.replica ≡ self.old.replica }
+        ensures index { self.new.applied.index ≡ self.old.applied.index }
+        ensures wants { IfErr result (λ f. f ≡ fault.NoMemory) }
+        ensures agrees { StaysAgreed self.old self.new }
+        ensures none { IfOk result (λ more. more ≡ false → (self.new ≡ self.old) × (self.new.heard ≡ None)) }
+    {
+        let Some(conn) = self.heard else {
+            return Ok(false);
+        };
+        self.heard = None;
+        if let Some(reason) = self.closing(conn) {
+            self.outs.closed.push((conn, reason))?;
+        }
+        Ok(true)
+    }
+
+    /// Takes a connection away whose stream has ended, and answers why.
+    #[tactic(auto, using(crate::proofs::Waiting::closed_turns))]
+    fn closing(&mut self, conn: u64) -> Option<CloseReason>
+        requires going { IsGoing self.old }
+        ensures going { IsGoing self.new }
+        ensures replica { self.new.replica ≡ self.old.replica }
+        ensures index { self.new.applied.index ≡ self.old.applied.index }
+        ensures heard { self.new.heard ≡ self.old.heard }
+        ensures agrees { StaysAgreed self.old self.new }
+        ensures goes { GoesOr self.old self.new conn }
+        ensures quiet { SaysNothing self.old self.new }
+    {
+        self.databases_stand();
+        if !self.links.has(conn) {
+            let reason = self.clients.close(conn, &mut self.applied.machine);
+            self.databases_stand();
+            return reason;
+        }
+        let Some(reason) = self.links.reason(conn) else {
+            return None;
+        };
+        self.links.leave(conn);
+        Some(reason)
+    }
+}

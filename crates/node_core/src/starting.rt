@@ -1,0 +1,175 @@
+//! A node starts over its disk.
+
+ghost use Rattle.std.specs.Prelude.{◌≡◌, ◌<◌, ◌≤◌, ◌+◌, ◌-◌, ◌++◌, suc, List, []};
+ghost use Rattle.std.specs.Prelude.{IfErr, IfOk, length, drop};
+ghost use Rattle.segment_store.specs.Open.{Open};
+ghost use Rattle.store_format.specs.FilesRead.{snap_kept, HasIndex};
+ghost use Rattle.raft_rules.specs.Log.{Entry as EntryValue};
+ghost use Rattle.raft_rules.specs.Node.{Server as ServerValue};
+ghost use Rattle.raft_vote.specs.Servers.{IsConfiguration};
+ghost use Rattle.raft_world.specs.Members.{configuration};
+ghost use Rattle.raft_member.specs.Members.{AllStand, IsOf, read_setup};
+ghost use Rattle.store_format.specs.Starts.{CanStart};
+ghost use Rattle.node_replica.specs.Replicas.{kept_of};
+ghost use Rattle.node_state.specs.Applied.{HasNoPins};
+ghost use Rattle.node_state.specs.Snapshot.{IsRestored};
+ghost use Rattle.node_rules.specs.Steps.{StartsSo};
+ghost use Rattle.node_core.specs.Starting.{AppliesKept, HasStarted, IsUnread, ShowsFront};
+ghost use Rattle.node_core.specs.Values.{seen};
+ghost use Rattle.client_sessions.specs.Seen.{Agrees};
+ghost use Rattle.node_core.specs.Whole.{Rests};
+
+use crate::event::NodeSpec;
+use crate::fault::StartFault;
+use crate::laws::starts_stand;
+use crate::links::Links;
+use crate::outs::Outs;
+use crate::running::{Running, one_more};
+use crate::view::{copied, starting_view};
+use client_sessions::Clients;
+use gateway::View;
+use node_replica::{Mail, Replica};
+use node_state::Applied;
+use raft_member::Members;
+use raft_vote::{Entry, Servers, Snapshot};
+use segment_store::{Kept, Store};
+use std::alloc::{AllocError, Global};
+use std::collections::VecDeque;
+
+/// How many of Raft's events there is room for from the start.
+const DUE_ROOM: usize = 4;
+
+/// What the bytes of a node's snapshot up to an index bring; a fault where they are none.
+fn restored(alloc: Global, index: u64, bytes: &[u8]) -> Result<Applied, StartFault>
+    ensures restored { IfOk result (IsRestored index bytes.now) }
+    ensures servers { IfOk result (λ applied. IsConfiguration applied.servers) }
+    ensures unpinned { IfOk result (λ applied. HasNoPins applied.machine) }
+    ensures front { IfOk result (ShowsFront index bytes.now) }
+    ensures unread { IfErr result (IsUnread index bytes.now) }
+{
+    match Applied::from_snapshot(alloc, index, bytes)? {
+        Some(applied) => Ok(applied),
+        None => Err(StartFault::Snapshot(index)),
+    }
+}
+
+/// What is applied of what was kept: the snapshot, or nothing.
+fn applied_at_start(
+    alloc: Global,
+    opening: Servers,
+    snapshot: &Option<Snapshot>,
+) -> Result<Applied, StartFault>
+    requires opening { IsConfiguration opening }
+    requires index { HasIndex snapshot.now }
+    ensures applies { IfOk result (AppliesKept opening (snap_kept snapshot.now)) }
+    ensures unread { IfErr result (IsUnread (snap_kept snapshot.now).index (snap_kept snapshot.now).bytes) }
+{
+    match snapshot {
+        Some(snapshot) => restored(alloc, snapshot.index, snapshot.bytes.as_slice()),
+        None => Ok(Applied::new(alloc, opening)),
+    }
+}
+
+/// The configurations of a log that is applied up to an index with these servers. Of its entries the first has the index
+/// `first`, which is at most one more.
+fn members_of(
+    alloc: Global,
+    servers: Servers,
+    at: u64,
+    first: u64,
+    entries: &[Entry],
+) -> Result<Members, AllocError>
+    requires low { first ≤ suc at }
+    requires within { at < first + length entries.now }
+    ensures at { IfOk result (λ members. members.at ≡ at) }
+    ensures stand { IsConfiguration servers → IfOk result AllStand }
+    ensures is { (opening : List ServerValue) (front : List EntryValue) → length front ≡ at → configuration (read_setup opening) front ≡ servers →
+        IfOk result (IsOf (read_setup opening) (front ++ drop (suc at - first) entries.now)) }
+{
+    let mut members = Members::new(alloc, servers, at);
+    let index = one_more(at)?;
+    members.take_all(alloc, index, &entries[(index - first) as usize..])?;
+    Ok(members)
+}
+
+/// The configurations of the log that was kept, of which this is applied.
+fn members_at_start(alloc: Global, applied: &Applied, kept: &Kept) -> Result<Members, AllocError>
+    requires log { CanStart kept.now }
+    requires index { applied.now.index ≡ kept.now.snap.index }
+    requires servers { IsConfiguration applied.now.servers }
+    ensures at { IfOk result (λ members. members.at ≡ applied.now.index) }
+    ensures stand { IfOk result AllStand }
+    ensures is { (opening : List ServerValue) (front : List EntryValue) → length front ≡ kept.now.snap.index →
+        configuration (read_setup opening) front ≡ applied.now.servers →
+        IfOk result (IsOf (read_setup opening) (front ++ drop (suc kept.now.snap.index - kept.now.log.first) kept.now.log.entries)) }
+{
+    let servers = copied(alloc, applied.servers.as_slice())?;
+    let entries = kept.entries.as_slice();
+    members_of(alloc, servers, applied.index, kept.first, entries)
+}
+
+impl Running {
+    /// A node over what was loaded.
+    pub(crate) fn over(
+        alloc: Global,
+        spec: NodeSpec,
+        store: Store,
+        kept: Kept,
+    ) -> Result<Running, StartFault>
+        requires opening { IsConfiguration spec.servers }
+        requires log { CanStart kept }
+        ensures stands { IfOk result (λ node. StartsSo (read_setup spec.servers) kept (seen node) node.replica.raft.servers) }
+        ensures kept { IfOk result (λ node. kept_of node.replica ≡ kept) }
+        ensures store { IfOk result (λ node. node.replica.store ≡ store) }
+        ensures rests { IfOk result Rests }
+        ensures agrees { IfOk result (λ node. Agrees [] node.clients node.applied.machine) }
+        ensures keeps { IfOk result (λ node. node.replica.keeps ≡ 0) }
+        ensures unread { IfErr result (IsUnread kept.snap.index kept.snap.bytes) }
+    {
+        let NodeSpec {
+            id,
+            servers,
+            links,
+            readers,
+        } = spec;
+        let mut applied = applied_at_start(alloc, servers, &kept.snapshot)?;
+        applied.keep_whole()?;
+        let members = members_at_start(alloc, &applied, &kept)?;
+        let replica = Replica::start(alloc, id, members.current(), store, kept)?;
+        let servers = copied(alloc, applied.servers.as_slice())?;
+        let view = starting_view(alloc, id, servers, links, readers, replica.view());
+        starts_stand();
+        Ok(Running::of_parts(alloc, replica, members, applied, view)?)
+    }
+
+    /// A node of these parts, to which no client has come.
+    fn of_parts(
+        alloc: Global,
+        replica: Replica,
+        members: Members,
+        applied: Applied,
+        view: View,
+    ) -> Result<Running, AllocError>
+        requires unpinned { HasNoPins applied.machine }
+        ensures started { IfOk result (HasStarted replica members applied view) }
+    {
+        let due = VecDeque::with_capacity(alloc, DUE_ROOM)?;
+        let _databases = applied.machine.databases();
+        Ok(Running {
+            alloc,
+            replica,
+            members,
+            applied,
+            clients: Clients::new(alloc),
+            links: Links::new(alloc),
+            has_readers: view.readers,
+            lent: Vec::new(alloc),
+            view,
+            office: None,
+            due,
+            heard: None,
+            outs: Outs::new(alloc),
+            mail: Mail::new(alloc),
+        })
+    }
+}

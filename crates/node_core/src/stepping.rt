@@ -1,0 +1,192 @@
+//! One step of a node.
+
+ghost use Rattle.raft_world.specs.Members.{Setup};
+ghost use Rattle.node_core.specs.Account.{SoFar, Happens};
+ghost use Rattle.std.specs.Prelude.{◌≡◌, ◌≢◌, [], true, false, Err, IfOk, OnOk, IfErr};
+ghost use Rattle.sql_engine.specs.Meanings.{Stays};
+ghost use Rattle.client_sessions.specs.Seen.{Agrees};
+ghost use Rattle.node_replica.specs.Mails.{sent};
+ghost use Rattle.node_core.specs.declared.fault.NodeFault.TheVariants as fault;
+ghost use Rattle.node_core.specs.Faults.{StepCause};
+ghost use Rattle.node_core.specs.Stepping.{CanBeTold, StaysAgreed, StaysStored};
+ghost use Rattle.node_core.specs.Values.{clients_in};
+ghost use Rattle.node_core.specs.Whole.{IsGoing, IsIdle, IsQuiet, Rests};
+
+use crate::event::Event;
+use crate::fault::NodeFault;
+use crate::outs::Outs;
+use crate::running::Running;
+use disk_model::Disk;
+use node_replica::Mail;
+use raft_core::RaftEvent;
+use raft_vote::SharedBytes;
+use sql_engine::Engine;
+use std::mem;
+
+impl Running {
+    /// One step of a node that rests.
+    pub(crate) fn step<D: Disk, E: Engine>(
+        &mut self,
+        event: Event,
+        disk: &mut D,
+        engine: &mut E,
+    ) -> Result<Outs, NodeFault>
+        requires told { CanBeTold event }
+        requires rests { Rests self.old }
+        requires agrees { Agrees (E.known engine.old) self.old.clients self.old.applied.machine }
+        ensures rests { OnOk result (Rests self.new) }
+        ensures agrees { OnOk result (Agrees (E.known engine.new) self.new.clients self.new.applied.machine) }
+        ensures stored { StaysStored D.tells (D.states disk.old) (D.states disk.new) self.old.replica self.new.replica result }
+        ensures cause { StepCause (D.faults disk.old) (D.faults disk.new) result }
+        ensures runs { result ≢ Err fault.Down }
+        ensures engine { Stays (E.kind engine.old) (E.kind engine.new) (E.refused_openings engine.old) (E.refused_openings engine.new) }
+    {
+        self.replica.count_keeps();
+        self.begin(event, engine)?;
+        self.run(disk, engine)?;
+        self.take_outs()
+    }
+
+    /// The event is given to clients, or is due at Raft.
+    fn begin<E: Engine>(&mut self, event: Event, engine: &mut E) -> Result<(), NodeFault>
+        requires told { CanBeTold event }
+        requires going { IsGoing self.old }
+        requires idle { self.old.due.items ≡ [] }
+        requires agrees { Agrees (E.known engine.old) self.old.clients self.old.applied.machine }
+        ensures going { OnOk result (IsGoing self.new) }
+        ensures replica { self.new.replica ≡ self.old.replica }
+        ensures wants { IfErr result (λ f. f ≡ fault.NoMemory) }
+        ensures agrees { OnOk result (Agrees (E.known engine.new) self.new.clients self.new.applied.machine) }
+        ensures engine { Stays (E.kind engine.old) (E.kind engine.new) (E.refused_openings engine.old) (E.refused_openings engine.new) }
+        ensures begun { (setup : Setup) → OnOk result (SoFar (E.meaning (E.kind engine.old)) (E.kind engine.old) setup self.old self.new (Happens event)) }
+    {
+        match event {
+            Event::Timeout => self.give(RaftEvent::Timeout)?,
+            Event::Beat => self.give(RaftEvent::Beat)?,
+            Event::Peer(message) => self.give(RaftEvent::Message(message))?,
+            Event::Connect(conn) => self.connect(conn)?,
+            Event::Hangup(conn) => self.hang_up(conn),
+            Event::Bytes(conn, bytes) => self.receive(conn, bytes.as_slice())?,
+            Event::ReadDone(conn, read) => self.read_done(conn, read, engine)?,
+        }
+        Ok(())
+    }
+
+    /// Turns, until nothing is left to do.
+    fn run<D: Disk, E: Engine>(&mut self, disk: &mut D, engine: &mut E) -> Result<(), NodeFault>
+        requires going { IsGoing self.old }
+        requires agrees { Agrees (E.known engine.old) self.old.clients self.old.applied.machine }
+        ensures going { OnOk result (IsGoing self.new) }
+        ensures stored { StaysStored D.tells (D.states disk.old) (D.states disk.new) self.old.replica self.new.replica result }
+        ensures cause { StepCause (D.faults disk.old) (D.faults disk.new) result }
+        ensures agrees { OnOk result (Agrees (E.known engine.new) self.new.clients self.new.applied.machine) }
+        ensures engine { Stays (E.kind engine.old) (E.kind engine.new) (E.refused_openings engine.old) (E.refused_openings engine.new) }
+        ensures applied { OnOk result (self.new.applied.index ≡ self.new.replica.raft.commit) }
+        ensures idle { OnOk result (self.new.due.items ≡ []) }
+        ensures turns { OnOk result ((clients_in self.new).turns ≡ []) }
+        ensures heard { OnOk result (self.new.heard ≡ None) }
+        ensures runs { result ≢ Err fault.Down }
+    {
+        for _ in 0..u64::MAX {
+            if !self.turn(disk, engine)? {
+                return Ok(());
+            }
+        }
+        Err(NodeFault::NoMemory)
+    }
+
+    /// Does the first of what there is: an event of Raft that is due, an entry to apply, a query whose barrier is applied, a
+    /// client's message, a snapshot to take, a peer's message, a connection to close. So nothing is decided for a client while an
+    /// event of Raft is due or an entry may be applied; and a peer's message is taken where the one before it has come to its end,
+    /// as if it had come alone. False where there is nothing.
+    fn turn<D: Disk, E: Engine>(&mut self, disk: &mut D, engine: &mut E) -> Result<bool, NodeFault>
+        requires going { IsGoing self.old }
+        requires agrees { Agrees (E.known engine.old) self.old.clients self.old.applied.machine }
+        ensures going { OnOk result (IsGoing self.new) }
+        ensures stored { StaysStored D.tells (D.states disk.old) (D.states disk.new) self.old.replica self.new.replica result }
+        ensures cause { StepCause (D.faults disk.old) (D.faults disk.new) result }
+        ensures agrees { OnOk result (Agrees (E.known engine.new) self.new.clients self.new.applied.machine) }
+        ensures engine { Stays (E.kind engine.old) (E.kind engine.new) (E.refused_openings engine.old) (E.refused_openings engine.new) }
+        // Where nothing is left, nothing is due, and all that is committed is applied.
+        ensures idle { IfOk result (λ more. more ≡ false → IsIdle self.new) }
+        ensures runs { result ≢ Err fault.Down }
+    {
+        if let Some(event) = self.due.pop_front() {
+            self.take_raft(event, disk, engine)?;
+            return Ok(true);
+        }
+        if self.applied.index < self.replica.view().commit {
+            self.apply_next(engine)?;
+            return Ok(true);
+        }
+        self.attend(disk, engine)
+    }
+
+    /// Does the first of what there is where nothing is due at Raft and all that is committed is applied.
+    fn attend<D: Disk, E: Engine>(
+        &mut self,
+        disk: &mut D,
+        engine: &mut E,
+    ) -> Result<bool, NodeFault>
+        requires going { IsGoing self.old }
+        requires agrees { Agrees (E.known engine.old) self.old.clients self.old.applied.machine }
+        requires due { self.old.due.items ≡ [] }
+        requires applied { self.old.applied.index ≡ self.old.replica.raft.commit }
+        ensures going { OnOk result (IsGoing self.new) }
+        ensures stored { StaysStored D.tells (D.states disk.old) (D.states disk.new) self.old.replica self.new.replica result }
+        ensures cause { StepCause (D.faults disk.old) (D.faults disk.new) result }
+        ensures agrees { OnOk result (Agrees (E.known engine.new) self.new.clients self.new.applied.machine) }
+        ensures engine { Stays (E.kind engine.old) (E.kind engine.new) (E.refused_openings engine.old) (E.refused_openings engine.new) }
+        ensures idle { IfOk result (λ more. more ≡ false → IsIdle self.new) }
+        ensures runs { result ≢ Err fault.Down }
+    {
+        if self.run_due(engine)? {
+            return Ok(true);
+        }
+        if self.take_message(engine)? {
+            return Ok(true);
+        }
+        if self.compact(disk)? {
+            return Ok(true);
+        }
+        if self.take_letter()? {
+            return Ok(true);
+        }
+        self.close_heard()
+    }
+
+    /// Takes a snapshot where one is due. False where none is.
+    fn compact<D: Disk>(&mut self, disk: &mut D) -> Result<bool, NodeFault>
+        requires going { IsGoing self.old }
+        ensures going { OnOk result (IsGoing self.new) }
+        ensures stored { StaysStored D.tells (D.states disk.old) (D.states disk.new) self.old.replica self.new.replica result }
+        ensures cause { StepCause (D.faults disk.old) (D.faults disk.new) result }
+        ensures none { IfOk result (λ more. more ≡ false → self.new ≡ self.old) }
+        ensures agrees { StaysAgreed self.old self.new }
+        ensures runs { result ≢ Err fault.Down }
+    {
+        let index = self.applied.index;
+        if !self.replica.is_due(index) {
+            return Ok(false);
+        }
+        let bytes = SharedBytes::new(self.alloc, self.applied.snapshot(self.alloc)?)?;
+        let messages = self.replica.snapshot(index, bytes, disk)?;
+        self.mail.post_all(messages)?;
+        self.look()?;
+        Ok(true)
+    }
+
+    /// What the step says, taken from it.
+    fn take_outs(&mut self) -> Result<Outs, NodeFault>
+        ensures said { IfOk result (λ outs. (outs.replies.items ≡ self.old.outs.replies.items) × (outs.closed.items ≡ self.old.outs.closed.items)) }
+        ensures messages { IfOk result (λ outs. outs.messages.items ≡ sent self.old.mail) }
+        ensures rest { self.new ≡ record self.old { outs = self.new.outs; mail = self.new.mail } }
+        ensures quiet { IsQuiet self.new }
+        ensures wants { IfErr result (λ f. f ≡ fault.NoMemory) }
+    {
+        let mut outs = mem::replace(&mut self.outs, Outs::new(self.alloc));
+        let mail = mem::replace(&mut self.mail, Mail::new(self.alloc));
+        outs.messages = mail.into_messages()?;
+        Ok(outs)
+    }
+}

@@ -1,0 +1,116 @@
+//! What a node is for its sessions.
+
+ghost use Rattle.std.specs.Prelude.{◌≡◌, true, false, IfOk, OnOk};
+ghost use Rattle.raft_rules.specs.Node.{is_leader, Follower};
+ghost use Rattle.node_core.specs.Whole.{Holds, InOffice, IsGoing};
+
+use crate::running::Running;
+use dq_base::Items;
+use gateway::{StepLimits, View};
+use raft_core::{RaftRole, RaftView};
+use raft_vote::{Server, Servers};
+use std::alloc::{AllocError, Global};
+use std::mem;
+
+/// Copies of servers.
+pub(crate) fn copied(alloc: Global, servers: &[Server]) -> Result<Servers, AllocError>
+    ensures { IfOk result (λ copies. copies ≡ servers.now) }
+{
+    let mut copies = Vec::with_capacity(alloc, servers.len())?;
+    for server in servers {
+        copies.push(server.copied(alloc)?)?;
+    }
+    Ok(Items::new(copies))
+}
+
+/// What a node is for its sessions that has started: a follower that knows no leader. Its servers are these.
+pub(crate) fn starting_view(
+    alloc: Global,
+    id: u64,
+    servers: Servers,
+    links: bool,
+    readers: bool,
+    raft: RaftView,
+) -> View
+    ensures serving { result.serving ≡ false }
+    ensures term { result.term ≡ raft.term }
+    ensures last { result.last ≡ raft.last.index }
+    ensures servers { result.servers ≡ servers }
+{
+    View {
+        id,
+        leader: None,
+        serving: false,
+        term: raft.term,
+        last: raft.last.index,
+        servers,
+        links,
+        readers,
+        even: Items::new(Vec::new(alloc)),
+        steps: StepLimits::none(),
+    }
+}
+
+impl Running {
+    /// What it is for its sessions, after a step of Raft. Refills what it has.
+    #[tactic(auto, unfolding(raft_rules::specs::Log::log_end))]
+    pub(crate) fn look(&mut self) -> Result<(), AllocError>
+        requires holds { Holds self.old }
+        requires office { InOffice self.old.office self.old.view.serving self.old.replica.raft }
+        requires seen { self.old.view.servers ≡ self.old.applied.servers }
+        ensures going { OnOk result (IsGoing self.new) }
+        ensures rest { self.new ≡ record self.old { view = self.new.view } }
+        ensures serving { self.new.view.serving ≡ self.old.view.serving }
+    {
+        let raft = self.replica.view();
+        self.view.term = raft.term;
+        self.view.last = raft.last.index;
+        self.view.leader = raft.leader;
+        self.look_at_peers()
+    }
+
+    /// The peers whose log is known to reach a leader's last index.
+    fn look_at_peers(&mut self) -> Result<(), AllocError>
+        ensures { self.new ≡ record self.old { view = record self.old.view { even = self.new.view.even } } }
+    {
+        let kept = mem::replace(&mut self.view.even, Items::new(Vec::new(self.alloc)));
+        let mut even = kept.into_vec();
+        even.clear();
+        for server in self.view.servers.as_slice() {
+            if self.replica.even(server.id) {
+                even.push(server.id)?;
+            }
+        }
+        self.view.even = Items::new(even);
+        Ok(())
+    }
+
+    /// The servers that are applied are others now, or Raft has made a step.
+    pub(crate) fn look_at_servers(&mut self) -> Result<(), AllocError>
+        requires holds { Holds self.old }
+        requires office { InOffice self.old.office self.old.view.serving self.old.replica.raft }
+        ensures going { OnOk result (IsGoing self.new) }
+        ensures rest { self.new ≡ record self.old { view = self.new.view } }
+        ensures serving { self.new.view.serving ≡ self.old.view.serving }
+    {
+        self.view.servers = copied(self.alloc, self.applied.servers.as_slice())?;
+        self.look()
+    }
+
+    /// Whether it follows.
+    pub(crate) fn follows(&self) -> bool
+        ensures { result ≡ true → self.now.replica.raft.role ≡ Follower }
+    {
+        match self.replica.view().role {
+            RaftRole::Follower => true,
+            RaftRole::Leader | RaftRole::Candidate => false,
+        }
+    }
+
+    /// Whether it leads.
+    pub(crate) fn leads(&self) -> bool
+        ensures { result ≡ is_leader self.now.replica.raft.role }
+    {
+        self.replica.view().role.leads()
+    }
+}
