@@ -16,10 +16,11 @@ use Rattle.gateway.specs.declared.act.Act.TheVariants as gateway
 use Rattle.gateway.specs.Later.{LaterBy, ReadDone, Resumed}
 use Rattle.gateway.specs.Seen.{ListsAsBefore}
 use Rattle.client_sessions.specs.Clients.{Clients, with_sessions, Fits, Awaits, Sound}
-use Rattle.client_sessions.specs.Sending.{ActCanSend, ToldCanSend}
+use Rattle.client_sessions.specs.Sending.{ActCanSend}
 use Rattle.client_sessions.proofs.Asking.{is_sends, is_sound, failed_sound}
 use Rattle.client_sessions.proofs.Requests.{Keeps, rests, later_kept}
 use Rattle.client_sessions.proofs.Soundness.{session_sound}
+use Rattle.client_sessions.proofs.Writable.{ToldCanSend}
 
 -- ---- a session that has yet to answer a query
 

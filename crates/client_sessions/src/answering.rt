@@ -13,7 +13,7 @@ ghost use Rattle.session_rules.specs.Touched.{IsListed};
 ghost use Rattle.session_decisions.specs.Reading.{read_named};
 ghost use Rattle.gateway.specs.Calls.{HasNoNul, HasShortTerm, IsConfigured};
 ghost use Rattle.gateway.specs.Seen.{seen, pins_of, Agrees, PinsOf};
-ghost use Rattle.client_sessions.specs.Sending.{ActCanSend, ToldCanSend};
+ghost use Rattle.client_sessions.specs.Sending.{ActCanSend};
 ghost use Rattle.client_sessions.specs.Clients.{Clients, with_sessions, Awaits, NoneIsOpen, Sound};
 ghost use Rattle.client_sessions.specs.Calls.{act_on, Asked, Comes};
 ghost use Rattle.client_sessions.specs.Later.{Resumes, Finishes};
@@ -187,7 +187,6 @@ pub(crate) fn finish(
     conn: u64,
     read: Read,
 ) -> Result<Option<Act>, AllocError>
-    requires sends { ToldCanSend (read_named read) }
     ensures finished { IfOk result (λ act. (databases : List Database) → Finishes (seen gateway.old databases) conn
         (lent_query ((seen gateway.old databases).session conn).later) (read_named read) (seen gateway.new databases) act) }
     ensures sound { (databases : List Database) (k : Clients) → k.sessions ≡ seen gateway.old databases → Sound k →

@@ -13,7 +13,6 @@ ghost use Rattle.session_rules.specs.Events as events;
 ghost use Rattle.session_decisions.specs.Reading.{read_named};
 ghost use Rattle.gateway.specs.Calls.{HasNoNul, HasShortTerm, IsConfigured};
 ghost use Rattle.gateway.specs.Seen.{pins_of};
-ghost use Rattle.client_sessions.specs.Sending.{ToldCanSend};
 ghost use Rattle.client_sessions.specs.Clients.{no_clients, joining, joined, joined_as, hung_up, closing, closed, heard, freed, with_sessions};
 ghost use Rattle.client_sessions.specs.Clients.{HasNoTransactions};
 ghost use Rattle.client_sessions.specs.Calls.{Comes, TookFrom, TookNext, TookTurn, told_conns, landed_at, told_at, lost_all, told_all_lost};
@@ -270,13 +269,11 @@ impl Clients {
     }
 
     /// A reader is done with the query of a connection, and tells this of it: what the node has to do for the connection, which gets
-    /// a turn behind the others. What it tells can be sent, as all is that a job comes to. `None` where no reader has a query of the
-    /// connection any more, since its client has gone; and where the reader gives the query back, which `on_later` then runs.
-    /// Nothing has changed at `None`.
+    /// a turn behind the others. `None` where no reader has a query of the connection any more, since its client has gone; and where
+    /// the reader gives the query back, which `on_later` then runs. Nothing has changed at `None`.
     ///
     /// `Err` is want of memory. The query may be done then and its reply be lost; the clients stand over the machine as ever.
     pub fn on_read_done(&mut self, conn: u64, read: Read) -> Result<Option<Act>, AllocError>
-        requires sends { ToldCanSend (read_named read) }
         ensures finished { IfOk result (λ act. (databases : List Database) → Finishes (clients_of self.old databases).sessions conn
             (lent_query ((clients_of self.old databases).sessions.session conn).later) (read_named read) (clients_of self.new databases).sessions act) }
         ensures rest { IfOk result (λ act. (databases : List Database) → clients_of self.new databases ≡

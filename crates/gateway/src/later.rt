@@ -10,7 +10,7 @@ ghost use Rattle.session_rules.specs.Asking.{has_database};
 ghost use Rattle.session_rules.specs.Causes.{NotADatabase, failure};
 ghost use Rattle.session_rules.specs.Machine.{machine_of};
 ghost use Rattle.session_rules.specs.Requests.{handed_later, on_later, with_session, with_later, without_later};
-ghost use Rattle.session_rules.specs.Sessions.{Reply, is_due, later_query, lent_query, responses_of};
+ghost use Rattle.session_rules.specs.Sessions.{Reply as RuleReply, is_due, later_query, lent_query, responses_of};
 ghost use Rattle.session_table.specs.declared.cause.Cause.TheVariants as causes;
 ghost use Rattle.session_table.specs.Changing.{StandsAt};
 ghost use Rattle.session_table.specs.Marks.{AreMarks};
@@ -31,7 +31,7 @@ use crate::call::{Call, Seat};
 use crate::carrying::{answered, carry_out, refused};
 use page_apply::Machine;
 use session_decisions::{Decision, Read, Setting, run_single};
-use session_table::{Cause, Later, Query, Session, find, take_later};
+use session_table::{Cause, Later, Query, Reply, Session, find, take_later};
 use sql_engine::Engine;
 use std::alloc::{AllocError, Global};
 
@@ -236,10 +236,10 @@ pub(crate) fn resume<E: Engine>(
 
 /// What a reader tells as what a node has to do; none where the query goes back to the node. `Err` is want of memory.
 fn told(alloc: Global, read: Read) -> Result<Option<Act>, AllocError>
-    ensures { IfOk result (λ act. act ≡ option_map (λ (reply : Reply). acts.Reply (responses_of reply)) (read_named read)) }
+    ensures { IfOk result (λ act. act ≡ option_map (λ (reply : RuleReply). acts.Reply (responses_of reply)) (read_named read)) }
 {
     match read {
-        Read::Answers(reply) => Ok(Some(answered(alloc, reply)?)),
+        Read::Answers(rows) => Ok(Some(answered(alloc, Reply::Rows(rows))?)),
         Read::Refused(cause) => Ok(Some(refused(alloc, cause)?)),
         Read::GivenBack => Ok(None),
     }

@@ -11,9 +11,8 @@ ghost use Rattle.session_decisions.specs.Reading.{read_named, RowsTold, TellsJob
 ghost use Rattle.session_decisions.specs.Runs.{IsWellFormed};
 
 use crate::ran_changes::is_unchanged;
-use crate::rows::told;
 use dq_base::{Image, Name};
-use session_table::{Cause, Query, Reply};
+use session_table::{Cause, Query, ToldRows};
 use sql_engine::{Engine, Ran};
 use statement_runs::{Ending, RunOptions, run_unnumbered};
 use std::alloc::{AllocError, Global};
@@ -46,9 +45,9 @@ impl Model for ReadJob {
 /// What a reader tells of its job.
 #[derive(Debug, Drop)]
 pub enum Read {
-    /// The reply to the query.
-    Answers(Reply),
-    /// Why there is none.
+    /// The rows that answer the query.
+    Answers(ToldRows),
+    /// Why there are none.
     Refused(Cause),
     /// Nothing: the query would change pages, and goes back to the node.
     GivenBack,
@@ -59,8 +58,8 @@ fn rows_told(alloc: Global, answer: Ran) -> Result<Read, AllocError>
     requires { IsTable answer.columns answer.rows }
     ensures { IfOk result (RowsTold answer) }
 {
-    match told(alloc, true, answer)? {
-        Ok(reply) => Ok(Read::Answers(reply)),
+    match ToldRows::cut(alloc, answer)? {
+        Ok(rows) => Ok(Read::Answers(rows)),
         Err(cause) => Ok(Read::Refused(cause)),
     }
 }
