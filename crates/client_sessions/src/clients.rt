@@ -11,6 +11,8 @@ ghost use Rattle.session_rules.specs.Machine.{machine_of};
 ghost use Rattle.session_rules.specs.Sessions.{is_due, later_query, lent_query, may_ask};
 ghost use Rattle.session_rules.specs.Events as events;
 ghost use Rattle.session_decisions.specs.Reading.{read_named};
+ghost use Rattle.statement_runs.specs.Calls.{call_on};
+ghost use Rattle.session_decisions.specs.Scenes.{scene};
 ghost use Rattle.gateway.specs.Calls.{HasNoNul, HasShortTerm, IsConfigured};
 ghost use Rattle.gateway.specs.Seen.{pins_of};
 ghost use Rattle.client_sessions.specs.Clients.{no_clients, joining, joined, joined_as, hung_up, closing, closed, heard, freed, with_sessions};
@@ -151,9 +153,9 @@ impl Clients {
         requires agrees { Agrees (E.known engine.old) self.old machine.old }
         ensures agrees { Agrees (E.known engine.new) self.new machine.new }
         // The definition's outcome, by answers that the engine may give and told.
-        ensures came { IfOk result (Comes (E.meaning (E.kind engine.old)) (E.kind engine.old) view.now (machine_of machine.old)
-            (clients_of self.old machine.old).sessions conn asked (E.told engine.old) (E.told engine.new)
-            (E.refused_openings engine.old) (E.refused_openings engine.new) (clients_of self.new machine.new).sessions) }
+        ensures came { IfOk result (Comes (call_on E.meaning E.kind E.told engine.old engine.new)
+            (scene view.now (machine_of machine.old) (clients_of self.old machine.old).sessions conn) asked (E.refused_openings engine.old)
+            (E.refused_openings engine.new) (clients_of self.new machine.new).sessions) }
         ensures rest { clients_of self.new machine.new ≡ with_sessions (clients_of self.old machine.old) (clients_of self.new machine.new).sessions }
         ensures stands { StandOver self.new machine.new }
         // Where the node doesn't serve, no transaction begins.
@@ -196,9 +198,8 @@ impl Clients {
         requires agrees { Agrees (E.known engine.old) self.old machine.old }
         ensures agrees { Agrees (E.known engine.new) self.new machine.new }
         // The definition's outcome, by answers that the engine may give and told.
-        ensures turn { IfOk result (TookTurn (E.meaning (E.kind engine.old)) (E.kind engine.old) view.now (machine_of machine.old)
-            (clients_of self.old machine.old) (E.told engine.old) (E.told engine.new)
-            (E.refused_openings engine.old) (E.refused_openings engine.new) (clients_of self.new machine.new)) }
+        ensures turn { IfOk result (TookTurn (call_on E.meaning E.kind E.told engine.old engine.new) view.now (machine_of machine.old)
+            (clients_of self.old machine.old) (E.refused_openings engine.old) (E.refused_openings engine.new) (clients_of self.new machine.new)) }
         ensures stands { StandOver self.new machine.new }
         // Where the node doesn't serve, no transaction begins.
         ensures idle { view.now.serving ≡ false → HasNoTransactions (clients_of self.old machine.old) →
@@ -245,9 +246,9 @@ impl Clients {
         requires agrees { Agrees (E.known engine.old) self.old machine.old }
         ensures agrees { Agrees (E.known engine.new) self.new machine.new }
         // The definition's outcome, by answers that the engine may give and told.
-        ensures resumed { IfOk result (Resumes (E.meaning (E.kind engine.old)) (E.kind engine.old) view.now (machine_of machine.old)
-            (clients_of self.old machine.old).sessions conn (later_query ((clients_of self.old machine.old).sessions.session conn).later)
-            (E.told engine.old) (E.told engine.new) (E.refused_openings engine.old) (E.refused_openings engine.new)
+        ensures resumed { IfOk result (Resumes (call_on E.meaning E.kind E.told engine.old engine.new)
+            (scene view.now (machine_of machine.old) (clients_of self.old machine.old).sessions conn)
+            (later_query ((clients_of self.old machine.old).sessions.session conn).later) (E.refused_openings engine.old) (E.refused_openings engine.new)
             (clients_of self.new machine.new).sessions) }
         ensures rest { IfOk result (λ act. clients_of self.new machine.new ≡
             freed (clients_of self.old machine.old) (clients_of self.new machine.new).sessions (turn_for conn act)) }

@@ -22,6 +22,7 @@ use Rattle.statement_runs.specs.declared.ending.Ending.TheVariants as endings
 use Rattle.statement_runs.specs.Running.{RanTo, Shows, change_in}
 use Rattle.session_decisions.specs.Reading.{IsAnswered}
 use Rattle.session_decisions.proofs.Shown.{ran_of}
+use Rattle.statement_runs.specs.Calls.{call_of}
 
 -- ---- rows
 
@@ -58,10 +59,10 @@ shows_answered tx from (Stopped fault) ending shows = tt
 shows_answered tx from (Ended to answer) ending shows = tt
 
 -- what ran over the image of a job, with its query
-pub of_job : (job : Job) (m : Meaning) (kind : EngineKind) (before now : Option Told) (ending : CodeEnding) (image : Image) (statement : Statement) → image ≡ job.image → statement ≡ job.statement → RanTo m kind 0 image (statement ∷ []) before now ending
-    → RanTo m kind 0 job.image (job.statement ∷ []) before now ending
+pub of_job : (job : Job) (m : Meaning) (kind : EngineKind) (before now : Option Told) (ending : CodeEnding) (image : Image) (statement : Statement) → image ≡ job.image → statement ≡ job.statement → RanTo (call_of m kind before now) 0 image (statement ∷ []) ending
+    → RanTo (call_of m kind before now) 0 job.image (job.statement ∷ []) ending
 of_job job m kind before now ending image statement over asks ran =
-    subst (λ (i : Image). RanTo m kind 0 i (job.statement ∷ []) before now ending) over (ran_of m kind 0 image before now ending statement job.statement asks ran)
+    subst (λ (i : Image). RanTo (call_of m kind before now) 0 i (job.statement ∷ []) ending) over (ran_of m kind 0 image before now ending statement job.statement asks ran)
 
 module _ (job : Job) (tx : ℕ) (ending : CodeEnding) where
   -- the engine refused the query

@@ -9,6 +9,7 @@ ghost use Rattle.session_rules.specs.Sessions.{Job};
 ghost use Rattle.statement_runs.specs.Running.{RanTo, Shows};
 ghost use Rattle.session_decisions.specs.Reading.{read_named, RowsTold, TellsJob};
 ghost use Rattle.session_decisions.specs.Runs.{IsWellFormed};
+ghost use Rattle.statement_runs.specs.Calls.{call_on};
 
 use crate::ran_changes::is_unchanged;
 use dq_base::{Image, Name};
@@ -67,7 +68,7 @@ fn rows_told(alloc: Global, answer: Ran) -> Result<Read, AllocError>
 /// Runs a query over an image, by an engine that forgets all numbers of images. Takes no memory beside the engine's.
 fn run_query<E: Engine>(engine: &mut E, image: &Image, query: &Query, limit: Option<u64>) -> Ending
     ensures stays { Stays (E.kind engine.old) (E.kind engine.new) (E.refused_openings engine.old) (E.refused_openings engine.new) }
-    ensures ran { RanTo (E.meaning (E.kind engine.old)) (E.kind engine.old) 0 image.now (query.now ∷ []) (E.told engine.old) (E.told engine.new) result }
+    ensures ran { RanTo (call_on E.meaning E.kind E.told engine.old engine.new) 0 image.now (query.now ∷ []) result }
 {
     let options = RunOptions { tx: 0, limit };
     run_unnumbered(engine, image, query.text(), query.params(), options)
