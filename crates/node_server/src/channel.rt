@@ -72,6 +72,13 @@ pub fn event_channel<R: Wait + Copy + Drop, T: Drop>(
 }
 
 impl<R: Wait + Copy + Drop, T: Drop> ChannelInbox<R, T> {
+    /// How many events were taken.
+    pub fn taken(&self) -> u64
+        ensures { result ≡ self.now.taken }
+    {
+        self.taken
+    }
+
     /// Counts a take that failed.
     fn fail(&mut self) -> Failed
         ensures taken { self.new.taken ≡ self.old.taken }

@@ -158,6 +158,8 @@ impl<R: Wait + Copy + Drop, T: Drop> Inbox<T> for MemHost<R, T> {
     ghost faults = { λ host. host.calls.faults };
 
     fn take(&mut self) -> Result<Event<T>, Failed> {
+        // That the number of events is in range is known from here.
+        let _ = self.inbox.taken();
         self.calls.start()?;
         match self.inbox.take() {
             Ok(event) => Ok(event),
