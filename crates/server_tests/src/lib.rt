@@ -7,12 +7,20 @@ mod addresses;
 #[cfg(test)]
 mod echo;
 #[cfg(test)]
+mod hosts;
+#[cfg(test)]
 mod links;
 #[cfg(test)]
 mod loops;
+#[cfg(test)]
+mod peers;
 #[cfg(test)]
 mod served;
 #[cfg(test)]
 mod sockets;
 #[cfg(test)]
+mod taps;
+#[cfg(test)]
 mod workers;
+#[cfg(test)]
+mod writing;
