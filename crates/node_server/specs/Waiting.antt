@@ -1,5 +1,6 @@
 -- Messages that wait for a peer.
-use Rattle.std.specs.Prelude.{Bool, true, false}
+use Rattle.std.specs.Prelude.{◌≡◌, Bool, true, false, List, [], ◌∷◌, ◌++◌, Option, Some, None}
+use Rattle.raft_vote.specs.declared.message.RaftMessage.{RaftMessage}
 use Rattle.raft_vote.specs.declared.message.What.{What}
 use Rattle.raft_vote.specs.declared.message.What.TheVariants.{AskVote, Vote, Append, Ack, Install, TimeoutNow}
 
@@ -11,3 +12,8 @@ is_bulk (Append prev commit entries) = true
 is_bulk (Ack good index) = false
 is_bulk (Install snapshot) = true
 is_bulk TimeoutNow = false
+
+-- The first of the others is sent next, and where there is none the Append or Install; the rest waits on.
+abbrev pub SentNext : Option RaftMessage → List RaftMessage → Option RaftMessage → List RaftMessage → Option RaftMessage → Type 0
+SentNext bulk [] bulk_after others_after next = (next ≡ bulk) × (bulk_after ≡ None) × (others_after ≡ [])
+SentNext bulk (first ∷ rest) bulk_after others_after next = (next ≡ Some first) × (bulk_after ≡ bulk) × (others_after ≡ rest)

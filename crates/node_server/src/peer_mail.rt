@@ -1,7 +1,7 @@
 //! The messages that wait for a peer.
 
-ghost use Rattle.std.specs.Prelude.{◌≡◌, ◌≤◌, ◌++◌, ◌∷◌, [], true, false, Some, None, length, IfSome, IfNone};
-ghost use Rattle.node_server.specs.Waiting.{is_bulk};
+ghost use Rattle.std.specs.Prelude.{◌≡◌, ◌≤◌, ◌++◌, ◌∷◌, ◌⊎◌, [], true, false, Some, length};
+ghost use Rattle.node_server.specs.Waiting.{is_bulk, SentNext};
 
 use raft_vote::{RaftMessage, What};
 use std::alloc::Global;
@@ -40,8 +40,9 @@ impl PeerMail {
     /// Adds a message. An Append or an Install takes the place of the one that waits; another one is lost where so many wait, and
     /// where memory runs out.
     pub(crate) fn add(&mut self, message: RaftMessage)
-        ensures bulk { is_bulk message.what ≡ true → self.new.bulk ≡ Some message }
+        ensures bulk { is_bulk message.what ≡ true → (self.new.bulk ≡ Some message) × (self.new.others.items ≡ self.old.others.items) }
         ensures other { is_bulk message.what ≡ false → self.new.bulk ≡ self.old.bulk }
+        ensures behind { is_bulk message.what ≡ false → (self.new.others.items ≡ self.old.others.items ++ message ∷ []) ⊎ (self.new.others.items ≡ self.old.others.items) }
     {
         if is_bulk(&message) {
             self.bulk = Some(message);
@@ -54,7 +55,7 @@ impl PeerMail {
 
     /// Takes the message that is to be sent next: the first of the others, else the Append or Install.
     pub(crate) fn next(&mut self) -> Option<RaftMessage>
-        ensures none { IfNone result ((self.old.bulk ≡ None) × (self.old.others.items ≡ [])) }
+        ensures { SentNext self.old.bulk self.old.others.items self.new.bulk self.new.others.items result }
     {
         if let Some(message) = self.others.pop_front() {
             return Some(message);
