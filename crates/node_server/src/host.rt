@@ -54,12 +54,14 @@ pub trait Host<T: Drop>: Inbox<T> {
     /// Milliseconds since a moment that doesn't change; 0 where no clock can be read.
     fn moment(&mut self) -> u64
         ensures done { done self.new ≡ done self.old }
-        ensures events { Self.taken self.new ≡ Self.taken self.old };
+        ensures events { Self.taken self.new ≡ Self.taken self.old }
+        ensures faults { Self.faults self.new ≡ Self.faults self.old };
 
     /// A word that others can't foretell easily.
     fn random(&mut self) -> u64
         ensures done { done self.new ≡ done self.old }
-        ensures events { Self.taken self.new ≡ Self.taken self.old };
+        ensures events { Self.taken self.new ≡ Self.taken self.old }
+        ensures faults { Self.faults self.new ≡ Self.faults self.old };
 
     /// Whether it takes a worker: `Err` where its call fails, or its number of workers is at its end.
     fn may_work(&mut self) -> Result<(), Failed>

@@ -13,5 +13,5 @@ pub use list_host::ListHost;
 pub use mem_door::MemDoor;
 pub use mem_host::MemHost;
 pub use tcp_door::TcpDoor;
-pub use tcp_host::TcpHost;
+pub use tcp_host::{HostFault, TcpHost};
 pub use tcp_link::TcpLink;

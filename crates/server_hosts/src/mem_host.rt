@@ -143,6 +143,7 @@ impl<R: Wait + Copy + Drop, T: Drop> MemHost<R, T> {
     /// Counts a call that asks for a moment or for a random word.
     pub(crate) fn ask(&mut self) -> u64
         ensures done { self.new.done ≡ self.old.done }
+        ensures calls { self.new.calls ≡ self.old.calls }
         ensures taken { self.new.inbox.taken ≡ self.old.inbox.taken }
     {
         self.asked = self.asked.saturating_add(1);

@@ -21,7 +21,8 @@ const DIAL_SECONDS: u64 = 10;
 /// A door over a listening TCP socket.
 ///
 /// It gives a link only once its first 16 bytes came, for which it has five seconds: so a dial that says nothing takes no session.
-/// The accept of such a link has failed. A dial tries each address that a name has, in their order, for at most ten seconds each.
+/// The accept of such a link has failed. A dial tries each address that a name has, in their order, for at most ten seconds each;
+/// the error stream is told of its links.
 #[derive(Drop)]
 pub struct TcpDoor {
     rt: HostRuntime,
@@ -107,7 +108,10 @@ impl Door for TcpDoor {
 
     fn dial(&mut self, address: &str) -> Result<TcpLink, Failed> {
         match TcpDoor::connect(&self.rt, address) {
-            Ok(link) => Ok(link),
+            Ok(mut link) => {
+                link.announce(self.rt, address);
+                Ok(link)
+            }
             Err(_) => Err(self.fail()),
         }
     }

@@ -9,10 +9,20 @@ use dq_base::Failed;
 use node_edge::{Event, Inbox};
 use node_server::{ChannelInbox, ChannelPost, Done, Host, event_channel};
 use std::alloc::{AllocError, Global};
+use std::io;
 use std::net::TcpListener;
 use std::sync::Wait;
 use std::thread::Threads;
 use std::time::Clock;
+
+/// A call of a host that failed.
+#[derive(Debug, Drop)]
+pub struct HostFault {
+    /// What was called: `listen`, `accept` for a second end of a door, `dial`, `start a thread` or `take`.
+    pub call: &'static str,
+    /// What the system said, where it did.
+    pub error: Option<io::Error>,
+}
 
 /// A host over the operating system: TCP sockets, threads, its clock. Its events come by a channel, so it tells none, but counts them.
 #[derive(Drop)]
@@ -23,6 +33,7 @@ pub struct TcpHost<R: Wait + Copy + Drop, T: Drop> {
     post: ChannelPost<R, T>,
     done: Done,
     faults: u64,
+    last_fault: Option<HostFault>,
 }
 
 impl<R: Wait + Copy + Drop, T: Drop> TcpHost<R, T> {
@@ -36,16 +47,23 @@ impl<R: Wait + Copy + Drop, T: Drop> TcpHost<R, T> {
             post,
             done: Done::new(),
             faults: 0,
+            last_fault: None,
         })
     }
 
-    /// Counts a call that failed.
-    fn fail(&mut self) -> Failed
+    /// The call that failed last, if one did.
+    pub fn last_fault(&self) -> Option<&HostFault> {
+        self.last_fault.as_ref()
+    }
+
+    /// Counts a call that failed, and keeps it.
+    fn fail(&mut self, call: &'static str, error: Option<io::Error>) -> Failed
         ensures faults { IsCounted self.old.faults self.new.faults }
         ensures done { self.new.done ≡ self.old.done }
         ensures taken { self.new.inbox.taken ≡ self.old.inbox.taken }
     {
         self.faults = self.faults.saturating_add(1);
+        self.last_fault = Some(HostFault { call, error });
         Failed
     }
 }
@@ -60,7 +78,7 @@ impl<R: Wait + Copy + Drop, T: Drop> Inbox<T> for TcpHost<R, T> {
     fn take(&mut self) -> Result<Event<T>, Failed> {
         match self.inbox.take() {
             Ok(event) => Ok(event),
-            Err(_) => Err(self.fail()),
+            Err(_) => Err(self.fail("take", None)),
         }
     }
 }
@@ -82,34 +100,34 @@ impl<R: Threads + Wait + Clock + Copy + Drop + Send + 'static, T: Drop> Host<T> 
 
     fn listen(&mut self, address: &str) -> Result<TcpDoor, Failed> {
         let Some(listens) = self.done.listens.checked_add(1) else {
-            return Err(self.fail());
+            return Err(self.fail("listen", None));
         };
         match TcpListener::bind(&self.sockets, address) {
             Ok(listener) => {
                 self.done.listens = listens;
                 Ok(TcpDoor::new(self.sockets, listener))
             }
-            Err(_) => Err(self.fail()),
+            Err(error) => Err(self.fail("listen", Some(error))),
         }
     }
 
     fn twin(&mut self, door: &TcpDoor) -> Result<TcpDoor, Failed> {
         match door.twin() {
             Ok(door) => Ok(door),
-            Err(_) => Err(self.fail()),
+            Err(error) => Err(self.fail("accept", Some(error))),
         }
     }
 
     fn dial(&mut self, address: &str) -> Result<TcpLink, Failed> {
         let Some(dials) = self.done.dials.checked_add(1) else {
-            return Err(self.fail());
+            return Err(self.fail("dial", None));
         };
         match TcpDoor::connect(&self.sockets, address) {
             Ok(link) => {
                 self.done.dials = dials;
                 Ok(link)
             }
-            Err(_) => Err(self.fail()),
+            Err(error) => Err(self.fail("dial", Some(error))),
         }
     }
 
@@ -138,17 +156,17 @@ impl<R: Threads + Wait + Clock + Copy + Drop + Send + 'static, T: Drop> Host<T> 
 
     fn may_work(&mut self) -> Result<(), Failed> {
         if self.done.workers == u64::MAX {
-            return Err(self.fail());
+            return Err(self.fail("start a thread", None));
         }
         Ok(())
     }
 
     fn count_worker(&mut self, is_started: bool) -> Result<(), Failed> {
         let Some(workers) = self.done.workers.checked_add(1) else {
-            return Err(self.fail());
+            return Err(self.fail("start a thread", None));
         };
         if !is_started {
-            return Err(self.fail());
+            return Err(self.fail("start a thread", None));
         }
         self.done.workers = workers;
         Ok(())

@@ -25,11 +25,34 @@ const MAX_RETRIES: u32 = 1_000;
 
 /// A link over a TCP socket. It tells nothing of content. A message is written at once, in one write, and goes out at once; a write of
 /// which only a front was taken has failed, since its time was over. An interrupted call is tried again, up to 1,000 times in a row.
+///
+/// The error stream is told that a door's link to another machine is up, and that it is down once a write fails.
 #[derive(Drop)]
 pub struct TcpLink {
     stream: TcpStream,
     front: Front,
     faults: u64,
+    announced: Option<Announced>,
+}
+
+/// A link that the error stream was told of.
+#[derive(Drop)]
+struct Announced {
+    rt: HostRuntime,
+    address: String,
+}
+
+impl Announced {
+    /// Tells that the link is up. A line that can't be written is left out.
+    fn up(rt: HostRuntime, address: String) -> Announced {
+        let _ = eprintln!(rt; "link to {address} up");
+        Announced { rt, address }
+    }
+
+    /// Tells that the link is down.
+    fn down(&self) {
+        let _ = eprintln!(self.rt; "link to {} down", self.address);
+    }
 }
 
 /// Reads some bytes.
@@ -75,6 +98,7 @@ impl TcpLink {
             stream,
             front,
             faults: 0,
+            announced: None,
         })
     }
 
@@ -86,7 +110,24 @@ impl TcpLink {
             stream,
             front: Front::none(),
             faults: 0,
+            announced: None,
         })
+    }
+
+    /// Has the error stream told that this link to an address is up, and later that it is down. Where memory is wanting it isn't told.
+    pub(crate) fn announce(&mut self, rt: HostRuntime, address: &str) {
+        if let Ok(address) = String::from_str(rt.alloc(), address) {
+            self.announced = Some(Announced::up(rt, address));
+        }
+    }
+
+    /// Tells that the link is down, once.
+    fn tell_end(&mut self)
+        ensures { self.new.faults ≡ self.old.faults }
+    {
+        if let Some(announced) = self.announced.take() {
+            announced.down();
+        }
     }
 
     /// Counts a call that failed.
@@ -130,7 +171,10 @@ impl Link for TcpLink {
     fn write_all(&mut self, bytes: &[u8]) -> Result<(), Failed> {
         match write_whole(&self.stream, bytes) {
             Ok(()) => Ok(()),
-            Err(_) => Err(self.fail()),
+            Err(_) => {
+                self.tell_end();
+                Err(self.fail())
+            }
         }
     }
 
@@ -140,6 +184,7 @@ impl Link for TcpLink {
                 stream,
                 front: Front::none(),
                 faults: 0,
+                announced: None,
             }),
             Err(_) => Err(self.fail()),
         }

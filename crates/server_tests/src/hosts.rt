@@ -22,14 +22,29 @@ fn calls<H: Host<u8>>(host: &mut H) -> [bool; 7] {
     let may_work = host.may_work().is_ok();
     let works = host.count_worker(true).is_ok();
     let rests = host.count_worker(false).is_ok();
-    [is_door, dialled, dialled_again, is_twin, may_work, works, rests]
+    [
+        is_door,
+        dialled,
+        dialled_again,
+        is_twin,
+        may_work,
+        works,
+        rests,
+    ]
 }
 
 /// A host with a link to accept and one to dial, of which these calls fail.
 fn mem_host<R: Wait + Copy + Drop>(rt: R, alloc: Global, fails: &[u64]) -> Option<MemHost<R, u8>> {
     let accepts = vec![in alloc; link(alloc, b"one")?].ok()?;
     let dials = vec![in alloc; link(alloc, b"two")?].ok()?;
-    MemHost::new(rt, alloc, accepts, dials, Vec::from_slice(alloc, fails).ok()?).ok()
+    MemHost::new(
+        rt,
+        alloc,
+        accepts,
+        dials,
+        Vec::from_slice(alloc, fails).ok()?,
+    )
+    .ok()
 }
 
 fn link(alloc: Global, bytes: &[u8]) -> Option<MemLink> {

@@ -13,6 +13,8 @@ mod links;
 #[cfg(test)]
 mod loops;
 #[cfg(test)]
+mod meeting;
+#[cfg(test)]
 mod peers;
 #[cfg(test)]
 mod served;
@@ -20,6 +22,8 @@ mod served;
 mod sockets;
 #[cfg(test)]
 mod taps;
+#[cfg(test)]
+mod timely;
 #[cfg(test)]
 mod workers;
 #[cfg(test)]

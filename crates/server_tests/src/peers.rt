@@ -36,10 +36,30 @@ fn message(alloc: Global, term: u64, is_bulk: bool) -> RaftMessage {
 const ROWS: &[(&[(u8, bool)], &[u64], &[u64], &[u8])] = &[
     (&[], &[], &[], b""),
     (&[(1, false), (2, false)], &[], &[], b">g\x01\x02"),
-    (&[(1, true), (2, false), (3, true), (4, false)], &[], &[], b">g\x02\x04\x03"),
-    (&[(1, false), (2, false), (3, false)], &[1], &[], b">g\x02\x03"),
-    (&[(1, false), (2, false), (3, false)], &[], &[1], b">!>g\x02\x03"),
-    (&[(1, false), (2, false), (3, false)], &[], &[3], b">g\x01!>g\x03"),
+    (
+        &[(1, true), (2, false), (3, true), (4, false)],
+        &[],
+        &[],
+        b">g\x02\x04\x03",
+    ),
+    (
+        &[(1, false), (2, false), (3, false)],
+        &[1],
+        &[],
+        b">g\x02\x03",
+    ),
+    (
+        &[(1, false), (2, false), (3, false)],
+        &[],
+        &[1],
+        b">!>g\x02\x03",
+    ),
+    (
+        &[(1, false), (2, false), (3, false)],
+        &[],
+        &[3],
+        b">g\x01!>g\x03",
+    ),
 ];
 
 /// Whether these are the deeds of a peer's thread that works once all was put.

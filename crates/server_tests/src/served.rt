@@ -30,7 +30,7 @@ impl<R: Wait + Copy + Drop, L: Drop> Outbox<Said> for Replies<R, L> {
 }
 
 /// Has a host serve one place of its door: the queues to it.
-fn begin<H: Host<u8>>(
+pub(crate) fn begin<H: Host<u8>>(
     host: &mut H,
     alloc: Global,
     door: H::Door,

@@ -4,9 +4,7 @@ use crate::echo::Next;
 use crossbeam_channel::unbounded;
 use dq_base::Items;
 use node_edge::{Door, Event, Inbox, Link};
-use node_server::{
-    Heard, Host, Lent, Peer, PeerQueue, ReaderWorker, Ticker, Worker, beside,
-};
+use node_server::{Heard, Host, Lent, Peer, PeerQueue, ReaderWorker, Ticker, Worker, beside};
 use raft_vote::{RaftMessage, What};
 use server_hosts::{MemHost, TcpHost};
 use std::alloc::Global;

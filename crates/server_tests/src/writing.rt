@@ -24,16 +24,45 @@ const MEBIBYTE: usize = 1_048_576;
 /// What is told; and a byte for each deed: that of a write, `.` for a link that is shut, `!` for a write that fails, which the third is.
 const ROWS: &[(&[Told], &[u8])] = &[
     (&[Take(1), Send(1, b'a', 8), Send(1, b'b', 8)], b"ab"),
-    (&[Send(1, b'a', 8), Take(1), Send(73, b'b', 8), Send(1, b'c', 8)], b"c"),
-    (&[Take(1), Send(1, b'a', 8), Close(1), Send(1, b'b', 8)], b"a."),
+    (
+        &[
+            Send(1, b'a', 8),
+            Take(1),
+            Send(73, b'b', 8),
+            Send(1, b'c', 8),
+        ],
+        b"c",
+    ),
+    (
+        &[Take(1), Send(1, b'a', 8), Close(1), Send(1, b'b', 8)],
+        b"a.",
+    ),
     (&[Take(1), Close(73), Send(1, b'a', 8)], b"a"),
-    (&[Take(1), Close(1), Take(73), Send(1, b'a', 8), Send(73, b'b', 8)], b".b"),
+    (
+        &[
+            Take(1),
+            Close(1),
+            Take(73),
+            Send(1, b'a', 8),
+            Send(73, b'b', 8),
+        ],
+        b".b",
+    ),
     (&[Take(1), Send(1, b'a', 8), Cut(1), Send(1, b'b', 8)], b"."),
     (&[Take(1), Cut(1), Take(73), Send(73, b'b', 8)], b".b"),
     (&[Take(1), Send(1, b'a', 32 * MEBIBYTE)], b"a"),
-    (&[Take(1), Send(1, b'a', 32 * MEBIBYTE), Send(1, b'b', 8)], b"."),
     (
-        &[Take(1), Send(1, b'a', 8), Send(1, b'b', 8), Send(1, b'c', 8), Send(1, b'd', 8)],
+        &[Take(1), Send(1, b'a', 32 * MEBIBYTE), Send(1, b'b', 8)],
+        b".",
+    ),
+    (
+        &[
+            Take(1),
+            Send(1, b'a', 8),
+            Send(1, b'b', 8),
+            Send(1, b'c', 8),
+            Send(1, b'd', 8),
+        ],
         b"ab!.",
     ),
 ];
@@ -82,7 +111,10 @@ fn writes<R: Wait + Copy + Drop>(
 #[test]
 fn a_writer_writes_what_its_link_is_for(rt: HostRuntime) -> Result<(), Fail> {
     for (row, &(told, wanted)) in ROWS.iter().enumerate() {
-        assert!(rt; writes(rt, rt.alloc(), told, wanted) == Some(true), "row {row}");
+        assert!(rt;
+            writes(rt, rt.alloc(), told, wanted) == Some(true),
+            "row {row}"
+        );
     }
     Ok(())
 }
