@@ -16,8 +16,17 @@ fn serve(
     let mut link = MemLink::new(alloc, bytes, Vec::from_slice(alloc, link_fails).ok()?);
     let mut post: MemPost<u8> = MemPost::new(alloc, Vec::from_slice(alloc, post_fails).ok()?);
     let end = serve_link(alloc, &mut link, 5, &mut post, budget);
-    let sum = post.events().iter().map(size_of).sum();
-    Some((end, post.events().len(), sum))
+    let events = post.events();
+    Some((end, events.len(), size_of_all(events)))
+}
+
+/// How many bytes these events bring for the connection 5.
+fn size_of_all(events: &[Event<u8>]) -> usize {
+    let mut sum: usize = 0;
+    for event in events {
+        sum = sum.saturating_add(size_of(event));
+    }
+    sum
 }
 
 /// How many bytes an event brings for the connection 5.

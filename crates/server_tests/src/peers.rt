@@ -102,10 +102,10 @@ fn waiting<R: Wait>(rt: &R, alloc: Global, count: u64) -> Option<u64> {
         queue.put(rt, message(alloc, term, false));
     }
     queue.close(rt);
-    let mut taken = 0;
+    let mut taken: u64 = 0;
     for _ in 0..count {
         if queue.take(rt).is_some() {
-            taken += 1;
+            taken = taken.saturating_add(1);
         }
     }
     Some(taken)
