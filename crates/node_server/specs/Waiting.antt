@@ -1,5 +1,5 @@
 -- Messages that wait for a peer.
-use Rattle.std.specs.Prelude.{◌≡◌, Bool, true, false, List, [], ◌∷◌, ◌++◌, Option, Some, None}
+use Rattle.std.specs.Prelude.{◌≡◌, Bool, true, false, List, [], ◌∷◌, Option, Some, None}
 use Rattle.raft_vote.specs.declared.message.RaftMessage.{RaftMessage}
 use Rattle.raft_vote.specs.declared.message.What.{What}
 use Rattle.raft_vote.specs.declared.message.What.TheVariants.{AskVote, Vote, Append, Ack, Install, TimeoutNow}

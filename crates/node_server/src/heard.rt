@@ -1,5 +1,8 @@
 //! Whether a node heard of a leader or gave its vote.
 
+ghost use Rattle.std.specs.Prelude.{◌≡◌};
+ghost use Rattle.node_server.specs.Hearing.{is_heard};
+
 use raft_vote::{RaftMessage, What};
 use std::alloc::{AllocError, Global};
 use std::sync::Arc;
@@ -12,7 +15,9 @@ pub struct Heard {
 }
 
 /// Whether a message answers a leader or gives a vote.
-fn is_heard(message: &RaftMessage) -> bool {
+fn is_heard(message: &RaftMessage) -> bool
+    ensures { result ≡ is_heard message.now.what }
+{
     matches!(
         message.what,
         What::Ack { .. } | What::Vote { granted: true }

@@ -1,5 +1,7 @@
 //! What a node says, handed to the threads that carry it.
 
+ghost use Rattle.std.specs.Prelude.{◌≡◌, ◌-◌, ◌%◌};
+
 use crate::client_queue::ClientQueue;
 use crate::heard::Heard;
 use crate::keeper::KEEPERS;
@@ -28,7 +30,9 @@ pub struct Queues<R: Wait + Copy + Drop, L: Drop, J: Drop> {
 }
 
 /// The place of a connection among so many, from 0.
-fn place_of(conn: u64) -> usize {
+fn place_of(conn: u64) -> usize
+    ensures { result ≡ (conn - 1) % 72 }
+{
     (conn.saturating_sub(1) % KEEPERS) as usize
 }
 

@@ -1,5 +1,7 @@
 //! Time, for a node.
 
+ghost use Rattle.std.specs.Prelude.{◌≤◌, ◌<◌};
+
 use crate::channel::ChannelPost;
 use crate::heard::Heard;
 use node_edge::{Event, Post};
@@ -53,7 +55,9 @@ impl<R: Wait + Clock + Copy + Drop, T: Drop> Ticker<R, T> {
     }
 
     /// The time until the next Timeout, in milliseconds.
-    fn patience(&mut self) -> u64 {
+    fn patience(&mut self) -> u64
+        ensures { (1000 ≤ result) × (result < 2000) }
+    {
         self.word = self
             .word
             .wrapping_mul(6_364_136_223_846_793_005)

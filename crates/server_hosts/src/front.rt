@@ -1,6 +1,7 @@
 //! The first bytes of a link that was accepted.
 
-ghost use Rattle.std.specs.Prelude.{◌≡◌, ◌≤◌, ◌<◌, length};
+ghost use Rattle.std.specs.Prelude.{◌≡◌, ◌≤◌, ◌<◌, ◌-◌, ◌*◌, true, false, length};
+ghost use Rattle.server_hosts.specs.Fronts.{is_connect, words_of};
 
 /// How many bytes a link has to say before it is one: the version, and the header of the first message.
 pub(crate) const FRONT_SIZE: usize = 16;
@@ -29,7 +30,11 @@ impl Front {
 
     /// These bytes were said. Of a peer's link the first message is read by itself, so that it is known as a peer's when the header of
     /// the next one is read, which may have more words than a client's.
-    pub(crate) fn of(bytes: [u8; FRONT_SIZE]) -> Front {
+    pub(crate) fn of(bytes: [u8; FRONT_SIZE]) -> Front
+        ensures bytes { (result.bytes ≡ bytes) × (result.at ≡ 0) }
+        ensures client { is_connect bytes ≡ false → result.first_left ≡ 0 }
+        ensures peer { is_connect bytes ≡ true → result.first_left ≡ 8 * words_of bytes }
+    {
         let words = u32::from_le_bytes([bytes[8], bytes[9], bytes[10], bytes[11]]);
         let first_left = if bytes[12] == CONNECT {
             8 * words as u64
@@ -44,13 +49,16 @@ impl Front {
     }
 
     /// Whether a peer speaks.
-    pub(crate) fn is_peer(&self) -> bool {
+    pub(crate) fn is_peer(&self) -> bool
+        ensures { result ≡ is_connect self.now.bytes }
+    {
         self.bytes[12] == CONNECT
     }
 
     /// Moves what is left of the first bytes to the front of `into`, and answers their number.
     pub(crate) fn hand(&mut self, into: &mut [u8]) -> usize
-        ensures { result ≤ length into.new }
+        ensures fits { result ≤ length into.new }
+        ensures first { self.new.first_left ≡ self.old.first_left }
     {
         let count = (FRONT_SIZE - self.at).min(into.len());
         into[..count].copy_from_slice(&self.bytes[self.at..self.at + count]);
@@ -60,7 +68,8 @@ impl Front {
 
     /// How many bytes may be read next, of so many that are wanted: no more than a peer's first message lacks.
     pub(crate) fn room(&self, wanted: usize) -> usize
-        ensures { result ≤ wanted }
+        ensures fits { result ≤ wanted }
+        ensures first { 0 < self.now.first_left → result ≤ self.now.first_left }
     {
         if self.first_left == 0 {
             return wanted;
@@ -69,7 +78,9 @@ impl Front {
     }
 
     /// So many bytes were read behind the first ones.
-    pub(crate) fn pass(&mut self, count: usize) {
+    pub(crate) fn pass(&mut self, count: usize)
+        ensures { self.new.first_left ≡ self.old.first_left - count }
+    {
         self.first_left = self.first_left.saturating_sub(count as u64);
     }
 }
