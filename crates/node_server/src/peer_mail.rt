@@ -1,7 +1,7 @@
 //! The messages that wait for a peer.
 
-ghost use Rattle.std.specs.Prelude.{◌≡◌, ◌≤◌, ◌++◌, ◌∷◌, ◌⊎◌, [], true, false, Some, length};
-ghost use Rattle.node_server.specs.Waiting.{is_bulk, SentNext};
+ghost use Rattle.std.specs.Prelude.{◌≡◌, ◌≤◌, [], true, false, Some, length};
+ghost use Rattle.node_server.specs.Waiting.{is_bulk, MayJoin, SentNext};
 
 use raft_vote::{RaftMessage, What};
 use std::alloc::Global;
@@ -42,7 +42,7 @@ impl PeerMail {
     pub(crate) fn add(&mut self, message: RaftMessage)
         ensures bulk { is_bulk message.what ≡ true → (self.new.bulk ≡ Some message) × (self.new.others.items ≡ self.old.others.items) }
         ensures other { is_bulk message.what ≡ false → self.new.bulk ≡ self.old.bulk }
-        ensures behind { is_bulk message.what ≡ false → (self.new.others.items ≡ self.old.others.items ++ message ∷ []) ⊎ (self.new.others.items ≡ self.old.others.items) }
+        ensures behind { is_bulk message.what ≡ false → MayJoin self.old.others.items message self.new.others.items }
     {
         if is_bulk(&message) {
             self.bulk = Some(message);
