@@ -16,3 +16,6 @@ mod ClientMoves
 mod ApplyingTurns
 mod TurnsOf
 mod Beginning
+mod SnapshotMoves
+mod RaftBridges
+mod Posting

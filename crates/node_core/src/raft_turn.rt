@@ -1,20 +1,22 @@
 //! A node's turn in which an event of Raft happens: what it leaves is kept and posted, and then sessions, databases,
 //! configurations and office follow.
 
-ghost use Rattle.std.specs.Prelude.{◌≡◌, ◌≢◌, ◌<◌, ◌==◌, ◌&&◌, false, List, [], None, Err, OnOk, IfOk, MatchOption, IfErr};
+ghost use Rattle.std.specs.Prelude.{◌≡◌, ◌≢◌, ◌<◌, ◌==◌, ◌&&◌, ◌++◌, false, List, [], None, Err, OnOk, IfOk, MatchOption, IfErr};
 ghost use Rattle.sql_engine.specs.Meanings.{Stays};
 ghost use Rattle.page_apply.specs.declared.database.Database.{Database};
 ghost use Rattle.page_apply.specs.Machines.{IsMachine};
+ghost use Rattle.client_sessions.specs.Calls.{lost_all, told_all_lost};
 ghost use Rattle.client_sessions.specs.Seen.{Agrees, HasNoMarks, StandOver};
 ghost use Rattle.raft_rules.specs.Laws.{HasShortTerm};
-ghost use Rattle.raft_rules.specs.Node.{Candidate, is_leader};
+ghost use Rattle.raft_rules.specs.Node.{Candidate, Local, UseServers, is_leader};
 ghost use Rattle.raft_rules.specs.NodeValues.{node_of};
 ghost use Rattle.raft_vote.specs.Servers.{IsConfiguration};
 ghost use Rattle.raft_member.specs.Members.{AllStand};
-ghost use Rattle.raft_core.specs.Events.{EventFits};
+ghost use Rattle.raft_core.specs.Events.{EventFits, input_of};
 ghost use Rattle.node_replica.specs.Replicas.{HasMoved, IsIntake, IsWhole};
 ghost use Rattle.node_core.specs.declared.fault.NodeFault.TheVariants as fault;
 ghost use Rattle.node_core.specs.Faults.{StepCause};
+ghost use Rattle.node_core.specs.Posting.{Posts};
 ghost use Rattle.node_core.specs.Stepping.{Brings, HasFollowed, HasStepped, HasTold, IsOffer, KeepsRest, PutsNone, StaysAgreed, StaysStored};
 ghost use Rattle.node_core.specs.Values.{clients_in};
 ghost use Rattle.node_core.specs.Waiting.{HasTurns};
@@ -111,6 +113,7 @@ impl Running {
         requires fits { EventFits self.old.replica.raft event }
         requires intake { IsIntake event }
         ensures stepped { IfOk result (λ batch. HasStepped self.old self.new event batch) }
+        ensures posts { OnOk result (Posts self.old self.new (input_of event)) }
         ensures stored { StaysStored D.tells (D.states disk.old) (D.states disk.new) self.old.replica self.new.replica result }
         ensures cause { StepCause (D.faults disk.old) (D.faults disk.new) result }
         ensures agrees { StaysAgreed self.old self.new }
@@ -246,6 +249,7 @@ impl Running {
         requires stands { IsConfiguration servers }
         requires settled { self.old.replica.raft.role ≢ Candidate }
         ensures told { OnOk result (HasTold self.old self.new) }
+        ensures posts { OnOk result (Posts self.old self.new (Local (UseServers servers))) }
         ensures stored { StaysStored D.tells (D.states disk.old) (D.states disk.new) self.old.replica self.new.replica result }
         ensures cause { StepCause (D.faults disk.old) (D.faults disk.new) result }
         ensures runs { result ≢ Err fault.Down }
@@ -284,6 +288,7 @@ impl Running {
         ensures turns { OnOk result (HasTurns (clients_in self.new)) }
         ensures office { OnOk result (InOffice self.new.office self.new.view.serving self.new.replica.raft) }
         ensures replica { self.new.replica ≡ self.old.replica }
+        ensures mail { self.new.mail ≡ self.old.mail }
         ensures rest { KeepsRest self.old self.new }
         ensures wants { IfErr result (λ f. f ≡ fault.NoMemory) }
         ensures agrees { StaysAgreed self.old self.new }
@@ -333,6 +338,9 @@ impl Running {
         ensures anew { OnOk result ((databases : List Database) → IsMachine databases → Agrees [] self.new.clients databases) }
         ensures office { (self.new.office ≡ self.old.office) × (self.new.view.serving ≡ self.old.view.serving) }
         ensures replica { self.new.replica ≡ self.old.replica }
+        ensures mail { self.new.mail ≡ self.old.mail }
+        ensures lost { OnOk result (clients_in self.new ≡ lost_all (clients_in self.old)) }
+        ensures tells { OnOk result (self.new.outs.replies.items ≡ self.old.outs.replies.items ++ told_all_lost (clients_in self.old)) }
         ensures rest { KeepsRest self.old self.new }
         ensures wants { IfErr result (λ f. f ≡ fault.NoMemory) }
         ensures agrees { StaysAgreed self.old self.new }

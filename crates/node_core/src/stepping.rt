@@ -8,6 +8,8 @@ ghost use Rattle.client_sessions.specs.Seen.{Agrees};
 ghost use Rattle.node_replica.specs.Mails.{sent};
 ghost use Rattle.node_core.specs.declared.fault.NodeFault.TheVariants as fault;
 ghost use Rattle.node_core.specs.Faults.{StepCause};
+ghost use Rattle.node_core.specs.Posting.{Posts};
+ghost use Rattle.raft_rules.specs.Node.{Local, Snapped};
 ghost use Rattle.node_core.specs.Stepping.{CanBeTold, StaysAgreed, StaysStored};
 ghost use Rattle.node_core.specs.Values.{clients_in};
 ghost use Rattle.node_core.specs.Whole.{IsGoing, IsIdle, IsQuiet, Rests};
@@ -162,6 +164,7 @@ impl Running {
         ensures stored { StaysStored D.tells (D.states disk.old) (D.states disk.new) self.old.replica self.new.replica result }
         ensures cause { StepCause (D.faults disk.old) (D.faults disk.new) result }
         ensures none { IfOk result (λ more. more ≡ false → self.new ≡ self.old) }
+        ensures posts { IfOk result (λ more. more ≡ true → Posts self.old self.new (Local (Snapped self.old.applied.index))) }
         ensures agrees { StaysAgreed self.old self.new }
         ensures runs { result ≢ Err fault.Down }
     {
