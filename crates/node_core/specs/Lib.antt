@@ -8,3 +8,4 @@ pub mod Acts
 pub mod Account
 pub mod Performing
 pub mod Applying
+pub mod Taking
