@@ -19,3 +19,7 @@ mod Beginning
 mod SnapshotMoves
 mod RaftBridges
 mod Posting
+mod OfficeBridges
+mod Stopping
+mod FollowingLogs
+mod OwnSteps

@@ -9,7 +9,7 @@ use Rattle.raft_rules.specs.Elections.{on_grants, grants_vote, on_ask_vote, gran
 use Rattle.raft_rules.specs.Replication.{agrees, replaces_committed, take_entries, on_append, on_ack}
 use Rattle.raft_rules.specs.Snapshots.{on_install}
 use Rattle.raft_rules.specs.Receiving.{on_own_term, on_older_term, in_range, on_message}
-use Rattle.raft_rules.specs.Steps.{raft_step}
+use Rattle.raft_rules.specs.Steps.{finish, raft_step}
 use Rattle.raft_rules.specs.NodeValues.{IsCoherent, node_of}
 use Rattle.raft_rules.specs.Compaction.{compacted_step}
 use Rattle.raft_rules.proofs.SnapshotEnds.{stands_snapshot, ends_snapshot, snapshots_come_holds}
@@ -18,7 +18,7 @@ use Rattle.node_rules.specs.Accounts.{Moment}
 use Rattle.node_rules.specs.RaftTurns.{raft_after, BytesAfter, kept_bytes, brought_bytes}
 
 abbrev Settles : LogEnd → ℕ → Outcome → Type 0
-Settles x commit d = (d.node.snapshot ≡ x) ⊎ (commit < d.node.snapshot.index)
+Settles x commit d = (d.node.snapshot ≡ x) ⊎ ((commit < d.node.snapshot.index) × (is_leader d.node.role ≡ false))
 
 counted : (voters_of : List Entry → List ℕ) (me : ℕ) (s : Node) → Settles s.snapshot s.commit (on_grants voters_of me s [])
 unfolding on_grants
@@ -46,7 +46,7 @@ installs : (me : ℕ) (s : Node) (from : ℕ) (last : LogEnd) (front : List Entr
 unfolding on_install
 installs me s from last front = cond_both (is_leader s.role) _ _ (Settles s.snapshot s.commit) (λ e. inl refl)
     (λ e. cond_both (nat_le last.index s.commit) _ _ (Settles s.snapshot s.commit) (λ a. inl refl)
-    (λ a. let past : s.commit < last.index = leb-false _ _ a in cond_both (matches s.log last) _ _ (Settles s.snapshot s.commit) (λ b. inr past) (λ b. inr past)))
+    (λ a. let past : s.commit < last.index = leb-false _ _ a in cond_both (matches s.log last) _ _ (Settles s.snapshot s.commit) (λ b. inr (past, refl)) (λ b. inr (past, refl))))
 
 in_turn : (voters_of : List Entry → List ℕ) (me : ℕ) (s : Node) (from : ℕ) (w : What) → Settles s.snapshot s.commit (on_own_term voters_of me s from w)
 in_turn voters_of me s from (AskVote last) = asked me s from last
@@ -71,11 +71,28 @@ heard voters_of me s m = cond_both (in_range m) _ _ (Settles s.snapshot s.commit
     (λ o. cond_both (nat_lt s.term m.term) _ _ (Settles s.snapshot s.commit) (λ n. in_turn voters_of me (in_newer_term s m.term) m.from m.what) (λ n. in_turn voters_of me s m.from m.what)))
     (λ e. inl refl)
 
+-- the end of a step leaves the role
+ends_role : (voters_of : List Entry → List ℕ) (me : ℕ) (d : Outcome) → (finish voters_of me d).node.role ≡ d.node.role
+unfolding finish
+ends_role voters_of me d = cond_both (is_leader d.node.role) _ _ (λ (o : Outcome). o.node.role ≡ d.node.role) (λ e. refl) (λ e. refl)
+
 received : (voters_of : List Entry → List ℕ) (me : ℕ) (s : Node) (m : Message) → Settles s.snapshot s.commit (raft_step voters_of me s (Receive m))
 unfolding raft_step
 received voters_of me s m =
     let e = ends_snapshot voters_of me (on_message voters_of me s m) in
-    ⊎_elim (λ (x : (on_message voters_of me s m).node.snapshot ≡ s.snapshot). inl (e ∙ x)) (λ (x : s.commit < (on_message voters_of me s m).node.snapshot.index). inr (subst (λ (l : LogEnd). s.commit < l.index) (sym e) x)) (heard voters_of me s m)
+    ⊎_elim (λ (x : (on_message voters_of me s m).node.snapshot ≡ s.snapshot). inl (e ∙ x))
+    (λ (x : (s.commit < (on_message voters_of me s m).node.snapshot.index) × (is_leader (on_message voters_of me s m).node.role ≡ false)).
+    inr (subst (λ (l : LogEnd). s.commit < l.index) (sym e) x.0, ap is_leader (ends_role voters_of me (on_message voters_of me s m)) ∙ x.1))
+    (heard voters_of me s m)
+
+-- a snapshot past the commit index comes to no leader
+pub comes_to_none : (me : ℕ) (s : Node) (m : Message) → s.snapshot.index ≤ s.commit → s.commit < (compacted_step me s (Receive m)).node.snapshot.index → is_leader (compacted_step me s (Receive m)).node.role ≡ false
+unfolding compacted_step
+comes_to_none me s m low past = ⊎_elim
+    (λ (same : (compacted_step me s (Receive m)).node.snapshot ≡ s.snapshot).
+    absurd (let q : (compacted_step me s (Receive m)).node.snapshot.index ≡ s.snapshot.index = ap (λ (l : LogEnd). l.index) same in omega (arith, q, low, past)))
+    (λ (x : (s.commit < (compacted_step me s (Receive m)).node.snapshot.index) × (is_leader (compacted_step me s (Receive m)).node.role ≡ false)). x.1)
+    (received (λ log. voters s.servers) me s m)
 
 -- the input of another step
 abbrev pub IsNoSnapped : Input → Type 0
@@ -117,8 +134,8 @@ bytes_after_step setup me came a i bytes coherent other e = by i other e
     message m e = ⊎_elim
         (λ (same : (raft_after me a (Receive m)).snapshot ≡ a.node.raft.snapshot).
         kept_bytes same (e ∙ cond-false (nat_lt a.node.raft.commit (raft_after me a (Receive m)).snapshot.index) came a.node.kept.snap.bytes (below (raft_after me a (Receive m)).snapshot.index (let q : (raft_after me a (Receive m)).snapshot.index ≡ a.node.raft.snapshot.index = ap (λ (l : LogEnd). l.index) same in omega (arith, q, low)))))
-        (λ (past : a.node.raft.commit < (raft_after me a (Receive m)).snapshot.index).
-        brought_bytes m refl past (e ∙ cond-true (nat_lt a.node.raft.commit (raft_after me a (Receive m)).snapshot.index) came a.node.kept.snap.bytes (lt-ltb _ _ past)))
+        (λ (x : (a.node.raft.commit < (raft_after me a (Receive m)).snapshot.index) × (is_leader (raft_after me a (Receive m)).role ≡ false)).
+        brought_bytes m refl x.0 (e ∙ cond-true (nat_lt a.node.raft.commit (raft_after me a (Receive m)).snapshot.index) came a.node.kept.snap.bytes (lt-ltb _ _ x.0)))
         (received (λ log. voters a.node.raft.servers) me (node_of a.node.raft) m)
       where
         below : (index : ℕ) → index ≤ a.node.raft.commit → nat_lt a.node.raft.commit index ≡ false
