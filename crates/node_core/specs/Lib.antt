@@ -9,3 +9,4 @@ pub mod Account
 pub mod Performing
 pub mod Applying
 pub mod Taking
+pub mod Duties
