@@ -23,3 +23,5 @@ mod OfficeBridges
 mod Stopping
 mod FollowingLogs
 mod OwnSteps
+mod Duties
+mod Led

@@ -266,9 +266,21 @@ pub record Takes (old : Running) (begin : Begin) (x : Taken) : Type 0 where
   pub read : x.read ≡ read_of begin
   pub asks : Brings old begin x.asks
 
+-- a node that rests: all that is committed is applied, and nothing is due
+abbrev pub IsResting : Running → Type 0
+IsResting n = moment_of n ≡ resting (seen n)
+
+-- So it is where an act begins; and the configurations go up to what is applied, and Raft's part is of the node's id.
+pub record AtRest (n : Running) : Type 0 where
+  pub rests : IsResting n
+  pub at : n.members.at ≡ n.applied.index
+  pub id : n.replica.raft.id ≡ n.replica.id
+
 -- An act of a step that ended well, with what it says.
 pub record Act (m : Meaning) (kind : EngineKind) (setup : Setup) (old new : Running) (begin : Begin) (letters : List Letter) (replies : List (ℕ ×
     Reply)) : Type 0 where
+  pub stood : AtRest old
+  pub id : new.replica.raft.id ≡ old.replica.raft.id
   pub taken : Taken
   pub takes : Takes old begin taken
   pub steps : KnowsServers setup old → StepsSo m kind setup old.replica.id (seen old) (seen new) taken letters replies
@@ -284,6 +296,7 @@ Acts m kind setup old new (begin ∷ begins) letters replies =
 
 -- What the last of them left when it failed or was stopped.
 pub record Stopped (m : Meaning) (kind : EngineKind) (setup : Setup) (old : Running) (begin : Begin) (kept : Kept) : Type 0 where
+  pub stood : AtRest old
   pub taken : Taken
   pub takes : Takes old begin taken
   pub stops : KnowsServers setup old → StopsSo m kind setup old.replica.id (seen old) kept taken
@@ -315,10 +328,6 @@ pub record Between (old new : Running) : Type 0 where
 
 -- ---- a step that is under way
 
--- a node that rests: all that is committed is applied, and nothing is due
-abbrev pub IsResting : Running → Type 0
-IsResting n = moment_of n ≡ resting (seen n)
-
 -- Only what the rules don't see has changed: the moment is the same, and nothing is said.
 pub record Fresh (old new : Running) : Type 0 where
   pub moment : moment_of new ≡ moment_of old
@@ -343,7 +352,7 @@ pub record Underway (m : Meaning) (kind : EngineKind) (setup : Setup) (start now
   pub went : Went m kind setup start mid begins
   pub from : Running
   pub between : Between mid from
-  pub rests : IsResting from
+  pub stood : AtRest from
   pub so_far : SoFar m kind setup from now begin
 
 -- ---- what a step shows

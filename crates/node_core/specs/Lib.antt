@@ -10,3 +10,4 @@ pub mod Performing
 pub mod Applying
 pub mod Posting
 pub mod Taking
+pub mod Duties

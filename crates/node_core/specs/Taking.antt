@@ -2,6 +2,7 @@
 use Rattle.std.specs.Prelude.{◌≡◌, ℕ, false, List, [], ◌∷◌, Option, None}
 use Rattle.sql_engine.specs.declared.kind.EngineKind.{EngineKind}
 use Rattle.sql_engine.specs.Meanings.{Meaning}
+use Rattle.raft_vote.specs.declared.message.RaftMessage.{RaftMessage}
 use Rattle.raft_core.specs.declared.event.RaftEvent.{RaftEvent}
 use Rattle.raft_core.specs.declared.event.RaftEvent.TheVariants as events
 use Rattle.raft_core.specs.Events.{input_of}
@@ -11,7 +12,7 @@ use Rattle.node_rules.specs.Accounts.{SameTerm}
 use Rattle.node_rules.specs.RaftTurns.{TakesSnapshot}
 use Rattle.node_rules.specs.Steps.{Letter, AllSent}
 use Rattle.node_core.specs.declared.running.Running.{Running}
-use Rattle.node_core.specs.Account.{moment_of, bytes_in, Says, Brought, Turns, Since, LosesMessage}
+use Rattle.node_core.specs.Account.{moment_of, bytes_in, Says, Brought, Turns, KnowsServers, Since, LosesMessage, Fresh}
 
 -- ---- turns
 
@@ -42,12 +43,19 @@ pub data BeganBy (m : Meaning) (kind : EngineKind) (setup : Setup) (old new : Ru
   takes : Since m kind setup (came_by event) false old new → BeganBy m kind setup old new event
   loses : IsLostBy old event → new ≡ old → BeganBy m kind setup old new event
 
+-- A message of a peer came on a connection, and its act has begun where only the connections' messages were others; or nothing came that
+-- the rules see.
+pub data TookLetter (m : Meaning) (kind : EngineKind) (setup : Setup) (old new : Running) : Type 0 where
+  came : (message : RaftMessage) (mid : Running) → mid ≡ record old { links = mid.links } → BeganBy m kind setup mid new (events.Message message) →
+      TookLetter m kind setup old new
+  none_came : Fresh old new → TookLetter m kind setup old new
+
 -- ---- an own snapshot
 
 -- The snapshot of what is applied was kept, and this was said.
 pub record CompactsSo (setup : Setup) (old new : Running) : Type 0 where
   pub letters : List Letter
-  pub takes : TakesSnapshot setup old.replica.id (moment_of old) (moment_of new) old.applied.index letters
+  pub takes : KnowsServers setup old → TakesSnapshot setup old.replica.id (moment_of old) (moment_of new) old.applied.index letters
   pub says : Says old new letters []
   pub sent : AllSent (kept_of old.replica) (kept_of new.replica) letters
   pub id : new.replica.id ≡ old.replica.id
