@@ -25,3 +25,7 @@ mod FollowingLogs
 mod OwnSteps
 mod Duties
 mod Led
+mod RaftAccounts
+mod Stepped
+mod OwnTurns
+mod Installed

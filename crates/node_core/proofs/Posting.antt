@@ -38,7 +38,7 @@ use Rattle.node_core.proofs.OfficeBridges.{office_stays, office_ends, office_lac
 use Rattle.node_core.proofs.OwnSteps.{own_office}
 use Rattle.node_core.proofs.RaftBridges.{ShowsRaft, steps_so, sent_so}
 
-shows : (n : Running) → ShowsRaft (moment_of n) n.replica
+pub shows : (n : Running) → ShowsRaft (moment_of n) n.replica
 shows n = record { raft = refl; kept = refl }
 
 -- ---- a step

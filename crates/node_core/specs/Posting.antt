@@ -128,7 +128,7 @@ pub record InstallsOn (setup : Setup) (old new : Running) (event : RaftEvent) : 
 -- What the node gave Raft itself: a proposal, before which Raft was told the servers that it makes, if any; or a leadership is handed over.
 pub data OwnsSo (old new : Running) : Type 0 where
   owns_proposal : (mid last : Running) (entries : List Entry) → ToldOr old mid → ProposesSo mid last entries → Fresh last new → OwnsSo old new
-  owns_transfer : (last : Running) (to : ℕ) → LeavesSo old last (raft.Local (raft.Transfer to)) → Fresh last new → OwnsSo old new
+  owns_transfer : (mid last : Running) (to : ℕ) → ToldOr old mid → LeavesSo mid last (raft.Local (raft.Transfer to)) → Fresh last new → OwnsSo old new
 
 -- An event was the first of what was due.
 pub record WasDue (event : RaftEvent) (before now : Running) : Type 0 where

@@ -470,6 +470,7 @@ impl Running {
         ensures office { InOffice self.new.office self.new.view.serving self.new.replica.raft }
         ensures leads { LeadsInOffice self.new.office self.new.replica.raft }
         ensures serves { ServesLast self.old.office self.old.view.serving → ServesLast self.new.office self.new.view.serving }
+        ensures stays { self.new.office ≡ None → self.old.office ≡ None }
         ensures is { self.new ≡ record self.old { office = self.new.office } }
     {
         if self.office.is_some() {

@@ -13,8 +13,6 @@ ghost use Rattle.client_sessions.specs.Seen.{Agrees};
 ghost use Rattle.node_replica.specs.Mails.{sent};
 ghost use Rattle.node_core.specs.declared.fault.NodeFault.TheVariants as fault;
 ghost use Rattle.node_core.specs.Faults.{StepCause};
-ghost use Rattle.node_core.specs.Posting.{Posts};
-ghost use Rattle.raft_rules.specs.Node.{Local, Snapped};
 ghost use Rattle.node_core.specs.Stepping.{CanBeTold, StaysAgreed, StaysStored};
 ghost use Rattle.node_core.specs.Values.{clients_in};
 ghost use Rattle.node_core.specs.Whole.{IsGoing, IsIdle, IsLed, IsQuiet, Rests};
@@ -144,7 +142,7 @@ impl Running {
         ensures ends { IfOk result (λ more. more ≡ false → MayEnd (moment_of self.new)) }
         ensures runs { result ≢ Err fault.Down }
     {
-        if self.take_due(disk, engine)? {
+        if self.take_due(disk)? {
             return Ok(true);
         }
         if self.applied.index < self.replica.view().commit {
