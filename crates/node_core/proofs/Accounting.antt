@@ -1,6 +1,6 @@
 -- Turns of a node join to what happened since an act began, and that is an act, or one that was stopped.
 use Rattle.std.proofs.Common.{◌≡◌, ◌⊎◌, inl, inr, ⊎_elim, ℕ, Bool, false, List, [], ◌∷◌, ◌++◌, refl, sym, ap, ◌∙◌, subst, append-nil, append_assoc}
-use Rattle.std.specs.Prelude.{map, ◌||◌}
+use Rattle.std.specs.Prelude.{map, ◌||◌, Option}
 use Rattle.std.specs.List.{AllByRecursion, flat_map}
 use Rattle.std.proofs.lemmas.List.{map-append}
 use Rattle.wire_msgs.specs.declared.request.Request.{Request}

@@ -1,6 +1,6 @@
 -- The turn in which a snapshot came, as the account has it.
 use Rattle.std.proofs.Common.{◌≡◌, ◌⊎◌, inl, inr, ℕ, ◌≤◌, ◌<◌, Bool, true, false, true≢false, List, [], ◌∷◌, ◌++◌, length, refl, sym, ap, subst, ◌∙◌, append_assoc, arith}
-use Rattle.std.specs.Prelude.{Option, Some, None, nat_lt}
+use Rattle.std.specs.Prelude.{◌≢◌, Option, Some, None, nat_lt}
 use Rattle.std.proofs.lemmas.Bool.{ltb-true}
 use Rattle.page_apply.specs.Machines.{IsMachine}
 use Rattle.session_rules.specs.Events.{on_lost, told_lost}
@@ -12,7 +12,9 @@ use Rattle.raft_rules.specs.Node as raft
 use Rattle.raft_rules.specs.Node.{Server, is_leader}
 use Rattle.raft_rules.specs.NodeValues.{NodeValue, node_of}
 use Rattle.raft_vote.specs.declared.message.RaftMessage.{RaftMessage}
+use Rattle.raft_vote.specs.declared.message.Snapshot.{Snapshot}
 use Rattle.raft_vote.specs.declared.message.What.{What}
+use Rattle.raft_vote.specs.declared.message.What.TheVariants as whats
 use Rattle.raft_vote.specs.Messages.{message_value}
 use Rattle.raft_core.specs.declared.event.RaftEvent.{RaftEvent}
 use Rattle.raft_core.specs.declared.event.RaftEvent.TheVariants as events
@@ -20,11 +22,15 @@ use Rattle.raft_core.specs.Events.{input_of, offered}
 use Rattle.raft_member.specs.Members.{read_setup}
 use Rattle.client_sessions.specs.Calls.{told_all_lost}
 use Rattle.client_sessions.specs.Clients.{Clients}
+use Rattle.client_sessions.specs.Seen.{clients_of}
+use Rattle.page_apply.specs.Machines.{names_of}
+use Rattle.node_replica.specs.Looking.{puts_snapshot}
+use Rattle.node_core.specs.Taking.{IsLostBy}
 use Rattle.store_laws.specs.Store.{Snap}
 use Rattle.node_state.specs.declared.applied.Applied.{Applied}
 use Rattle.node_state.specs.declared.office.Office.{Office as Held}
 use Rattle.node_state.specs.Applied.{ShowsFiles}
-use Rattle.node_state.specs.Snapshot.{SpellsSnapshot, made_by, commits_of}
+use Rattle.node_state.specs.Snapshot.{snapshot_in, offered_to, SpellsSnapshot, made_by, commits_of}
 use Rattle.node_replica.specs.Replicas as replicas
 use Rattle.node_replica.specs.Replicas.{ReplicaValue, stepped, snap_after}
 use Rattle.node_rules.specs.RaftTurns.{HasEnded, Office, in_office, loses, has_none}
@@ -64,6 +70,28 @@ unserved_by None serving h office down = office
 unserved_by (Some o) serving h office down = absurd (true≢false (sym office.0 ∙ down))
 
 -- ---- what came
+
+-- a message that brings none of the snapshots that can be read counts as lost
+none_in : snapshot_in [] ≡ None
+unfolding snapshot_in
+none_in = refl
+
+none_of : (w : What) → ((s : Snapshot) → w ≢ whats.Install s) → account.bytes_in w ≡ []
+none_of (whats.Install s) other = absurd (other s refl)
+none_of (whats.AskVote last) other = refl
+none_of (whats.Vote granted) other = refl
+none_of (whats.Append prev commit entries) other = refl
+none_of (whats.Ack good index) other = refl
+none_of whats.TimeoutNow other = refl
+
+pub lost_other : (n : Running) (m : RaftMessage) (event : RaftEvent) → event ≡ events.Message m → puts_snapshot n.replica m ≡ true → ((s : Snapshot) → m.what ≢ whats.Install s) → IsLostBy n event
+lost_other n m event is puts other = subst (IsLostBy n) (sym is) (record {
+  puts = puts;
+  unread = ap (λ (l : List ℕ). offered_to (names_of n.applied.machine) (snapshot_in l)) (none_of m.what other) ∙ ap (offered_to (names_of n.applied.machine)) none_in;
+})
+
+pub placed_clients : (lost placed : Running) (a : Applied) → placed ≡ record lost { members = placed.members; applied = placed.applied } → placed.applied ≡ a → clients_of lost.clients a.machine ≡ clients_of lost.clients lost.applied.machine → clients_in placed ≡ clients_in lost
+placed_clients lost placed a is applied same = ap clients_in is ∙ ap (λ (x : Applied). clients_of lost.clients x.machine) applied ∙ same
 
 -- the snapshot is past the commit index
 comes : (old step : Running) (event : RaftEvent) (a : Applied) → Brings old.replica event a → node_of step.replica.raft ≡ stepped old.replica event → old.replica.raft.commit < step.replica.raft.snapshot.index

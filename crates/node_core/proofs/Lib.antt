@@ -29,3 +29,6 @@ mod RaftAccounts
 mod Stepped
 mod OwnTurns
 mod Installed
+mod AlikeLists
+mod Compacting
+mod Finding
