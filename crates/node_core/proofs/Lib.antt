@@ -18,3 +18,4 @@ mod TurnsOf
 mod Beginning
 mod Duties
 mod Led
+mod Looping
