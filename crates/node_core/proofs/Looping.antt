@@ -158,7 +158,7 @@ module _ (m : Meaning) (kind : EngineKind) (setup : Setup) (start : Running) (ev
   -- nothing was due
   pub had_none : (a b : Running) → So a → HadNone a b → So b
   had_none a b u h = goes_further a b u (λ bytes joins. fresh_turn m kind setup bytes joins a b (record {
-    moment = ap moment_of h.is ∙ (λ i. record { node = seen a; applied = a.applied.index; due = (ap proposals_in h.now ∙ sym (ap proposals_in h.none)) i });
+    moment = ap moment_of h.is ∙ (λ i. record { node = seen a; applied = a.applied.index; due = (ap proposals_in h.now ∙ sym (ap proposals_in h.was)) i });
     mail = ap (λ (n : Running). n.mail) h.is;
     replies = ap (λ (n : Running). n.outs.replies.items) h.is;
     kept = ap (λ (n : Running). kept_of n.replica) h.is;
