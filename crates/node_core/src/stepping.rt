@@ -143,7 +143,6 @@ impl Running {
         ensures ends { IfOk result (λ more. more ≡ false → MayEnd (moment_of self.new)) }
         ensures runs { result ≢ Err fault.Down }
     {
-        raft_turns::<E>();
         if self.take_due(disk)? {
             return Ok(true);
         }

@@ -9,7 +9,7 @@ pub returns-then-branch-clause-on : goal.returns-then-branch-clause-on
 returns-then-branch-clause-on g c = λ opening start event u.
     let kind = g.E.Engine.kind c.args.engine.now in
     goes_further (g.E.Engine.meaning kind) kind (read_setup opening) start event c.args.self.now c.take_due.new.self u
-    (λ bytes joins. owns_turns (g.E.Engine.meaning kind) kind (c.raft_turns.ensures.leaves kind) (read_setup opening) c.args.self.now c.take_due.new.self (c.in_ok-take_due.ensures.goes c.if-branch.true) bytes joins)
+    (λ bytes joins. owns_turns (g.E.Engine.meaning kind) kind (read_setup opening) bytes joins c.args.self.now c.take_due.new.self (c.in_ok-take_due.ensures.goes c.if-branch.true))
 
 pub returns-then-self-view-clause-stored : goal.returns-then-self-view-clause-stored
 returns-then-self-view-clause-stored g c = λ has.
