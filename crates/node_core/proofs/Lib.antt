@@ -25,6 +25,7 @@ mod FollowingLogs
 mod OwnSteps
 mod Duties
 mod Led
+mod Looping
 mod RaftAccounts
 mod Stepped
 mod OwnTurns

@@ -24,6 +24,7 @@ use crate::outs::Outs;
 use crate::running::Running;
 use disk_model::Disk;
 use node_replica::Mail;
+use node_rules::raft_turns;
 use raft_core::RaftEvent;
 use raft_vote::SharedBytes;
 use sql_engine::Engine;
@@ -178,6 +179,7 @@ impl Running {
         ensures ends { IfOk result (λ more. more ≡ false → MayEnd (moment_of self.new)) }
         ensures runs { result ≢ Err fault.Down }
     {
+        raft_turns::<E>();
         if self.run_due(engine)? {
             return Ok(true);
         }
