@@ -1,9 +1,11 @@
 -- An own snapshot, as the account has it.
-use Rattle.std.proofs.Common.{◌≡◌, ℕ, ◌<◌, Bool, true, List, [], ◌∷◌, length, refl, sym, ap, subst, ◌∙◌, append-nil}
+use Rattle.std.proofs.Common.{◌≡◌, ℕ, ◌+◌, ◌<◌, ◌≤◌, arith, Bool, true, List, [], ◌∷◌, length, refl, sym, ap, subst, ◌∙◌, append-nil}
 use Rattle.std.specs.Prelude.{map, Option, Some, None}
 use Rattle.page_apply.specs.Machines.{IsMachine}
 use Rattle.session_rules.specs.Sessions.{View}
-use Rattle.raft_rules.specs.Log.{Entry}
+use Rattle.std.proofs.lemmas.Bool.{leb-true}
+use Rattle.raft_rules.specs.Log.{Entry, LogEnd}
+use Rattle.raft_snapshot.specs.Compacting.{is_due}
 use Rattle.raft_rules.specs.Node as raft
 use Rattle.raft_rules.specs.Node.{Server, is_leader}
 use Rattle.raft_rules.specs.NodeValues.{NodeValue, node_of}
@@ -26,6 +28,10 @@ use Rattle.node_core.specs.Whole.{LeadsInOffice, ServesLast, IsFree, IsLed}
 use Rattle.node_core.proofs.Accounting.{sends_none}
 use Rattle.node_core.proofs.Posting.{posts_so, posts_on}
 use Rattle.node_core.proofs.SnapshotOffice.{snapped_office}
+
+-- it is past the last one, where it is due
+pub is_past : (last : LogEnd) (applied : ℕ) (b : Bool) → b ≡ is_due last applied → b ≡ true → last.index < applied
+is_past last applied b e t = let h : last.index + 64 ≤ applied = leb-true _ _ (sym e ∙ t) in omega (arith, h)
 
 compacts_at : (opening : List Server) (old : Running) (r : ReplicaValue) (mail : MailValue) (v : View) (bytes : List ℕ) (messages : List RaftMessage) → IsWhole old.replica → old.replica.raft.snapshot.index < old.applied.index →
     node_of r.raft ≡ stepped old.replica (snapped old.replica old.applied.index) → IsWhole r → r.snap ≡ own_snap old.replica old.applied.index bytes → Tells (said old.replica (snapped old.replica old.applied.index)) r.snap messages →

@@ -20,8 +20,6 @@ mod SnapshotMoves
 mod RaftBridges
 mod Posting
 mod OfficeBridges
-mod Stopping
-mod FollowingLogs
 mod OwnSteps
 mod Duties
 mod Led
@@ -32,4 +30,3 @@ mod OwnTurns
 mod Installed
 mod AlikeLists
 mod Compacting
-mod Finding

@@ -11,4 +11,3 @@ pub mod Applying
 pub mod Posting
 pub mod Taking
 pub mod Duties
-pub mod Finding
