@@ -30,3 +30,5 @@ mod OwnTurns
 mod Installed
 mod AlikeLists
 mod Compacting
+mod Finding
+mod StopsOfTurns

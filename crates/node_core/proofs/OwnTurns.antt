@@ -165,7 +165,7 @@ leaves_due a b w i l = record {
   snap = l.snap;
 }
 
-told_due : (a b w : Running) → ToldOr a b → ToldOr (record a { due = w.due }) (record b { due = w.due })
+pub told_due : (a b w : Running) → ToldOr a b → ToldOr (record a { due = w.due }) (record b { due = w.due })
 told_due a b w (untold e) = untold (ap (λ (n : Running). record n { due = w.due }) e)
 told_due a b w (told_servers servers l) = told_servers servers (leaves_due a b w (raft.Local (raft.UseServers servers)) l)
 
@@ -211,7 +211,7 @@ fresh_due w n new is same due = subst (Fresh (record n { due = w.due })) (sym is
   id = refl;
 })
 
-before_is : (before popped : Running) (event : RaftEvent) → WasDue event before popped → record popped { due = before.due } ≡ before
+pub before_is : (before popped : Running) (event : RaftEvent) → WasDue event before popped → record popped { due = before.due } ≡ before
 before_is before popped event was = ap (λ (n : Running). record n { due = before.due }) was.is
 
 -- the two ends of the turn, by what it was

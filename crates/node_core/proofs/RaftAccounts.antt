@@ -122,18 +122,23 @@ module _ (m : Meaning) (kind : EngineKind) (setup : Setup) where
       subst (λ late. Since m kind setup x late a c) (early_leaves m kind setup b c l.posts.id x.bytes x.joins law i letters tt l.leaves says l.posts.sent)
       (since_on m kind setup x false a b c s (turns_leaves m kind setup b c l.posts.id x.bytes x.joins law i letters tt l.leaves says l.posts.sent) (inl refl) (inr l.snap))
 
+  pub since_followed : (old mid : Running) (event : RaftEvent) → FollowsSo old mid (input_of event) → Since m kind setup (came_by event) false old mid
+  since_followed old mid event f =
+      since_follows m kind setup old mid f.posts.id (bytes_with event) (following_goes_holds m kind) (input_of event) (map letter_of f.posts.posted) f.replies f.follows
+      (says_so old mid f.posts.posted f.replies f.told f.posts.mail f.outs f.tells) f.posts.sent
+
   pub began_following : (old new : Running) (event : RaftEvent) → FollowsOn old new event → BeganBy m kind setup old new event
   began_following old new event o =
-      let f = o.follows in
-      takes (since_then (came_by event) false old o.last new (since_told (came_by event) old o.mid o.last
-      (since_follows m kind setup old o.mid f.posts.id (bytes_with event) (following_goes_holds m kind) (input_of event) (map letter_of f.posts.posted) f.replies f.follows
-      (says_so old o.mid f.posts.posted f.replies f.told f.posts.mail f.outs f.tells) f.posts.sent) o.tells) o.fresh)
+      takes (since_then (came_by event) false old o.last new (since_told (came_by event) old o.mid o.last (since_followed old o.mid event o.follows) o.tells) o.fresh)
+
+  pub since_installed : (old mid : Running) (message : RaftMessage) → InstallsSo setup old mid (bytes_in message.what) (message_value message) → Since m kind setup (came_by (events.Message message)) false old mid
+  since_installed old mid message i =
+      since_installs m kind setup old mid i.posts.id (bytes_in message.what) (install_goes_holds m kind) (message_value message) (map letter_of i.posts.posted) i.replies i.installs
+      (says_so old mid i.posts.posted i.replies i.told i.posts.mail i.outs i.tells) i.posts.sent
 
   installing : (old new : Running) (message : RaftMessage) (mid last : Running) → InstallsSo setup old mid (bytes_in message.what) (message_value message) → ToldOr mid last → Fresh last new → BeganBy m kind setup old new (events.Message message)
   installing old new message mid last i tells fresh =
-      takes (since_then (came_by (events.Message message)) false old last new (since_told (came_by (events.Message message)) old mid last
-      (since_installs m kind setup old mid i.posts.id (bytes_in message.what) (install_goes_holds m kind) (message_value message) (map letter_of i.posts.posted) i.replies i.installs
-      (says_so old mid i.posts.posted i.replies i.told i.posts.mail i.outs i.tells) i.posts.sent) tells) fresh)
+      takes (since_then (came_by (events.Message message)) false old last new (since_told (came_by (events.Message message)) old mid last (since_installed old mid message i) tells) fresh)
 
   pub began_installing : (old new : Running) (event : RaftEvent) → InstallsOn setup old new event → BeganBy m kind setup old new event
   began_installing old new event o = subst (BeganBy m kind setup old new) (sym o.event_is) (installing old new o.message o.mid o.last o.installs o.tells o.fresh)

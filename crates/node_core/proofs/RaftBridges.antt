@@ -17,11 +17,10 @@ use Rattle.raft_core.specs.declared.event.RaftEvent.TheVariants as events
 use Rattle.raft_core.specs.Events.{input_of, offered}
 use Rattle.raft_world.specs.Members.{Setup}
 use Rattle.store_laws.specs.Names.{NodeFiles}
-use Rattle.store_laws.specs.Store.{Snap, Log, Kept, Loaded}
+use Rattle.store_laws.specs.Store.{Snap, Log, Kept}
 use Rattle.store_laws.specs.Meta.{with_vote}
 use Rattle.store_laws.specs.Snapshots.{Longer, Left, given}
 use Rattle.store_format.specs.FilesRead.{snap_kept}
-use Rattle.segment_store.specs.Loading.{kept_in}
 use Rattle.node_replica.specs.Keeping.{kept_at}
 use Rattle.node_replica.specs.Letters.{Carries, CarriesIn, Tells}
 use Rattle.node_replica.specs.Replicas.{ReplicaValue, IsWhole, IsIntake, kept_of, stepped, said, bytes_in, bytes_after, snap_after, HasMoved, snapped}
@@ -32,6 +31,7 @@ use Rattle.node_rules.specs.RaftTurns.{raft_after, RaftSteps, KeepsSnapshot, Spe
 use Rattle.node_rules.specs.RaftTurns as turns
 use Rattle.node_rules.proofs.RaftGoes.{all_is_kept_holds}
 use Rattle.node_core.specs.Account as account
+use Rattle.node_core.specs.Finding.{Loads}
 use Rattle.node_core.specs.Account.{letter_of}
 use Rattle.node_core.proofs.SnapshotMoves.{IsNoSnapped, bytes_after_step}
 
@@ -110,27 +110,22 @@ intake_is (events.Transfer to) h = tt
 intake_is (events.Snapped end) h = absurd h
 intake_is (events.Servers servers) h = tt
 
--- what a load answers is one of the three states of a stopped step
-pub record Leaves (setup : Setup) (me : ℕ) (came : List ℕ) (a : Moment) (i : rules.Input) (g : NodeFiles) : Type 0 where
-  pub kept : Kept
-  pub loads : kept_in g ≡ Loaded kept
-  pub is : StopsAt setup me came a i kept
-
-leaves_by : (setup : Setup) (came : List ℕ) (a : Moment) (r : ReplicaValue) (event : RaftEvent) (bytes : List ℕ) (count total : ℕ) (g : NodeFiles) → ShowsRaft a r → BytesAfter setup r.raft.id came a (input_of event) bytes →
-    MayLoad (node_of r.raft) (stepped r event) r.snap.bytes bytes count total g → Leaves setup r.raft.id came a (input_of event) g
-leaves_by setup came a r event bytes count total g x whose (before q loads) = record { kept = kept_of r; loads = loads; is = at_first (sym x.kept) }
-leaves_by setup came a r event bytes count total g x whose (between q loads) = record {
+-- What a load answers is one of the three states of a stopped step, where it is known whose bytes the snapshot has.
+leaves_by : (A : Type 0) (setup : Setup) (came : List ℕ) (a : Moment) (r : ReplicaValue) (event : RaftEvent) (bytes : List ℕ) (count total : ℕ) (g : NodeFiles) → ShowsRaft a r → (A → BytesAfter setup r.raft.id came a (input_of event) bytes) →
+    MayLoad (node_of r.raft) (stepped r event) r.snap.bytes bytes count total g → Loads (λ k. A → StopsAt setup r.raft.id came a (input_of event) k) g
+leaves_by A setup came a r event bytes count total g x whose (before q loads) = record { kept = kept_of r; is = loads; holds = λ z. at_first (sym x.kept) }
+leaves_by A setup came a r event bytes count total g x whose (between q loads) = record {
   kept = with_vote (stepped r event).term (stepped r event).vote (kept_of r);
-  loads = loads;
-  is = at_vote ((λ i. with_vote (same i).term (same i).vote (kept_of r)) ∙ ap (with_vote (raft_after r.raft.id a (input_of event)).term (raft_after r.raft.id a (input_of event)).vote) (sym x.kept));
+  is = loads;
+  holds = λ z. at_vote ((λ i. with_vote (same i).term (same i).vote (kept_of r)) ∙ ap (with_vote (raft_after r.raft.id a (input_of event)).term (raft_after r.raft.id a (input_of event)).vote) (sym x.kept));
 }
   where
     same : stepped r event ≡ raft_after r.raft.id a (input_of event)
     same = ap (λ (h : NodeValue). (compacted_step r.raft.id (node_of h) (input_of event)).node) (sym x.raft)
-leaves_by setup came a r event bytes count total g x whose (after q longer) = record {
+leaves_by A setup came a r event bytes count total g x whose (after q longer) = record {
   kept = record { term = (stepped r event).term; vote = (stepped r event).vote; snap = (kept_at (stepped r event) bytes).snap; log = longer.log };
-  loads = longer.kept_is;
-  is = at_end bytes whose (record {
+  is = longer.kept_is;
+  holds = λ z. at_end bytes (whose z) (record {
     term = ap (λ (n : rules.Node). n.term) same;
     vote = ap (λ (n : rules.Node). n.vote) same;
     snap = ap (λ (n : rules.Node). (turns.kept_of n bytes).snap) same;
@@ -152,13 +147,15 @@ intake_bytes setup a r event x whole intake =
 
 -- of a step (`stopped` of `Replica::step`)
 pub leaves_so : (setup : Setup) (a : Moment) (r : ReplicaValue) (event : RaftEvent) (count total : ℕ) (g : NodeFiles) → ShowsRaft a r → IsWhole r → IsIntake event →
-    MayLoad (node_of r.raft) (stepped r event) r.snap.bytes (bytes_after r event) count total g → Leaves setup r.raft.id (bytes_in (offered event)) a (input_of event) g
-leaves_so setup a r event count total g x whole intake h = leaves_by setup (bytes_in (offered event)) a r event (bytes_after r event) count total g x (intake_bytes setup a r event x whole intake) h
+    MayLoad (node_of r.raft) (stepped r event) r.snap.bytes (bytes_after r event) count total g → Loads (StopsAt setup r.raft.id (bytes_in (offered event)) a (input_of event)) g
+leaves_so setup a r event count total g x whole intake h =
+    let l = leaves_by (Unit {0}) setup (bytes_in (offered event)) a r event (bytes_after r event) count total g x (λ z. intake_bytes setup a r event x whole intake) h in
+    record { kept = l.kept; is = l.is; holds = l.holds tt }
 
--- and of an own snapshot (`stopped` of `Replica::snapshot`), in an event with any bytes
-pub leaves_own_so : (setup : Setup) (came : List ℕ) (a : Moment) (r : ReplicaValue) (index : ℕ) (bytes : List ℕ) (count total : ℕ) (g : NodeFiles) → ShowsRaft a r → SpellsApplied setup a index bytes →
-    MayLoad (node_of r.raft) (stepped r (snapped r index)) r.snap.bytes bytes count total g → Leaves setup r.raft.id came a (rules.Local (rules.Snapped index)) g
-leaves_own_so setup came a r index bytes count total g x spells h = leaves_by setup came a r (snapped r index) bytes count total g x (own_bytes index refl spells) h
+-- and of an own snapshot (`stopped` of `Replica::snapshot`), in an act with any bytes, where it is one of what is applied
+pub leaves_own_so : (A : Type 0) (setup : Setup) (came : List ℕ) (a : Moment) (r : ReplicaValue) (index : ℕ) (bytes : List ℕ) (count total : ℕ) (g : NodeFiles) → ShowsRaft a r → (A → SpellsApplied setup a index bytes) →
+    MayLoad (node_of r.raft) (stepped r (snapped r index)) r.snap.bytes bytes count total g → Loads (λ k. A → StopsAt setup r.raft.id came a (rules.Local (rules.Snapped index)) k) g
+leaves_own_so A setup came a r index bytes count total g x spells h = leaves_by A setup came a r (snapped r index) bytes count total g x (λ z. own_bytes index refl (spells z)) h
 
 -- ---- behind a step that ended well
 

@@ -20,7 +20,7 @@ use Rattle.node_replica.specs.Replicas.{ReplicaValue, IsWhole, HasMoved, kept_of
 use Rattle.node_rules.specs.RaftTurns.{HasEnded}
 use Rattle.node_core.specs.declared.running.Running.{Running}
 use Rattle.node_core.specs.Account.{proposals_in, moment_of, Fresh}
-use Rattle.node_core.specs.Posting.{Posts, LeavesSo, ToldOr, untold, told_servers, OfficeSo, FollowsOn}
+use Rattle.node_core.specs.Posting.{Posts, LeavesSo, ToldOr, untold, told_servers, OfficeSo, FollowsSo, FollowsOn}
 use Rattle.node_core.specs.Stepping.{PutsNone, HasMade, HasStepped, HasFollowed, HasTold, KeepsRest}
 use Rattle.node_core.specs.Values.{clients_in, seen}
 use Rattle.node_core.specs.Waiting.{HasTurns}
@@ -37,6 +37,7 @@ stepped_so old mid new event batch m short replica rest stand turns office = rec
   short = subst (λ (r : ReplicaValue). HasShortTerm (node_of r.raft)) (sym replica) (m.short short);
   node = ap (λ (r : ReplicaValue). node_of r.raft) replica ∙ m.node;
   snap = ap (λ (r : ReplicaValue). r.snap) replica ∙ m.snap;
+  bytes = ap (λ (r : ReplicaValue). r.snap.bytes) replica ∙ m.bytes;
   commit = subst (λ (r : ReplicaValue). old.replica.raft.commit ≤ r.raft.commit) (sym replica) m.commit;
   installed = m.installed;
   moved = subst (λ (r : ReplicaValue). HasMoved (node_of old.replica.raft) (node_of r.raft) batch m.installed) (sym replica) m.moved;
@@ -85,12 +86,18 @@ fresh_won followed won new won_is is same =
 pub holds_behind : (old step followed : Running) (event : RaftEvent) (batch : Option ℕ) → IsGoing old → PutsNone old.replica event → HasStepped old step event batch → HasFollowed step followed → Holds followed
 holds_behind old step followed event batch g none s f = holds_after old old step followed event batch g (told_none old g.holds.replica g.holds.short) none s f
 
+-- the step, whatever configurations follow it
+pub follows_step : (old step : Running) (event : RaftEvent) (batch : Option ℕ) → IsGoing old → IsOutside event → PutsNone old.replica event → old.due.items ≡ [] → HasStepped old step event batch → Posts old step (input_of event) → OfficeSo old step →
+    (c : Configurations) → FollowsSo old (record step { members = c }) (input_of event)
+follows_step old step event batch g outside none idle s posts offices c =
+    follows_so old step event c outside posts offices idle s.rest.due s.rest.index (keeps_snapshot old.replica step.replica event g.holds.replica s.whole s.node s.snap none)
+    (same_snap old.replica step.replica event _ refl s.whole s.node s.snap none)
+
 pub began_so : (old step followed new : Running) (event : RaftEvent) (batch : Option ℕ) → IsGoing old → IsOutside event → PutsNone old.replica event → old.due.items ≡ [] → HasStepped old step event batch → Posts old step (input_of event) →
     OfficeSo old step → ToldOr (record step { members = followed.members }) followed → Fresh followed new → FollowsOn old new event
 began_so old step followed new event batch g outside none idle s posts offices tells fresh = record {
   mid = record step { members = followed.members };
-  follows = follows_so old step event followed.members outside posts offices idle s.rest.due s.rest.index (keeps_snapshot old.replica step.replica event g.holds.replica s.whole s.node s.snap none)
-      (same_snap old.replica step.replica event _ refl s.whole s.node s.snap none);
+  follows = follows_step old step event batch g outside none idle s posts offices followed.members;
   last = followed;
   tells = tells;
   fresh = fresh;

@@ -11,3 +11,4 @@ pub mod Applying
 pub mod Posting
 pub mod Taking
 pub mod Duties
+pub mod Finding

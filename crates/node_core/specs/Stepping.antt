@@ -12,7 +12,7 @@ use Rattle.raft_core.specs.declared.event.RaftEvent.TheVariants as events
 use Rattle.client_sessions.specs.Seen as clients
 use Rattle.raft_member.specs.Members.{AllStand}
 use Rattle.node_replica.specs.Looking.{puts_snapshot}
-use Rattle.node_replica.specs.Replicas.{ReplicaValue, IsKept, IsWhole, HasMoved, stepped, snap_after}
+use Rattle.node_replica.specs.Replicas.{ReplicaValue, IsKept, IsWhole, HasMoved, bytes_after, stepped, snap_after}
 use Rattle.session_decisions.specs.Reading.{read_named}
 use Rattle.client_sessions.specs.Sending.{ToldCanSend}
 use Rattle.node_state.specs.declared.applied.Applied.{Applied}
@@ -85,6 +85,7 @@ pub record HasMade (old new : Running) (event : RaftEvent) (batch : Option ℕ) 
   pub short : HasShortTerm (node_of old.replica.raft) → HasShortTerm (node_of new.replica.raft)
   pub node : node_of new.replica.raft ≡ stepped old.replica event
   pub snap : new.replica.snap ≡ snap_after old.replica event
+  pub bytes : new.replica.snap.bytes ≡ bytes_after old.replica event
   pub commit : old.replica.raft.commit ≤ new.replica.raft.commit
   pub installed : Bool
   pub moved : HasMoved (node_of old.replica.raft) (node_of new.replica.raft) batch installed
@@ -96,6 +97,7 @@ pub record HasStepped (old new : Running) (event : RaftEvent) (batch : Option �
   pub short : HasShortTerm (node_of new.replica.raft)
   pub node : node_of new.replica.raft ≡ stepped old.replica event
   pub snap : new.replica.snap ≡ snap_after old.replica event
+  pub bytes : new.replica.snap.bytes ≡ bytes_after old.replica event
   pub commit : old.replica.raft.commit ≤ new.replica.raft.commit
   pub installed : Bool
   pub moved : HasMoved (node_of old.replica.raft) (node_of new.replica.raft) batch installed

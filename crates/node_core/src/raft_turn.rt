@@ -1,7 +1,7 @@
 //! A node's turn in which an event of Raft happens: what it leaves is kept and posted, and then sessions, databases,
 //! configurations and office follow.
 
-ghost use Rattle.std.specs.Prelude.{◌≡◌, ◌≢◌, ◌<◌, ◌==◌, ◌&&◌, true, false, List, [], None, Err, OnOk, IfOk, MatchOption, IfErr};
+ghost use Rattle.std.specs.Prelude.{◌≡◌, ◌≢◌, ◌<◌, ◌==◌, ◌&&◌, true, false, ℕ, List, [], None, Err, OnOk, IfOk, MatchOption, IfErr};
 ghost use Rattle.sql_engine.specs.Meanings.{Stays};
 ghost use Rattle.page_apply.specs.declared.database.Database.{Database};
 ghost use Rattle.page_apply.specs.Machines.{IsMachine};
@@ -16,9 +16,10 @@ ghost use Rattle.node_replica.specs.Replicas.{HasMoved, IsIntake, IsWhole};
 ghost use Rattle.node_core.specs.declared.fault.NodeFault.TheVariants as fault;
 ghost use Rattle.node_core.specs.Account.{moment_of};
 ghost use Rattle.node_core.specs.Faults.{StepCause};
+ghost use Rattle.node_core.specs.Finding.{BeganStops, LeavesBy, StopsBehind, StopsFollowing, StopsIn, StopsInstalling, StopsOwn, StopsTelling};
 ghost use Rattle.node_core.specs.Posting.{FollowsOn, HadNone, InstallsOn, LeavesSo, LosesSo, MayTake, OfficeSo, OwnsSo, Posts, ToldOr, WasDue, ends_office};
 ghost use Rattle.node_core.specs.Stepping.{Brings, HasFollowed, HasMade, HasStepped, HasTold, IsOffer, KeepsRest, PutsNone, StaysAgreed, StaysStored};
-ghost use Rattle.node_core.specs.Taking.{BeganBy};
+ghost use Rattle.node_core.specs.Taking.{BeganBy, bytes_with};
 ghost use Rattle.node_core.specs.Values.{clients_in};
 ghost use Rattle.node_core.specs.Waiting.{HasTurns};
 ghost use Rattle.node_core.specs.Whole.{InOffice, IsDue, IsFree, IsGoing, IsLed, IsOutside, IsOwnDue, LeadsInOffice, ServesLast};
@@ -90,6 +91,8 @@ impl Running {
         ensures began { (opening : List ServerValue) →
             OnOk result (BeganBy (E.meaning (E.kind engine.old)) (E.kind engine.old) (read_setup opening) self.old self.new event) }
         ensures stored { StaysStored D.tells (D.states disk.old) (D.states disk.new) self.old.replica self.new.replica result }
+        ensures stops { (opening : List ServerValue) → LeavesBy D.tells (D.states disk.old) (D.states disk.new) self.old.replica result
+            (BeganStops (E.meaning (E.kind engine.old)) (E.kind engine.old) (read_setup opening) self.old event) }
         ensures cause { StepCause (D.faults disk.old) (D.faults disk.new) result }
         ensures agrees { OnOk result (Agrees (E.known engine.new) self.new.clients self.new.applied.machine) }
         ensures engine { Stays (E.kind engine.old) (E.kind engine.new) (E.refused_openings engine.old) (E.refused_openings engine.new) }
@@ -117,6 +120,8 @@ impl Running {
         ensures none { IfOk result (λ more. more ≡ false → HadNone self.old self.new) }
         ensures goes { IfOk result (λ more. more ≡ true → OwnsSo self.old self.new) }
         ensures stored { StaysStored D.tells (D.states disk.old) (D.states disk.new) self.old.replica self.new.replica result }
+        ensures stops { (opening : List ServerValue) (came : List ℕ) → LeavesBy D.tells (D.states disk.old) (D.states disk.new) self.old.replica result
+            (StopsOwn (read_setup opening) came self.old) }
         ensures cause { StepCause (D.faults disk.old) (D.faults disk.new) result }
         ensures agrees { OnOk result (StaysAgreed self.old self.new) }
         ensures runs { result ≢ Err fault.Down }
@@ -138,6 +143,8 @@ impl Running {
         ensures led { OnOk result (IsLed self.new) }
         ensures goes { (before : RunningValue) → WasDue event before self.old → OnOk result (OwnsSo before self.new) }
         ensures stored { StaysStored D.tells (D.states disk.old) (D.states disk.new) self.old.replica self.new.replica result }
+        ensures stops { (before : RunningValue) (opening : List ServerValue) (came : List ℕ) → WasDue event before self.old →
+            LeavesBy D.tells (D.states disk.old) (D.states disk.new) self.old.replica result (StopsOwn (read_setup opening) came before) }
         ensures cause { StepCause (D.faults disk.old) (D.faults disk.new) result }
         ensures agrees { OnOk result (StaysAgreed self.old self.new) }
         ensures runs { result ≢ Err fault.Down }
@@ -169,6 +176,9 @@ impl Running {
         ensures made { IfOk result (λ batch. HasMade self.old self.new event batch) }
         ensures posts { OnOk result (Posts self.old self.new (input_of event)) }
         ensures stored { StaysStored D.tells (D.states disk.old) (D.states disk.new) self.old.replica self.new.replica result }
+        // Where it fails, a load finds what a stop in the step leaves.
+        ensures stops { (opening : List ServerValue) → LeavesBy D.tells (D.states disk.old) (D.states disk.new) self.old.replica result
+            (StopsIn (read_setup opening) (bytes_with event) self.old (input_of event)) }
         ensures cause { StepCause (D.faults disk.old) (D.faults disk.new) result }
         ensures agrees { StaysAgreed self.old self.new }
         ensures runs { result ≢ Err fault.Down }
@@ -204,6 +214,8 @@ impl Running {
         ensures serves { OnOk result (ServesLast self.new.office self.new.view.serving) }
         ensures free { OnOk result (IsFree self.new.office (moment_of self.new)) }
         ensures stored { StaysStored D.tells (D.states disk.old) (D.states disk.new) self.old.replica self.new.replica result }
+        ensures stops { (opening : List ServerValue) → LeavesBy D.tells (D.states disk.old) (D.states disk.new) self.old.replica result
+            (StopsIn (read_setup opening) (bytes_with event) self.old (input_of event)) }
         ensures cause { StepCause (D.faults disk.old) (D.faults disk.new) result }
         ensures agrees { StaysAgreed self.old self.new }
         ensures runs { result ≢ Err fault.Down }
@@ -225,6 +237,8 @@ impl Running {
         ensures led { OnOk result (IsLed self.new) }
         ensures began { OnOk result (FollowsOn self.old self.new event) }
         ensures stored { StaysStored D.tells (D.states disk.old) (D.states disk.new) self.old.replica self.new.replica result }
+        ensures stops { (opening : List ServerValue) → LeavesBy D.tells (D.states disk.old) (D.states disk.new) self.old.replica result
+            (StopsFollowing (read_setup opening) self.old event) }
         ensures cause { StepCause (D.faults disk.old) (D.faults disk.new) result }
         ensures agrees { OnOk result (StaysAgreed self.old self.new) }
         ensures runs { result ≢ Err fault.Down }
@@ -265,6 +279,8 @@ impl Running {
         ensures followed { OnOk result (HasFollowed self.old self.new) }
         ensures tells { OnOk result (ToldOr (record self.old { members = self.new.members }) self.new) }
         ensures stored { StaysStored D.tells (D.states disk.old) (D.states disk.new) self.old.replica self.new.replica result }
+        ensures stops { (opening : List ServerValue) (came : List ℕ) → LeavesBy D.tells (D.states disk.old) (D.states disk.new) self.old.replica result
+            (StopsBehind (read_setup opening) came self.old) }
         ensures cause { StepCause (D.faults disk.old) (D.faults disk.new) result }
         ensures runs { result ≢ Err fault.Down }
     {
@@ -291,6 +307,8 @@ impl Running {
         ensures led { OnOk result (IsLed self.new) }
         ensures began { (opening : List ServerValue) → OnOk result (InstallsOn (read_setup opening) self.old self.new event) }
         ensures stored { StaysStored D.tells (D.states disk.old) (D.states disk.new) self.old.replica self.new.replica result }
+        ensures stops { (opening : List ServerValue) → LeavesBy D.tells (D.states disk.old) (D.states disk.new) self.old.replica result
+            (StopsInstalling (read_setup opening) self.old event) }
         ensures cause { StepCause (D.faults disk.old) (D.faults disk.new) result }
         ensures runs { result ≢ Err fault.Down }
         ensures anew { OnOk result (Agrees [] self.new.clients self.new.applied.machine) }
@@ -331,6 +349,8 @@ impl Running {
         ensures told { OnOk result (HasTold self.old self.new) }
         ensures tells { OnOk result (ToldOr self.old self.new) }
         ensures stored { StaysStored D.tells (D.states disk.old) (D.states disk.new) self.old.replica self.new.replica result }
+        ensures stops { (opening : List ServerValue) (came : List ℕ) → LeavesBy D.tells (D.states disk.old) (D.states disk.new) self.old.replica result
+            (StopsTelling (read_setup opening) came self.old) }
         ensures cause { StepCause (D.faults disk.old) (D.faults disk.new) result }
         ensures runs { result ≢ Err fault.Down }
     {
@@ -359,6 +379,8 @@ impl Running {
         ensures told { OnOk result (HasTold self.old self.new) }
         ensures tells { OnOk result (LeavesSo self.old self.new (Local (UseServers servers))) }
         ensures stored { StaysStored D.tells (D.states disk.old) (D.states disk.new) self.old.replica self.new.replica result }
+        ensures stops { (opening : List ServerValue) (came : List ℕ) → LeavesBy D.tells (D.states disk.old) (D.states disk.new) self.old.replica result
+            (StopsIn (read_setup opening) came self.old (Local (UseServers servers))) }
         ensures cause { StepCause (D.faults disk.old) (D.faults disk.new) result }
         ensures runs { result ≢ Err fault.Down }
     {
@@ -378,6 +400,8 @@ impl Running {
         ensures tells { OnOk result (ToldOr self.old self.new) }
         ensures office { OnOk result (InOffice self.new.office self.new.view.serving self.new.replica.raft) }
         ensures stored { StaysStored D.tells (D.states disk.old) (D.states disk.new) self.old.replica self.new.replica result }
+        ensures stops { (opening : List ServerValue) (came : List ℕ) → LeavesBy D.tells (D.states disk.old) (D.states disk.new) self.old.replica result
+            (StopsTelling (read_setup opening) came self.old) }
         ensures cause { StepCause (D.faults disk.old) (D.faults disk.new) result }
         ensures runs { result ≢ Err fault.Down }
     {

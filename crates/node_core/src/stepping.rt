@@ -13,6 +13,7 @@ ghost use Rattle.client_sessions.specs.Seen.{Agrees};
 ghost use Rattle.node_replica.specs.Mails.{sent};
 ghost use Rattle.node_core.specs.declared.fault.NodeFault.TheVariants as fault;
 ghost use Rattle.node_core.specs.Faults.{StepCause};
+ghost use Rattle.node_core.specs.Finding.{LeavesBy, StopsCompacting};
 ghost use Rattle.node_core.specs.Stepping.{CanBeTold, StaysAgreed, StaysStored};
 ghost use Rattle.node_core.specs.Values.{clients_in};
 ghost use Rattle.node_core.specs.Whole.{IsGoing, IsIdle, IsLed, IsQuiet, Rests};
@@ -203,6 +204,8 @@ impl Running {
         requires applied { self.old.applied.index ≡ self.old.replica.raft.commit }
         ensures going { OnOk result (IsGoing self.new) }
         ensures stored { StaysStored D.tells (D.states disk.old) (D.states disk.new) self.old.replica self.new.replica result }
+        ensures stops { (opening : List ServerValue) (came : List ℕ) → LeavesBy D.tells (D.states disk.old) (D.states disk.new) self.old.replica result
+            (StopsCompacting (read_setup opening) came self.old) }
         ensures cause { StepCause (D.faults disk.old) (D.faults disk.new) result }
         ensures led { OnOk result (IsLed self.new) }
         ensures none { IfOk result (λ more. more ≡ false → self.new ≡ self.old) }
