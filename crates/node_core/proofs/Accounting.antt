@@ -1,6 +1,6 @@
 -- Turns of a node join to what happened since an act began, and that is an act, or one that was stopped.
 use Rattle.std.proofs.Common.{◌≡◌, ◌⊎◌, inl, inr, ⊎_elim, ℕ, Bool, false, List, [], ◌∷◌, ◌++◌, refl, sym, ap, ◌∙◌, subst, append-nil, append_assoc}
-use Rattle.std.specs.Prelude.{map, ◌||◌}
+use Rattle.std.specs.Prelude.{map, ◌||◌, Option}
 use Rattle.std.specs.List.{AllByRecursion, flat_map}
 use Rattle.std.proofs.lemmas.List.{map-append}
 use Rattle.wire_msgs.specs.declared.request.Request.{Request}
@@ -71,7 +71,7 @@ own_join (x ∷ xs) ys a b = (a.0, own_join xs ys a.1 b)
 pub adds_none : (given : List raft.Input) → Adds given given
 adds_none given = record { own = []; each = tt; is = sym (append-nil given) }
 
-adds_join : (xs ys given : List raft.Input) → Adds xs given → Adds ys [] → Adds (xs ++ ys) given
+pub adds_join : (xs ys given : List raft.Input) → Adds xs given → Adds ys [] → Adds (xs ++ ys) given
 adds_join xs ys given a b = record {
   own = a.own ++ b.own;
   each = own_join a.own b.own a.each b.each;

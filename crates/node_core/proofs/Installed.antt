@@ -1,6 +1,6 @@
 -- The turn in which a snapshot came, as the account has it.
 use Rattle.std.proofs.Common.{◌≡◌, ◌⊎◌, inl, inr, ℕ, ◌≤◌, ◌<◌, Bool, true, false, true≢false, List, [], ◌∷◌, ◌++◌, length, refl, sym, ap, subst, ◌∙◌, append_assoc, arith}
-use Rattle.std.specs.Prelude.{Option, Some, None, nat_lt}
+use Rattle.std.specs.Prelude.{◌≢◌, Option, Some, None, nat_lt}
 use Rattle.std.proofs.lemmas.Bool.{ltb-true}
 use Rattle.page_apply.specs.Machines.{IsMachine}
 use Rattle.session_rules.specs.Events.{on_lost, told_lost}
@@ -12,19 +12,27 @@ use Rattle.raft_rules.specs.Node as raft
 use Rattle.raft_rules.specs.Node.{Server, is_leader}
 use Rattle.raft_rules.specs.NodeValues.{NodeValue, node_of}
 use Rattle.raft_vote.specs.declared.message.RaftMessage.{RaftMessage}
+use Rattle.raft_vote.specs.declared.message.Snapshot.{Snapshot}
 use Rattle.raft_vote.specs.declared.message.What.{What}
+use Rattle.raft_vote.specs.declared.message.What.TheVariants as whats
 use Rattle.raft_vote.specs.Messages.{message_value}
+use Rattle.raft_vote.specs.Servers as servers
+use Rattle.wire_words.specs.Reading as reading
 use Rattle.raft_core.specs.declared.event.RaftEvent.{RaftEvent}
 use Rattle.raft_core.specs.declared.event.RaftEvent.TheVariants as events
 use Rattle.raft_core.specs.Events.{input_of, offered}
 use Rattle.raft_member.specs.Members.{read_setup}
 use Rattle.client_sessions.specs.Calls.{told_all_lost}
 use Rattle.client_sessions.specs.Clients.{Clients}
+use Rattle.client_sessions.specs.Seen.{clients_of}
+use Rattle.page_apply.specs.Machines.{names_of}
+use Rattle.node_replica.specs.Looking.{puts_snapshot}
+use Rattle.node_core.specs.Taking.{IsLostBy}
 use Rattle.store_laws.specs.Store.{Snap}
 use Rattle.node_state.specs.declared.applied.Applied.{Applied}
 use Rattle.node_state.specs.declared.office.Office.{Office as Held}
 use Rattle.node_state.specs.Applied.{ShowsFiles}
-use Rattle.node_state.specs.Snapshot.{SpellsSnapshot, made_by, commits_of}
+use Rattle.node_state.specs.Snapshot.{snapshot_in, offered_to, SpellsSnapshot, made_by, commits_of}
 use Rattle.node_replica.specs.Replicas as replicas
 use Rattle.node_replica.specs.Replicas.{ReplicaValue, stepped, snap_after}
 use Rattle.node_rules.specs.RaftTurns.{HasEnded, Office, in_office, loses, has_none}
@@ -65,6 +73,28 @@ unserved_by (Some o) serving h office down = absurd (true≢false (sym office.0 
 
 -- ---- what came
 
+-- a message that brings none of the snapshots that can be read counts as lost
+none_in : snapshot_in [] ≡ None
+unfolding snapshot_in servers.servers_at reading.word_at
+none_in = refl
+
+none_of : (w : What) → ((s : Snapshot) → w ≢ whats.Install s) → account.bytes_in w ≡ []
+none_of (whats.Install s) other = absurd (other s refl)
+none_of (whats.AskVote last) other = refl
+none_of (whats.Vote granted) other = refl
+none_of (whats.Append prev commit entries) other = refl
+none_of (whats.Ack good index) other = refl
+none_of whats.TimeoutNow other = refl
+
+pub lost_other : (n : Running) (m : RaftMessage) (event : RaftEvent) → event ≡ events.Message m → puts_snapshot n.replica m ≡ true → ((s : Snapshot) → m.what ≢ whats.Install s) → IsLostBy n event
+lost_other n m event is puts other = subst (IsLostBy n) (sym is) (record {
+  puts = puts;
+  unread = ap (λ (l : List ℕ). offered_to (names_of n.applied.machine) (snapshot_in l)) (none_of m.what other) ∙ ap (offered_to (names_of n.applied.machine)) none_in;
+})
+
+pub placed_clients : (lost placed : Running) (a : Applied) → placed ≡ record lost { members = placed.members; applied = placed.applied } → placed.applied ≡ a → clients_of lost.clients a.machine ≡ clients_of lost.clients lost.applied.machine → clients_in placed ≡ clients_in lost
+placed_clients lost placed a is applied same = ap clients_in is ∙ ap (λ (x : Applied). clients_of lost.clients x.machine) applied ∙ same
+
 -- the snapshot is past the commit index
 comes : (old step : Running) (event : RaftEvent) (a : Applied) → Brings old.replica event a → node_of step.replica.raft ≡ stepped old.replica event → old.replica.raft.commit < step.replica.raft.snapshot.index
 comes old step event a b node =
@@ -87,11 +117,11 @@ pub installs_so : (opening : List Server) (old step lost placed : Running) (even
     Posts old step (input_of event) → OfficeSo old step → LosesSo step lost → KeepsRest step lost → lost.replica ≡ step.replica → lost.mail ≡ step.mail → lost.view.serving ≡ step.view.serving →
     placed ≡ record lost { members = placed.members; applied = placed.applied } → placed.applied ≡ a → IsMachine placed.applied.machine → clients_in placed ≡ clients_in lost →
     InstallsSo (read_setup opening) old placed (account.bytes_in b.message.what) (message_value b.message)
-installs_so opening old step lost placed event batch a g led idle b s posts offices loses rest replica mail serving is applied machine clients =
+installs_so opening old step lost placed event batch a g led idle b s posts offices ends rest replica mail serving is applied machine clients =
     let p = posts_on old step placed (input_of event) placed_replica placed_mail posts in
     let q : Posts old placed (raft.Receive (message_value b.message)) = subst (λ (e : RaftEvent). Posts old placed (input_of e)) b.event_is p in
     let once = ends_once (clients_in old).sessions (clients_in step).sessions (clients_in placed).sessions offices.replies (ways old step offices.replies offices.office)
-    (ap (λ (k : Clients). k.sessions) clients ∙ lost_sessions (clients_in step) (clients_in lost) loses.clients) in
+    (ap (λ (k : Clients). k.sessions) clients ∙ lost_sessions (clients_in step) (clients_in lost) ends.clients) in
     record {
       posts = q;
       replies = offices.replies ++ told_lost (clients_in step).sessions;
@@ -112,12 +142,12 @@ installs_so opening old step lost placed event batch a g led idle b s posts offi
         ended = ended_by old.office old g.office led.free;
         unserved = unserved_by old.office old.view.serving old.replica.raft g.office;
         serving = λ down. ap (λ (n : Running). n.view.serving) is ∙ serving ∙ unserved_by step.office step.view.serving step.replica.raft s.office (ap (λ (r : ReplicaValue). is_leader r.raft.role) (sym placed_replica) ∙ down);
-        waiting = λ conn. ap (λ (k : Clients). waiting_on (k.streams conn)) clients ∙ ap waiting_on (lost_streams (clients_in step) (clients_in lost) loses.clients conn) ∙ offices.waiting conn;
+        waiting = λ conn. ap (λ (k : Clients). waiting_on (k.streams conn)) clients ∙ ap waiting_on (lost_streams (clients_in step) (clients_in lost) ends.clients conn) ∙ offices.waiting conn;
       };
       told = offices.told ++ told_all_lost (clients_in step);
-      outs = ap (λ (n : Running). n.outs.replies.items) is ∙ loses.told ∙ ap (λ l. l ++ told_all_lost (clients_in step)) offices.outs ∙ append_assoc old.outs.replies.items offices.told (told_all_lost (clients_in step));
+      outs = ap (λ (n : Running). n.outs.replies.items) is ∙ ends.told ∙ ap (λ l. l ++ told_all_lost (clients_in step)) offices.outs ∙ append_assoc old.outs.replies.items offices.told (told_all_lost (clients_in step));
       tells = sends_join offices.replies (told_lost (clients_in step).sessions) offices.told (told_all_lost (clients_in step)) offices.tells (sends_so (told_lost (clients_in step).sessions) (told_all_lost (clients_in step)) refl);
-      reads = ap (λ (n : Running). n.outs.reads.items) is ∙ loses.reads ∙ offices.reads;
+      reads = ap (λ (n : Running). n.outs.reads.items) is ∙ ends.reads ∙ offices.reads;
     }
   where
     placed_replica : placed.replica ≡ step.replica
@@ -155,12 +185,12 @@ free_lost (Some o) step new sessions due = tt
 pub installed_led : (old step lost placed last new : Running) (event : RaftEvent) (batch : Option ℕ) (a : Applied) → IsGoing old → old.due.items ≡ [] → Brings old.replica event a → HasStepped old step event batch → ServesLast step.office step.view.serving →
     LosesSo step lost → KeepsRest step lost → lost.replica ≡ step.replica → (lost.office ≡ step.office) × (lost.view.serving ≡ step.view.serving) → placed ≡ record lost { members = placed.members; applied = placed.applied } → clients_in placed ≡ clients_in lost →
     HasTold placed last → ToldOr placed last → new ≡ record last { view = new.view } → new.view.serving ≡ last.view.serving → IsLed new
-installed_led old step lost placed last new event batch a g idle b s serves loses rest replica office is clients t tells new_is same = record {
+installed_led old step lost placed last new event batch a g idle b s serves ends rest replica office is clients t tells new_is same = record {
   leads = leads_not new.office new.replica.raft (ap (λ (n : Running). is_leader n.replica.raft.role) new_is ∙ (told_same placed last tells).leads ∙ ap (λ (n : Running). is_leader n.replica.raft.role) is ∙ ap (λ (r : ReplicaValue). is_leader r.raft.role) replica
       ∙ comes_not_to_leader old step event a g b s.node);
   serves = subst (λ (o : Option Held). ServesLast o new.view.serving) (sym (behind ∙ office.0)) (subst (ServesLast step.office) (sym serving) serves);
   free = free_lost new.office step new
-      (ap (λ (n : Running). (clients_in n).sessions) new_is ∙ ap (λ (n : Running). (clients_in n).sessions) t.is ∙ ap (λ (k : Clients). k.sessions) clients ∙ lost_sessions (clients_in step) (clients_in lost) loses.clients)
+      (ap (λ (n : Running). (clients_in n).sessions) new_is ∙ ap (λ (n : Running). (clients_in n).sessions) t.is ∙ ap (λ (k : Clients). k.sessions) clients ∙ lost_sessions (clients_in step) (clients_in lost) ends.clients)
       (ap (λ (n : Running). n.due.items) new_is ∙ ap (λ (n : Running). n.due.items) t.is ∙ ap (λ (n : Running). n.due.items) is ∙ rest.due ∙ s.rest.due ∙ idle);
 }
   where

@@ -20,8 +20,6 @@ mod SnapshotMoves
 mod RaftBridges
 mod Posting
 mod OfficeBridges
-mod Stopping
-mod FollowingLogs
 mod OwnSteps
 mod Duties
 mod Led
@@ -30,3 +28,5 @@ mod RaftAccounts
 mod Stepped
 mod OwnTurns
 mod Installed
+mod AlikeLists
+mod Compacting

@@ -74,7 +74,7 @@ posts_on old mid new i replica mail p = record {
 pub kept_snap : (r q : ReplicaValue) → q.raft.snapshot ≡ r.raft.snapshot → q.snap ≡ r.snap → (kept_of q).snap ≡ (kept_of r).snap
 kept_snap r q same snap = λ i. record { index = (same i).index; term = (same i).term; bytes = (snap i).bytes }
 
-same_term : (old new : Running) (i : raft.Input) → IsOwn i → Posts old new i → SameTerm (moment_of old) (moment_of new)
+pub same_term : (old new : Running) (i : raft.Input) → IsOwn i → Posts old new i → SameTerm (moment_of old) (moment_of new)
 same_term old new i own p =
     let kept = own_office old.replica.id (node_of old.replica.raft) i own in
     record {

@@ -26,7 +26,7 @@ use Rattle.node_core.specs.Account.{moment_of, bytes_in, letter_of, Sends, Says,
 use Rattle.node_core.specs.Posting.{Posts, LeavesSo, ToldOr, untold, told_servers, ProposesSo, FollowsSo, InstallsSo, FollowsOn, InstallsOn, OwnsSo, owns_proposal, owns_transfer}
 use Rattle.node_core.specs.Taking.{TurnsOn, bytes_with, came_by, BeganBy, takes}
 use Rattle.node_core.proofs.Accounting.{sends_none, adds_join, says_join, since_on}
-use Rattle.node_core.proofs.TurnsOf.{turns_proposes, turns_leaves, since_follows, since_installs}
+use Rattle.node_core.proofs.TurnsOf.{turns_proposes, turns_leaves, early_leaves, since_follows, since_installs}
 
 -- ---- what is said
 
@@ -115,8 +115,12 @@ module _ (m : Meaning) (kind : EngineKind) (setup : Setup) where
   since_told : (x : Brought) (a b c : Running) → Since m kind setup x false a b → ToldOr b c → Since m kind setup x false a c
   since_told x a b c s (untold e) = subst (Since m kind setup x false a) (sym e) s
   since_told x a b c s (told_servers servers l) =
-      let t = turns_left x.bytes x.joins b c (raft.Local (raft.UseServers servers)) tt l in
-      since_on m kind setup x false a b c s t.turns (inl refl) (inr l.snap)
+      let i : raft.Input = raft.Local (raft.UseServers servers) in
+      let says = says_so b c l.posts.posted [] [] l.posts.mail (ap (λ (o : Outs). o.replies.items) l.outs ∙ sym (append-nil b.outs.replies.items)) sends_none in
+      let law = leaving_goes_holds m kind in
+      let letters = map letter_of l.posts.posted in
+      subst (λ late. Since m kind setup x late a c) (early_leaves m kind setup b c l.posts.id x.bytes x.joins law i letters tt l.leaves says l.posts.sent)
+      (since_on m kind setup x false a b c s (turns_leaves m kind setup b c l.posts.id x.bytes x.joins law i letters tt l.leaves says l.posts.sent) (inl refl) (inr l.snap))
 
   pub began_following : (old new : Running) (event : RaftEvent) → FollowsOn old new event → BeganBy m kind setup old new event
   began_following old new event o =

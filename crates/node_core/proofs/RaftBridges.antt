@@ -163,7 +163,7 @@ leaves_own_so setup came a r index bytes count total g x spells h = leaves_by se
 -- ---- behind a step that ended well
 
 -- a log is the same without a longer old part
-longer_self : (l : Log) → Longer l l
+pub longer_self : (l : Log) → Longer l l
 longer_self l =
     let none : l.first - l.first ≡ 0 = omega arith in
     record { first = omega arith; upto = omega arith; entries = sym (ap (λ (n : ℕ). drop n l.entries) none) }

@@ -73,18 +73,6 @@ tells_behind old mid new is told tells =
 pub tells_none : (old new : Running) → new ≡ old → ToldOr (record old { members = new.members }) new
 tells_none old new e = untold (e ∙ ap (λ (c : Configurations). record old { members = c }) (sym (ap (λ (n : Running). n.members) e)))
 
-pub follows_none : (old new : Running) → IsWhole old.replica → HasShortTerm (node_of old.replica.raft) → AllStand old.members → InOffice old.office old.view.serving old.replica.raft → new ≡ old → HasFollowed old new
-follows_none old new whole short stand office e = subst (HasFollowed old) (sym e) (record {
-  whole = whole;
-  short = short;
-  snapshot = refl;
-  commit = omega arith;
-  stand = stand;
-  at = refl;
-  office = office;
-  is = refl;
-})
-
 -- ---- the turn ends
 
 pub fresh_view : (n m : Running) (o : Option Held) (v : View) → m ≡ record n { office = o; view = v } → v.serving ≡ n.view.serving → Fresh n m

@@ -79,6 +79,12 @@ module _ (m : Meaning) (kind : EngineKind) (setup : Setup) (a b : Running) (id :
       id = id;
     }
 
+    -- no reply of it waited
+    pub early_leaves : (law : LeavingGoes m kind) (i : raft.Input) (letters : List Letter) (own : IsOwn i) (x : Leaves a.replica.id (moment_of a) (moment_of b) i letters) (says : Says a b letters []) (sent : AllSent (kept_of a.replica) (kept_of b.replica) letters) →
+        (turns_leaves law i letters own x says sent).piece.late ≡ false
+    unfolding turns_leaves
+    early_leaves law i letters own x says sent = refl
+
   -- ---- what an event brings
 
   -- a turn in which nothing comes in may be the first

@@ -151,7 +151,7 @@ impl Running {
     }
 
     /// A law: the databases are a machine.
-    fn holds_machine(&self)
+    pub(crate) fn holds_machine(&self)
         ensures { IsMachine self.now.applied.machine }
     {
         let _databases = self.applied.machine.databases();

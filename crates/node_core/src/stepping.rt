@@ -17,6 +17,7 @@ ghost use Rattle.node_core.specs.Stepping.{CanBeTold, StaysAgreed, StaysStored};
 ghost use Rattle.node_core.specs.Values.{clients_in};
 ghost use Rattle.node_core.specs.Whole.{IsGoing, IsIdle, IsLed, IsQuiet, Rests};
 
+use crate::comparing::are_same;
 use crate::event::Event;
 use crate::fault::NodeFault;
 use crate::outs::Outs;
@@ -213,6 +214,11 @@ impl Running {
         if !self.replica.is_due(index) {
             return Ok(false);
         }
+        // Its bytes have the servers that are applied, which the node's configurations have too.
+        if !are_same(self.members.applied(), self.applied.servers.as_slice()) {
+            return Ok(false);
+        }
+        self.holds_machine();
         let bytes = SharedBytes::new(self.alloc, self.applied.snapshot(self.alloc)?)?;
         let messages = self.replica.snapshot(index, bytes, disk)?;
         self.mail.post_all(messages)?;

@@ -2,6 +2,7 @@ use Rattle.std.proofs.Common.{sym, ap, subst, ◌∙◌}
 use Rattle.node_replica.specs.Replicas.{ReplicaValue, IsKept}
 use Rattle.node_core.specs.declared.running.Running.{Running}
 use Rattle.node_core.specs.Waiting.{HasTurns}
+use Rattle.node_core.proofs.Installed.{installs_so, installs_on, installed_led, placed_clients}
 use Rattle.node_core.proofs.Installing.{holds_installed}
 use Rattle.node_core.proofs.running.Running.step_install.Goals as goal
 
@@ -17,3 +18,21 @@ pub returns-clause-stored : goal.returns-clause-stored
 returns-clause-stored g c = λ has.
     subst (λ (r : ReplicaValue). IsKept g.D.Disk.tells (g.D.Disk.states c.tell_servers.new.disk) r) (sym (ap (λ (n : Running). n.replica) c.look_at_servers.ensures.rest))
     (c.in_ok-tell_servers.ensures.stored (subst (λ (r : ReplicaValue). IsKept g.D.Disk.tells (g.D.Disk.states c.keep_step.new.disk) r) (sym (ap (λ (n : Running). n.replica) c.in_ok-replace.ensures.is ∙ c.lose.ensures.replica)) (c.in_ok-keep_step.ensures.stored has)))
+
+pub returns-clause-led : goal.returns-clause-led
+returns-clause-led g c =
+    installed_led c.args.self.now c.keep_step.new.self c.lose.new.self c.replace.new.self c.tell_servers.new.self c.look_at_servers.new.self c.args.event c.in_ok-keep_step.field-0 c.args.applied c.requires.going c.requires.idle
+    c.requires.brings c.in_ok-keep_step.ensures.stepped c.in_ok-keep_step.ensures.serves c.in_ok-lose.ensures.loses c.lose.ensures.rest c.lose.ensures.replica c.lose.ensures.office c.in_ok-replace.ensures.is
+    (placed_clients c.lose.new.self c.replace.new.self c.args.applied c.in_ok-replace.ensures.is c.in_ok-replace.ensures.applied
+    (c.clients_change_databases.ensures.clients c.lose.new.self.clients c.lose.new.self.applied.machine c.args.applied.machine c.in_ok-lose.ensures.unmarked c.in_ok-lose.ensures.stand))
+    c.in_ok-tell_servers.ensures.told c.in_ok-tell_servers.ensures.tells c.look_at_servers.ensures.rest c.look_at_servers.ensures.serving
+
+pub returns-clause-began : goal.returns-clause-began
+returns-clause-began g c = λ opening.
+    installs_on opening c.args.self.now c.replace.new.self c.tell_servers.new.self c.look_at_servers.new.self c.args.event c.args.applied c.requires.brings
+    (installs_so opening c.args.self.now c.keep_step.new.self c.lose.new.self c.replace.new.self c.args.event c.in_ok-keep_step.field-0 c.args.applied c.requires.going c.requires.led c.requires.idle c.requires.brings
+    c.in_ok-keep_step.ensures.stepped c.in_ok-keep_step.ensures.posts c.in_ok-keep_step.ensures.offices c.in_ok-lose.ensures.loses c.lose.ensures.rest c.lose.ensures.replica c.lose.ensures.mail c.lose.ensures.office.1
+    c.in_ok-replace.ensures.is c.in_ok-replace.ensures.applied c.in_ok-replace.ensures.machine
+    (placed_clients c.lose.new.self c.replace.new.self c.args.applied c.in_ok-replace.ensures.is c.in_ok-replace.ensures.applied
+    (c.clients_change_databases.ensures.clients c.lose.new.self.clients c.lose.new.self.applied.machine c.args.applied.machine c.in_ok-lose.ensures.unmarked c.in_ok-lose.ensures.stand)))
+    c.in_ok-tell_servers.ensures.tells c.look_at_servers.ensures.rest c.look_at_servers.ensures.serving

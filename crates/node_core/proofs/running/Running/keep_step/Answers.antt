@@ -1,0 +1,16 @@
+use Rattle.std.proofs.Common.{sym, subst}
+use Rattle.node_replica.specs.Replicas.{ReplicaValue, IsKept}
+use Rattle.node_core.proofs.Posting.{offices_so, free_so}
+use Rattle.node_core.proofs.running.Running.keep_step.Goals as goal
+
+pub returns-clause-offices : goal.returns-clause-offices
+returns-clause-offices g c =
+    offices_so c.args.self.now c.make_step.new.self c.note_loss.new.self c.requires.office c.requires.led c.holds_machine.ensures c.in_ok-batch.ensures.made.is c.note_loss.ensures.stays c.in_ok-note_loss.ensures.loses c.note_loss.ensures.leaves
+    c.note_loss.ensures.replica
+
+pub returns-clause-free : goal.returns-clause-free
+returns-clause-free g c =
+    free_so c.args.self.now c.make_step.new.self c.note_loss.new.self c.requires.led c.requires.idle c.in_ok-batch.ensures.made.is c.note_loss.ensures.stays c.in_ok-note_loss.ensures.loses c.note_loss.ensures.rest.due
+
+pub returns-clause-stored : goal.returns-clause-stored
+returns-clause-stored g c = λ has. subst (λ (r : ReplicaValue). IsKept g.D.Disk.tells (g.D.Disk.states c.make_step.new.disk) r) (sym c.note_loss.ensures.replica) (c.in_ok-batch.ensures.stored has)

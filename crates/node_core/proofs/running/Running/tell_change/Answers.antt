@@ -1,0 +1,17 @@
+use Rattle.std.proofs.Common.{refl, arith}
+use Rattle.std.proofs.lemmas.Result.{on_ok_weaker}
+use Rattle.node_core.specs.Posting.{untold, told_servers}
+use Rattle.node_core.proofs.RaftTurns.{told_none}
+use Rattle.node_core.proofs.running.Running.tell_change.Goals as goal
+
+pub returns-in_default : goal.returns-in_default
+returns-in_default g c = record {
+  told = told_none c.args.self.now c.requires.whole c.requires.short;
+  tells = untold refl;
+  stored = λ has. has;
+  cause = record { never_falls = omega arith; failed = λ q. absurd cc };
+  runs = λ q. absurd cc;
+}
+
+pub returns-in-Some-clause-tells : goal.returns-in-Some-clause-tells
+returns-in-Some-clause-tells g c = on_ok_weaker c.tell.result (λ l. told_servers c.in-Some.servers l) c.tell.ensures.tells
