@@ -17,6 +17,7 @@ use Rattle.node_replica.specs.Replicas.{kept_of}
 use Rattle.node_rules.specs.Accounts.{Moment, resting, Piece, no_piece, both, read_by, Goes, Begins, SameTerm, MayEnd, with_input, LeftBy}
 use Rattle.node_rules.specs.Steps.{Letter, AllSent}
 use Rattle.node_rules.specs.ClientTurns.{Hears}
+use Rattle.node_rules.specs.RaftTurns.{HasServers}
 use Rattle.node_rules.proofs.Connecting.{hearing_goes_holds}
 use Rattle.node_rules.proofs.Ends.{goes_to_end_holds, stops_between_holds, stops_within_holds}
 use Rattle.node_rules.proofs.Stretches.{nothing_goes_holds, goes_begins_holds, begins_on_holds, sent_on_holds}
@@ -24,7 +25,8 @@ use Rattle.node_core.specs.declared.event.Event.{Event}
 use Rattle.node_core.specs.declared.outs.Outs.{Outs}
 use Rattle.node_core.specs.declared.running.Running.{Running}
 use Rattle.node_core.specs.Values.{seen}
-use Rattle.node_core.specs.Account.{moment_of, letter_of, lived, responses_in, sent_so, Sends, Says, Brought, IsOwn, Adds, Turns, Since, Begin, IsLost, Brings, Comes_in, Takes, Act, Acts, Stopped, Fresh, IsResting, Between, Went, IsMore, Happens, AreOf, waits, runs, Underway, StepsBy, StopsBy}
+use Rattle.node_core.specs.Account.{moment_of, letter_of, lived, responses_in, sent_so, Sends, Says, Brought, IsOwn, Adds, Turns, KnowsServers, Since, Begin, IsLost, Brings, Comes_in, Takes, AtRest, Act, Acts, Stopped, Fresh, SoFar, Between, Went, IsMore, Happens, AreOf, Underway, StepsBy, StopsBy}
+use Rattle.node_core.specs.Taking.{TurnsOn}
 
 -- ---- what is said
 
@@ -82,7 +84,7 @@ adds_join xs ys given a b = record {
 pub since_nothing : (m : Meaning) (kind : EngineKind) (setup : Setup) (x : Brought) (n : Running) → x.inputs ≡ [] → ((conn : ℕ) → x.asks conn ≡ []) → Since m kind setup x false n n
 since_nothing m kind setup x n inputs asks = record {
   piece = no_piece;
-  goes = goes_begins_holds m kind setup n.replica.id x.bytes x.joins x.read (moment_of n) (moment_of n) no_piece (nothing_goes_holds m kind setup n.replica.id x.bytes x.joins (moment_of n));
+  goes = λ known. goes_begins_holds m kind setup n.replica.id x.bytes x.joins x.read (moment_of n) (moment_of n) no_piece (nothing_goes_holds m kind setup n.replica.id x.bytes x.joins (moment_of n));
   inputs = subst (Adds []) (sym inputs) (adds_none []);
   asks = λ conn. sym (asks conn);
   is_late = refl;
@@ -97,7 +99,7 @@ pub since_on : (m : Meaning) (kind : EngineKind) (setup : Setup) (x : Brought) (
     Since m kind setup x (late || t.piece.late) a c
 since_on m kind setup x late a b c s t when once = record {
   piece = both s.piece t.piece;
-  goes = begins_on_holds m kind setup a.replica.id x.bytes x.joins x.read (moment_of a) (moment_of b) (moment_of c) s.piece t.piece s.goes
+  goes = λ known. begins_on_holds m kind setup a.replica.id x.bytes x.joins x.read (moment_of a) (moment_of b) (moment_of c) s.piece t.piece (s.goes known)
       (subst (λ me. Goes m kind setup me x.bytes x.joins (moment_of b) (moment_of c) t.piece) s.id t.goes) (⊎_elim (λ e. inl (s.is_late ∙ e)) (λ e. inr e) when);
   inputs = adds_join s.piece.inputs t.piece.inputs x.inputs s.inputs t.inputs;
   asks = λ conn. ap (λ l. l ++ t.piece.asks conn) (s.asks conn) ∙ ap (λ l. x.asks conn ++ l) (t.asks conn) ∙ append-nil (x.asks conn);
@@ -110,7 +112,8 @@ since_on m kind setup x late a b c s t when once = record {
 pub since_fresh : (m : Meaning) (kind : EngineKind) (setup : Setup) (x : Brought) (late : Bool) (a b c : Running) → Fresh a b → Since m kind setup x late b c → Since m kind setup x late a c
 since_fresh m kind setup x late a b c f s = record {
   piece = s.piece;
-  goes = subst (λ me. Begins m kind setup me x.bytes x.joins x.read (moment_of a) (moment_of c) s.piece) f.id (subst (λ z. Begins m kind setup b.replica.id x.bytes x.joins x.read z (moment_of c) s.piece) f.moment s.goes);
+  goes = λ known. subst (λ me. Begins m kind setup me x.bytes x.joins x.read (moment_of a) (moment_of c) s.piece) f.id
+      (subst (λ z. Begins m kind setup b.replica.id x.bytes x.joins x.read z (moment_of c) s.piece) f.moment (s.goes (subst (λ (z : Moment). HasServers setup z z.node.members.servers) (sym f.moment) known)));
   inputs = s.inputs;
   asks = s.asks;
   is_late = s.is_late;
@@ -131,46 +134,51 @@ taken_so old begin x p c inputs asks = record {
 }
 
 -- what happened until nothing was left to do is an act, and it was said
-pub since_ends : (m : Meaning) (kind : EngineKind) (setup : Setup) (x : Brought) (late : Bool) (a b : Running) (begin : Begin) → IsResting a → Comes_in a begin x → Since m kind setup x late a b → MayEnd (moment_of b) →
+pub since_ends : (m : Meaning) (kind : EngineKind) (setup : Setup) (x : Brought) (late : Bool) (a b : Running) (begin : Begin) → AtRest a → Comes_in a begin x → Since m kind setup x late a b → MayEnd (moment_of b) → b.replica.raft.id ≡ b.replica.id →
     (letters : List Letter) × (replies : List (ℕ × Reply)) × Act m kind setup a b begin letters replies × Says a b letters replies
-since_ends m kind setup x late a b begin rests comes s end = (
+since_ends m kind setup x late a b begin stood comes s end id = (
   s.piece.letters,
   s.piece.replies,
   record {
+    stood = stood;
+    id = id ∙ s.id ∙ sym stood.id;
     taken = read_by x.bytes x.joins x.read s.piece;
     takes = taken_so a begin x s.piece comes s.inputs s.asks;
-    steps = goes_to_end_holds m kind setup a.replica.id x.bytes x.joins x.read (seen a) (moment_of b) s.piece (subst (λ z. Begins m kind setup a.replica.id x.bytes x.joins x.read z (moment_of b) s.piece) rests s.goes) end;
+    steps = λ known. goes_to_end_holds m kind setup a.replica.id x.bytes x.joins x.read (seen a) (moment_of b) s.piece (subst (λ z. Begins m kind setup a.replica.id x.bytes x.joins x.read z (moment_of b) s.piece) stood.rests (s.goes known)) end;
     sent = s.sent;
   },
   s.says,
 )
 
 -- a stop between two turns
-pub since_stops : (m : Meaning) (kind : EngineKind) (setup : Setup) (x : Brought) (late : Bool) (a b : Running) (begin : Begin) → IsResting a → Comes_in a begin x → Since m kind setup x late a b → Stopped m kind setup a begin (kept_of b.replica)
-since_stops m kind setup x late a b begin rests comes s = record {
+pub since_stops : (m : Meaning) (kind : EngineKind) (setup : Setup) (x : Brought) (late : Bool) (a b : Running) (begin : Begin) → AtRest a → Comes_in a begin x → Since m kind setup x late a b → Stopped m kind setup a begin (kept_of b.replica)
+since_stops m kind setup x late a b begin stood comes s = record {
+  stood = stood;
   taken = read_by x.bytes x.joins x.read s.piece;
   takes = taken_so a begin x s.piece comes s.inputs s.asks;
-  stops = stops_between_holds m kind setup a.replica.id x.bytes x.joins x.read (seen a) (moment_of b) s.piece (subst (λ z. Begins m kind setup a.replica.id x.bytes x.joins x.read z (moment_of b) s.piece) rests s.goes);
+  stops = λ known. stops_between_holds m kind setup a.replica.id x.bytes x.joins x.read (seen a) (moment_of b) s.piece (subst (λ z. Begins m kind setup a.replica.id x.bytes x.joins x.read z (moment_of b) s.piece) stood.rests (s.goes known));
 }
 
 -- a stop within the step of one input more, which the node added
-pub since_within : (m : Meaning) (kind : EngineKind) (setup : Setup) (x : Brought) (late : Bool) (a b : Running) (begin : Begin) (i : raft.Input) (kept : Kept) → IsResting a → Comes_in a begin x → Since m kind setup x late a b → IsOwn i →
-    LeftBy setup a.replica.id x.bytes x.joins (moment_of b) i kept → Stopped m kind setup a begin kept
-since_within m kind setup x late a b begin i kept rests comes s own left = record {
+pub since_within : (m : Meaning) (kind : EngineKind) (setup : Setup) (x : Brought) (late : Bool) (a b : Running) (begin : Begin) (i : raft.Input) (kept : Kept) → AtRest a → Comes_in a begin x → Since m kind setup x late a b → IsOwn i →
+    (KnowsServers setup a → LeftBy setup a.replica.id x.bytes x.joins (moment_of b) i kept) → Stopped m kind setup a begin kept
+since_within m kind setup x late a b begin i kept stood comes s own left = record {
+  stood = stood;
   taken = read_by x.bytes x.joins x.read (with_input s.piece i);
   takes = taken_so a begin x (with_input s.piece i) comes (adds_join s.piece.inputs (i ∷ []) x.inputs s.inputs (record { own = i ∷ []; each = (own, tt); is = refl })) s.asks;
-  stops = stops_within_holds m kind setup a.replica.id x.bytes x.joins x.read (seen a) (moment_of b) s.piece i kept (subst (λ z. Begins m kind setup a.replica.id x.bytes x.joins x.read z (moment_of b) s.piece) rests s.goes) left;
+  stops = λ known. stops_within_holds m kind setup a.replica.id x.bytes x.joins x.read (seen a) (moment_of b) s.piece i kept (subst (λ z. Begins m kind setup a.replica.id x.bytes x.joins x.read z (moment_of b) s.piece) stood.rests (s.goes known)) (left known);
 }
 
 -- or within the act's own input
-pub fresh_within : (m : Meaning) (kind : EngineKind) (setup : Setup) (x : Brought) (a b : Running) (begin : Begin) (i : raft.Input) (kept : Kept) → IsResting a → Comes_in a begin x → Fresh a b → x.inputs ≡ i ∷ [] → ((conn : ℕ) → x.asks conn ≡ []) →
-    LeftBy setup a.replica.id x.bytes x.joins (moment_of b) i kept → Stopped m kind setup a begin kept
-fresh_within m kind setup x a b begin i kept rests comes f is asks left = record {
+pub begin_within : (m : Meaning) (kind : EngineKind) (setup : Setup) (x : Brought) (a : Running) (begin : Begin) (i : raft.Input) (kept : Kept) → AtRest a → Comes_in a begin x → x.inputs ≡ i ∷ [] → ((conn : ℕ) → x.asks conn ≡ []) →
+    (KnowsServers setup a → LeftBy setup a.replica.id x.bytes x.joins (moment_of a) i kept) → Stopped m kind setup a begin kept
+begin_within m kind setup x a begin i kept stood comes is asks left = record {
+  stood = stood;
   taken = read_by x.bytes x.joins x.read (with_input no_piece i);
   takes = taken_so a begin x (with_input no_piece i) comes (subst (Adds (i ∷ [])) (sym is) (adds_none (i ∷ []))) (λ conn. sym (asks conn));
-  stops = stops_within_holds m kind setup a.replica.id x.bytes x.joins x.read (seen a) (resting (seen a)) no_piece i kept
+  stops = λ known. stops_within_holds m kind setup a.replica.id x.bytes x.joins x.read (seen a) (resting (seen a)) no_piece i kept
       (goes_begins_holds m kind setup a.replica.id x.bytes x.joins x.read (resting (seen a)) (resting (seen a)) no_piece (nothing_goes_holds m kind setup a.replica.id x.bytes x.joins (resting (seen a))))
-      (subst (λ z. LeftBy setup a.replica.id x.bytes x.joins z i kept) (f.moment ∙ rests) left);
+      (subst (λ z. LeftBy setup a.replica.id x.bytes x.joins z i kept) stood.rests (left known));
 }
 
 -- ---- the acts of a step
@@ -244,16 +252,17 @@ went_stops m kind setup a b c begins last event kept are w between stopped = rec
 asked_by : Moment → (ℕ → List Request) → Moment
 asked_by a asks = record a { node = record a.node { waiting = λ conn. a.node.waiting conn ++ asks conn } }
 
-pub begun_stops : (m : Meaning) (kind : EngineKind) (setup : Setup) (x : Brought) (a : Running) (begin : Begin) → IsMachine a.applied.machine → IsResting a → Comes_in a begin x → x.inputs ≡ [] → Stopped m kind setup a begin (kept_of a.replica)
+pub begun_stops : (m : Meaning) (kind : EngineKind) (setup : Setup) (x : Brought) (a : Running) (begin : Begin) → IsMachine a.applied.machine → AtRest a → Comes_in a begin x → x.inputs ≡ [] → Stopped m kind setup a begin (kept_of a.replica)
 unfolding asked_by
-begun_stops m kind setup x a begin machine rests comes none =
+begun_stops m kind setup x a begin machine stood comes none =
     let p : Piece = record no_piece { asks = x.asks } in
     let heard : Hears (moment_of a) (asked_by (moment_of a) x.asks) x.asks = record { sessions = refl; waiting = λ conn. refl; due = refl; rest = record { raft = refl; kept = refl; applied = refl; serving = refl; machine = machine; files = refl } } in
     let goes = goes_begins_holds m kind setup a.replica.id x.bytes x.joins x.read (moment_of a) (asked_by (moment_of a) x.asks) p (hearing_goes_holds m kind setup a.replica.id x.bytes x.joins (moment_of a) (asked_by (moment_of a) x.asks) x.asks heard) in
     record {
+      stood = stood;
       taken = read_by x.bytes x.joins x.read p;
       takes = taken_so a begin x p comes (subst (Adds []) (sym none) (adds_none [])) (λ conn. refl);
-      stops = stops_between_holds m kind setup a.replica.id x.bytes x.joins x.read (seen a) (asked_by (moment_of a) x.asks) p (subst (λ z. Begins m kind setup a.replica.id x.bytes x.joins x.read z (asked_by (moment_of a) x.asks) p) rests goes);
+      stops = λ known. stops_between_holds m kind setup a.replica.id x.bytes x.joins x.read (seen a) (asked_by (moment_of a) x.asks) p (subst (λ z. Begins m kind setup a.replica.id x.bytes x.joins x.read z (asked_by (moment_of a) x.asks) p) stood.rests goes);
     }
 
 -- ---- a step under way
@@ -266,9 +275,9 @@ are_more event (first ∷ begins) begin next are more = (are.0, all begins are.1
     all [] h = (h.0, (more, tt))
     all (x ∷ xs) h = (h.0, all xs h.1)
 
--- the event begins the first act
-pub underway_starts : (m : Meaning) (kind : EngineKind) (setup : Setup) (a : Running) (event : Event) → IsResting a → Underway m kind setup a a event
-underway_starts m kind setup a event rests = record {
+-- the event's act has begun
+pub underway_starts : (m : Meaning) (kind : EngineKind) (setup : Setup) (a b : Running) (event : Event) → AtRest a → SoFar m kind setup a b (Happens event) → Underway m kind setup a b event
+underway_starts m kind setup a b event stood so_far = record {
   begins = [];
   begin = Happens event;
   are = (refl, tt);
@@ -276,32 +285,19 @@ underway_starts m kind setup a event rests = record {
   went = went_none m kind setup a;
   from = a;
   between = record { same = refl; mail = refl; replies = refl };
-  rests = rests;
-  so_far = waits (record { moment = refl; mail = refl; replies = refl; kept = refl; id = refl });
-}
-
--- it is given to Raft, or is still due
-pub underway_waits : (m : Meaning) (kind : EngineKind) (setup : Setup) (a b c : Running) (event : Event) (u : Underway m kind setup a b event) → Fresh u.from c → Underway m kind setup a c event
-underway_waits m kind setup a b c event u f = record { begins = u.begins; begin = u.begin; are = u.are; mid = u.mid; went = u.went; from = u.from; between = u.between; rests = u.rests; so_far = waits f }
-
--- its first turn
-pub underway_first : (m : Meaning) (kind : EngineKind) (setup : Setup) (a b c : Running) (event : Event) (u : Underway m kind setup a b event) (x : Brought) (late : Bool) → Fresh u.from b → Comes_in u.from u.begin x → Since m kind setup x late b c → Underway m kind setup a c event
-underway_first m kind setup a b c event u x late f comes s = record {
-  begins = u.begins;
-  begin = u.begin;
-  are = u.are;
-  mid = u.mid;
-  went = u.went;
-  from = u.from;
-  between = u.between;
-  rests = u.rests;
-  so_far = runs x late comes (since_fresh m kind setup x late u.from b c f s);
+  stood = stood;
+  so_far = so_far;
 }
 
 -- a turn more, in which nothing comes in, and which leaves term, leadership and the kept snapshot
-pub underway_on : (m : Meaning) (kind : EngineKind) (setup : Setup) (a b c : Running) (event : Event) (u : Underway m kind setup a b event) (x : Brought) (late : Bool) → Comes_in u.from u.begin x → Since m kind setup x late u.from b →
-    Turns m kind setup x.bytes x.joins b c → SameTerm (moment_of b) (moment_of c) → (kept_of b.replica).snap ≡ (kept_of c.replica).snap → Underway m kind setup a c event
-underway_on m kind setup a b c event u x late comes s t same snap = record {
+pub so_far_on : (m : Meaning) (kind : EngineKind) (setup : Setup) (a b c : Running) (begin : Begin) → SoFar m kind setup a b begin → ((bytes : List ℕ) (joins : Option ℕ) → TurnsOn m kind setup bytes joins b c) → SoFar m kind setup a c begin
+so_far_on m kind setup a b c begin f t =
+    let x = f.brought in
+    let on = t x.bytes x.joins in
+    record { brought = x; late = f.late || on.turns.piece.late; comes = f.comes; since = since_on m kind setup x f.late a b c f.since on.turns (inr on.same) (inr on.snap) }
+
+pub underway_on : (m : Meaning) (kind : EngineKind) (setup : Setup) (a b c : Running) (event : Event) → Underway m kind setup a b event → ((bytes : List ℕ) (joins : Option ℕ) → TurnsOn m kind setup bytes joins b c) → Underway m kind setup a c event
+underway_on m kind setup a b c event u t = record {
   begins = u.begins;
   begin = u.begin;
   are = u.are;
@@ -309,15 +305,16 @@ underway_on m kind setup a b c event u x late comes s t same snap = record {
   went = u.went;
   from = u.from;
   between = u.between;
-  rests = u.rests;
-  so_far = runs x (late || t.piece.late) comes (since_on m kind setup x late u.from b c s t (inr same) (inr snap));
+  stood = u.stood;
+  so_far = so_far_on m kind setup u.from b c u.begin u.so_far t;
 }
 
--- the node rests again, and another act begins
-pub underway_next : (m : Meaning) (kind : EngineKind) (setup : Setup) (a b c : Running) (event : Event) (u : Underway m kind setup a b event) (x : Brought) (late : Bool) → Comes_in u.from u.begin x → Since m kind setup x late u.from b →
-    MayEnd (moment_of b) → Between b c → IsResting c → (next : Begin) → IsMore next → Underway m kind setup a c event
-underway_next m kind setup a b c event u x late comes s end between rests next more =
-    let r = since_ends m kind setup x late u.from b u.begin u.rests comes s end in
+-- the node rests again, and another act has begun
+pub underway_next : (m : Meaning) (kind : EngineKind) (setup : Setup) (a b c d : Running) (event : Event) → Underway m kind setup a b event → MayEnd (moment_of b) → b.replica.raft.id ≡ b.replica.id → Between b c → AtRest c → (next : Begin) → IsMore next →
+    SoFar m kind setup c d next → Underway m kind setup a d event
+underway_next m kind setup a b c d event u end id between stood next more so_far =
+    let f = u.so_far in
+    let r = since_ends m kind setup f.brought f.late u.from b u.begin u.stood f.comes f.since end id in
     record {
       begins = u.begins ++ u.begin ∷ [];
       begin = next;
@@ -326,15 +323,16 @@ underway_next m kind setup a b c event u x late comes s end between rests next m
       went = went_on m kind setup a u.mid u.from b u.begins u.begin r.0 r.1 u.went u.between r.2 r.3;
       from = c;
       between = between;
-      rests = rests;
-      so_far = waits (record { moment = refl; mail = refl; replies = refl; kept = refl; id = refl });
+      stood = stood;
+      so_far = so_far;
     }
 
 -- the step ends, and what was said is taken from it
-pub underway_ends : (m : Meaning) (kind : EngineKind) (setup : Setup) (a b c : Running) (event : Event) (outs : Outs) (u : Underway m kind setup a b event) (x : Brought) (late : Bool) → Comes_in u.from u.begin x → Since m kind setup x late u.from b →
-    MayEnd (moment_of b) → a.mail ≡ no_mail → a.outs.replies.items ≡ [] → seen c ≡ seen b → outs.messages.items ≡ sent b.mail → outs.replies.items ≡ b.outs.replies.items → StepsBy m kind setup a c event outs
-underway_ends m kind setup a b c event outs u x late comes s end quiet silent same messages replies =
-    let r = since_ends m kind setup x late u.from b u.begin u.rests comes s end in
+pub underway_ends : (m : Meaning) (kind : EngineKind) (setup : Setup) (a b c : Running) (event : Event) (outs : Outs) → Underway m kind setup a b event → MayEnd (moment_of b) → b.replica.raft.id ≡ b.replica.id →
+    a.mail ≡ no_mail → a.outs.replies.items ≡ [] → seen c ≡ seen b → outs.messages.items ≡ sent b.mail → outs.replies.items ≡ b.outs.replies.items → StepsBy m kind setup a c event outs
+underway_ends m kind setup a b c event outs u end id quiet silent same messages replies =
+    let f = u.so_far in
+    let r = since_ends m kind setup f.brought f.late u.from b u.begin u.stood f.comes f.since end id in
     went_steps m kind setup a b c (u.begins ++ u.begin ∷ []) event outs quiet silent u.are (went_on m kind setup a u.mid u.from b u.begins u.begin r.0 r.1 u.went u.between r.2 r.3) same messages replies
 
 -- the act under way was stopped

@@ -18,7 +18,7 @@ use Rattle.node_state.specs.declared.applied.Applied.{Applied}
 use Rattle.node_core.specs.declared.running.Running.{Running}
 use Rattle.node_core.specs.Stepping.{Brings, HasStepped, HasTold, KeepsRest}
 use Rattle.node_core.specs.Waiting.{HasTurns}
-use Rattle.node_core.specs.Whole.{Holds, IsDue, IsGoing}
+use Rattle.node_core.specs.Whole.{Holds, IsOwnDue, IsGoing}
 
 -- the snapshot that is kept then is the one that the message brings
 brought : (r : ReplicaValue) (event : RaftEvent) (a : Applied) → Brings r event a → (snap_after r event).index ≡ a.index
@@ -57,5 +57,5 @@ holds_installed old step lost placed told event batch a g b s replica rest appli
       at = ap (λ (m : Configurations). m.at) members_told ∙ at_snap ∙ sym index_told;
       low = omega (arith, told_end, placed_end, raft_end, snap, index_told);
       high = omega (arith, within, raft_end, snap, index_told, placed_commit, commit);
-      due = subst (AllByRecursion IsDue) (sym (ap (λ (n : Running). n.due.items) t.is ∙ ap (λ (n : Running). n.due.items) is ∙ rest.due ∙ s.rest.due)) g.holds.due;
+      due = subst (AllByRecursion IsOwnDue) (sym (ap (λ (n : Running). n.due.items) t.is ∙ ap (λ (n : Running). n.due.items) is ∙ rest.due ∙ s.rest.due)) g.holds.due;
     }

@@ -16,3 +16,5 @@ mod ClientMoves
 mod ApplyingTurns
 mod TurnsOf
 mod Beginning
+mod Duties
+mod Led

@@ -36,6 +36,7 @@ performed_propose old new act conn entries kind machine due is = subst (λ (a : 
   replica = ap (λ (n : Running). n.replica) is;
   index = ap (λ (n : Running). n.applied.index) is;
   serving = ap (λ (n : Running). n.view.serving) is;
+  office = ap (λ (n : Running). n.office) is;
   machine = subst (λ (n : Running). IsMachine n.applied.machine) (sym is) machine;
   files = ap (λ (n : Running). machine_of n.applied.machine) is;
 })
@@ -50,6 +51,7 @@ performed_transfer old new outs act conn to reply kind machine said due is = sub
   replica = ap (λ (n : Running). n.replica) is;
   index = ap (λ (n : Running). n.applied.index) is;
   serving = ap (λ (n : Running). n.view.serving) is;
+  office = ap (λ (n : Running). n.office) is;
   machine = subst (λ (n : Running). IsMachine n.applied.machine) (sym is) machine;
   files = ap (λ (n : Running). machine_of n.applied.machine) is;
 })

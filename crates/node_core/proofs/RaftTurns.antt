@@ -21,7 +21,7 @@ use Rattle.node_core.specs.declared.running.Running.{Running}
 use Rattle.node_core.specs.Stepping.{PutsNone, HasStepped, HasFollowed, HasTold}
 use Rattle.node_core.specs.Values.{clients_in}
 use Rattle.node_core.specs.Waiting.{HasTurns}
-use Rattle.node_core.specs.Whole.{IsDue, InOffice, Holds, IsGoing}
+use Rattle.node_core.specs.Whole.{IsOwnDue, InOffice, Holds, IsGoing}
 
 -- ---- the snapshot stays where none comes
 
@@ -102,7 +102,7 @@ holds_after old told stepped followed event batch g t none s f =
       at = f.at ∙ ap (λ (m : Configurations). m.at) (s.rest.members ∙ members) ∙ h.at ∙ sym (index3 ∙ index2 ∙ index);
       low = omega (arith, snap1, snap2, snap3, index, index2, index3, low);
       high = omega (arith, index, index2, index3, high, commit1, commit2, commit3);
-      due = subst (AllByRecursion IsDue) (sym (ap (λ (n : Running). n.due.items) f.is ∙ s.rest.due ∙ due)) h.due;
+      due = subst (AllByRecursion IsOwnDue) (sym (ap (λ (n : Running). n.due.items) f.is ∙ s.rest.due ∙ due)) h.due;
     }
 
 -- the office has no part in it

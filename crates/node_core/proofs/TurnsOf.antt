@@ -23,7 +23,7 @@ use Rattle.node_rules.proofs.Serving.{serving_goes_holds}
 use Rattle.node_rules.proofs.Stretches.{goes_begins_holds}
 use Rattle.node_rules.proofs.Taking.{proposal_goes_holds}
 use Rattle.node_core.specs.declared.running.Running.{Running}
-use Rattle.node_core.specs.Account.{moment_of, Says, Brought, IsOwn, Turns, Since}
+use Rattle.node_core.specs.Account.{moment_of, Says, Brought, IsOwn, Turns, KnowsServers, Since}
 use Rattle.node_core.proofs.Accounting.{adds_none, since_nothing, since_on}
 
 module _ (m : Meaning) (kind : EngineKind) (setup : Setup) (a b : Running) (id : b.replica.id ≡ a.replica.id) where
@@ -88,7 +88,7 @@ module _ (m : Meaning) (kind : EngineKind) (setup : Setup) (a b : Running) (id :
   pub since_connects : (conn : ℕ) → Connects (moment_of a) (moment_of b) conn → Says a b [] [] → Since m kind setup (record { inputs = []; bytes = []; joins = Some conn; read = None; asks = λ other. [] }) false a b
   since_connects conn x says = record {
     piece = no_piece;
-    goes = goes_begins_holds m kind setup a.replica.id [] (Some conn) None (moment_of a) (moment_of b) no_piece (connecting_goes_holds m kind setup a.replica.id [] (moment_of a) (moment_of b) conn x);
+    goes = λ known. goes_begins_holds m kind setup a.replica.id [] (Some conn) None (moment_of a) (moment_of b) no_piece (connecting_goes_holds m kind setup a.replica.id [] (moment_of a) (moment_of b) conn x);
     inputs = adds_none [];
     asks = λ other. refl;
     is_late = refl;
@@ -100,7 +100,7 @@ module _ (m : Meaning) (kind : EngineKind) (setup : Setup) (a b : Running) (id :
   pub since_hears : (asks : ℕ → List Request) → Hears (moment_of a) (moment_of b) asks → Says a b [] [] → Since m kind setup (record { inputs = []; bytes = []; joins = None; read = None; asks = asks }) false a b
   since_hears asks x says = record {
     piece = record no_piece { asks = asks };
-    goes = goes_begins_holds m kind setup a.replica.id [] None None (moment_of a) (moment_of b) (record no_piece { asks = asks }) (hearing_goes_holds m kind setup a.replica.id [] None (moment_of a) (moment_of b) asks x);
+    goes = λ known. goes_begins_holds m kind setup a.replica.id [] None None (moment_of a) (moment_of b) (record no_piece { asks = asks }) (hearing_goes_holds m kind setup a.replica.id [] None (moment_of a) (moment_of b) asks x);
     inputs = adds_none [];
     asks = λ other. refl;
     is_late = refl;
@@ -112,7 +112,7 @@ module _ (m : Meaning) (kind : EngineKind) (setup : Setup) (a b : Running) (id :
   pub since_reads : (conn : ℕ) (reply : Reply) → Reads (moment_of a) (moment_of b) conn → Says a b [] ((conn, reply) ∷ []) → Since m kind setup (record { inputs = []; bytes = []; joins = None; read = Some (conn, reply); asks = λ other. [] }) false a b
   since_reads conn reply x says = record {
     piece = record no_piece { replies = (conn, reply) ∷ [] };
-    goes = reading_begins_holds m kind setup a.replica.id [] None (moment_of a) (moment_of b) conn reply x;
+    goes = λ known. reading_begins_holds m kind setup a.replica.id [] None (moment_of a) (moment_of b) conn reply x;
     inputs = adds_none [];
     asks = λ other. refl;
     is_late = refl;
@@ -130,7 +130,7 @@ module _ (m : Meaning) (kind : EngineKind) (setup : Setup) (a b : Running) (id :
         Says a b letters replies → AllSent (kept_of a.replica) (kept_of b.replica) letters → Since m kind setup (came i) false a b
     since_follows law i letters replies x says sent = record {
       piece = record no_piece { inputs = i ∷ []; letters = letters; replies = replies };
-      goes = goes_begins_holds m kind setup a.replica.id bytes None None (moment_of a) (moment_of b) (record no_piece { inputs = i ∷ []; letters = letters; replies = replies }) (law setup a.replica.id bytes None (moment_of a) (moment_of b) i letters replies x);
+      goes = λ known. goes_begins_holds m kind setup a.replica.id bytes None None (moment_of a) (moment_of b) (record no_piece { inputs = i ∷ []; letters = letters; replies = replies }) (law setup a.replica.id bytes None (moment_of a) (moment_of b) i letters replies x);
       inputs = adds_none (i ∷ []);
       asks = λ other. refl;
       is_late = refl;
@@ -143,7 +143,7 @@ module _ (m : Meaning) (kind : EngineKind) (setup : Setup) (a b : Running) (id :
         Says a b letters [] → AllSent (kept_of a.replica) (kept_of b.replica) letters → Since m kind setup (came i) false a b
     since_leaves law i letters x says sent = record {
       piece = record no_piece { inputs = i ∷ []; letters = letters };
-      goes = goes_begins_holds m kind setup a.replica.id bytes None None (moment_of a) (moment_of b) (record no_piece { inputs = i ∷ []; letters = letters }) (law setup a.replica.id bytes None (moment_of a) (moment_of b) i letters x);
+      goes = λ known. goes_begins_holds m kind setup a.replica.id bytes None None (moment_of a) (moment_of b) (record no_piece { inputs = i ∷ []; letters = letters }) (law setup a.replica.id bytes None (moment_of a) (moment_of b) i letters x);
       inputs = adds_none (i ∷ []);
       asks = λ other. refl;
       is_late = refl;
@@ -156,7 +156,7 @@ module _ (m : Meaning) (kind : EngineKind) (setup : Setup) (a b : Running) (id :
         Says a b letters replies → AllSent (kept_of a.replica) (kept_of b.replica) letters → Since m kind setup (came (raft.Receive message)) false a b
     since_installs law message letters replies x says sent = record {
       piece = record no_piece { inputs = raft.Receive message ∷ []; letters = letters; replies = replies };
-      goes = goes_begins_holds m kind setup a.replica.id bytes None None (moment_of a) (moment_of b) (record no_piece { inputs = raft.Receive message ∷ []; letters = letters; replies = replies }) (law setup a.replica.id bytes None (moment_of a) (moment_of b) message letters replies x);
+      goes = λ known. goes_begins_holds m kind setup a.replica.id bytes None None (moment_of a) (moment_of b) (record no_piece { inputs = raft.Receive message ∷ []; letters = letters; replies = replies }) (law setup a.replica.id bytes None (moment_of a) (moment_of b) message letters replies x);
       inputs = adds_none (raft.Receive message ∷ []);
       asks = λ other. refl;
       is_late = refl;
@@ -165,11 +165,11 @@ module _ (m : Meaning) (kind : EngineKind) (setup : Setup) (a b : Running) (id :
       id = id;
     }
 
-    pub since_snapshot : SnapshotGoes m kind → (index : ℕ) (letters : List Letter) → TakesSnapshot setup a.replica.id (moment_of a) (moment_of b) index letters →
+    pub since_snapshot : SnapshotGoes m kind → (index : ℕ) (letters : List Letter) → (KnowsServers setup a → TakesSnapshot setup a.replica.id (moment_of a) (moment_of b) index letters) →
         Says a b letters [] → AllSent (kept_of a.replica) (kept_of b.replica) letters → Since m kind setup (came (raft.Local (raft.Snapped index))) false a b
     since_snapshot law index letters x says sent = record {
       piece = record no_piece { inputs = raft.Local (raft.Snapped index) ∷ []; letters = letters };
-      goes = goes_begins_holds m kind setup a.replica.id bytes None None (moment_of a) (moment_of b) (record no_piece { inputs = raft.Local (raft.Snapped index) ∷ []; letters = letters }) (law setup a.replica.id bytes None (moment_of a) (moment_of b) index letters x);
+      goes = λ known. goes_begins_holds m kind setup a.replica.id bytes None None (moment_of a) (moment_of b) (record no_piece { inputs = raft.Local (raft.Snapped index) ∷ []; letters = letters }) (law setup a.replica.id bytes None (moment_of a) (moment_of b) index letters (x known));
       inputs = adds_none (raft.Local (raft.Snapped index) ∷ []);
       asks = λ other. refl;
       is_late = refl;

@@ -28,6 +28,7 @@ use Rattle.node_replica.specs.Mails.{no_mail, all_posted, sent}
 use Rattle.node_replica.specs.Replicas.{kept_of}
 use Rattle.node_state.specs.Snapshot.{snapshot_in, offered_to}
 use Rattle.node_rules.specs.Accounts.{Moment, resting, Piece, Goes, Begins}
+use Rattle.node_rules.specs.RaftTurns.{HasServers}
 use Rattle.node_rules.specs.Steps.{Letter, Taken, StepsSo, StopsSo, AllSent}
 use Rattle.node_core.specs.declared.event.Event.{Event}
 use Rattle.node_core.specs.declared.event.Event.TheVariants as events
@@ -134,10 +135,14 @@ pub record Turns (m : Meaning) (kind : EngineKind) (setup : Setup) (bytes : List
   pub sent : AllSent (kept_of old.replica) (kept_of new.replica) piece.letters
   pub id : new.replica.id ≡ old.replica.id
 
+-- The servers of the node's configurations are those that are applied: so it is of a node at rest in each run.
+abbrev pub KnowsServers : Setup → Running → Type 0
+KnowsServers setup n = HasServers setup (moment_of n) n.members.servers
+
 -- What happened since an act began, in which this came in. It is late where a reply may have waited for a proposal.
 pub record Since (m : Meaning) (kind : EngineKind) (setup : Setup) (x : Brought) (late : Bool) (old new : Running) : Type 0 where
   pub piece : Piece
-  pub goes : Begins m kind setup old.replica.id x.bytes x.joins x.read (moment_of old) (moment_of new) piece
+  pub goes : KnowsServers setup old → Begins m kind setup old.replica.id x.bytes x.joins x.read (moment_of old) (moment_of new) piece
   pub inputs : Adds piece.inputs x.inputs
   pub asks : (conn : ℕ) → piece.asks conn ≡ x.asks conn
   pub is_late : piece.late ≡ late
@@ -261,12 +266,24 @@ pub record Takes (old : Running) (begin : Begin) (x : Taken) : Type 0 where
   pub read : x.read ≡ read_of begin
   pub asks : Brings old begin x.asks
 
+-- a node that rests: all that is committed is applied, and nothing is due
+abbrev pub IsResting : Running → Type 0
+IsResting n = moment_of n ≡ resting (seen n)
+
+-- So it is where an act begins; and the configurations go up to what is applied, and Raft's part is of the node's id.
+pub record AtRest (n : Running) : Type 0 where
+  pub rests : IsResting n
+  pub at : n.members.at ≡ n.applied.index
+  pub id : n.replica.raft.id ≡ n.replica.id
+
 -- An act of a step that ended well, with what it says.
 pub record Act (m : Meaning) (kind : EngineKind) (setup : Setup) (old new : Running) (begin : Begin) (letters : List Letter) (replies : List (ℕ ×
     Reply)) : Type 0 where
+  pub stood : AtRest old
+  pub id : new.replica.raft.id ≡ old.replica.raft.id
   pub taken : Taken
   pub takes : Takes old begin taken
-  pub steps : StepsSo m kind setup old.replica.id (seen old) (seen new) taken letters replies
+  pub steps : KnowsServers setup old → StepsSo m kind setup old.replica.id (seen old) (seen new) taken letters replies
   pub sent : AllSent (kept_of old.replica) (kept_of new.replica) letters
 
 -- These acts lead from one node to another, and say this. Before each of them, and after the last, only what the rules don't see changes.
@@ -279,9 +296,10 @@ Acts m kind setup old new (begin ∷ begins) letters replies =
 
 -- What the last of them left when it failed or was stopped.
 pub record Stopped (m : Meaning) (kind : EngineKind) (setup : Setup) (old : Running) (begin : Begin) (kept : Kept) : Type 0 where
+  pub stood : AtRest old
   pub taken : Taken
   pub takes : Takes old begin taken
-  pub stops : StopsSo m kind setup old.replica.id (seen old) kept taken
+  pub stops : KnowsServers setup old → StopsSo m kind setup old.replica.id (seen old) kept taken
 
 -- ---- the acts of a step
 
@@ -310,11 +328,7 @@ pub record Between (old new : Running) : Type 0 where
 
 -- ---- a step that is under way
 
--- a node that rests: all that is committed is applied, and nothing is due
-abbrev pub IsResting : Running → Type 0
-IsResting n = moment_of n ≡ resting (seen n)
-
--- A node that only has it due: the moment is the same, and nothing is said.
+-- Only what the rules don't see has changed: the moment is the same, and nothing is said.
 pub record Fresh (old new : Running) : Type 0 where
   pub moment : moment_of new ≡ moment_of old
   pub mail : new.mail ≡ old.mail
@@ -322,10 +336,12 @@ pub record Fresh (old new : Running) : Type 0 where
   pub kept : kept_of new.replica ≡ kept_of old.replica
   pub id : new.replica.id ≡ old.replica.id
 
--- Of an act that began at this node: its input is only due yet; or this came in by it, and this happened since.
-pub data SoFar (m : Meaning) (kind : EngineKind) (setup : Setup) (from now : Running) (begin : Begin) : Type 0 where
-  waits : Fresh from now → SoFar m kind setup from now begin
-  runs : (x : Brought) (late : Bool) → Comes_in from begin x → Since m kind setup x late from now → SoFar m kind setup from now begin
+-- Of an act that began at this node: this came in by it, and this happened since.
+pub record SoFar (m : Meaning) (kind : EngineKind) (setup : Setup) (from now : Running) (begin : Begin) : Type 0 where
+  pub brought : Brought
+  pub late : Bool
+  pub comes : Comes_in from begin brought
+  pub since : Since m kind setup brought late from now
 
 -- A step of an event is under way: these acts have ended, and this one began where the node last rested.
 pub record Underway (m : Meaning) (kind : EngineKind) (setup : Setup) (start now : Running) (event : Event) : Type 0 where
@@ -336,7 +352,7 @@ pub record Underway (m : Meaning) (kind : EngineKind) (setup : Setup) (start now
   pub went : Went m kind setup start mid begins
   pub from : Running
   pub between : Between mid from
-  pub rests : IsResting from
+  pub stood : AtRest from
   pub so_far : SoFar m kind setup from now begin
 
 -- ---- what a step shows

@@ -8,3 +8,5 @@ pub mod Acts
 pub mod Account
 pub mod Performing
 pub mod Applying
+pub mod Taking
+pub mod Duties

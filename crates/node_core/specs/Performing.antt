@@ -35,6 +35,7 @@ pub record Performed (old new : Running) (act : Act) : Type 0 where
   pub replica : new.replica ≡ old.replica
   pub index : new.applied.index ≡ old.applied.index
   pub serving : new.view.serving ≡ old.view.serving
+  pub office : new.office ≡ old.office
   pub machine : IsMachine new.applied.machine
   pub files : machine_of new.applied.machine ≡ machine_of old.applied.machine
 
@@ -47,6 +48,10 @@ ComesOr old new conn = Stays (moment_of old) (moment_of new) ⊎ Connects (momen
 -- a connection goes, or it is none that is open, or that is to be closed
 abbrev pub GoesOr : Running → Running → ℕ → Type 0
 GoesOr old new conn = Stays (moment_of old) (moment_of new) ⊎ HangsUp (moment_of old) (moment_of new) conn
+
+-- the connection whose bytes came goes where its stream has ended, or none does
+abbrev pub ClosesSo : Running → Running → Type 0
+ClosesSo old new = Stays (moment_of old) (moment_of new) ⊎ ((conn : ℕ) × ((old.heard ≡ Some conn) × GoesOr old new conn))
 
 -- bytes come on a connection, with these requests behind those that wait
 abbrev pub HearsSo : Running → Running → ℕ → List ℕ → Type 0
