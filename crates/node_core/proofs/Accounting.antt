@@ -311,16 +311,16 @@ are_more event (first ∷ begins) begin next are more = (are.0, all begins are.1
     all (x ∷ xs) h = (h.0, all xs h.1)
 
 -- the event's act has begun
-pub underway_starts : {before now : Option Told} (m : Meaning) (kind : EngineKind) (setup : Setup) (a b : Running) (event : Event) → AtRest a → SoFar m kind setup a b (Happens event) before now → Underway m kind setup a b event before now
-underway_starts m kind setup a b event stood so_far = record {
+pub underway_starts : {before now : Option Told} (m : Meaning) (kind : EngineKind) (setup : Setup) (a from b : Running) (event : Event) → Between a from → AtRest from → SoFar m kind setup from b (Happens event) before now → Underway m kind setup a b event before now
+underway_starts m kind setup a from b event between stood so_far = record {
   begins = [];
   begin = Happens event;
   are = (refl, tt);
   mid = a;
   told_between = _;
   went = went_none m kind setup a;
-  from = a;
-  between = record { same = refl; mail = refl; replies = refl; reads = refl };
+  from = from;
+  between = between;
   stood = stood;
   so_far = so_far;
 }

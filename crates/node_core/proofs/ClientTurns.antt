@@ -52,7 +52,7 @@ all_told : (rs : List (ℕ × Reply)) → flat_map (λ (r : ℕ × Reply). map (
 all_told [] = refl
 all_told (r ∷ rs) = ap (λ (l : List (ℕ × Response)). map (λ (response : Response). (r.0, response)) (responses_of r.1) ++ l) (all_told rs)
 
-sends_so : (rs : List (ℕ × Reply)) (bytes : List (ℕ × List ℕ)) → bytes ≡ as_sent rs → Sends rs bytes
+pub sends_so : (rs : List (ℕ × Reply)) (bytes : List (ℕ × List ℕ)) → bytes ≡ as_sent rs → Sends rs bytes
 sends_so rs bytes is = record { items = as_items rs; lives = all_lived rs; sends = is ∙ ap (map sent_to) (all_told rs) }
 
 -- a message that doesn't read as a request is refused

@@ -21,7 +21,7 @@ use Rattle.node_core.specs.Waiting.{HasTurns}
 use Rattle.node_core.specs.Whole.{Holds, IsOwnDue, IsGoing}
 
 -- the snapshot that is kept then is the one that the message brings
-brought : (r : ReplicaValue) (event : RaftEvent) (a : Applied) → Brings r event a → (snap_after r event).index ≡ a.index
+pub brought : (r : ReplicaValue) (event : RaftEvent) (a : Applied) → Brings r event a → (snap_after r event).index ≡ a.index
 brought r event a b =
     ap (λ (e : RaftEvent). (snap_after r e).index) b.event_is
     ∙ ap (λ (s : Snap). s.index) (cond-true (nat_lt r.raft.commit (stepped r (events.Message b.message)).snapshot.index) (snap_kept (offered (events.Message b.message))) r.snap b.puts)

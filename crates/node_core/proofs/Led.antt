@@ -34,7 +34,7 @@ use Rattle.node_rules.proofs.EndedSessions.{ends_on_holds}
 use Rattle.node_core.specs.declared.running.Running.{Running}
 use Rattle.node_core.specs.Account.{proposals_in, moment_of}
 use Rattle.node_core.specs.Acts.{proposals_by}
-use Rattle.node_core.specs.Performing.{Performed, ComesOr, GoesOr, HearsSo, ReadsSo, SaysNothing}
+use Rattle.node_core.specs.Performing.{Performed, ComesOr, GoesOr, ClosesSo, HearsSo, ReadsSo}
 use Rattle.node_core.specs.Values.{clients_in}
 use Rattle.node_core.specs.Whole.{InOffice, LeadsInOffice, ServesLast, IsFree, IsGoing, IsLed}
 use Rattle.node_core.proofs.Bridges.{took_handles, took_stays, ran_resumes, same_stays}
@@ -176,6 +176,10 @@ pub led_goes : (old new : Running) (conn : ℕ) → IsLed old → new.office ≡
 led_goes old new conn led office (inl x) = led_stays old new led office x
 led_goes old new conn led office (inr x) = led_by old new led office x.rest.raft x.rest.serving (free_hangs old.office (moment_of old) (moment_of new) conn x led.free)
 
+pub led_closes : (old new : Running) → IsLed old → new.office ≡ old.office → ClosesSo old new → IsLed new
+led_closes old new led office (inl x) = led_stays old new led office x
+led_closes old new led office (inr x) = led_goes old new x.0 led office x.1.1
+
 pub led_hears : (old new : Running) (conn : ℕ) (bytes : List ℕ) → IsLed old → new.office ≡ old.office → HearsSo old new conn bytes → IsLed new
 led_hears old new conn bytes led office x = led_by old new led office x.1.rest.raft x.1.rest.serving (free_hears old.office (moment_of old) (moment_of new) x.0 x.1 led.free)
 
@@ -186,6 +190,10 @@ led_reads old new conn told led office (inr x) = led_by old new led office x.1.1
 pub led_applies : (old new : Running) (replies : List _) → IsLed old → new.office ≡ old.office → new.replica ≡ old.replica → Applies (moment_of old) (moment_of new) replies → IsLed new
 led_applies old new replies led office replica x =
     led_by old new led office (ap (λ (r : ReplicaValue). r.raft) replica) x.serving (free_applies old.office (moment_of old) (moment_of new) replies x led.free)
+
+-- which jobs are out has no part in it
+pub led_lent : (old mid : Running) → IsLed old → mid ≡ record old { lent = mid.lent; view = record old.view { readers = mid.view.readers } } → IsLed mid
+led_lent old mid led is = led_same old mid led (ap (λ (n : Running). n.office) is) (ap moment_of is)
 
 -- ---- a client's message, and a query that is run later
 

@@ -16,5 +16,17 @@ mod ClientMoves
 mod ApplyingTurns
 mod TurnsOf
 mod Beginning
+mod SnapshotMoves
+mod RaftBridges
+mod Posting
+mod OfficeBridges
+mod Stopping
+mod FollowingLogs
+mod OwnSteps
 mod Duties
 mod Led
+mod Looping
+mod RaftAccounts
+mod Stepped
+mod OwnTurns
+mod Installed

@@ -24,7 +24,7 @@ proposals_more (raft_events.Transfer to ∷ es) e = proposals_more es e
 proposals_more (raft_events.Snapped at ∷ es) e = proposals_more es e
 proposals_more (raft_events.Servers servers ∷ es) e = proposals_more es e
 
-due_more : (old new : Running) (e : RaftEvent) → new.due.items ≡ old.due.items ++ e ∷ [] → proposals_in new.due.items ≡ proposals_in old.due.items ++ proposals_in (e ∷ [])
+pub due_more : (old new : Running) (e : RaftEvent) → new.due.items ≡ old.due.items ++ e ∷ [] → proposals_in new.due.items ≡ proposals_in old.due.items ++ proposals_in (e ∷ [])
 due_more old new e is = ap proposals_in is ∙ proposals_more old.due.items e
 
 pub performed_propose : (old new : Running) (act : Act) (conn : ℕ) (entries : List Entry) → act ≡ acts.Propose conn entries → IsMachine old.applied.machine → new.due.items ≡ old.due.items ++ raft_events.Propose entries ∷ [] → new ≡ record old { due = new.due } → Performed old new act

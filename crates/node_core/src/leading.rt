@@ -1,6 +1,6 @@
 //! A node's turn in which it applies an entry, and what a leader does then.
 
-ghost use Rattle.std.specs.Prelude.{◌≡◌, ◌≢◌, ◌<◌, ◌^◌, ◌++◌, suc, false, ℕ, List, [], Option, Err, OnOk, IfOk, IfErr};
+ghost use Rattle.std.specs.Prelude.{◌≡◌, ◌≢◌, ◌<◌, ◌^◌, ◌++◌, suc, true, false, ℕ, List, [], Option, Err, OnOk, IfOk, IfErr};
 ghost use Rattle.sql_engine.specs.Known.{Known};
 ghost use Rattle.raft_vote.specs.Servers.{IsConfiguration};
 ghost use Rattle.client_sessions.specs.declared.clients.Clients.{Clients as Held};
@@ -97,10 +97,8 @@ impl Running {
     /// Applies the next entry, and tells the client whose proposal ends with it.
     fn apply_one(&mut self) -> Result<Effect, NodeFault>
         requires going { IsGoing self.old }
-        requires led { IsLed self.old }
         requires more { self.old.applied.index < self.old.replica.raft.commit }
         ensures going { OnOk result (IsGoing self.new) }
-        ensures led { OnOk result (IsLed self.new) }
         ensures index { OnOk result (self.new.applied.index ≡ suc self.old.applied.index) }
         ensures replica { self.new.replica ≡ self.old.replica }
         ensures wants { IfErr result (λ f. f ≡ fault.NoMemory) }

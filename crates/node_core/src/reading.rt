@@ -128,9 +128,8 @@ impl Running {
     fn tell_read(&mut self, conn: u64, read: Read) -> Result<(), NodeFault>
         requires sends { ToldCanSend (read_named read) }
         requires going { IsGoing self.old }
-        requires led { IsLed self.old }
         ensures going { OnOk result (IsGoing self.new) }
-        ensures led { OnOk result (IsLed self.new) }
+        ensures office { OnOk result (self.new.office ≡ self.old.office) }
         ensures replica { self.new.replica ≡ self.old.replica }
         ensures index { self.new.applied.index ≡ self.old.applied.index }
         ensures wants { IfErr result (λ f. f ≡ fault.NoMemory) }

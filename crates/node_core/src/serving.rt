@@ -51,9 +51,8 @@ impl Running {
     #[tactic(auto, using(crate::proofs::Waiting::came_turns))]
     pub(crate) fn connect(&mut self, conn: u64) -> Result<(), NodeFault>
         requires going { IsGoing self.old }
-        requires led { IsLed self.old }
         ensures going { OnOk result (IsGoing self.new) }
-        ensures led { OnOk result (IsLed self.new) }
+        ensures office { self.new.office ≡ self.old.office }
         ensures replica { self.new.replica ≡ self.old.replica }
         ensures index { self.new.applied.index ≡ self.old.applied.index }
         ensures wants { IfErr result (λ f. f ≡ fault.NoMemory) }
@@ -76,9 +75,8 @@ impl Running {
     #[tactic(auto, using(crate::proofs::Waiting::heard_turns))]
     pub(crate) fn receive(&mut self, conn: u64, bytes: &[u8]) -> Result<(), NodeFault>
         requires going { IsGoing self.old }
-        requires led { IsLed self.old }
         ensures going { OnOk result (IsGoing self.new) }
-        ensures led { OnOk result (IsLed self.new) }
+        ensures office { self.new.office ≡ self.old.office }
         ensures replica { self.new.replica ≡ self.old.replica }
         ensures index { self.new.applied.index ≡ self.old.applied.index }
         ensures wants { IfErr result (λ f. f ≡ fault.NoMemory) }
@@ -99,9 +97,8 @@ impl Running {
     /// A connection is gone.
     pub(crate) fn hang_up(&mut self, conn: u64)
         requires going { IsGoing self.old }
-        requires led { IsLed self.old }
         ensures going { IsGoing self.new }
-        ensures led { IsLed self.new }
+        ensures office { self.new.office ≡ self.old.office }
         ensures replica { self.new.replica ≡ self.old.replica }
         ensures index { self.new.applied.index ≡ self.old.applied.index }
         ensures agrees { StaysAgreed self.old self.new }
@@ -265,9 +262,8 @@ impl Running {
     /// Closes the connection whose bytes came, where its stream has ended. False where that was looked at before.
     pub(crate) fn close_heard(&mut self) -> Result<bool, NodeFault>
         requires going { IsGoing self.old }
-        requires led { IsLed self.old }
         ensures going { OnOk result (IsGoing self.new) }
-        ensures led { OnOk result (IsLed self.new) }
+        ensures office { self.new.office ≡ self.old.office }
         ensures replica { self.new.replica ≡ self.old.replica }
         ensures index { self.new.applied.index ≡ self.old.applied.index }
         ensures wants { IfErr result (λ f. f ≡ fault.NoMemory) }
@@ -291,9 +287,8 @@ impl Running {
     #[tactic(auto, using(crate::proofs::Waiting::closed_turns))]
     fn closing(&mut self, conn: u64) -> Option<CloseReason>
         requires going { IsGoing self.old }
-        requires led { IsLed self.old }
         ensures going { IsGoing self.new }
-        ensures led { IsLed self.new }
+        ensures office { self.new.office ≡ self.old.office }
         ensures replica { self.new.replica ≡ self.old.replica }
         ensures index { self.new.applied.index ≡ self.old.applied.index }
         ensures heard { self.new.heard ≡ self.old.heard }

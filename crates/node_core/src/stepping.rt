@@ -23,6 +23,7 @@ use crate::outs::Outs;
 use crate::running::Running;
 use disk_model::Disk;
 use node_replica::Mail;
+use node_rules::raft_turns;
 use raft_core::RaftEvent;
 use raft_vote::SharedBytes;
 use sql_engine::Engine;
@@ -142,7 +143,7 @@ impl Running {
         ensures ends { IfOk result (λ more. more ≡ false → MayEnd (moment_of self.new)) }
         ensures runs { result ≢ Err fault.Down }
     {
-        if self.take_due(disk, engine)? {
+        if self.take_due(disk)? {
             return Ok(true);
         }
         if self.applied.index < self.replica.view().commit {
@@ -177,6 +178,7 @@ impl Running {
         ensures ends { IfOk result (λ more. more ≡ false → MayEnd (moment_of self.new)) }
         ensures runs { result ≢ Err fault.Down }
     {
+        raft_turns::<E>();
         if self.run_due(engine)? {
             return Ok(true);
         }

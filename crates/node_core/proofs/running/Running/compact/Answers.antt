@@ -1,8 +1,9 @@
 use Rattle.std.proofs.Common.{sym, ap, subst, ◌∙◌}
 use Rattle.raft_rules.specs.Node.{Node}
 use Rattle.raft_rules.specs.NodeValues.{node_of}
-use Rattle.node_replica.specs.Replicas.{ReplicaValue, IsKept}
+use Rattle.node_replica.specs.Replicas.{ReplicaValue, IsKept, snapped}
 use Rattle.node_core.specs.declared.running.Running.{Running}
+use Rattle.node_core.proofs.Posting.{posts_by}
 use Rattle.node_core.proofs.SnapshotOffice.{snapped_office, office_kept}
 use Rattle.node_core.proofs.running.Running.compact.Goals as goal
 
@@ -14,3 +15,8 @@ look-requires-clause-office g c =
 
 pub returns-clause-stored : goal.returns-clause-stored
 returns-clause-stored g c = λ has. subst (λ (r : ReplicaValue). IsKept g.D.Disk.tells (g.D.Disk.states c.snapshot-2.new.disk) r) (sym (ap (λ (n : Running). n.replica) c.look.ensures.rest)) (c.in_ok-messages.ensures.kept has)
+
+pub returns-clause-posts : goal.returns-clause-posts
+returns-clause-posts g c = λ more.
+    posts_by c.args.self.now c.look.new.self _ (snapped c.args.self.now.replica c.args.self.now.applied.index) _ (ap (λ (n : Running). n.replica) c.look.ensures.rest) c.requires.going.holds.replica
+    c.in_ok-messages.ensures.raft c.in_ok-messages.ensures.whole c.in_ok-messages.ensures.tells (ap (λ (n : Running). n.mail) c.look.ensures.rest ∙ c.in_ok-post_all.ensures)

@@ -14,6 +14,7 @@ returns-in-Joined c =
     let new : Running = record c.args.self.now { clients = c.connect.new.self } in
     record {
       going = clients_moved c.args.self.now _ going (c.in_ok-connect.ensures.stand machine going.holds.clients) (came_turns (clients_of c.args.self.now.clients machine) _ c.args.conn joined going.holds.turns) refl;
+      office = refl;
       replica = refl;
       index = refl;
       wants = tt;
