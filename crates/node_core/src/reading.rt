@@ -7,7 +7,6 @@ ghost use Rattle.node_core.specs.Account.{SoFar, Happens};
 ghost use Rattle.node_core.specs.Taking.{TurnsOn};
 ghost use Rattle.node_core.specs.Performing.{ReadsSo};
 ghost use Rattle.sql_engine.specs.Meanings.{Stays};
-ghost use Rattle.client_sessions.specs.Sending.{ToldCanSend};
 ghost use Rattle.session_decisions.specs.Reading.{read_named};
 ghost use Rattle.client_sessions.specs.Seen.{Agrees};
 ghost use Rattle.node_core.specs.declared.fault.NodeFault.TheVariants as fault;
@@ -98,7 +97,6 @@ impl Running {
         read: Read,
         engine: &mut E,
     ) -> Result<(), NodeFault>
-        requires sends { ToldCanSend (read_named read) }
         requires going { IsGoing self.old }
         requires led { IsLed self.old }
         requires idle { self.old.due.items ≡ [] }
@@ -126,7 +124,6 @@ impl Running {
 
     /// The client of a query is told what its reader tells.
     fn tell_read(&mut self, conn: u64, read: Read) -> Result<(), NodeFault>
-        requires sends { ToldCanSend (read_named read) }
         requires going { IsGoing self.old }
         ensures going { OnOk result (IsGoing self.new) }
         ensures office { OnOk result (self.new.office ≡ self.old.office) }

@@ -13,7 +13,7 @@ ghost use Rattle.client_sessions.specs.Seen.{Agrees};
 ghost use Rattle.node_replica.specs.Mails.{sent};
 ghost use Rattle.node_core.specs.declared.fault.NodeFault.TheVariants as fault;
 ghost use Rattle.node_core.specs.Faults.{StepCause};
-ghost use Rattle.node_core.specs.Stepping.{CanBeTold, StaysAgreed, StaysStored};
+ghost use Rattle.node_core.specs.Stepping.{StaysAgreed, StaysStored};
 ghost use Rattle.node_core.specs.Values.{clients_in};
 ghost use Rattle.node_core.specs.Whole.{IsGoing, IsIdle, IsLed, IsQuiet, Rests};
 
@@ -38,7 +38,6 @@ impl Running {
         disk: &mut D,
         engine: &mut E,
     ) -> Result<Outs, NodeFault>
-        requires told { CanBeTold event }
         requires rests { Rests self.old }
         requires agrees { Agrees (E.known engine.old) self.old.clients self.old.applied.machine }
         ensures rests { OnOk result (Rests self.new) }
@@ -64,7 +63,6 @@ impl Running {
         disk: &mut D,
         engine: &mut E,
     ) -> Result<(), NodeFault>
-        requires told { CanBeTold event }
         requires going { IsGoing self.old }
         requires led { IsLed self.old }
         requires idle { self.old.due.items ≡ [] }
