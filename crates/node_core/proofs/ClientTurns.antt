@@ -130,7 +130,7 @@ module _ (m : Meaning) (kind : EngineKind) (on : GoesOn m kind) (staying : Stayi
           tells = subst (λ (rs : List (ℕ × Reply)). Sends rs (messages_by act)) (sym (append-nil replies)) sends;
           reads = done.reads ∙ ap (λ o. o.reads.items ++ jobs_by act) outs ∙ ap (λ (js : List (ℕ × Job)). old.outs.reads.items ++ js) (lends ∙ sym (append-nil jobs));
         };
-        heard = subst (λ (as : List Answer). TellsAll as before now) (sym (append-nil answers)) heard;
+        heard = subst (λ (all : List Answer). TellsAll all before now) (sym (append-nil answers)) heard;
         inputs = record { own = []; each = tt; is = refl };
         asks = λ conn. refl;
         sent = tt;

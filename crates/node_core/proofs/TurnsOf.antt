@@ -49,7 +49,7 @@ module _ (m : Meaning) (kind : EngineKind) (setup : Setup) (a b : Running) (id :
     turns_resumes law conn replies x says heard = record { piece = record no_piece { replies = replies; answers = x.answers }; goes = law setup a.replica.id bytes joins (moment_of a) (moment_of b) conn replies x; inputs = adds_none []; asks = λ conn. refl; says = says; heard = heard; sent = tt; id = id }
 
     -- this one is late
-    pub turns_applies : {told : Option Told} → (replies : List (ℕ × Reply)) → Applies (moment_of a) (moment_of b) replies → Says a b [] replies → So told
+    pub turns_applies : {told : Option Told} → (replies : List (ℕ × Reply)) → Applies (moment_of a) (moment_of b) replies → Says a b [] replies [] → So told
     turns_applies replies x says = record { piece = record no_piece { replies = replies; late = true }; goes = applying_goes_holds m kind setup a.replica.id bytes joins (moment_of a) (moment_of b) replies x; inputs = adds_none []; asks = λ conn. refl; says = says; heard = heard_none _; sent = tt; id = id }
 
     pub turns_owes : {told : Option Told} → (contents : List Content) → Owes (moment_of a) (moment_of b) contents → Says a b [] [] [] → So told
