@@ -1,5 +1,5 @@
 -- What a load finds where a part of a step failed or was stopped.
-use Rattle.std.proofs.Common.{◌≡◌, ◌≢◌, ℕ, Bool, List, [], refl, sym, ap, subst, ◌∙◌, Option}
+use Rattle.std.proofs.Common.{◌≡◌, ◌≢◌, ℕ, Bool, List, [], Ok, Err, refl, sym, ap, subst, ◌∙◌, Option}
 use Rattle.std.specs.Prelude.{Result, OnErr}
 use Rattle.raft_rules.specs.Node as raft
 use Rattle.raft_rules.specs.NodeValues.{node_of}
@@ -24,6 +24,10 @@ use Rattle.node_core.proofs.RaftBridges.{leaves_so, leaves_own_so, behind_so, be
 use Rattle.node_core.proofs.StopsOfTurns.{with_offer}
 
 -- ---- a disk, or none that tells
+
+pub failed : {T E P : Type 0} (r : Result T E) → P → OnErr r P
+failed (Ok x) p = tt
+failed (Err e) p = p
 
 finds_more : (P Q : Kept → Type 0) → ((k : Kept) → P k → Q k) → (d : NodeDisk) → FindsIn P d → FindsIn Q d
 finds_more P Q f d x = record {

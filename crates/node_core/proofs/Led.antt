@@ -21,7 +21,7 @@ use Rattle.raft_rules.specs.Log.{Entry}
 use Rattle.raft_rules.specs.Node.{is_leader}
 use Rattle.raft_rules.specs.NodeValues.{NodeValue}
 use Rattle.client_sessions.specs.declared.act.Act.{Act}
-use Rattle.client_sessions.specs.Calls.{TookOffer, WasIdle, TookTurn}
+use Rattle.client_sessions.specs.Calls.{TookOffer, WasIdle, TookTurn, call_of, scene}
 use Rattle.client_sessions.specs.Clients.{Clients, freed}
 use Rattle.client_sessions.specs.Later.{RanLater, turn_for, Resumes as ResumesBy}
 use Rattle.node_state.specs.declared.office.Office.{Office}
@@ -253,7 +253,7 @@ module _ (m : Meaning) (kind : EngineKind) (old mid : Running) (going : IsGoing 
       went)
 
   module _ (before now : Option Told) (refused refused_now : ℕ) (act : Act) where
-    took_free : (x : TookOffer m kind old.view (machine_of old.applied.machine) (clients_in old) before now refused refused_now (clients_in mid) act) (r : Result Request MsgFault) → request_of x.offer.message ≡ r → old.office ≡ None → Free (acting mid act)
+    took_free : (x : TookOffer (call_of m kind before now) old.view (machine_of old.applied.machine) (clients_in old) refused refused_now (clients_in mid) act) (r : Result Request MsgFault) → request_of x.offer.message ≡ r → old.office ≡ None → Free (acting mid act)
     took_free x (Ok request) reads e =
         let h = took_handles m kind (moment_of old) (acting mid act) (clients_in old) (clients_in mid) old.view before now refused refused_now act (record { sessions = refl; waiting = λ conn. refl }) (record { sessions = refl; waiting = λ conn. refl })
             (keeps (proposals_by act)) (sees_itself old going) going.holds.clients.sound leads none_due refl x request reads in
@@ -263,26 +263,26 @@ module _ (m : Meaning) (kind : EngineKind) (old mid : Running) (going : IsGoing 
             (keeps (proposals_in mid.due.items)) (ap (λ (n : Running). proposals_in n.due.items) is) x fault reads in
         (subst HasEnded (sym s.0.sessions) (ended e), ap proposals_by s.1)
 
-    took_given : (new : Running) → TookOffer m kind old.view (machine_of old.applied.machine) (clients_in old) before now refused refused_now (clients_in mid) act → Performed mid new act → IsLed new
+    took_given : (new : Running) → TookOffer (call_of m kind before now) old.view (machine_of old.applied.machine) (clients_in old) refused refused_now (clients_in mid) act → Performed mid new act → IsLed new
     took_given new x done = done_free new act done (by_office old.office (acting mid act) (took_free x (request_of x.offer.message) refl))
 
-    pub took_led : (new : Running) (result : Option Act) → TookTurn m kind old.view (machine_of old.applied.machine) (clients_in old) before now refused refused_now (clients_in mid) result → result ≡ Some act → Performed mid new act → IsLed new
+    pub took_led : (new : Running) (result : Option Act) → TookTurn (call_of m kind before now) old.view (machine_of old.applied.machine) (clients_in old) refused refused_now (clients_in mid) result → result ≡ Some act → Performed mid new act → IsLed new
     took_led new result t e done =
-        took_given new (subst (λ (r : Option Act). TookTurn m kind old.view (machine_of old.applied.machine) (clients_in old) before now refused refused_now (clients_in mid) r) e t) done
+        took_given new (subst (λ (r : Option Act). TookTurn (call_of m kind before now) old.view (machine_of old.applied.machine) (clients_in old) refused refused_now (clients_in mid) r) e t) done
 
     by_query : (new : Running) (conn : ℕ) (query : Option Statement) → later_query ((clients_in old).sessions.session conn).later ≡ query → ((other : ℕ) → (clients_in mid).streams other ≡ (clients_in old).streams other)
-        → ResumesBy m kind old.view (machine_of old.applied.machine) (clients_in old).sessions conn query before now refused refused_now (clients_in mid).sessions (Some act) → Performed mid new act → IsLed new
+        → ResumesBy (call_of m kind before now) (scene old.view (machine_of old.applied.machine) (clients_in old).sessions conn) query refused refused_now (clients_in mid).sessions (Some act) → Performed mid new act → IsLed new
     by_query new conn None later streams r done = absurd r
     by_query new conn (Some statement) later streams r done = done_free new act done (by_office old.office (acting mid act) (λ e.
         let h = ran_resumes m kind (moment_of old) (acting mid act) (clients_in old) (clients_in mid) old.view before now refused refused_now act conn statement (record { sessions = refl; waiting = λ other. refl }) (record { sessions = refl; waiting = λ other. refl })
             streams (keeps (proposals_by act)) (sees_itself old going) leads none_due refl later r in
         resumed_free m kind (moment_of old) (acting mid act) conn h.0 h.1 (off e) (ended e)))
 
-    pub ran_led : (new : Running) (conn : ℕ) (result : Option Act) → ResumesBy m kind old.view (machine_of old.applied.machine) (clients_in old).sessions conn (later_query ((clients_in old).sessions.session conn).later) before now refused refused_now (clients_in mid).sessions result
+    pub ran_led : (new : Running) (conn : ℕ) (result : Option Act) → ResumesBy (call_of m kind before now) (scene old.view (machine_of old.applied.machine) (clients_in old).sessions conn) (later_query ((clients_in old).sessions.session conn).later) refused refused_now (clients_in mid).sessions result
         → clients_in mid ≡ freed (clients_in old) (clients_in mid).sessions (turn_for conn result) → result ≡ Some act → Performed mid new act → IsLed new
     ran_led new conn result r rest e done =
         by_query new conn (later_query ((clients_in old).sessions.session conn).later) refl (λ other. ap (λ (k : Clients). k.streams other) rest)
-        (subst (λ (x : Option Act). ResumesBy m kind old.view (machine_of old.applied.machine) (clients_in old).sessions conn (later_query ((clients_in old).sessions.session conn).later) before now refused refused_now (clients_in mid).sessions x) e r) done
+        (subst (λ (x : Option Act). ResumesBy (call_of m kind before now) (scene old.view (machine_of old.applied.machine) (clients_in old).sessions conn) (later_query ((clients_in old).sessions.session conn).later) refused refused_now (clients_in mid).sessions x) e r) done
 
   -- nothing was done
   module _ (before now : Option Told) (refused refused_now : ℕ) where
@@ -291,19 +291,19 @@ module _ (m : Meaning) (kind : EngineKind) (old mid : Running) (going : IsGoing 
         led_by old mid led office (ap (λ (n : Running). n.replica.raft) is) (ap (λ (n : Running). n.view.serving) is)
         (by_office old.office (moment_of mid) (λ e. (subst HasEnded (sym same) (ended e), ap (λ (n : Running). proposals_in n.due.items) is ∙ none_due)))
 
-    pub idle_sessions : (result : Option Act) → TookTurn m kind old.view (machine_of old.applied.machine) (clients_in old) before now refused refused_now (clients_in mid) result → result ≡ None → (clients_in mid).sessions ≡ (clients_in old).sessions
+    pub idle_sessions : (result : Option Act) → TookTurn (call_of m kind before now) old.view (machine_of old.applied.machine) (clients_in old) refused refused_now (clients_in mid) result → result ≡ None → (clients_in mid).sessions ≡ (clients_in old).sessions
     idle_sessions result t e =
-        let idle : WasIdle (clients_in old) before now (clients_in mid) = subst (λ (r : Option Act). TookTurn m kind old.view (machine_of old.applied.machine) (clients_in old) before now refused refused_now (clients_in mid) r) e t in
+        let idle : WasIdle (clients_in old) before now (clients_in mid) = subst (λ (r : Option Act). TookTurn (call_of m kind before now) old.view (machine_of old.applied.machine) (clients_in old) refused refused_now (clients_in mid) r) e t in
         ap (λ (k : Clients). k.sessions) idle.rest
 
-    pub idle_led : (result : Option Act) → TookTurn m kind old.view (machine_of old.applied.machine) (clients_in old) before now refused refused_now (clients_in mid) result → result ≡ None → IsLed mid
+    pub idle_led : (result : Option Act) → TookTurn (call_of m kind before now) old.view (machine_of old.applied.machine) (clients_in old) refused refused_now (clients_in mid) result → result ≡ None → IsLed mid
     idle_led result t e = unchanged (idle_sessions result t e)
 
-    none_by : (conn : ℕ) (query : Option Statement) → ResumesBy m kind old.view (machine_of old.applied.machine) (clients_in old).sessions conn query before now refused refused_now (clients_in mid).sessions None → IsLed mid
+    none_by : (conn : ℕ) (query : Option Statement) → ResumesBy (call_of m kind before now) (scene old.view (machine_of old.applied.machine) (clients_in old).sessions conn) query refused refused_now (clients_in mid).sessions None → IsLed mid
     none_by conn None r = unchanged r.0
     none_by conn (Some statement) r = absurd r
 
-    pub none_led : (conn : ℕ) (result : Option Act) → ResumesBy m kind old.view (machine_of old.applied.machine) (clients_in old).sessions conn (later_query ((clients_in old).sessions.session conn).later) before now refused refused_now (clients_in mid).sessions result → result ≡ None → IsLed mid
+    pub none_led : (conn : ℕ) (result : Option Act) → ResumesBy (call_of m kind before now) (scene old.view (machine_of old.applied.machine) (clients_in old).sessions conn) (later_query ((clients_in old).sessions.session conn).later) refused refused_now (clients_in mid).sessions result → result ≡ None → IsLed mid
     none_led conn result r e =
         none_by conn (later_query ((clients_in old).sessions.session conn).later)
-        (subst (λ (x : Option Act). ResumesBy m kind old.view (machine_of old.applied.machine) (clients_in old).sessions conn (later_query ((clients_in old).sessions.session conn).later) before now refused refused_now (clients_in mid).sessions x) e r)
+        (subst (λ (x : Option Act). ResumesBy (call_of m kind before now) (scene old.view (machine_of old.applied.machine) (clients_in old).sessions conn) (later_query ((clients_in old).sessions.session conn).later) refused refused_now (clients_in mid).sessions x) e r)

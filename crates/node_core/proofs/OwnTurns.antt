@@ -207,6 +207,7 @@ fresh_due w n new is same due = subst (Fresh (record n { due = w.due })) (sym is
   moment = λ i. record { node = record (seen n) { serving = same i }; applied = n.applied.index; due = due i };
   mail = refl;
   replies = refl;
+  reads = refl;
   kept = refl;
   id = refl;
 })

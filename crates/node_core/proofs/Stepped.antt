@@ -77,7 +77,7 @@ tells_none old new e = untold (e ∙ ap (λ (c : Configurations). record old { m
 -- ---- the turn ends
 
 pub fresh_view : (n m : Running) (o : Option Held) (v : View) → m ≡ record n { office = o; view = v } → v.serving ≡ n.view.serving → Fresh n m
-fresh_view n m o v is same = subst (Fresh n) (sym is) (record { moment = λ i. record (moment_of n) { node = record (seen n) { serving = same i } }; mail = refl; replies = refl; kept = refl; id = refl })
+fresh_view n m o v is same = subst (Fresh n) (sym is) (record { moment = λ i. record (moment_of n) { node = record (seen n) { serving = same i } }; mail = refl; replies = refl; reads = refl; kept = refl; id = refl })
 
 pub fresh_won : (followed won new : Running) → won ≡ record followed { office = won.office } → new ≡ record won { view = new.view } → new.view.serving ≡ won.view.serving → Fresh followed new
 fresh_won followed won new won_is is same =

@@ -1,7 +1,7 @@
 -- What a load finds where a part of a step failed or was stopped.
-use Rattle.std.specs.Prelude.{◌≡◌, ℕ, Bool, false, List, Result, OnErr}
+use Rattle.std.specs.Prelude.{◌≡◌, ℕ, Bool, false, List, Option, Result, OnErr}
 use Rattle.sql_engine.specs.declared.kind.EngineKind.{EngineKind}
-use Rattle.sql_engine.specs.Meanings.{Meaning}
+use Rattle.sql_engine.specs.Meanings.{Meaning, Told}
 use Rattle.raft_rules.specs.Node as raft
 use Rattle.raft_vote.specs.declared.message.RaftMessage.{RaftMessage}
 use Rattle.raft_vote.specs.Messages.{message_value}
@@ -84,4 +84,9 @@ StopsCompacting setup came old kept = KnowsServers setup old → StopsIn setup c
 -- An act that began with an event was stopped in Raft's step of it, or in one that the node added.
 pub data BeganStops (m : Meaning) (kind : EngineKind) (setup : Setup) (old : Running) (event : RaftEvent) (kept : Kept) : Type 0 where
   at_once : StopsIn setup (bytes_with event) old (input_of event) kept → BeganStops m kind setup old event kept
-  later_on : (mid : Running) (i : raft.Input) → Since m kind setup (came_by event) false old mid → IsOwn i → IsFirst (moment_of mid) i → StopsIn setup (bytes_with event) mid i kept → BeganStops m kind setup old event kept
+  later_on : {told : Option Told} (mid : Running) (i : raft.Input) → Since m kind setup (came_by event) false old mid told told → IsOwn i → IsFirst (moment_of mid) i → StopsIn setup (bytes_with event) mid i kept → BeganStops m kind setup old event kept
+
+-- A message of a peer that came on a connection was stopped; or nothing was kept yet.
+pub data StopsLetter (m : Meaning) (kind : EngineKind) (setup : Setup) (old : Running) (kept : Kept) : Type 0 where
+  letter_stopped : (message : RaftMessage) (mid : Running) → mid ≡ record old { links = mid.links } → BeganStops m kind setup mid (events.Message message) kept → StopsLetter m kind setup old kept
+  no_letter : kept ≡ kept_of old.replica → StopsLetter m kind setup old kept

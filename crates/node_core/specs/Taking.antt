@@ -1,7 +1,7 @@
 -- What Raft's turns show: an event from outside begins an act, what the node gave Raft is a turn, and an own snapshot is an act of its own.
 use Rattle.std.specs.Prelude.{◌≡◌, ℕ, false, List, [], ◌∷◌, Option, None}
 use Rattle.sql_engine.specs.declared.kind.EngineKind.{EngineKind}
-use Rattle.sql_engine.specs.Meanings.{Meaning}
+use Rattle.sql_engine.specs.Meanings.{Meaning, Told}
 use Rattle.raft_vote.specs.declared.message.RaftMessage.{RaftMessage}
 use Rattle.raft_core.specs.declared.event.RaftEvent.{RaftEvent}
 use Rattle.raft_core.specs.declared.event.RaftEvent.TheVariants as events
@@ -17,8 +17,9 @@ use Rattle.node_core.specs.Account.{moment_of, bytes_in, Says, Brought, Turns, K
 -- ---- turns
 
 -- A turn that leaves term, leadership and the kept snapshot.
-pub record TurnsOn (m : Meaning) (kind : EngineKind) (setup : Setup) (bytes : List ℕ) (joins : Option ℕ) (old new : Running) : Type 0 where
-  pub turns : Turns m kind setup bytes joins old new
+pub record TurnsOn (m : Meaning) (kind : EngineKind) (setup : Setup) (bytes : List ℕ) (joins : Option ℕ) (old new : Running)
+    (told_before told_now : Option Told) : Type 0 where
+  pub turns : Turns m kind setup bytes joins old new told_before told_now
   pub same : SameTerm (moment_of old) (moment_of new)
   pub snap : (kept_of old.replica).snap ≡ (kept_of new.replica).snap
 
@@ -39,16 +40,16 @@ IsLostBy old (events.Message message) = LosesMessage old message
 IsLostBy old event = ⊥
 
 -- Its act has begun: its input was taken in; or its message counts as lost, and nothing has changed.
-pub data BeganBy (m : Meaning) (kind : EngineKind) (setup : Setup) (old new : Running) (event : RaftEvent) : Type 0 where
-  takes : Since m kind setup (came_by event) false old new → BeganBy m kind setup old new event
-  loses : IsLostBy old event → new ≡ old → BeganBy m kind setup old new event
+pub data BeganBy (m : Meaning) (kind : EngineKind) (setup : Setup) (old new : Running) (event : RaftEvent) (told_before told_now : Option Told) : Type 0 where
+  takes : Since m kind setup (came_by event) false old new told_before told_now → BeganBy m kind setup old new event told_before told_now
+  loses : IsLostBy old event → new ≡ old → told_before ≡ told_now → BeganBy m kind setup old new event told_before told_now
 
 -- A message of a peer came on a connection, and its act has begun where only the connections' messages were others; or nothing came that
 -- the rules see.
-pub data TookLetter (m : Meaning) (kind : EngineKind) (setup : Setup) (old new : Running) : Type 0 where
-  came : (message : RaftMessage) (mid : Running) → mid ≡ record old { links = mid.links } → BeganBy m kind setup mid new (events.Message message) →
-      TookLetter m kind setup old new
-  none_came : Fresh old new → TookLetter m kind setup old new
+pub data TookLetter (m : Meaning) (kind : EngineKind) (setup : Setup) (old new : Running) (told_before told_now : Option Told) : Type 0 where
+  came : (message : RaftMessage) (mid : Running) → mid ≡ record old { links = mid.links } →
+      BeganBy m kind setup mid new (events.Message message) told_before told_now → TookLetter m kind setup old new told_before told_now
+  none_came : Fresh old new → told_before ≡ told_now → TookLetter m kind setup old new told_before told_now
 
 -- ---- an own snapshot
 
@@ -56,6 +57,6 @@ pub data TookLetter (m : Meaning) (kind : EngineKind) (setup : Setup) (old new :
 pub record CompactsSo (setup : Setup) (old new : Running) : Type 0 where
   pub letters : List Letter
   pub takes : KnowsServers setup old → TakesSnapshot setup old.replica.id (moment_of old) (moment_of new) old.applied.index letters
-  pub says : Says old new letters []
+  pub says : Says old new letters [] []
   pub sent : AllSent (kept_of old.replica) (kept_of new.replica) letters
   pub id : new.replica.id ≡ old.replica.id

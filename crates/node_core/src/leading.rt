@@ -87,7 +87,7 @@ impl Running {
         ensures agrees { OnOk result (Agrees (E.known engine.new) self.new.clients self.new.applied.machine) }
         ensures engine { Stays (E.kind engine.old) (E.kind engine.new) (E.refused_openings engine.old) (E.refused_openings engine.new) }
         ensures goes { (setup : Setup) (bytes : List ℕ) (joins : Option ℕ) →
-            OnOk result (TurnsOn (E.meaning (E.kind engine.old)) (E.kind engine.old) setup bytes joins self.old self.new) }
+            OnOk result (TurnsOn (E.meaning (E.kind engine.old)) (E.kind engine.old) setup bytes joins self.old self.new (E.told engine.old) (E.told engine.new)) }
     {
         let effect = self.apply_one()?;
         self.run_due(engine)?;
@@ -150,6 +150,7 @@ impl Running {
         ensures due { self.new.due.items ≡ self.old.due.items }
         ensures landed { OnOk result (clients_in self.new ≡ landed_at self.old.applied.index (clients_in self.old)) }
         ensures said { OnOk result (self.new.outs.replies.items ≡ self.old.outs.replies.items ++ told_at self.old.applied.index (clients_in self.old)) }
+        ensures unread { self.new.outs.reads.items ≡ self.old.outs.reads.items }
         ensures files { machine_of self.new.applied.machine ≡ machine_of self.old.applied.machine }
         ensures is { self.new ≡ record self.old {
           clients = self.new.clients;
@@ -180,7 +181,7 @@ impl Running {
         ensures none { IfOk result (λ more. more ≡ false → self.new ≡ self.old) }
         ensures run { IfOk result (λ more. more ≡ false → NoneIsDue (clients_in self.new)) }
         ensures goes { (setup : Setup) (bytes : List ℕ) (joins : Option ℕ) →
-            OnOk result (TurnsOn (E.meaning (E.kind engine.old)) (E.kind engine.old) setup bytes joins self.old self.new) }
+            OnOk result (TurnsOn (E.meaning (E.kind engine.old)) (E.kind engine.old) setup bytes joins self.old self.new (E.told engine.old) (E.told engine.new)) }
     {
         stretches_join::<E>();
         let Some(conn) = self.clients.next_due() else {

@@ -11,7 +11,7 @@ ghost use Rattle.raft_member.specs.Members.{read_setup};
 ghost use Rattle.node_rules.specs.Steps.{StartsSo};
 ghost use Rattle.node_core.specs.Account.{StepsBy};
 ghost use Rattle.node_core.specs.Starting.{StartsOver};
-ghost use Rattle.node_core.specs.Stepping.{CanBeTold, IsDown, IsUp, StaysDown, StaysStored};
+ghost use Rattle.node_core.specs.Stepping.{IsDown, IsUp, StaysDown, StaysStored};
 ghost use Rattle.node_core.specs.Values.{applied_of, databases_of, keeps_of, kept_by, node_of, raft_of, replica_of, servers_told};
 ghost use Rattle.node_core.specs.Whole.{Agrees, IsSound};
 
@@ -72,8 +72,6 @@ impl Node {
         engine: &mut E,
     ) -> Result<Outs, NodeFault>
         requires sound { IsSound self.old }
-        // What a reader tells is what a job comes to, which can be sent.
-        requires told { CanBeTold event }
         // No number stands for two images, for the engine, the transactions and the databases; and so it is afterwards.
         requires agrees { IsUp self.old → Agrees (E.known engine.old) self.old }
         ensures agrees { OnOk result (Agrees (E.known engine.new) self.new) }
@@ -89,7 +87,7 @@ impl Node {
         ensures applied { OnOk result (applied_of self.new ≡ (raft_of self.new).commit) }
         // It makes the acts of the rules, whatever the servers are with which the cluster was opened, and says what they say.
         ensures acts { (opening : List ServerValue) →
-            IfOk result (StepsBy (E.meaning (E.kind engine.old)) (E.kind engine.old) (read_setup opening) self.old.running self.new.running event) }
+            IfOk result (λ outs. StepsBy (E.meaning (E.kind engine.old)) (E.kind engine.old) (read_setup opening) self.old.running self.new.running event outs (E.told engine.old) (E.told engine.new)) }
         ensures cause { StepCause (D.faults disk.old) (D.faults disk.new) result }
         ensures engine { Stays (E.kind engine.old) (E.kind engine.new) (E.refused_openings engine.old) (E.refused_openings engine.new) }
     {

@@ -89,7 +89,7 @@ impl Running {
         ensures led { OnOk result (IsLed self.new) }
         // An act of the rules has begun by it.
         ensures began { (opening : List ServerValue) →
-            OnOk result (BeganBy (E.meaning (E.kind engine.old)) (E.kind engine.old) (read_setup opening) self.old self.new event) }
+            OnOk result (BeganBy (E.meaning (E.kind engine.old)) (E.kind engine.old) (read_setup opening) self.old self.new event (E.told engine.old) (E.told engine.new)) }
         ensures stored { StaysStored D.tells (D.states disk.old) (D.states disk.new) self.old.replica self.new.replica result }
         ensures stops { (opening : List ServerValue) → LeavesBy D.tells (D.states disk.old) (D.states disk.new) self.old.replica result
             (BeganStops (E.meaning (E.kind engine.old)) (E.kind engine.old) (read_setup opening) self.old event) }

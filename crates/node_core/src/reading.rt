@@ -1,13 +1,12 @@
 //! Queries that readers answer beside a node, and queries that are yet to be answered.
 
-ghost use Rattle.std.specs.Prelude.{◌≡◌, ◌<◌, ℕ, List, [], Option, length, OnOk, IfErr, MatchOption};
+ghost use Rattle.std.specs.Prelude.{◌≡◌, ◌<◌, ◌++◌, ◌∷◌, ℕ, List, [], Option, length, OnOk, IfErr, MatchOption};
 ghost use Rattle.raft_world.specs.Members.{Setup};
 ghost use Rattle.node_core.specs.declared.event.Event.TheVariants as happens;
 ghost use Rattle.node_core.specs.Account.{SoFar, Happens};
 ghost use Rattle.node_core.specs.Taking.{TurnsOn};
 ghost use Rattle.node_core.specs.Performing.{ReadsSo};
 ghost use Rattle.sql_engine.specs.Meanings.{Stays};
-ghost use Rattle.client_sessions.specs.Sending.{ToldCanSend};
 ghost use Rattle.session_decisions.specs.Reading.{read_named};
 ghost use Rattle.client_sessions.specs.Seen.{Agrees};
 ghost use Rattle.node_core.specs.declared.fault.NodeFault.TheVariants as fault;
@@ -53,6 +52,7 @@ impl Running {
         ensures wants { IfErr result (λ f. f ≡ fault.NoMemory) }
         ensures agrees { StaysAgreed self.old self.new }
         ensures said { OnOk result (self.new.outs.replies.items ≡ self.old.outs.replies.items) }
+        ensures lends { OnOk result (self.new.outs.reads.items ≡ self.old.outs.reads.items ++ (conn, job) ∷ []) }
         ensures is { self.new ≡ record self.old {
           lent = self.new.lent;
           view = record self.old.view { readers = self.new.view.readers };
@@ -97,7 +97,6 @@ impl Running {
         read: Read,
         engine: &mut E,
     ) -> Result<(), NodeFault>
-        requires sends { ToldCanSend (read_named read) }
         requires going { IsGoing self.old }
         requires led { IsLed self.old }
         requires idle { self.old.due.items ≡ [] }
@@ -110,7 +109,7 @@ impl Running {
         ensures agrees { OnOk result (Agrees (E.known engine.new) self.new.clients self.new.applied.machine) }
         ensures engine { Stays (E.kind engine.old) (E.kind engine.new) (E.refused_openings engine.old) (E.refused_openings engine.new) }
         ensures begun { (setup : Setup) →
-            OnOk result (SoFar (E.meaning (E.kind engine.old)) (E.kind engine.old) setup self.old self.new (Happens (happens.ReadDone conn read))) }
+            OnOk result (SoFar (E.meaning (E.kind engine.old)) (E.kind engine.old) setup self.old self.new (Happens (happens.ReadDone conn read)) (E.told engine.old) (E.told engine.new)) }
     {
         if !self.take_back(conn) {
             return Ok(());
@@ -125,7 +124,6 @@ impl Running {
 
     /// The client of a query is told what its reader tells.
     fn tell_read(&mut self, conn: u64, read: Read) -> Result<(), NodeFault>
-        requires sends { ToldCanSend (read_named read) }
         requires going { IsGoing self.old }
         ensures going { OnOk result (IsGoing self.new) }
         ensures office { OnOk result (self.new.office ≡ self.old.office) }
@@ -164,7 +162,7 @@ impl Running {
         ensures agrees { OnOk result (Agrees (E.known engine.new) self.new.clients self.new.applied.machine) }
         ensures engine { Stays (E.kind engine.old) (E.kind engine.new) (E.refused_openings engine.old) (E.refused_openings engine.new) }
         ensures goes { (setup : Setup) (bytes : List ℕ) (joins : Option ℕ) →
-            OnOk result (TurnsOn (E.meaning (E.kind engine.old)) (E.kind engine.old) setup bytes joins self.old self.new) }
+            OnOk result (TurnsOn (E.meaning (E.kind engine.old)) (E.kind engine.old) setup bytes joins self.old self.new (E.told engine.old) (E.told engine.new)) }
     {
         clients_turn::<E>();
         stretches_join::<E>();

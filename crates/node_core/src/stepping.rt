@@ -7,14 +7,14 @@ ghost use Rattle.node_core.specs.declared.event.Event.{Event as EventValue};
 ghost use Rattle.node_core.specs.declared.running.Running.{Running as RunningValue};
 ghost use Rattle.node_core.specs.Account.{SoFar, Happens, StepsBy, Underway, moment_of};
 ghost use Rattle.node_core.specs.Taking.{CompactsSo};
-ghost use Rattle.std.specs.Prelude.{◌≡◌, ◌≢◌, List, [], true, false, Err, IfOk, OnOk, IfErr};
-ghost use Rattle.sql_engine.specs.Meanings.{Stays};
+ghost use Rattle.std.specs.Prelude.{◌≡◌, ◌≢◌, List, Option, [], true, false, Err, IfOk, OnOk, IfErr};
+ghost use Rattle.sql_engine.specs.Meanings.{Stays, Told};
 ghost use Rattle.client_sessions.specs.Seen.{Agrees};
 ghost use Rattle.node_replica.specs.Mails.{sent};
 ghost use Rattle.node_core.specs.declared.fault.NodeFault.TheVariants as fault;
 ghost use Rattle.node_core.specs.Faults.{StepCause};
 ghost use Rattle.node_core.specs.Finding.{LeavesBy, StopsCompacting};
-ghost use Rattle.node_core.specs.Stepping.{CanBeTold, StaysAgreed, StaysStored};
+ghost use Rattle.node_core.specs.Stepping.{StaysAgreed, StaysStored};
 ghost use Rattle.node_core.specs.Values.{clients_in};
 ghost use Rattle.node_core.specs.Whole.{IsGoing, IsIdle, IsLed, IsQuiet, Rests};
 
@@ -39,7 +39,6 @@ impl Running {
         disk: &mut D,
         engine: &mut E,
     ) -> Result<Outs, NodeFault>
-        requires told { CanBeTold event }
         requires rests { Rests self.old }
         requires agrees { Agrees (E.known engine.old) self.old.clients self.old.applied.machine }
         ensures rests { OnOk result (Rests self.new) }
@@ -50,7 +49,7 @@ impl Running {
         ensures engine { Stays (E.kind engine.old) (E.kind engine.new) (E.refused_openings engine.old) (E.refused_openings engine.new) }
         // It makes the acts of the rules, and says what they say.
         ensures acts { (opening : List ServerValue) →
-            IfOk result (StepsBy (E.meaning (E.kind engine.old)) (E.kind engine.old) (read_setup opening) self.old self.new event) }
+            IfOk result (λ outs. StepsBy (E.meaning (E.kind engine.old)) (E.kind engine.old) (read_setup opening) self.old self.new event outs (E.told engine.old) (E.told engine.new)) }
     {
         self.replica.count_keeps();
         self.begin(event, disk, engine)?;
@@ -65,7 +64,6 @@ impl Running {
         disk: &mut D,
         engine: &mut E,
     ) -> Result<(), NodeFault>
-        requires told { CanBeTold event }
         requires going { IsGoing self.old }
         requires led { IsLed self.old }
         requires idle { self.old.due.items ≡ [] }
@@ -77,7 +75,7 @@ impl Running {
         ensures agrees { OnOk result (Agrees (E.known engine.new) self.new.clients self.new.applied.machine) }
         ensures engine { Stays (E.kind engine.old) (E.kind engine.new) (E.refused_openings engine.old) (E.refused_openings engine.new) }
         ensures begun { (opening : List ServerValue) →
-            OnOk result (SoFar (E.meaning (E.kind engine.old)) (E.kind engine.old) (read_setup opening) self.old self.new (Happens event)) }
+            OnOk result (SoFar (E.meaning (E.kind engine.old)) (E.kind engine.old) (read_setup opening) self.old self.new (Happens event) (E.told engine.old) (E.told engine.new)) }
         ensures runs { result ≢ Err fault.Down }
     {
         match event {
@@ -108,9 +106,9 @@ impl Running {
         ensures heard { OnOk result (self.new.heard ≡ None) }
         ensures led { OnOk result (IsLed self.new) }
         // A step that is under way is so behind it.
-        ensures on { (opening : List ServerValue) (start : RunningValue) (event : EventValue) →
-            Underway (E.meaning (E.kind engine.old)) (E.kind engine.old) (read_setup opening) start self.old event →
-            OnOk result (Underway (E.meaning (E.kind engine.old)) (E.kind engine.old) (read_setup opening) start self.new event) }
+        ensures on { (opening : List ServerValue) (start : RunningValue) (event : EventValue) (told : Option Told) →
+            Underway (E.meaning (E.kind engine.old)) (E.kind engine.old) (read_setup opening) start self.old event told (E.told engine.old) →
+            OnOk result (Underway (E.meaning (E.kind engine.old)) (E.kind engine.old) (read_setup opening) start self.new event told (E.told engine.new)) }
         ensures ends { OnOk result (MayEnd (moment_of self.new)) }
         ensures runs { result ≢ Err fault.Down }
     {
@@ -139,9 +137,9 @@ impl Running {
         // Where nothing is left, nothing is due, and all that is committed is applied.
         ensures idle { IfOk result (λ more. more ≡ false → IsIdle self.new) }
         // A step that is under way is so behind it.
-        ensures on { (opening : List ServerValue) (start : RunningValue) (event : EventValue) →
-            Underway (E.meaning (E.kind engine.old)) (E.kind engine.old) (read_setup opening) start self.old event →
-            OnOk result (Underway (E.meaning (E.kind engine.old)) (E.kind engine.old) (read_setup opening) start self.new event) }
+        ensures on { (opening : List ServerValue) (start : RunningValue) (event : EventValue) (told : Option Told) →
+            Underway (E.meaning (E.kind engine.old)) (E.kind engine.old) (read_setup opening) start self.old event told (E.told engine.old) →
+            OnOk result (Underway (E.meaning (E.kind engine.old)) (E.kind engine.old) (read_setup opening) start self.new event told (E.told engine.new)) }
         ensures ends { IfOk result (λ more. more ≡ false → MayEnd (moment_of self.new)) }
         ensures runs { result ≢ Err fault.Down }
     {
@@ -174,9 +172,9 @@ impl Running {
         ensures led { OnOk result (IsLed self.new) }
         ensures idle { IfOk result (λ more. more ≡ false → IsIdle self.new) }
         // A step that is under way is so behind it.
-        ensures on { (opening : List ServerValue) (start : RunningValue) (event : EventValue) →
-            Underway (E.meaning (E.kind engine.old)) (E.kind engine.old) (read_setup opening) start self.old event →
-            OnOk result (Underway (E.meaning (E.kind engine.old)) (E.kind engine.old) (read_setup opening) start self.new event) }
+        ensures on { (opening : List ServerValue) (start : RunningValue) (event : EventValue) (told : Option Told) →
+            Underway (E.meaning (E.kind engine.old)) (E.kind engine.old) (read_setup opening) start self.old event told (E.told engine.old) →
+            OnOk result (Underway (E.meaning (E.kind engine.old)) (E.kind engine.old) (read_setup opening) start self.new event told (E.told engine.new)) }
         ensures ends { IfOk result (λ more. more ≡ false → MayEnd (moment_of self.new)) }
         ensures runs { result ≢ Err fault.Down }
     {
@@ -233,6 +231,7 @@ impl Running {
     fn take_outs(&mut self) -> Result<Outs, NodeFault>
         ensures said { IfOk result (λ outs. (outs.replies.items ≡ self.old.outs.replies.items) × (outs.closed.items ≡ self.old.outs.closed.items)) }
         ensures messages { IfOk result (λ outs. outs.messages.items ≡ sent self.old.mail) }
+        ensures reads { IfOk result (λ outs. outs.reads.items ≡ self.old.outs.reads.items) }
         ensures rest { self.new ≡ record self.old { outs = self.new.outs; mail = self.new.mail } }
         ensures quiet { IsQuiet self.new }
         ensures wants { IfErr result (λ f. f ≡ fault.NoMemory) }

@@ -15,7 +15,7 @@ returns-in_ok-connect-in-Connect-clause-begun g c = λ opening.
     let setup = read_setup opening in
     let kind = g.E.Engine.kind c.args.engine.now in
     let m = g.E.Engine.meaning kind in
-    subst (λ (e : Event). SoFar m kind setup c.args.self.now c.connect.new.self (Happens e)) (sym c.in-Connect.is)
+    subst (λ (e : Event). SoFar m kind setup c.args.self.now c.connect.new.self (Happens e) (g.E.Engine.told c.args.engine.now) (g.E.Engine.told c.args.engine.now)) (sym c.in-Connect.is)
     (begins_connect m kind setup c.args.self.now c.connect.new.self c.in-Connect.conn c.in_ok-connect-in-Connect.ensures.goes c.in_ok-connect-in-Connect.ensures.quiet c.in_ok-connect-in-Connect.ensures.replica)
 
 pub returns-in-Hangup-clause-begun : goal.returns-in-Hangup-clause-begun
@@ -23,7 +23,7 @@ returns-in-Hangup-clause-begun g c = λ opening.
     let setup = read_setup opening in
     let kind = g.E.Engine.kind c.args.engine.now in
     let m = g.E.Engine.meaning kind in
-    subst (λ (e : Event). SoFar m kind setup c.args.self.now c.hang_up.new.self (Happens e)) (sym c.in-Hangup.is)
+    subst (λ (e : Event). SoFar m kind setup c.args.self.now c.hang_up.new.self (Happens e) (g.E.Engine.told c.args.engine.now) (g.E.Engine.told c.args.engine.now)) (sym c.in-Hangup.is)
     (begins_hangup m kind setup c.args.self.now c.hang_up.new.self c.in-Hangup.conn c.hang_up.ensures.goes c.hang_up.ensures.quiet c.hang_up.ensures.replica)
 
 pub returns-in_ok-receive-in-Bytes-clause-begun : goal.returns-in_ok-receive-in-Bytes-clause-begun
@@ -31,7 +31,7 @@ returns-in_ok-receive-in-Bytes-clause-begun g c = λ opening.
     let setup = read_setup opening in
     let kind = g.E.Engine.kind c.args.engine.now in
     let m = g.E.Engine.meaning kind in
-    subst (λ (e : Event). SoFar m kind setup c.args.self.now c.receive.new.self (Happens e)) (sym c.in-Bytes.is)
+    subst (λ (e : Event). SoFar m kind setup c.args.self.now c.receive.new.self (Happens e) (g.E.Engine.told c.args.engine.now) (g.E.Engine.told c.args.engine.now)) (sym c.in-Bytes.is)
     (begins_bytes m kind setup c.args.self.now c.receive.new.self c.in-Bytes.conn c.in-Bytes.bytes
     (subst (λ (b : List ℕ). HearsSo c.args.self.now c.receive.new.self c.in-Bytes.conn b) c.as_slice.ensures c.in_ok-receive-in-Bytes.ensures.goes)
     c.receive.ensures.quiet c.receive.ensures.replica)
@@ -41,27 +41,27 @@ returns-in_ok-read_done-in-ReadDone-clause-begun g c = λ opening.
     let setup = read_setup opening in
     let kind = g.E.Engine.kind c.args.engine.now in
     let m = g.E.Engine.meaning kind in
-    subst (λ (e : Event). SoFar m kind setup c.args.self.now c.read_done.new.self (Happens e)) (sym c.in-ReadDone.is) (c.in_ok-read_done-in-ReadDone.ensures.begun setup)
+    subst (λ (e : Event). SoFar m kind setup c.args.self.now c.read_done.new.self (Happens e) (g.E.Engine.told c.args.engine.now) (g.E.Engine.told c.read_done.new.engine)) (sym c.in-ReadDone.is) (c.in_ok-read_done-in-ReadDone.ensures.begun setup)
 
 pub returns-in_ok-take_raft-in-Timeout-clause-begun : goal.returns-in_ok-take_raft-in-Timeout-clause-begun
 returns-in_ok-take_raft-in-Timeout-clause-begun g c = λ opening.
     let kind = g.E.Engine.kind c.args.engine.now in
     let m = g.E.Engine.meaning kind in
-    subst (λ (e : Event). SoFar m kind (read_setup opening) c.args.self.now c.take_raft.new.self (Happens e)) (sym c.in-Timeout.is)
+    subst (λ (e : Event). SoFar m kind (read_setup opening) c.args.self.now c.take_raft.new.self (Happens e) (g.E.Engine.told c.args.engine.now) (g.E.Engine.told c.take_raft.new.engine)) (sym c.in-Timeout.is)
     (begins_raft m kind (read_setup opening) c.args.self.now c.take_raft.new.self (Happens happens.Timeout) raft_events.Timeout (with_timeout c.args.self.now) (c.in_ok-take_raft-in-Timeout.ensures.began opening))
 
 pub returns-in_ok-take_raft-in-Beat-clause-begun : goal.returns-in_ok-take_raft-in-Beat-clause-begun
 returns-in_ok-take_raft-in-Beat-clause-begun g c = λ opening.
     let kind = g.E.Engine.kind c.args.engine.now in
     let m = g.E.Engine.meaning kind in
-    subst (λ (e : Event). SoFar m kind (read_setup opening) c.args.self.now c.take_raft-in-Beat.new.self (Happens e)) (sym c.in-Beat.is)
+    subst (λ (e : Event). SoFar m kind (read_setup opening) c.args.self.now c.take_raft-in-Beat.new.self (Happens e) (g.E.Engine.told c.args.engine.now) (g.E.Engine.told c.take_raft-in-Beat.new.engine)) (sym c.in-Beat.is)
     (begins_raft m kind (read_setup opening) c.args.self.now c.take_raft-in-Beat.new.self (Happens happens.Beat) raft_events.Beat (with_beat c.args.self.now) (c.in_ok-take_raft-in-Beat.ensures.began opening))
 
 pub returns-in_ok-take_raft-in-Peer-clause-begun : goal.returns-in_ok-take_raft-in-Peer-clause-begun
 returns-in_ok-take_raft-in-Peer-clause-begun g c = λ opening.
     let kind = g.E.Engine.kind c.args.engine.now in
     let m = g.E.Engine.meaning kind in
-    subst (λ (e : Event). SoFar m kind (read_setup opening) c.args.self.now c.take_raft-in-Peer.new.self (Happens e)) (sym c.in-Peer.is)
+    subst (λ (e : Event). SoFar m kind (read_setup opening) c.args.self.now c.take_raft-in-Peer.new.self (Happens e) (g.E.Engine.told c.args.engine.now) (g.E.Engine.told c.take_raft-in-Peer.new.engine)) (sym c.in-Peer.is)
     (begins_raft m kind (read_setup opening) c.args.self.now c.take_raft-in-Peer.new.self (Happens (happens.Peer c.in-Peer.message)) (raft_events.Message c.in-Peer.message) (with_peer c.args.self.now c.in-Peer.message) (c.in_ok-take_raft-in-Peer.ensures.began opening))
 
 pub returns-in_ok-connect-in-Connect-clause-stored : goal.returns-in_ok-connect-in-Connect-clause-stored

@@ -31,7 +31,7 @@ returns-clause-acts g c = λ opening.
     let counted = ap (λ (r : ReplicaValue). record old { replica = r }) c.count_keeps.ensures in
     let going = counted_anew old from c.requires.rests.going counted in
     let rest = at_rest from going (c.requires.rests.applied ∙ ap (λ (n : Running). n.replica.raft.commit) (sym counted)) c.requires.rests.idle in
-    let started = underway_starts m kind setup old from c.begin.new.self c.args.event (record { same = ap seen counted; mail = refl; replies = refl }) rest (c.in_ok-begin.ensures.begun opening) in
-    let ran = under_kind g.E.Engine.meaning kind (g.E.Engine.kind c.begin.new.engine) setup old c.begin.new.self c.run.new.self c.args.event c.begin.ensures.engine.kind (c.in_ok-run.ensures.on opening old c.args.event) started in
+    let started = underway_starts m kind setup old from c.begin.new.self c.args.event (record { same = ap seen counted; mail = refl; replies = refl; reads = refl }) rest (c.in_ok-begin.ensures.begun opening) in
+    let ran = under_kind g.E.Engine.meaning kind (g.E.Engine.kind c.begin.new.engine) setup old c.begin.new.self c.run.new.self c.args.event c.begin.ensures.engine.kind (c.in_ok-run.ensures.on opening old c.args.event (g.E.Engine.told c.args.engine.now)) started in
     steps_said m kind setup old c.run.new.self c.take_outs.new.self c.args.event c.take_outs.result ran c.in_ok-run.ensures.ends c.in_ok-run.ensures.going.holds.replica.id c.requires.rests.quiet c.take_outs.ensures.rest
-    c.take_outs.ensures.said c.take_outs.ensures.messages
+    c.take_outs.ensures.said c.take_outs.ensures.messages c.take_outs.ensures.reads

@@ -14,14 +14,14 @@ returns-in_ok-take_raft-in-Some-Message-clause-letter g c = λ opening.
 
 pub returns-in_ok-push-in-Some-Wrong-clause-letter :
     goal.returns-in_ok-push-in-Some-Wrong-clause-letter
-returns-in_ok-push-in-Some-Wrong-clause-letter g c = λ opening. none_came (record { moment = refl; mail = refl; replies = refl; kept = refl; id = refl })
+returns-in_ok-push-in-Some-Wrong-clause-letter g c = λ opening. none_came (record { moment = refl; mail = refl; replies = refl; reads = refl; kept = refl; id = refl }) refl
 
 pub returns-in_ok-push-in-Some-Wrong-clause-led :
     goal.returns-in_ok-push-in-Some-Wrong-clause-led
 returns-in_ok-push-in-Some-Wrong-clause-led g c = led_same c.args.self.now _ c.requires.led refl refl
 
 pub returns-in-None-clause-letter : goal.returns-in-None-clause-letter
-returns-in-None-clause-letter g c = λ opening. none_came (record { moment = refl; mail = refl; replies = refl; kept = refl; id = refl })
+returns-in-None-clause-letter g c = λ opening. none_came (record { moment = refl; mail = refl; replies = refl; reads = refl; kept = refl; id = refl }) refl
 
 pub returns-in-None-clause-led : goal.returns-in-None-clause-led
 returns-in-None-clause-led g c = led_same c.args.self.now _ c.requires.led refl refl

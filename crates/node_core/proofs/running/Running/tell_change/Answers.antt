@@ -2,6 +2,10 @@ use Rattle.std.proofs.Common.{refl, arith}
 use Rattle.std.proofs.lemmas.Result.{on_ok_weaker}
 use Rattle.node_core.specs.Posting.{untold, told_servers}
 use Rattle.node_core.proofs.RaftTurns.{told_none}
+use Rattle.raft_member.specs.Members.{read_setup}
+use Rattle.raft_rules.specs.Node.{Local, UseServers}
+use Rattle.node_core.specs.Finding.{StopsIn, StopsTelling, untold_yet, in_telling}
+use Rattle.node_core.proofs.Finding.{failed, more, kept_finds}
 use Rattle.node_core.proofs.running.Running.tell_change.Goals as goal
 
 pub returns-in_default : goal.returns-in_default
@@ -15,3 +19,5 @@ returns-in_default g c = record {
 
 pub returns-in-Some-clause-tells : goal.returns-in-Some-clause-tells
 returns-in-Some-clause-tells g c = on_ok_weaker c.tell.result (λ l. told_servers c.in-Some.servers l) c.tell.ensures.tells
+
+
