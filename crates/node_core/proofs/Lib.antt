@@ -30,3 +30,4 @@ mod OwnTurns
 mod Installed
 mod AlikeLists
 mod Compacting
+mod StopsOfStep
