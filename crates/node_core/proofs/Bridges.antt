@@ -41,6 +41,7 @@ use Rattle.node_rules.specs.Accounts.{Moment}
 use Rattle.node_rules.specs.ClientTurns.{Stays, Connects, HangsUp, Hears, Resumes, Reads}
 use Rattle.node_rules.specs.Turns.{KeepsRaft, view_at, gate_after, told_at_once, due_by, MayPropose, AreSpelled, Handles}
 use Rattle.node_rules.proofs.MayPropose.{requests_may_propose_hold, laters_may_propose_hold}
+use Rattle.node_core.specs.Account.{heard_on as bytes_asked}
 use Rattle.node_core.specs.Acts.{messages_by, proposals_by, jobs_by}
 use Rattle.node_core.specs.Values.{request_in, requests_in, waiting_on}
 
@@ -242,6 +243,11 @@ received_waits c bytes = by c.full
     by : (full : Bool) → (more : List Message) × ((cond full c (with_more c (going_on client_limit c.end (take (room c) bytes)) (nat_lt (room c) (length bytes)))).waiting ≡ c.waiting ++ more)
     by true = ([], sym (append-nil c.waiting))
     by false = ((going_on client_limit c.end (take (room c) bytes)).messages, refl)
+
+-- what bytes ask on a stream, behind what waits there
+pub asked_more : (o : Option Conn) (bytes : List ℕ) → (asks : List Request) × (waiting_on o ++ asks ≡ bytes_asked o bytes)
+asked_more None bytes = ([], refl)
+asked_more (Some stream) bytes = let more = received_waits stream bytes in (requests_in more.0, sym (ap requests_in more.1 ∙ requests_append stream.waiting more.0))
 
 module _ (a b : Moment) (k l : Clients) (sa : Shows a k) (sb : Shows b l) (rest : KeepsRaft a b) (due : b.due ≡ a.due) where
   -- where clients have the sessions and streams that they had

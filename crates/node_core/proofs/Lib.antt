@@ -32,3 +32,4 @@ mod AlikeLists
 mod Compacting
 mod Finding
 mod StopsOfTurns
+mod StopsOfStep

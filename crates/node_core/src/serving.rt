@@ -14,6 +14,7 @@ ghost use Rattle.client_sessions.specs.Seen.{Agrees};
 ghost use Rattle.node_core.specs.declared.fault.NodeFault.TheVariants as fault;
 ghost use Rattle.node_core.specs.Faults.{StepCause};
 ghost use Rattle.node_core.specs.Stepping.{StaysAgreed, StaysStored};
+ghost use Rattle.node_core.specs.Finding.{LeavesBy, StopsLetter};
 ghost use Rattle.node_core.specs.Taking.{TookLetter, TurnsOn};
 ghost use Rattle.node_core.specs.Values.{clients_in};
 ghost use Rattle.node_core.specs.Whole.{IsGoing, IsLed, IsOwnDue};
@@ -129,6 +130,8 @@ impl Running {
         ensures none { IfOk result (λ more. more ≡ false → self.new ≡ record self.old { links = self.new.links }) }
         ensures letter { (opening : List ServerValue) →
             OnOk result (TookLetter (E.meaning (E.kind engine.old)) (E.kind engine.old) (read_setup opening) self.old self.new (E.told engine.old) (E.told engine.new)) }
+        ensures stops { (opening : List ServerValue) → LeavesBy D.tells (D.states disk.old) (D.states disk.new) self.old.replica result
+            (StopsLetter (E.meaning (E.kind engine.old)) (E.kind engine.old) (read_setup opening) self.old) }
         ensures runs { result ≢ Err fault.Down }
     {
         let me = self.id();

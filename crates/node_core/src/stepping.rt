@@ -5,7 +5,8 @@ ghost use Rattle.raft_rules.specs.Node.{Server as ServerValue};
 ghost use Rattle.node_rules.specs.Accounts.{MayEnd};
 ghost use Rattle.node_core.specs.declared.event.Event.{Event as EventValue};
 ghost use Rattle.node_core.specs.declared.running.Running.{Running as RunningValue};
-ghost use Rattle.node_core.specs.Account.{SoFar, Happens, StepsBy, Underway, moment_of};
+ghost use Rattle.node_core.specs.Account.{AtRest, SoFar, Stopped, Happens, StepsBy, StopsBy, Underway, moment_of};
+ghost use Rattle.node_core.specs.Finding.{LeavesBy};
 ghost use Rattle.node_core.specs.Taking.{CompactsSo};
 ghost use Rattle.std.specs.Prelude.{◌≡◌, ◌≢◌, List, Option, [], true, false, Err, IfOk, OnOk, IfErr};
 ghost use Rattle.sql_engine.specs.Meanings.{Stays, Told};
@@ -25,7 +26,7 @@ use crate::outs::Outs;
 use crate::running::Running;
 use disk_model::Disk;
 use node_replica::Mail;
-use node_rules::raft_turns;
+use node_rules::{raft_steps_are_kept, raft_turns};
 use raft_core::RaftEvent;
 use raft_vote::SharedBytes;
 use sql_engine::Engine;
@@ -47,10 +48,15 @@ impl Running {
         ensures cause { StepCause (D.faults disk.old) (D.faults disk.new) result }
         ensures runs { result ≢ Err fault.Down }
         ensures engine { Stays (E.kind engine.old) (E.kind engine.new) (E.refused_openings engine.old) (E.refused_openings engine.new) }
+        // Where it fails, a load finds what the acts of the rules left, if the disk kept what Raft was.
+        ensures stops { (opening : List ServerValue) →
+            LeavesBy D.tells (D.states disk.old) (D.states disk.new) self.old.replica result
+            (StopsBy (E.meaning (E.kind engine.old)) (E.kind engine.old) (read_setup opening) self.old event) }
         // It makes the acts of the rules, and says what they say.
         ensures acts { (opening : List ServerValue) →
             IfOk result (λ outs. StepsBy (E.meaning (E.kind engine.old)) (E.kind engine.old) (read_setup opening) self.old self.new event outs (E.told engine.old) (E.told engine.new)) }
     {
+        raft_steps_are_kept();
         self.replica.count_keeps();
         self.begin(event, disk, engine)?;
         self.run(disk, engine)?;
@@ -76,8 +82,13 @@ impl Running {
         ensures engine { Stays (E.kind engine.old) (E.kind engine.new) (E.refused_openings engine.old) (E.refused_openings engine.new) }
         ensures begun { (opening : List ServerValue) →
             OnOk result (SoFar (E.meaning (E.kind engine.old)) (E.kind engine.old) (read_setup opening) self.old self.new (Happens event) (E.told engine.old) (E.told engine.new)) }
+        ensures stops { (opening : List ServerValue) → AtRest self.old →
+            LeavesBy D.tells (D.states disk.old) (D.states disk.new) self.old.replica result
+            (Stopped (E.meaning (E.kind engine.old)) (E.kind engine.old) (read_setup opening) self.old (Happens event)) }
         ensures runs { result ≢ Err fault.Down }
     {
+        self.databases_stand();
+        raft_steps_are_kept();
         match event {
             Event::Timeout => self.take_raft(RaftEvent::Timeout, disk, engine)?,
             Event::Beat => self.take_raft(RaftEvent::Beat, disk, engine)?,
@@ -110,8 +121,14 @@ impl Running {
             Underway (E.meaning (E.kind engine.old)) (E.kind engine.old) (read_setup opening) start self.old event told (E.told engine.old) →
             OnOk result (Underway (E.meaning (E.kind engine.old)) (E.kind engine.old) (read_setup opening) start self.new event told (E.told engine.new)) }
         ensures ends { OnOk result (MayEnd (moment_of self.new)) }
+        // Where it fails, a load finds what the acts of the rules left, if the disk kept what Raft was.
+        ensures stops { (opening : List ServerValue) (start : RunningValue) (event : EventValue) (told : Option Told) →
+            Underway (E.meaning (E.kind engine.old)) (E.kind engine.old) (read_setup opening) start self.old event told (E.told engine.old) →
+            LeavesBy D.tells (D.states disk.old) (D.states disk.new) self.old.replica result
+            (StopsBy (E.meaning (E.kind engine.old)) (E.kind engine.old) (read_setup opening) start event) }
         ensures runs { result ≢ Err fault.Down }
     {
+        raft_steps_are_kept();
         for _ in 0..u64::MAX {
             if !self.turn(disk, engine)? {
                 return Ok(());
@@ -141,8 +158,14 @@ impl Running {
             Underway (E.meaning (E.kind engine.old)) (E.kind engine.old) (read_setup opening) start self.old event told (E.told engine.old) →
             OnOk result (Underway (E.meaning (E.kind engine.old)) (E.kind engine.old) (read_setup opening) start self.new event told (E.told engine.new)) }
         ensures ends { IfOk result (λ more. more ≡ false → MayEnd (moment_of self.new)) }
+        // Where it fails, a load finds what the acts of the rules left, if the disk kept what Raft was.
+        ensures stops { (opening : List ServerValue) (start : RunningValue) (event : EventValue) (told : Option Told) →
+            Underway (E.meaning (E.kind engine.old)) (E.kind engine.old) (read_setup opening) start self.old event told (E.told engine.old) →
+            LeavesBy D.tells (D.states disk.old) (D.states disk.new) self.old.replica result
+            (StopsBy (E.meaning (E.kind engine.old)) (E.kind engine.old) (read_setup opening) start event) }
         ensures runs { result ≢ Err fault.Down }
     {
+        raft_steps_are_kept();
         if self.take_due(disk)? {
             return Ok(true);
         }
@@ -176,9 +199,15 @@ impl Running {
             Underway (E.meaning (E.kind engine.old)) (E.kind engine.old) (read_setup opening) start self.old event told (E.told engine.old) →
             OnOk result (Underway (E.meaning (E.kind engine.old)) (E.kind engine.old) (read_setup opening) start self.new event told (E.told engine.new)) }
         ensures ends { IfOk result (λ more. more ≡ false → MayEnd (moment_of self.new)) }
+        // Where it fails, a load finds what the acts of the rules left, if the disk kept what Raft was.
+        ensures stops { (opening : List ServerValue) (start : RunningValue) (event : EventValue) (told : Option Told) →
+            Underway (E.meaning (E.kind engine.old)) (E.kind engine.old) (read_setup opening) start self.old event told (E.told engine.old) →
+            LeavesBy D.tells (D.states disk.old) (D.states disk.new) self.old.replica result
+            (StopsBy (E.meaning (E.kind engine.old)) (E.kind engine.old) (read_setup opening) start event) }
         ensures runs { result ≢ Err fault.Down }
     {
         raft_turns::<E>();
+        raft_steps_are_kept();
         if self.run_due(engine)? {
             return Ok(true);
         }
