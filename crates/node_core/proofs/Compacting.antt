@@ -18,9 +18,9 @@ use Rattle.node_state.specs.Snapshot.{SpellsSnapshot, made_by}
 use Rattle.node_replica.specs.Letters.{Tells}
 use Rattle.node_replica.specs.Mails.{MailValue, all_posted}
 use Rattle.node_replica.specs.Replicas.{ReplicaValue, IsWhole, stepped, said, snapped, own_snap}
-use Rattle.node_rules.specs.RaftTurns.{HasEnded}
+use Rattle.node_rules.specs.RaftTurns.{HasEnded, SpellsApplied}
 use Rattle.node_core.specs.declared.running.Running.{Running}
-use Rattle.node_core.specs.Account.{proposals_in, moment_of, letter_of}
+use Rattle.node_core.specs.Account.{proposals_in, moment_of, letter_of, KnowsServers}
 use Rattle.node_core.specs.Posting.{Posts}
 use Rattle.node_core.specs.Taking.{CompactsSo}
 use Rattle.node_core.specs.Values.{clients_in}
@@ -32,6 +32,18 @@ use Rattle.node_core.proofs.SnapshotOffice.{snapped_office}
 -- it is past the last one, where it is due
 pub is_past : (last : LogEnd) (applied : ℕ) (b : Bool) → b ≡ is_due last applied → b ≡ true → last.index < applied
 is_past last applied b e t = let h : last.index + 64 ≤ applied = leb-true _ _ (sym e ∙ t) in omega (arith, h)
+
+-- it is one of what is applied
+pub spells_so : (opening : List Server) (old : Running) (bytes : List ℕ) → old.replica.raft.snapshot.index < old.applied.index → old.members.servers ≡ old.applied.servers →
+    ((lacks : List ℕ → ℕ) (front : List Entry) → HasApplied opening lacks front old.applied → SpellsSnapshot (made_by opening front) bytes) → KnowsServers (read_setup opening) old →
+    SpellsApplied (read_setup opening) (moment_of old) old.applied.index bytes
+spells_so opening old bytes past same spelled known = record {
+  at = refl;
+  past = past;
+  servers = old.members.servers;
+  has = known;
+  front = λ lacks front long conf shows. spelled lacks front (record { index = long; servers = sym same ∙ conf; databases = shows });
+}
 
 compacts_at : (opening : List Server) (old : Running) (r : ReplicaValue) (mail : MailValue) (v : View) (bytes : List ℕ) (messages : List RaftMessage) → IsWhole old.replica → old.replica.raft.snapshot.index < old.applied.index →
     node_of r.raft ≡ stepped old.replica (snapped old.replica old.applied.index) → IsWhole r → r.snap ≡ own_snap old.replica old.applied.index bytes → Tells (said old.replica (snapped old.replica old.applied.index)) r.snap messages →

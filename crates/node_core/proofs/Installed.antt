@@ -34,7 +34,7 @@ use Rattle.node_state.specs.declared.office.Office.{Office as Held}
 use Rattle.node_state.specs.Applied.{ShowsFiles}
 use Rattle.node_state.specs.Snapshot.{snapshot_in, offered_to, SpellsSnapshot, made_by, commits_of}
 use Rattle.node_replica.specs.Replicas as replicas
-use Rattle.node_replica.specs.Replicas.{ReplicaValue, stepped, snap_after}
+use Rattle.node_replica.specs.Replicas.{ReplicaValue, IsIntake, stepped, snap_after}
 use Rattle.node_rules.specs.RaftTurns.{HasEnded, Office, in_office, loses, has_none}
 use Rattle.node_rules.proofs.EndedSessions.{ends_on_holds}
 use Rattle.node_core.specs.declared.running.Running.{Running}
@@ -110,6 +110,9 @@ comes_not_to_leader old step event a g b node =
     let low : h.snapshot.index ≤ h.commit = g.holds.replica.coherent.applied in
     ap (λ (s : raft.Node). is_leader s.role) node ∙ ap (λ (e : RaftEvent). is_leader (stepped old.replica e).role) b.event_is
     ∙ comes_to_none h.id (node_of h) (message_value b.message) low (ltb-true _ _ b.puts)
+
+pub brings_intake : (r : ReplicaValue) (event : RaftEvent) (a : Applied) → Brings r event a → IsIntake event
+brings_intake r event a b = subst IsIntake (sym b.event_is) tt
 
 -- ---- the turn
 

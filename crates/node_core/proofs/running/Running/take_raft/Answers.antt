@@ -1,6 +1,11 @@
-use Rattle.std.proofs.lemmas.Result.{on_ok_weaker}
+use Rattle.std.proofs.lemmas.Result.{on_ok_weaker, on_err_weaker}
 use Rattle.raft_member.specs.Members.{read_setup}
 use Rattle.node_core.proofs.RaftAccounts.{began_following, began_installing}
+use Rattle.std.proofs.Common.{refl}
+use Rattle.node_rules.specs.RaftTurns.{at_first}
+use Rattle.node_core.specs.Finding.{StopsFollowing, StopsInstalling, BeganStops, at_once}
+use Rattle.node_core.proofs.Finding.{failed, more, kept_finds}
+use Rattle.node_core.proofs.StopsOfTurns.{following_stops, installing_stops}
 use Rattle.node_core.proofs.running.Running.take_raft.Goals as goal
 
 pub returns-in-Nothing-clause-began : goal.returns-in-Nothing-clause-began
@@ -13,3 +18,20 @@ pub returns-in_ok-step_install-in-Snapshot-clause-began : goal.returns-in_ok-ste
 returns-in_ok-step_install-in-Snapshot-clause-began g c = λ opening.
     began_installing (g.E.Engine.meaning (g.E.Engine.kind c.args.engine.now)) (g.E.Engine.kind c.args.engine.now) (read_setup opening) c.args.self.now c.step_install.new.self c.args.event
     (c.in_ok-step_install-in-Snapshot.ensures.began opening)
+
+pub returns-in_err-offered-clause-stops : goal.returns-in_err-offered-clause-stops
+returns-in_err-offered-clause-stops g c = λ opening has.
+    failed c.from_residual.result
+    (kept_finds g.D.Disk.tells (g.D.Disk.states c.args.disk.now) c.args.self.now.replica (BeganStops (g.E.Engine.meaning (g.E.Engine.kind c.args.engine.now)) (g.E.Engine.kind c.args.engine.now) (read_setup opening) c.args.self.now c.args.event) (at_once (at_first refl)) has)
+
+pub returns-in_err-step_install-in-Snapshot-clause-stops : goal.returns-in_err-step_install-in-Snapshot-clause-stops
+returns-in_err-step_install-in-Snapshot-clause-stops g c = λ opening has.
+    failed c.from_residual.result
+    (more g.D.Disk.tells (g.D.Disk.states c.step_install.new.disk) (StopsInstalling (read_setup opening) c.args.self.now c.args.event) (BeganStops (g.E.Engine.meaning (g.E.Engine.kind c.args.engine.now)) (g.E.Engine.kind c.args.engine.now) (read_setup opening) c.args.self.now c.args.event)
+    (installing_stops (g.E.Engine.meaning (g.E.Engine.kind c.args.engine.now)) (g.E.Engine.kind c.args.engine.now) (read_setup opening) c.args.self.now c.args.event) (c.in_err-step_install-in-Snapshot.ensures.stops opening has))
+
+pub returns-in-Nothing-clause-stops : goal.returns-in-Nothing-clause-stops
+returns-in-Nothing-clause-stops g c = λ opening has.
+    on_err_weaker c.step_raft.result
+    (more g.D.Disk.tells (g.D.Disk.states c.step_raft.new.disk) (StopsFollowing (read_setup opening) c.args.self.now c.args.event) (BeganStops (g.E.Engine.meaning (g.E.Engine.kind c.args.engine.now)) (g.E.Engine.kind c.args.engine.now) (read_setup opening) c.args.self.now c.args.event)
+    (following_stops (g.E.Engine.meaning (g.E.Engine.kind c.args.engine.now)) (g.E.Engine.kind c.args.engine.now) (read_setup opening) c.args.self.now c.args.event)) (c.step_raft.ensures.stops opening has)
