@@ -9,6 +9,8 @@ use Rattle.raft_world.specs.Members.{Setup}
 use Rattle.disk_model.specs.Disk.{Disk}
 use Rattle.disk_model.specs.Trait.{Text, Known, told, untold}
 use Rattle.store_laws.specs.Names.{NodeDisk}
+use Rattle.store_laws.proofs.Seen.{all_seen}
+use Rattle.store_format.specs.NodeFormat.{node_format}
 use Rattle.store_laws.specs.Store.{Kept}
 use Rattle.segment_store.specs.Keeps.{folder, HasNew}
 use Rattle.node_replica.specs.Replicas as replicas
@@ -41,7 +43,7 @@ more tells states P Q f (untold e) = untold e
 
 -- it keeps a state
 pub kept_finds : (tells : Bool) (states : Disk Text → Type 0) (r : ReplicaValue) (P : Kept → Type 0) → P (kept_of r) → IsKept tells states r → Finds tells states P
-kept_finds tells states r P p (told d at has) = told d at (record { crash = λ g leaves chance. record { kept = kept_of r; is = has.crash g leaves; holds = p }; seen = has.is_open.seen })
+kept_finds tells states r P p (told d at has) = told d at (record { crash = λ g leaves chance. record { kept = kept_of r; is = has.crash g leaves; holds = p }; seen = all_seen node_format r.store.next (folder d) has.is_open.settled })
 kept_finds tells states r P p (untold e) = untold e
 
 -- ---- a step of Raft that was stopped

@@ -167,9 +167,9 @@ own_making setup came before popped told event kept own was t tells x =
 module _ (m : Meaning) (kind : EngineKind) (setup : Setup) (old : Running) where
   pub following_stops : (event : RaftEvent) (kept : Kept) → StopsFollowing setup old event kept → BeganStops m kind setup old event kept
   following_stops event kept (in_step x) = at_once x
-  following_stops event kept (behind_step mid servers f x) = later_on mid (raft.Local (raft.UseServers servers)) (since_followed {told = None} m kind setup old mid event f) tt tt x
+  following_stops event kept (behind_step mid servers f x) = later_on mid (raft.Local (raft.UseServers servers)) (since_followed m kind setup {told = None} old mid event f) tt tt x
 
   pub installing_stops : (event : RaftEvent) (kept : Kept) → StopsInstalling setup old event kept → BeganStops m kind setup old event kept
   installing_stops event kept (in_install x) = at_once x
   installing_stops event kept (behind_install message mid servers is i x) =
-      subst (λ (e : RaftEvent). BeganStops m kind setup old e kept) (sym is) (later_on mid (raft.Local (raft.UseServers servers)) (since_installed {told = None} m kind setup old mid message i) tt tt x)
+      subst (λ (e : RaftEvent). BeganStops m kind setup old e kept) (sym is) (later_on mid (raft.Local (raft.UseServers servers)) (since_installed m kind setup {told = None} old mid message i) tt tt x)

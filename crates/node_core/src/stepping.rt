@@ -8,7 +8,7 @@ ghost use Rattle.node_core.specs.declared.running.Running.{Running as RunningVal
 ghost use Rattle.node_core.specs.Account.{AtRest, SoFar, Stopped, Happens, StepsBy, StopsBy, Underway, moment_of};
 ghost use Rattle.node_core.specs.Finding.{LeavesBy};
 ghost use Rattle.node_core.specs.Taking.{CompactsSo};
-ghost use Rattle.std.specs.Prelude.{◌≡◌, ◌≢◌, List, Option, [], true, false, Err, IfOk, OnOk, IfErr};
+ghost use Rattle.std.specs.Prelude.{◌≡◌, ◌≢◌, ℕ, List, Option, [], true, false, Err, IfOk, OnOk, IfErr};
 ghost use Rattle.sql_engine.specs.Meanings.{Stays, Told};
 ghost use Rattle.client_sessions.specs.Seen.{Agrees};
 ghost use Rattle.node_replica.specs.Mails.{sent};

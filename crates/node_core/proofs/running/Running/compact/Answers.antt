@@ -40,11 +40,11 @@ returns-in_err-snapshot-clause-stops g c = λ opening came has.
 
 pub returns-in_err-bytes-clause-stops : goal.returns-in_err-bytes-clause-stops
 returns-in_err-bytes-clause-stops g c = λ opening came has.
-    failed c.from_residual.result (kept_finds g.D.Disk.tells (g.D.Disk.states c.args.disk.now) c.args.self.now.replica (λ (k : Kept). KnowsServers (read_setup opening) c.args.self.now → StopsIn (read_setup opening) came c.args.self.now (Local (Snapped c.args.self.now.applied.index)) k) (λ known. at_first refl) has)
+    failed c.from_residual-in_err-bytes.result (kept_finds g.D.Disk.tells (g.D.Disk.states c.args.disk.now) c.args.self.now.replica (λ (k : Kept). KnowsServers (read_setup opening) c.args.self.now → StopsIn (read_setup opening) came c.args.self.now (Local (Snapped c.args.self.now.applied.index)) k) (λ known. at_first refl) has)
 
 pub returns-in_err-messages-clause-stops : goal.returns-in_err-messages-clause-stops
 returns-in_err-messages-clause-stops g c = λ opening came has.
-    failed c.from_residual.result
+    failed c.from_residual-in_err-messages.result
     (own_finds (KnowsServers (read_setup opening) c.args.self.now) (read_setup opening) came c.args.self.now c.args.self.now.applied.index _ g.D.Disk.tells (g.D.Disk.states c.snapshot-2.new.disk) _ _ c.requires.going.holds.replica
     (spells_so opening c.args.self.now _ (is_past c.args.self.now.replica.raft.snapshot c.args.self.now.applied.index c.is_due.result c.is_due.ensures c.if-not-is_due.false)
     (sym c.applied.ensures.value ∙ c.are_same.ensures c.if-not-are_same.false ∙ c.as_slice.ensures)
@@ -53,7 +53,7 @@ returns-in_err-messages-clause-stops g c = λ opening came has.
 
 pub returns-in_err-post_all-clause-stops : goal.returns-in_err-post_all-clause-stops
 returns-in_err-post_all-clause-stops g c = λ opening came has.
-    failed c.from_residual.result
+    failed c.from_residual-in_err-post_all.result
     (kept_finds g.D.Disk.tells (g.D.Disk.states c.snapshot-2.new.disk) c.snapshot-2.new.self (λ (k : Kept). KnowsServers (read_setup opening) c.args.self.now → StopsIn (read_setup opening) came c.args.self.now (Local (Snapped c.args.self.now.applied.index)) k)
     (λ known. own_left (read_setup opening) came c.args.self.now c.snapshot-2.new.self c.args.self.now.applied.index c.requires.going.holds.replica
     (spells_so opening c.args.self.now c.snapshot-2.new.self.snap.bytes (is_past c.args.self.now.replica.raft.snapshot c.args.self.now.applied.index c.is_due.result c.is_due.ensures c.if-not-is_due.false)
@@ -64,7 +64,7 @@ returns-in_err-post_all-clause-stops g c = λ opening came has.
 
 pub returns-in_err-look-clause-stops : goal.returns-in_err-look-clause-stops
 returns-in_err-look-clause-stops g c = λ opening came has.
-    failed c.from_residual.result
+    failed c.from_residual-in_err-look.result
     (kept_finds g.D.Disk.tells (g.D.Disk.states c.snapshot-2.new.disk) c.snapshot-2.new.self (λ (k : Kept). KnowsServers (read_setup opening) c.args.self.now → StopsIn (read_setup opening) came c.args.self.now (Local (Snapped c.args.self.now.applied.index)) k)
     (λ known. own_left (read_setup opening) came c.args.self.now c.snapshot-2.new.self c.args.self.now.applied.index c.requires.going.holds.replica
     (spells_so opening c.args.self.now c.snapshot-2.new.self.snap.bytes (is_past c.args.self.now.replica.raft.snapshot c.args.self.now.applied.index c.is_due.result c.is_due.ensures c.if-not-is_due.false)

@@ -25,6 +25,6 @@ returns-in_err-batch-clause-stops g c = λ opening has. failed c.from_residual.r
 
 pub returns-in_err-note_loss-clause-stops : goal.returns-in_err-note_loss-clause-stops
 returns-in_err-note_loss-clause-stops g c = λ opening has.
-    failed c.from_residual.result
+    failed c.from_residual-in_err-note_loss.result
     (kept_finds g.D.Disk.tells (g.D.Disk.states c.make_step.new.disk) c.make_step.new.self.replica (StopsIn (read_setup opening) (bytes_with c.args.event) c.args.self.now (input_of c.args.event))
     (made_left (read_setup opening) c.args.self.now c.make_step.new.self.replica c.args.event c.requires.whole c.requires.intake c.in_ok-batch.ensures.made.node c.in_ok-batch.ensures.made.bytes) (c.in_ok-batch.ensures.stored has))

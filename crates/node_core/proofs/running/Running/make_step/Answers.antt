@@ -16,6 +16,6 @@ returns-in_err-batch-clause-stops g c = λ opening has.
 
 pub returns-in_err-post_all-clause-stops : goal.returns-in_err-post_all-clause-stops
 returns-in_err-post_all-clause-stops g c = λ opening has.
-    failed c.from_residual.result
+    failed c.from_residual-in_err-post_all.result
     (kept_finds g.D.Disk.tells (g.D.Disk.states c.step.new.disk) c.step.new.self (StopsIn (read_setup opening) (bytes_with c.args.event) c.args.self.now (input_of c.args.event))
     (made_left (read_setup opening) c.args.self.now c.step.new.self c.args.event c.requires.whole c.requires.intake c.in_ok-batch.ensures.raft c.in_ok-batch.ensures.bytes) (c.in_ok-batch.ensures.kept has))

@@ -52,7 +52,7 @@ returns-in_err-keep_step-clause-stops g c = λ opening has.
 
 pub returns-in_err-lose-clause-stops : goal.returns-in_err-lose-clause-stops
 returns-in_err-lose-clause-stops g c = λ opening has.
-    failed c.from_residual.result
+    failed c.from_residual-in_err-lose.result
     (kept_finds g.D.Disk.tells (g.D.Disk.states c.keep_step.new.disk) c.keep_step.new.self.replica (StopsInstalling (read_setup opening) c.args.self.now c.args.event)
     (in_install (made_left (read_setup opening) c.args.self.now c.keep_step.new.self.replica c.args.event c.requires.going.holds.replica (brings_intake c.args.self.now.replica c.args.event c.args.applied c.requires.brings)
     c.in_ok-keep_step.ensures.stepped.node c.in_ok-keep_step.ensures.stepped.bytes))
@@ -60,7 +60,7 @@ returns-in_err-lose-clause-stops g c = λ opening has.
 
 pub returns-in_err-replace-clause-stops : goal.returns-in_err-replace-clause-stops
 returns-in_err-replace-clause-stops g c = λ opening has.
-    failed c.from_residual.result
+    failed c.from_residual-in_err-replace.result
     (kept_finds g.D.Disk.tells (g.D.Disk.states c.keep_step.new.disk) c.keep_step.new.self.replica (StopsInstalling (read_setup opening) c.args.self.now c.args.event)
     (in_install (made_left (read_setup opening) c.args.self.now c.keep_step.new.self.replica c.args.event c.requires.going.holds.replica (brings_intake c.args.self.now.replica c.args.event c.args.applied c.requires.brings)
     c.in_ok-keep_step.ensures.stepped.node c.in_ok-keep_step.ensures.stepped.bytes))
@@ -68,7 +68,7 @@ returns-in_err-replace-clause-stops g c = λ opening has.
 
 pub returns-in_err-tell_servers-clause-stops : goal.returns-in_err-tell_servers-clause-stops
 returns-in_err-tell_servers-clause-stops g c = λ opening has.
-    failed c.from_residual.result
+    failed c.from_residual-in_err-tell_servers.result
     (more g.D.Disk.tells (g.D.Disk.states c.tell_servers.new.disk) (StopsTelling (read_setup opening) (bytes_in c.requires.brings.message.what) c.replace.new.self) (StopsInstalling (read_setup opening) c.args.self.now c.args.event)
     (λ kept s. behind_placing (read_setup opening) c.args.self.now c.replace.new.self c.args.event c.requires.brings.message kept c.requires.brings.event_is
     (installs_so opening c.args.self.now c.keep_step.new.self c.lose.new.self c.replace.new.self c.args.event c.in_ok-keep_step.field-0 c.args.applied c.requires.going c.requires.led c.requires.idle c.requires.brings
@@ -84,7 +84,7 @@ returns-in_err-tell_servers-clause-stops g c = λ opening has.
 
 pub returns-in_err-look_at_servers-clause-stops : goal.returns-in_err-look_at_servers-clause-stops
 returns-in_err-look_at_servers-clause-stops g c = λ opening has.
-    failed c.from_residual.result
+    failed c.from_residual-in_err-look_at_servers.result
     (kept_finds g.D.Disk.tells (g.D.Disk.states c.tell_servers.new.disk) c.tell_servers.new.self.replica (StopsInstalling (read_setup opening) c.args.self.now c.args.event)
     (behind_placed (read_setup opening) c.args.self.now c.replace.new.self c.tell_servers.new.self c.args.event c.requires.brings.message c.requires.brings.event_is
     (installs_so opening c.args.self.now c.keep_step.new.self c.lose.new.self c.replace.new.self c.args.event c.in_ok-keep_step.field-0 c.args.applied c.requires.going c.requires.led c.requires.idle c.requires.brings

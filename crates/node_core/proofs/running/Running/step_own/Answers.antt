@@ -39,14 +39,14 @@ returns-in_err-tell_change-clause-stops g c = λ before opening came was has.
 
 pub returns-in_err-batch-clause-stops : goal.returns-in_err-batch-clause-stops
 returns-in_err-batch-clause-stops g c = λ before opening came was has.
-    failed c.from_residual.result
+    failed c.from_residual-in_err-batch.result
     (more g.D.Disk.tells (g.D.Disk.states c.make_step.new.disk) (StopsIn (read_setup opening) (bytes_with c.args.event) c.tell_change.new.self (input_of c.args.event)) (StopsOwn (read_setup opening) came before)
     (λ kept s. own_making (read_setup opening) came before c.args.self.now c.tell_change.new.self c.args.event kept c.requires.own was c.in_ok-tell_change.ensures.told c.in_ok-tell_change.ensures.tells s)
     (c.in_err-batch.ensures.stops opening (c.in_ok-tell_change.ensures.stored has)))
 
 pub returns-in_err-follow_members-clause-stops : goal.returns-in_err-follow_members-clause-stops
 returns-in_err-follow_members-clause-stops g c = λ before opening came was has.
-    failed c.from_residual.result
+    failed c.from_residual-in_err-follow_members.result
     (kept_finds g.D.Disk.tells (g.D.Disk.states c.make_step.new.disk) c.make_step.new.self.replica (StopsOwn (read_setup opening) came before)
     (own_making (read_setup opening) came before c.args.self.now c.tell_change.new.self c.args.event _ c.requires.own was c.in_ok-tell_change.ensures.told c.in_ok-tell_change.ensures.tells
     (made_left (read_setup opening) c.tell_change.new.self c.make_step.new.self.replica c.args.event c.in_ok-tell_change.ensures.told.whole (due_intake c.args.event (own_is_due c.args.event c.requires.own)) c.in_ok-batch.ensures.made.node
@@ -54,7 +54,7 @@ returns-in_err-follow_members-clause-stops g c = λ before opening came was has.
 
 pub returns-in_err-look-clause-stops : goal.returns-in_err-look-clause-stops
 returns-in_err-look-clause-stops g c = λ before opening came was has.
-    failed c.from_residual.result
+    failed c.from_residual-in_err-look.result
     (kept_finds g.D.Disk.tells (g.D.Disk.states c.make_step.new.disk) c.make_step.new.self.replica (StopsOwn (read_setup opening) came before)
     (own_making (read_setup opening) came before c.args.self.now c.tell_change.new.self c.args.event _ c.requires.own was c.in_ok-tell_change.ensures.told c.in_ok-tell_change.ensures.tells
     (made_left (read_setup opening) c.tell_change.new.self c.make_step.new.self.replica c.args.event c.in_ok-tell_change.ensures.told.whole (due_intake c.args.event (own_is_due c.args.event c.requires.own)) c.in_ok-batch.ensures.made.node

@@ -28,7 +28,7 @@ returns-in_err-batch-clause-stops g c = λ opening has.
 
 pub returns-in_err-follow_log-clause-stops : goal.returns-in_err-follow_log-clause-stops
 returns-in_err-follow_log-clause-stops g c = λ opening has.
-    failed c.from_residual.result
+    failed c.from_residual-in_err-follow_log.result
     (more g.D.Disk.tells (g.D.Disk.states c.follow_log.new.disk) (StopsBehind (read_setup opening) (bytes_with c.args.event) c.keep_step.new.self) (StopsFollowing (read_setup opening) c.args.self.now c.args.event)
     (λ kept s. behind_telling (read_setup opening) c.args.self.now c.keep_step.new.self c.args.event kept
     (follows_step c.args.self.now c.keep_step.new.self c.args.event _ c.requires.going c.requires.comes c.requires.none c.requires.idle c.in_ok-batch.ensures.stepped c.in_ok-batch.ensures.posts c.in_ok-batch.ensures.offices) s)
@@ -36,7 +36,7 @@ returns-in_err-follow_log-clause-stops g c = λ opening has.
 
 pub returns-in_err-look-clause-stops : goal.returns-in_err-look-clause-stops
 returns-in_err-look-clause-stops g c = λ opening has.
-    failed c.from_residual.result
+    failed c.from_residual-in_err-look.result
     (kept_finds g.D.Disk.tells (g.D.Disk.states c.follow_log.new.disk) c.follow_log.new.self.replica (StopsFollowing (read_setup opening) c.args.self.now c.args.event)
     (behind_following (read_setup opening) c.args.self.now _ c.follow_log.new.self c.args.event
     (follows_step c.args.self.now c.keep_step.new.self c.args.event _ c.requires.going c.requires.comes c.requires.none c.requires.idle c.in_ok-batch.ensures.stepped c.in_ok-batch.ensures.posts c.in_ok-batch.ensures.offices

@@ -1,7 +1,9 @@
 use Rattle.std.proofs.lemmas.Result.{on_ok_weaker, on_err_weaker}
+use Rattle.sql_engine.specs.Meanings.{Told}
 use Rattle.raft_member.specs.Members.{read_setup}
+use Rattle.node_core.specs.Taking.{BeganBy}
 use Rattle.node_core.proofs.RaftAccounts.{began_following, began_installing}
-use Rattle.std.proofs.Common.{refl}
+use Rattle.std.proofs.Common.{Option, refl, sym, subst}
 use Rattle.node_rules.specs.RaftTurns.{at_first}
 use Rattle.node_core.specs.Finding.{StopsFollowing, StopsInstalling, BeganStops, at_once}
 use Rattle.node_core.proofs.Finding.{failed, more, kept_finds}
@@ -16,8 +18,10 @@ returns-in-Nothing-clause-began g c = λ opening.
 
 pub returns-in_ok-step_install-in-Snapshot-clause-began : goal.returns-in_ok-step_install-in-Snapshot-clause-began
 returns-in_ok-step_install-in-Snapshot-clause-began g c = λ opening.
-    began_installing (g.E.Engine.meaning (g.E.Engine.kind c.args.engine.now)) (g.E.Engine.kind c.args.engine.now) (read_setup opening) c.args.self.now c.step_install.new.self c.args.event
-    (c.in_ok-step_install-in-Snapshot.ensures.began opening)
+    let kind = g.E.Engine.kind c.args.engine.now in
+    let m = g.E.Engine.meaning kind in
+    subst (λ (told : Option Told). BeganBy m kind (read_setup opening) c.args.self.now c.step_install.new.self c.args.event (g.E.Engine.told c.args.engine.now) told) (sym c.forget.ensures.told)
+    (began_installing m kind (read_setup opening) c.args.self.now c.step_install.new.self c.args.event (c.in_ok-step_install-in-Snapshot.ensures.began opening))
 
 pub returns-in_err-offered-clause-stops : goal.returns-in_err-offered-clause-stops
 returns-in_err-offered-clause-stops g c = λ opening has.
@@ -26,7 +30,7 @@ returns-in_err-offered-clause-stops g c = λ opening has.
 
 pub returns-in_err-step_install-in-Snapshot-clause-stops : goal.returns-in_err-step_install-in-Snapshot-clause-stops
 returns-in_err-step_install-in-Snapshot-clause-stops g c = λ opening has.
-    failed c.from_residual.result
+    failed c.from_residual-in_err-step_install-in-Snapshot.result
     (more g.D.Disk.tells (g.D.Disk.states c.step_install.new.disk) (StopsInstalling (read_setup opening) c.args.self.now c.args.event) (BeganStops (g.E.Engine.meaning (g.E.Engine.kind c.args.engine.now)) (g.E.Engine.kind c.args.engine.now) (read_setup opening) c.args.self.now c.args.event)
     (installing_stops (g.E.Engine.meaning (g.E.Engine.kind c.args.engine.now)) (g.E.Engine.kind c.args.engine.now) (read_setup opening) c.args.self.now c.args.event) (c.in_err-step_install-in-Snapshot.ensures.stops opening has))
 

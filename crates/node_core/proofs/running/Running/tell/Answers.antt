@@ -1,3 +1,4 @@
+use Rattle.std.proofs.Common.{[]}
 use Rattle.node_core.proofs.Stepped.{tells_so}
 use Rattle.raft_member.specs.Members.{read_setup}
 use Rattle.raft_rules.specs.Node.{Local, UseServers}
