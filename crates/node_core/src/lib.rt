@@ -10,6 +10,7 @@ mod leading;
 mod links;
 mod node;
 mod outs;
+mod own_turn;
 mod raft_turn;
 mod reading;
 mod running;

@@ -12,18 +12,17 @@ ghost use Rattle.raft_rules.specs.NodeValues.{node_of};
 ghost use Rattle.raft_vote.specs.Servers.{IsConfiguration};
 ghost use Rattle.raft_member.specs.Members.{AllStand, read_setup};
 ghost use Rattle.raft_core.specs.Events.{EventFits, input_of};
-ghost use Rattle.node_replica.specs.Replicas.{HasMoved, IsIntake, IsWhole};
+ghost use Rattle.node_replica.specs.Replicas.{IsIntake, IsWhole};
 ghost use Rattle.node_core.specs.declared.fault.NodeFault.TheVariants as fault;
 ghost use Rattle.node_core.specs.Account.{moment_of};
 ghost use Rattle.node_core.specs.Faults.{StepCause};
-ghost use Rattle.node_core.specs.Finding.{BeganStops, LeavesBy, StopsBehind, StopsFollowing, StopsIn, StopsInstalling, StopsOwn, StopsTelling};
-ghost use Rattle.node_core.specs.Posting.{FollowsOn, HadNone, InstallsOn, LeavesSo, LosesSo, MayTake, OfficeSo, OwnsSo, Posts, ToldOr, WasDue, ends_office};
+ghost use Rattle.node_core.specs.Finding.{BeganStops, LeavesBy, StopsBehind, StopsFollowing, StopsIn, StopsInstalling, StopsTelling};
+ghost use Rattle.node_core.specs.Posting.{FollowsOn, InstallsOn, LeavesSo, LosesSo, OfficeSo, Posts, ToldOr, ends_office};
 ghost use Rattle.node_core.specs.Stepping.{Brings, HasFollowed, HasMade, HasStepped, HasTold, IsOffer, KeepsRest, PutsNone, StaysAgreed, StaysStored};
 ghost use Rattle.node_core.specs.Taking.{BeganBy, bytes_with};
 ghost use Rattle.node_core.specs.Values.{clients_in};
 ghost use Rattle.node_core.specs.Waiting.{HasTurns};
-ghost use Rattle.node_core.specs.Whole.{InOffice, IsDue, IsFree, IsGoing, IsLed, IsOutside, IsOwnDue, LeadsInOffice, ServesLast};
-ghost use Rattle.node_core.specs.declared.running.Running.{Running as RunningValue};
+ghost use Rattle.node_core.specs.Whole.{InOffice, IsFree, IsGoing, IsLed, IsOutside, LeadsInOffice, ServesLast};
 
 use crate::fault::NodeFault;
 use crate::running::Running;
@@ -33,7 +32,6 @@ use disk_model::Disk;
 use node_replica::Moved;
 use node_state::{Applied, Office};
 use raft_core::RaftEvent;
-use raft_member::change_in;
 use raft_vote::{Servers, What};
 use sql_engine::Engine;
 use std::alloc::AllocError;
@@ -89,7 +87,8 @@ impl Running {
         ensures led { OnOk result (IsLed self.new) }
         // An act of the rules has begun by it.
         ensures began { (opening : List ServerValue) →
-            OnOk result (BeganBy (E.meaning (E.kind engine.old)) (E.kind engine.old) (read_setup opening) self.old self.new event (E.told engine.old) (E.told engine.new)) }
+            OnOk result (BeganBy (E.meaning (E.kind engine.old)) (E.kind engine.old) (read_setup opening) self.old self.new event
+            (E.told engine.old) (E.told engine.new)) }
         ensures stored { StaysStored D.tells (D.states disk.old) (D.states disk.new) self.old.replica self.new.replica result }
         ensures stops { (opening : List ServerValue) → LeavesBy D.tells (D.states disk.old) (D.states disk.new) self.old.replica result
             (BeganStops (E.meaning (E.kind engine.old)) (E.kind engine.old) (read_setup opening) self.old event) }
@@ -110,53 +109,6 @@ impl Running {
         }
     }
 
-    /// The first of what the node has given Raft itself happens: a proposal, or a leadership that is handed over. False where
-    /// nothing is due.
-    pub(crate) fn take_due<D: Disk>(&mut self, disk: &mut D) -> Result<bool, NodeFault>
-        requires going { IsGoing self.old }
-        requires led { IsLed self.old }
-        ensures going { OnOk result (IsGoing self.new) }
-        ensures led { OnOk result (IsLed self.new) }
-        ensures none { IfOk result (λ more. more ≡ false → HadNone self.old self.new) }
-        ensures goes { IfOk result (λ more. more ≡ true → OwnsSo self.old self.new) }
-        ensures stored { StaysStored D.tells (D.states disk.old) (D.states disk.new) self.old.replica self.new.replica result }
-        ensures stops { (opening : List ServerValue) (came : List ℕ) → LeavesBy D.tells (D.states disk.old) (D.states disk.new) self.old.replica result
-            (StopsOwn (read_setup opening) came self.old) }
-        ensures cause { StepCause (D.faults disk.old) (D.faults disk.new) result }
-        ensures agrees { OnOk result (StaysAgreed self.old self.new) }
-        ensures runs { result ≢ Err fault.Down }
-    {
-        let Some(event) = self.due.pop_front() else {
-            return Ok(false);
-        };
-        self.step_own(event, disk)?;
-        Ok(true)
-    }
-
-    /// A step of Raft for what the node gives it itself. Term and leadership stay.
-    fn step_own<D: Disk>(&mut self, event: RaftEvent, disk: &mut D) -> Result<(), NodeFault>
-        requires own { IsOwnDue event }
-        requires takes { MayTake event self.old.replica.raft }
-        requires going { IsGoing self.old }
-        requires led { IsLed self.old }
-        ensures going { OnOk result (IsGoing self.new) }
-        ensures led { OnOk result (IsLed self.new) }
-        ensures goes { (before : RunningValue) → WasDue event before self.old → OnOk result (OwnsSo before self.new) }
-        ensures stored { StaysStored D.tells (D.states disk.old) (D.states disk.new) self.old.replica self.new.replica result }
-        ensures stops { (before : RunningValue) (opening : List ServerValue) (came : List ℕ) → WasDue event before self.old →
-            LeavesBy D.tells (D.states disk.old) (D.states disk.new) self.old.replica result (StopsOwn (read_setup opening) came before) }
-        ensures cause { StepCause (D.faults disk.old) (D.faults disk.new) result }
-        ensures agrees { OnOk result (StaysAgreed self.old self.new) }
-        ensures runs { result ≢ Err fault.Down }
-    {
-        self.holds_machine();
-        self.tell_change(&event, disk)?;
-        let batch = self.make_step(event, disk)?;
-        self.follow_members(batch)?;
-        self.look()?;
-        Ok(())
-    }
-
     /// A law: the databases are a machine.
     pub(crate) fn holds_machine(&self)
         ensures { IsMachine self.now.applied.machine }
@@ -165,7 +117,7 @@ impl Running {
     }
 
     /// One step of Raft, kept and posted. Answers from which index on the log is another one now, where it is.
-    fn make_step<D: Disk>(
+    pub(crate) fn make_step<D: Disk>(
         &mut self,
         event: RaftEvent,
         disk: &mut D,
@@ -252,7 +204,7 @@ impl Running {
 
     /// The configurations follow the log, which is another one from this index on. False only where they are those that they
     /// were.
-    fn follow_members(&mut self, batch: Option<u64>) -> Result<bool, NodeFault>
+    pub(crate) fn follow_members(&mut self, batch: Option<u64>) -> Result<bool, NodeFault>
         requires stand { AllStand self.old.members }
         requires past { MatchOption batch (Unit {0}) (λ first. (self.old.replica.raft.base < first) × (self.old.members.at < first)) }
         ensures is { self.new ≡ record self.old { members = self.new.members } }
@@ -341,36 +293,8 @@ impl Running {
         Ok(())
     }
 
-    /// A leader that proposes a change tells Raft its servers first, so that its entry is counted by them.
-    fn tell_change<D: Disk>(&mut self, event: &RaftEvent, disk: &mut D) -> Result<(), NodeFault>
-        requires whole { IsWhole self.old.replica }
-        requires short { HasShortTerm (node_of self.old.replica.raft) }
-        requires machine { IsMachine self.old.applied.machine }
-        ensures told { OnOk result (HasTold self.old self.new) }
-        ensures tells { OnOk result (ToldOr self.old self.new) }
-        ensures stored { StaysStored D.tells (D.states disk.old) (D.states disk.new) self.old.replica self.new.replica result }
-        ensures stops { (opening : List ServerValue) (came : List ℕ) → LeavesBy D.tells (D.states disk.old) (D.states disk.new) self.old.replica result
-            (StopsTelling (read_setup opening) came self.old) }
-        ensures cause { StepCause (D.faults disk.old) (D.faults disk.new) result }
-        ensures runs { result ≢ Err fault.Down }
-    {
-        let RaftEvent::Propose(entries) = event else {
-            return Ok(());
-        };
-        let [entry] = entries.as_slice() else {
-            return Ok(());
-        };
-        if !self.leads() {
-            return Ok(());
-        }
-        match change_in(self.alloc, entry)? {
-            Some(servers) => self.tell(servers, disk),
-            None => Ok(()),
-        }
-    }
-
     /// Raft is told servers.
-    fn tell<D: Disk>(&mut self, servers: Servers, disk: &mut D) -> Result<(), NodeFault>
+    pub(crate) fn tell<D: Disk>(&mut self, servers: Servers, disk: &mut D) -> Result<(), NodeFault>
         requires whole { IsWhole self.old.replica }
         requires short { HasShortTerm (node_of self.old.replica.raft) }
         requires stands { IsConfiguration servers }
