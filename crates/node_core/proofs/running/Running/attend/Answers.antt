@@ -41,11 +41,11 @@ returns-then-branch-3-clause-on g c = λ opening start event told u.
     let kind = g.E.Engine.kind c.args.engine.now in
     let same = c.in_ok-run_due.ensures.none c.if-branch.false in
     let behind = further_at g.E.Engine.meaning (read_setup opening) start event told kind (g.E.Engine.kind c.run_due.new.engine) c.run_due.new.self c.take_message.new.self c.run_due.ensures.engine.kind
-        (subst (λ (n : Running). Underway (g.E.Engine.meaning kind) kind (read_setup opening) start n event told (g.E.Engine.told c.args.engine.now)) (sym same) u)
-        (λ bytes joins. c.in_ok-take_message.ensures.goes (read_setup opening) bytes joins) in
+    (subst (λ (n : Running). Underway (g.E.Engine.meaning kind) kind (read_setup opening) start n event told (g.E.Engine.told c.args.engine.now)) (sym same) u)
+    (λ bytes joins. c.in_ok-take_message.ensures.goes (read_setup opening) bytes joins) in
     let ends = ends_behind c.args.self.now c.run_due.new.self c.take_message.new.self (c.in_ok-run_due.ensures.none c.if-branch.false) c.in_ok-take_message.ensures.going c.requires.applied c.requires.due c.take_message.ensures.replica
-        c.take_message.ensures.index (c.in_ok-take_message.ensures.none c.if-branch-2.false) (c.in_ok-take_message.ensures.turns c.if-branch-2.false) (c.in_ok-run_due.ensures.run c.if-branch.false)
-        (c.in_ok-take_message.ensures.sessions c.if-branch-2.false) in
+    c.take_message.ensures.index (c.in_ok-take_message.ensures.none c.if-branch-2.false) (c.in_ok-take_message.ensures.turns c.if-branch-2.false) (c.in_ok-run_due.ensures.run c.if-branch.false)
+    (c.in_ok-take_message.ensures.sessions c.if-branch-2.false) in
     compacts (g.E.Engine.meaning kind) kind (read_setup opening) start event told (c.raft_turns.ensures.snapshots kind) c.take_message.new.self c.compact.new.self behind c.in_ok-take_message.ensures.going ends.0 ends.1
     (c.in_ok-compact.ensures.takes opening c.if-branch-3.true)
 
@@ -58,15 +58,15 @@ returns-then-branch-4-clause-on g c = λ opening start event told u.
     let kind = g.E.Engine.kind c.args.engine.now in
     let same = c.in_ok-run_due.ensures.none c.if-branch.false in
     let behind = further_at g.E.Engine.meaning (read_setup opening) start event told kind (g.E.Engine.kind c.run_due.new.engine) c.run_due.new.self c.take_message.new.self c.run_due.ensures.engine.kind
-        (subst (λ (n : Running). Underway (g.E.Engine.meaning kind) kind (read_setup opening) start n event told (g.E.Engine.told c.args.engine.now)) (sym same) u)
-        (λ bytes joins. c.in_ok-take_message.ensures.goes (read_setup opening) bytes joins) in
+    (subst (λ (n : Running). Underway (g.E.Engine.meaning kind) kind (read_setup opening) start n event told (g.E.Engine.told c.args.engine.now)) (sym same) u)
+    (λ bytes joins. c.in_ok-take_message.ensures.goes (read_setup opening) bytes joins) in
     let ends = ends_behind c.args.self.now c.run_due.new.self c.take_message.new.self (c.in_ok-run_due.ensures.none c.if-branch.false) c.in_ok-take_message.ensures.going c.requires.applied c.requires.due c.take_message.ensures.replica
-        c.take_message.ensures.index (c.in_ok-take_message.ensures.none c.if-branch-2.false) (c.in_ok-take_message.ensures.turns c.if-branch-2.false) (c.in_ok-run_due.ensures.run c.if-branch.false)
-        (c.in_ok-take_message.ensures.sessions c.if-branch-2.false) in
+    c.take_message.ensures.index (c.in_ok-take_message.ensures.none c.if-branch-2.false) (c.in_ok-take_message.ensures.turns c.if-branch-2.false) (c.in_ok-run_due.ensures.run c.if-branch.false)
+    (c.in_ok-take_message.ensures.sessions c.if-branch-2.false) in
     let still = sym (c.in_ok-compact.ensures.none c.if-branch-3.false) in
     let came = letter_at g.E.Engine.meaning (read_setup opening) start event told kind (g.E.Engine.kind c.take_message.new.engine) c.compact.new.self c.take_letter.new.self (c.take_message.ensures.engine.kind ∙ c.run_due.ensures.engine.kind)
-        (subst (λ (n : Running). Underway (g.E.Engine.meaning kind) kind (read_setup opening) start n event told (g.E.Engine.told c.take_message.new.engine)) still behind) c.in_ok-compact.ensures.going
-        (subst (λ (n : Running). MayEnd (moment_of n)) still ends.0) (subst AtRest still ends.1) (c.in_ok-take_letter.ensures.letter opening) in
+    (subst (λ (n : Running). Underway (g.E.Engine.meaning kind) kind (read_setup opening) start n event told (g.E.Engine.told c.take_message.new.engine)) still behind) c.in_ok-compact.ensures.going
+    (subst (λ (n : Running). MayEnd (moment_of n)) still ends.0) (subst AtRest still ends.1) (c.in_ok-take_letter.ensures.letter opening) in
     came
 
 pub returns-clause-stored : goal.returns-clause-stored
@@ -79,15 +79,15 @@ returns-clause-on g c = λ opening start event told u.
     let kind = g.E.Engine.kind c.args.engine.now in
     let same = c.in_ok-run_due.ensures.none c.if-branch.false in
     let behind = further_at g.E.Engine.meaning (read_setup opening) start event told kind (g.E.Engine.kind c.run_due.new.engine) c.run_due.new.self c.take_message.new.self c.run_due.ensures.engine.kind
-        (subst (λ (n : Running). Underway (g.E.Engine.meaning kind) kind (read_setup opening) start n event told (g.E.Engine.told c.args.engine.now)) (sym same) u)
-        (λ bytes joins. c.in_ok-take_message.ensures.goes (read_setup opening) bytes joins) in
+    (subst (λ (n : Running). Underway (g.E.Engine.meaning kind) kind (read_setup opening) start n event told (g.E.Engine.told c.args.engine.now)) (sym same) u)
+    (λ bytes joins. c.in_ok-take_message.ensures.goes (read_setup opening) bytes joins) in
     let ends = ends_behind c.args.self.now c.run_due.new.self c.take_message.new.self (c.in_ok-run_due.ensures.none c.if-branch.false) c.in_ok-take_message.ensures.going c.requires.applied c.requires.due c.take_message.ensures.replica
-        c.take_message.ensures.index (c.in_ok-take_message.ensures.none c.if-branch-2.false) (c.in_ok-take_message.ensures.turns c.if-branch-2.false) (c.in_ok-run_due.ensures.run c.if-branch.false)
-        (c.in_ok-take_message.ensures.sessions c.if-branch-2.false) in
+    c.take_message.ensures.index (c.in_ok-take_message.ensures.none c.if-branch-2.false) (c.in_ok-take_message.ensures.turns c.if-branch-2.false) (c.in_ok-run_due.ensures.run c.if-branch.false)
+    (c.in_ok-take_message.ensures.sessions c.if-branch-2.false) in
     let still = sym (c.in_ok-compact.ensures.none c.if-branch-3.false) in
     let came = letter_at g.E.Engine.meaning (read_setup opening) start event told kind (g.E.Engine.kind c.take_message.new.engine) c.compact.new.self c.take_letter.new.self (c.take_message.ensures.engine.kind ∙ c.run_due.ensures.engine.kind)
-        (subst (λ (n : Running). Underway (g.E.Engine.meaning kind) kind (read_setup opening) start n event told (g.E.Engine.told c.take_message.new.engine)) still behind) c.in_ok-compact.ensures.going
-        (subst (λ (n : Running). MayEnd (moment_of n)) still ends.0) (subst AtRest still ends.1) (c.in_ok-take_letter.ensures.letter opening) in
+    (subst (λ (n : Running). Underway (g.E.Engine.meaning kind) kind (read_setup opening) start n event told (g.E.Engine.told c.take_message.new.engine)) still behind) c.in_ok-compact.ensures.going
+    (subst (λ (n : Running). MayEnd (moment_of n)) still ends.0) (subst AtRest still ends.1) (c.in_ok-take_letter.ensures.letter opening) in
     closed_at g.E.Engine.meaning (read_setup opening) start event told kind c.close_heard.result c.take_letter.new.self c.close_heard.new.self came c.close_heard.ensures.replica c.close_heard.ensures.goes c.close_heard.ensures.quiet
 
 pub returns-clause-led : goal.returns-clause-led
@@ -96,8 +96,8 @@ returns-clause-led g c = on_ok_then c.close_heard.result (λ goes. led_closes c.
 pub returns-clause-ends : goal.returns-clause-ends
 returns-clause-ends g c =
     let ends = ends_behind c.args.self.now c.run_due.new.self c.take_message.new.self (c.in_ok-run_due.ensures.none c.if-branch.false) c.in_ok-take_message.ensures.going c.requires.applied c.requires.due c.take_message.ensures.replica
-        c.take_message.ensures.index (c.in_ok-take_message.ensures.none c.if-branch-2.false) (c.in_ok-take_message.ensures.turns c.if-branch-2.false) (c.in_ok-run_due.ensures.run c.if-branch.false)
-        (c.in_ok-take_message.ensures.sessions c.if-branch-2.false) in
+    c.take_message.ensures.index (c.in_ok-take_message.ensures.none c.if-branch-2.false) (c.in_ok-take_message.ensures.turns c.if-branch-2.false) (c.in_ok-run_due.ensures.run c.if-branch.false)
+    (c.in_ok-take_message.ensures.sessions c.if-branch-2.false) in
     let still = sym (c.in_ok-compact.ensures.none c.if-branch-3.false) in
     ends_closed c.close_heard.result c.take_letter.new.self c.close_heard.new.self
     (subst MayEnd (sym (ap moment_of (c.in_ok-take_letter.ensures.none c.if-branch-4.false))) (subst (λ (n : Running). MayEnd (moment_of n)) still ends.0)) c.close_heard.ensures.none
@@ -128,11 +128,11 @@ returns-in_err-compact-clause-stops g c = λ opening start event told u has.
     let law = c.raft_steps_are_kept.ensures.stops in
     let P = StopsBy m kind setup start event in
     let behind = further_at g.E.Engine.meaning setup start event kind (g.E.Engine.kind c.run_due.new.engine) c.run_due.new.self c.take_message.new.self c.run_due.ensures.engine.kind
-        (subst (λ (n : Running). Underway m kind setup start n event told (g.E.Engine.told c.args.engine.now)) (sym (c.in_ok-run_due.ensures.none c.if-branch.false)) u)
-        (λ bytes joins. c.in_ok-take_message.ensures.goes setup bytes joins) in
+    (subst (λ (n : Running). Underway m kind setup start n event told (g.E.Engine.told c.args.engine.now)) (sym (c.in_ok-run_due.ensures.none c.if-branch.false)) u)
+    (λ bytes joins. c.in_ok-take_message.ensures.goes setup bytes joins) in
     let ends = ends_behind c.args.self.now c.run_due.new.self c.take_message.new.self (c.in_ok-run_due.ensures.none c.if-branch.false) c.in_ok-take_message.ensures.going c.requires.applied c.requires.due c.take_message.ensures.replica
-        c.take_message.ensures.index (c.in_ok-take_message.ensures.none c.if-branch-2.false) (c.in_ok-take_message.ensures.turns c.if-branch-2.false) (c.in_ok-run_due.ensures.run c.if-branch.false)
-        (c.in_ok-take_message.ensures.sessions c.if-branch-2.false) in
+    c.take_message.ensures.index (c.in_ok-take_message.ensures.none c.if-branch-2.false) (c.in_ok-take_message.ensures.turns c.if-branch-2.false) (c.in_ok-run_due.ensures.run c.if-branch.false)
+    (c.in_ok-take_message.ensures.sessions c.if-branch-2.false) in
     more g.D.Disk.tells (g.D.Disk.states c.compact.new.disk) (StopsCompacting setup [] c.take_message.new.self) P
     (λ kept s. stopped_compacting law m kind setup start event c.take_message.new.self behind kept ends.0 c.in_ok-take_message.ensures.going.holds.replica.id ends.1 s) (c.in_err-compact.ensures.stops opening [] (subst (λ (r : ReplicaValue). IsKept g.D.Disk.tells (g.D.Disk.states c.args.disk.now) r) (sym (c.take_message.ensures.replica ∙ c.run_due.ensures.replica)) has))
 
@@ -144,11 +144,11 @@ returns-in_err-take_letter-clause-stops g c = λ opening start event told u has.
     let law = c.raft_steps_are_kept.ensures.stops in
     let P = StopsBy m kind setup start event in
     let behind = further_at g.E.Engine.meaning setup start event kind (g.E.Engine.kind c.run_due.new.engine) c.run_due.new.self c.take_message.new.self c.run_due.ensures.engine.kind
-        (subst (λ (n : Running). Underway m kind setup start n event told (g.E.Engine.told c.args.engine.now)) (sym (c.in_ok-run_due.ensures.none c.if-branch.false)) u)
-        (λ bytes joins. c.in_ok-take_message.ensures.goes setup bytes joins) in
+    (subst (λ (n : Running). Underway m kind setup start n event told (g.E.Engine.told c.args.engine.now)) (sym (c.in_ok-run_due.ensures.none c.if-branch.false)) u)
+    (λ bytes joins. c.in_ok-take_message.ensures.goes setup bytes joins) in
     let ends = ends_behind c.args.self.now c.run_due.new.self c.take_message.new.self (c.in_ok-run_due.ensures.none c.if-branch.false) c.in_ok-take_message.ensures.going c.requires.applied c.requires.due c.take_message.ensures.replica
-        c.take_message.ensures.index (c.in_ok-take_message.ensures.none c.if-branch-2.false) (c.in_ok-take_message.ensures.turns c.if-branch-2.false) (c.in_ok-run_due.ensures.run c.if-branch.false)
-        (c.in_ok-take_message.ensures.sessions c.if-branch-2.false) in
+    c.take_message.ensures.index (c.in_ok-take_message.ensures.none c.if-branch-2.false) (c.in_ok-take_message.ensures.turns c.if-branch-2.false) (c.in_ok-run_due.ensures.run c.if-branch.false)
+    (c.in_ok-take_message.ensures.sessions c.if-branch-2.false) in
     let still = sym (c.in_ok-compact.ensures.none c.if-branch-3.false) in
     let later = subst (λ (n : Running). Underway m kind setup start n event told (g.E.Engine.told c.take_message.new.engine)) still behind in
     let kept_behind = c.in_ok-compact.ensures.stored (subst (λ (r : ReplicaValue). IsKept g.D.Disk.tells (g.D.Disk.states c.args.disk.now) r) (sym (c.take_message.ensures.replica ∙ c.run_due.ensures.replica)) has) in
@@ -165,15 +165,15 @@ returns-clause-stops g c = λ opening start event told u has.
     let law = c.raft_steps_are_kept.ensures.stops in
     let P = StopsBy m kind setup start event in
     let behind = further_at g.E.Engine.meaning setup start event kind (g.E.Engine.kind c.run_due.new.engine) c.run_due.new.self c.take_message.new.self c.run_due.ensures.engine.kind
-        (subst (λ (n : Running). Underway m kind setup start n event told (g.E.Engine.told c.args.engine.now)) (sym (c.in_ok-run_due.ensures.none c.if-branch.false)) u)
-        (λ bytes joins. c.in_ok-take_message.ensures.goes setup bytes joins) in
+    (subst (λ (n : Running). Underway m kind setup start n event told (g.E.Engine.told c.args.engine.now)) (sym (c.in_ok-run_due.ensures.none c.if-branch.false)) u)
+    (λ bytes joins. c.in_ok-take_message.ensures.goes setup bytes joins) in
     let ends = ends_behind c.args.self.now c.run_due.new.self c.take_message.new.self (c.in_ok-run_due.ensures.none c.if-branch.false) c.in_ok-take_message.ensures.going c.requires.applied c.requires.due c.take_message.ensures.replica
-        c.take_message.ensures.index (c.in_ok-take_message.ensures.none c.if-branch-2.false) (c.in_ok-take_message.ensures.turns c.if-branch-2.false) (c.in_ok-run_due.ensures.run c.if-branch.false)
-        (c.in_ok-take_message.ensures.sessions c.if-branch-2.false) in
+    c.take_message.ensures.index (c.in_ok-take_message.ensures.none c.if-branch-2.false) (c.in_ok-take_message.ensures.turns c.if-branch-2.false) (c.in_ok-run_due.ensures.run c.if-branch.false)
+    (c.in_ok-take_message.ensures.sessions c.if-branch-2.false) in
     let still = sym (c.in_ok-compact.ensures.none c.if-branch-3.false) in
     let later = subst (λ (n : Running). Underway m kind setup start n event told (g.E.Engine.told c.take_message.new.engine)) still behind in
     let kept_behind = c.in_ok-compact.ensures.stored (subst (λ (r : ReplicaValue). IsKept g.D.Disk.tells (g.D.Disk.states c.args.disk.now) r) (sym (c.take_message.ensures.replica ∙ c.run_due.ensures.replica)) has) in
     let came = letter_at g.E.Engine.meaning setup start event kind (g.E.Engine.kind c.take_message.new.engine) c.compact.new.self c.take_letter.new.self (c.take_message.ensures.engine.kind ∙ c.run_due.ensures.engine.kind)
-        later c.in_ok-compact.ensures.going (subst (λ (n : Running). MayEnd (moment_of n)) still ends.0) (subst AtRest still ends.1) (c.in_ok-take_letter.ensures.letter opening) in
+    later c.in_ok-compact.ensures.going (subst (λ (n : Running). MayEnd (moment_of n)) still ends.0) (subst AtRest still ends.1) (c.in_ok-take_letter.ensures.letter opening) in
     always_err c.close_heard.result
     (kept_finds g.D.Disk.tells (g.D.Disk.states c.take_letter.new.disk) c.take_letter.new.self.replica P (stopped_here law m kind setup start event c.take_letter.new.self came) (c.in_ok-take_letter.ensures.stored kept_behind))
