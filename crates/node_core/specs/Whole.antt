@@ -60,6 +60,7 @@ pub record IsQuiet (n : Running) : Type 0 where
   pub replies : n.outs.replies.items ≡ []
   pub closed : n.outs.closed.items ≡ []
   pub messages : n.outs.messages.items ≡ []
+  pub reads : n.outs.reads.items ≡ []
 
 -- Between two steps: all that is committed is applied, and nothing is left to do or to say.
 pub record Rests (n : Running) : Type 0 where

@@ -128,6 +128,7 @@ impl Running {
         ensures due { self.new.due.items ≡ self.old.due.items }
         ensures landed { OnOk result (clients_in self.new ≡ landed_at self.old.applied.index (clients_in self.old)) }
         ensures said { OnOk result (self.new.outs.replies.items ≡ self.old.outs.replies.items ++ told_at self.old.applied.index (clients_in self.old)) }
+        ensures unread { self.new.outs.reads.items ≡ self.old.outs.reads.items }
         ensures files { machine_of self.new.applied.machine ≡ machine_of self.old.applied.machine }
         ensures is { self.new ≡ record self.old {
           clients = self.new.clients;
@@ -155,7 +156,7 @@ impl Running {
         ensures engine { Stays (E.kind engine.old) (E.kind engine.new) (E.refused_openings engine.old) (E.refused_openings engine.new) }
         ensures none { IfOk result (λ more. more ≡ false → self.new ≡ self.old) }
         ensures goes { (setup : Setup) (bytes : List ℕ) (joins : Option ℕ) →
-            OnOk result (Turns (E.meaning (E.kind engine.old)) (E.kind engine.old) setup bytes joins self.old self.new) }
+            OnOk result (Turns (E.meaning (E.kind engine.old)) (E.kind engine.old) setup bytes joins self.old self.new (E.told engine.old) (E.told engine.new)) }
     {
         stretches_join::<E>();
         let Some(conn) = self.clients.next_due() else {

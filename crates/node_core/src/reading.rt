@@ -1,6 +1,6 @@
 //! Queries that readers answer beside a node, and queries that are yet to be answered.
 
-ghost use Rattle.std.specs.Prelude.{◌≡◌, ◌<◌, ℕ, List, [], Option, length, OnOk, IfErr, MatchOption};
+ghost use Rattle.std.specs.Prelude.{◌≡◌, ◌<◌, ◌++◌, ◌∷◌, ℕ, List, [], Option, length, OnOk, IfErr, MatchOption};
 ghost use Rattle.raft_world.specs.Members.{Setup};
 ghost use Rattle.node_core.specs.declared.event.Event.TheVariants as happens;
 ghost use Rattle.node_core.specs.Account.{Turns, SoFar, Happens};
@@ -52,6 +52,7 @@ impl Running {
         ensures wants { IfErr result (λ f. f ≡ fault.NoMemory) }
         ensures agrees { StaysAgreed self.old self.new }
         ensures said { OnOk result (self.new.outs.replies.items ≡ self.old.outs.replies.items) }
+        ensures lends { OnOk result (self.new.outs.reads.items ≡ self.old.outs.reads.items ++ (conn, job) ∷ []) }
         ensures is { self.new ≡ record self.old {
           lent = self.new.lent;
           view = record self.old.view { readers = self.new.view.readers };
@@ -107,7 +108,7 @@ impl Running {
         ensures agrees { OnOk result (Agrees (E.known engine.new) self.new.clients self.new.applied.machine) }
         ensures engine { Stays (E.kind engine.old) (E.kind engine.new) (E.refused_openings engine.old) (E.refused_openings engine.new) }
         ensures begun { (setup : Setup) →
-            OnOk result (SoFar (E.meaning (E.kind engine.old)) (E.kind engine.old) setup self.old self.new (Happens (happens.ReadDone conn read))) }
+            OnOk result (SoFar (E.meaning (E.kind engine.old)) (E.kind engine.old) setup self.old self.new (Happens (happens.ReadDone conn read)) (E.told engine.old) (E.told engine.new)) }
     {
         if !self.take_back(conn) {
             return Ok(());
@@ -158,7 +159,7 @@ impl Running {
         ensures agrees { OnOk result (Agrees (E.known engine.new) self.new.clients self.new.applied.machine) }
         ensures engine { Stays (E.kind engine.old) (E.kind engine.new) (E.refused_openings engine.old) (E.refused_openings engine.new) }
         ensures goes { (setup : Setup) (bytes : List ℕ) (joins : Option ℕ) →
-            OnOk result (Turns (E.meaning (E.kind engine.old)) (E.kind engine.old) setup bytes joins self.old self.new) }
+            OnOk result (Turns (E.meaning (E.kind engine.old)) (E.kind engine.old) setup bytes joins self.old self.new (E.told engine.old) (E.told engine.new)) }
     {
         clients_turn::<E>();
         stretches_join::<E>();

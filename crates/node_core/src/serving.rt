@@ -146,7 +146,7 @@ impl Running {
         ensures none { IfOk result (λ more. more ≡ false → self.new.due.items ≡ self.old.due.items) }
         ensures turns { IfOk result (λ more. more ≡ false → (clients_in self.new).turns ≡ []) }
         ensures goes { (setup : Setup) (bytes : List ℕ) (joins : Option ℕ) →
-            OnOk result (Turns (E.meaning (E.kind engine.old)) (E.kind engine.old) setup bytes joins self.old self.new) }
+            OnOk result (Turns (E.meaning (E.kind engine.old)) (E.kind engine.old) setup bytes joins self.old self.new (E.told engine.old) (E.told engine.new)) }
     {
         clients_turn::<E>();
         stretches_join::<E>();
@@ -209,6 +209,7 @@ impl Running {
         ensures wants { IfErr result (λ f. f ≡ fault.NoMemory) }
         ensures agrees { StaysAgreed self.old self.new }
         ensures said { OnOk result (self.new.outs.replies.items ≡ self.old.outs.replies.items ++ map (λ (m : List ℕ). (conn, m)) messages) }
+        ensures unread { self.new.outs.reads.items ≡ self.old.outs.reads.items }
         ensures is { self.new ≡ record self.old { outs = self.new.outs } }
     {
         self.outs.reply(conn, messages)?;

@@ -58,7 +58,8 @@ impl Running {
         ensures wants { IfErr result (λ f. f ≡ fault.NoMemory) }
         ensures agrees { OnOk result (Agrees (E.known engine.new) self.new.clients self.new.applied.machine) }
         ensures engine { Stays (E.kind engine.old) (E.kind engine.new) (E.refused_openings engine.old) (E.refused_openings engine.new) }
-        ensures begun { (setup : Setup) → OnOk result (SoFar (E.meaning (E.kind engine.old)) (E.kind engine.old) setup self.old self.new (Happens event)) }
+        ensures begun { (setup : Setup) →
+            OnOk result (SoFar (E.meaning (E.kind engine.old)) (E.kind engine.old) setup self.old self.new (Happens event) (E.told engine.old) (E.told engine.new)) }
     {
         match event {
             Event::Timeout => self.give(RaftEvent::Timeout)?,
@@ -180,6 +181,7 @@ impl Running {
     fn take_outs(&mut self) -> Result<Outs, NodeFault>
         ensures said { IfOk result (λ outs. (outs.replies.items ≡ self.old.outs.replies.items) × (outs.closed.items ≡ self.old.outs.closed.items)) }
         ensures messages { IfOk result (λ outs. outs.messages.items ≡ sent self.old.mail) }
+        ensures reads { IfOk result (λ outs. outs.reads.items ≡ self.old.outs.reads.items) }
         ensures rest { self.new ≡ record self.old { outs = self.new.outs; mail = self.new.mail } }
         ensures quiet { IsQuiet self.new }
         ensures wants { IfErr result (λ f. f ≡ fault.NoMemory) }

@@ -25,21 +25,21 @@ pub returns-in_ok-connect-in-Connect-clause-begun : goal.returns-in_ok-connect-i
 returns-in_ok-connect-in-Connect-clause-begun g c = λ setup.
     let kind = g.E.Engine.kind c.args.engine.now in
     let m = g.E.Engine.meaning kind in
-    subst (λ (e : Event). SoFar m kind setup c.args.self.now c.connect.new.self (Happens e)) (sym c.in-Connect.is)
+    subst (λ (e : Event). SoFar m kind setup c.args.self.now c.connect.new.self (Happens e) (g.E.Engine.told c.args.engine.now) (g.E.Engine.told c.args.engine.now)) (sym c.in-Connect.is)
     (begins_connect m kind setup c.args.self.now c.connect.new.self c.in-Connect.conn c.in_ok-connect-in-Connect.ensures.goes c.in_ok-connect-in-Connect.ensures.quiet c.in_ok-connect-in-Connect.ensures.replica)
 
 pub returns-in-Hangup-clause-begun : goal.returns-in-Hangup-clause-begun
 returns-in-Hangup-clause-begun g c = λ setup.
     let kind = g.E.Engine.kind c.args.engine.now in
     let m = g.E.Engine.meaning kind in
-    subst (λ (e : Event). SoFar m kind setup c.args.self.now c.hang_up.new.self (Happens e)) (sym c.in-Hangup.is)
+    subst (λ (e : Event). SoFar m kind setup c.args.self.now c.hang_up.new.self (Happens e) (g.E.Engine.told c.args.engine.now) (g.E.Engine.told c.args.engine.now)) (sym c.in-Hangup.is)
     (begins_hangup m kind setup c.args.self.now c.hang_up.new.self c.in-Hangup.conn c.hang_up.ensures.goes c.hang_up.ensures.quiet c.hang_up.ensures.replica)
 
 pub returns-in_ok-receive-in-Bytes-clause-begun : goal.returns-in_ok-receive-in-Bytes-clause-begun
 returns-in_ok-receive-in-Bytes-clause-begun g c = λ setup.
     let kind = g.E.Engine.kind c.args.engine.now in
     let m = g.E.Engine.meaning kind in
-    subst (λ (e : Event). SoFar m kind setup c.args.self.now c.receive.new.self (Happens e)) (sym c.in-Bytes.is)
+    subst (λ (e : Event). SoFar m kind setup c.args.self.now c.receive.new.self (Happens e) (g.E.Engine.told c.args.engine.now) (g.E.Engine.told c.args.engine.now)) (sym c.in-Bytes.is)
     (begins_bytes m kind setup c.args.self.now c.receive.new.self c.in-Bytes.conn c.in-Bytes.bytes
     (subst (λ (b : List ℕ). HearsSo c.args.self.now c.receive.new.self c.in-Bytes.conn b) c.as_slice.ensures c.in_ok-receive-in-Bytes.ensures.goes)
     c.receive.ensures.quiet c.receive.ensures.replica)
@@ -48,4 +48,4 @@ pub returns-in_ok-read_done-in-ReadDone-clause-begun : goal.returns-in_ok-read_d
 returns-in_ok-read_done-in-ReadDone-clause-begun g c = λ setup.
     let kind = g.E.Engine.kind c.args.engine.now in
     let m = g.E.Engine.meaning kind in
-    subst (λ (e : Event). SoFar m kind setup c.args.self.now c.read_done.new.self (Happens e)) (sym c.in-ReadDone.is) (c.in_ok-read_done-in-ReadDone.ensures.begun setup)
+    subst (λ (e : Event). SoFar m kind setup c.args.self.now c.read_done.new.self (Happens e) (g.E.Engine.told c.args.engine.now) (g.E.Engine.told c.read_done.new.engine)) (sym c.in-ReadDone.is) (c.in_ok-read_done-in-ReadDone.ensures.begun setup)
