@@ -1,4 +1,5 @@
-use Rattle.std.proofs.Common.{[], sym, ap, subst, ◌∙◌}
+use Rattle.std.proofs.Common.{[], Option, sym, ap, subst, ◌∙◌}
+use Rattle.sql_engine.specs.Meanings.{Told}
 use Rattle.raft_member.specs.Members.{read_setup}
 use Rattle.node_replica.specs.Replicas.{ReplicaValue, IsKept}
 use Rattle.node_rules.specs.Accounts.{MayEnd}
@@ -29,7 +30,8 @@ pub returns-then-branch-2-clause-on : goal.returns-then-branch-2-clause-on
 returns-then-branch-2-clause-on g c = λ opening start event told u.
     let kind = g.E.Engine.kind c.args.engine.now in
     further_at g.E.Engine.meaning (read_setup opening) start event told kind (g.E.Engine.kind c.run_due.new.engine) c.run_due.new.self c.take_message.new.self c.run_due.ensures.engine.kind
-    (subst (λ (n : Running). Underway (g.E.Engine.meaning kind) kind (read_setup opening) start n event told (g.E.Engine.told c.args.engine.now)) (sym (c.in_ok-run_due.ensures.none c.if-branch.false)) u)
+    (subst (λ (t : Option Told). Underway (g.E.Engine.meaning kind) kind (read_setup opening) start c.run_due.new.self event told t) (sym (c.in_ok-run_due.ensures.untold c.if-branch.false))
+    (subst (λ (n : Running). Underway (g.E.Engine.meaning kind) kind (read_setup opening) start n event told (g.E.Engine.told c.args.engine.now)) (sym (c.in_ok-run_due.ensures.none c.if-branch.false)) u))
     (λ bytes joins. c.in_ok-take_message.ensures.goes (read_setup opening) bytes joins)
 
 pub returns-then-branch-3-clause-stored : goal.returns-then-branch-3-clause-stored
@@ -41,7 +43,8 @@ returns-then-branch-3-clause-on g c = λ opening start event told u.
     let kind = g.E.Engine.kind c.args.engine.now in
     let same = c.in_ok-run_due.ensures.none c.if-branch.false in
     let behind = further_at g.E.Engine.meaning (read_setup opening) start event told kind (g.E.Engine.kind c.run_due.new.engine) c.run_due.new.self c.take_message.new.self c.run_due.ensures.engine.kind
-    (subst (λ (n : Running). Underway (g.E.Engine.meaning kind) kind (read_setup opening) start n event told (g.E.Engine.told c.args.engine.now)) (sym same) u)
+    (subst (λ (t : Option Told). Underway (g.E.Engine.meaning kind) kind (read_setup opening) start c.run_due.new.self event told t) (sym (c.in_ok-run_due.ensures.untold c.if-branch.false))
+    (subst (λ (n : Running). Underway (g.E.Engine.meaning kind) kind (read_setup opening) start n event told (g.E.Engine.told c.args.engine.now)) (sym same) u))
     (λ bytes joins. c.in_ok-take_message.ensures.goes (read_setup opening) bytes joins) in
     let ends = ends_behind c.args.self.now c.run_due.new.self c.take_message.new.self (c.in_ok-run_due.ensures.none c.if-branch.false) c.in_ok-take_message.ensures.going c.requires.applied c.requires.due c.take_message.ensures.replica
     c.take_message.ensures.index (c.in_ok-take_message.ensures.none c.if-branch-2.false) (c.in_ok-take_message.ensures.turns c.if-branch-2.false) (c.in_ok-run_due.ensures.run c.if-branch.false)
@@ -58,7 +61,8 @@ returns-then-branch-4-clause-on g c = λ opening start event told u.
     let kind = g.E.Engine.kind c.args.engine.now in
     let same = c.in_ok-run_due.ensures.none c.if-branch.false in
     let behind = further_at g.E.Engine.meaning (read_setup opening) start event told kind (g.E.Engine.kind c.run_due.new.engine) c.run_due.new.self c.take_message.new.self c.run_due.ensures.engine.kind
-    (subst (λ (n : Running). Underway (g.E.Engine.meaning kind) kind (read_setup opening) start n event told (g.E.Engine.told c.args.engine.now)) (sym same) u)
+    (subst (λ (t : Option Told). Underway (g.E.Engine.meaning kind) kind (read_setup opening) start c.run_due.new.self event told t) (sym (c.in_ok-run_due.ensures.untold c.if-branch.false))
+    (subst (λ (n : Running). Underway (g.E.Engine.meaning kind) kind (read_setup opening) start n event told (g.E.Engine.told c.args.engine.now)) (sym same) u))
     (λ bytes joins. c.in_ok-take_message.ensures.goes (read_setup opening) bytes joins) in
     let ends = ends_behind c.args.self.now c.run_due.new.self c.take_message.new.self (c.in_ok-run_due.ensures.none c.if-branch.false) c.in_ok-take_message.ensures.going c.requires.applied c.requires.due c.take_message.ensures.replica
     c.take_message.ensures.index (c.in_ok-take_message.ensures.none c.if-branch-2.false) (c.in_ok-take_message.ensures.turns c.if-branch-2.false) (c.in_ok-run_due.ensures.run c.if-branch.false)
@@ -79,7 +83,8 @@ returns-clause-on g c = λ opening start event told u.
     let kind = g.E.Engine.kind c.args.engine.now in
     let same = c.in_ok-run_due.ensures.none c.if-branch.false in
     let behind = further_at g.E.Engine.meaning (read_setup opening) start event told kind (g.E.Engine.kind c.run_due.new.engine) c.run_due.new.self c.take_message.new.self c.run_due.ensures.engine.kind
-    (subst (λ (n : Running). Underway (g.E.Engine.meaning kind) kind (read_setup opening) start n event told (g.E.Engine.told c.args.engine.now)) (sym same) u)
+    (subst (λ (t : Option Told). Underway (g.E.Engine.meaning kind) kind (read_setup opening) start c.run_due.new.self event told t) (sym (c.in_ok-run_due.ensures.untold c.if-branch.false))
+    (subst (λ (n : Running). Underway (g.E.Engine.meaning kind) kind (read_setup opening) start n event told (g.E.Engine.told c.args.engine.now)) (sym same) u))
     (λ bytes joins. c.in_ok-take_message.ensures.goes (read_setup opening) bytes joins) in
     let ends = ends_behind c.args.self.now c.run_due.new.self c.take_message.new.self (c.in_ok-run_due.ensures.none c.if-branch.false) c.in_ok-take_message.ensures.going c.requires.applied c.requires.due c.take_message.ensures.replica
     c.take_message.ensures.index (c.in_ok-take_message.ensures.none c.if-branch-2.false) (c.in_ok-take_message.ensures.turns c.if-branch-2.false) (c.in_ok-run_due.ensures.run c.if-branch.false)
