@@ -109,47 +109,60 @@ returns-clause-ends g c =
 
 pub returns-in_err-run_due-clause-stops : goal.returns-in_err-run_due-clause-stops
 returns-in_err-run_due-clause-stops g c = λ opening start event told u has.
+    always_err c.from_residual.result
+    (
     let kind = g.E.Engine.kind c.args.engine.now in
     let m = g.E.Engine.meaning kind in
     let setup = read_setup opening in
     let law = c.raft_steps_are_kept.ensures.stops in
     let P = StopsBy m kind setup start event in
     kept_finds g.D.Disk.tells (g.D.Disk.states c.args.disk.now) c.args.self.now.replica P (stopped_here law m kind setup start event c.args.self.now u) has
+    )
 
 pub returns-in_err-take_message-clause-stops : goal.returns-in_err-take_message-clause-stops
 returns-in_err-take_message-clause-stops g c = λ opening start event told u has.
+    always_err c.from_residual-in_err-take_message.result
+    (
     let kind = g.E.Engine.kind c.args.engine.now in
     let m = g.E.Engine.meaning kind in
     let setup = read_setup opening in
     let law = c.raft_steps_are_kept.ensures.stops in
     let P = StopsBy m kind setup start event in
     kept_finds g.D.Disk.tells (g.D.Disk.states c.args.disk.now) c.args.self.now.replica P (stopped_here law m kind setup start event c.args.self.now u) has
+    )
 
 pub returns-in_err-compact-clause-stops : goal.returns-in_err-compact-clause-stops
 returns-in_err-compact-clause-stops g c = λ opening start event told u has.
+    always_err c.from_residual-in_err-compact.result
+    (
     let kind = g.E.Engine.kind c.args.engine.now in
     let m = g.E.Engine.meaning kind in
     let setup = read_setup opening in
     let law = c.raft_steps_are_kept.ensures.stops in
     let P = StopsBy m kind setup start event in
-    let behind = further_at g.E.Engine.meaning setup start event kind (g.E.Engine.kind c.run_due.new.engine) c.run_due.new.self c.take_message.new.self c.run_due.ensures.engine.kind
-    (subst (λ (n : Running). Underway m kind setup start n event told (g.E.Engine.told c.args.engine.now)) (sym (c.in_ok-run_due.ensures.none c.if-branch.false)) u)
+    let behind = further_at g.E.Engine.meaning setup start event told kind (g.E.Engine.kind c.run_due.new.engine) c.run_due.new.self c.take_message.new.self c.run_due.ensures.engine.kind
+    (subst (λ (t : Option Told). Underway m kind setup start c.run_due.new.self event told t) (sym (c.in_ok-run_due.ensures.untold c.if-branch.false))
+    (subst (λ (n : Running). Underway m kind setup start n event told (g.E.Engine.told c.args.engine.now)) (sym (c.in_ok-run_due.ensures.none c.if-branch.false)) u))
     (λ bytes joins. c.in_ok-take_message.ensures.goes setup bytes joins) in
     let ends = ends_behind c.args.self.now c.run_due.new.self c.take_message.new.self (c.in_ok-run_due.ensures.none c.if-branch.false) c.in_ok-take_message.ensures.going c.requires.applied c.requires.due c.take_message.ensures.replica
     c.take_message.ensures.index (c.in_ok-take_message.ensures.none c.if-branch-2.false) (c.in_ok-take_message.ensures.turns c.if-branch-2.false) (c.in_ok-run_due.ensures.run c.if-branch.false)
     (c.in_ok-take_message.ensures.sessions c.if-branch-2.false) in
     more g.D.Disk.tells (g.D.Disk.states c.compact.new.disk) (StopsCompacting setup [] c.take_message.new.self) P
     (λ kept s. stopped_compacting law m kind setup start event c.take_message.new.self behind kept ends.0 c.in_ok-take_message.ensures.going.holds.replica.id ends.1 s) (c.in_err-compact.ensures.stops opening [] (subst (λ (r : ReplicaValue). IsKept g.D.Disk.tells (g.D.Disk.states c.args.disk.now) r) (sym (c.take_message.ensures.replica ∙ c.run_due.ensures.replica)) has))
+    )
 
 pub returns-in_err-take_letter-clause-stops : goal.returns-in_err-take_letter-clause-stops
 returns-in_err-take_letter-clause-stops g c = λ opening start event told u has.
+    always_err c.from_residual-in_err-take_letter.result
+    (
     let kind = g.E.Engine.kind c.args.engine.now in
     let m = g.E.Engine.meaning kind in
     let setup = read_setup opening in
     let law = c.raft_steps_are_kept.ensures.stops in
     let P = StopsBy m kind setup start event in
-    let behind = further_at g.E.Engine.meaning setup start event kind (g.E.Engine.kind c.run_due.new.engine) c.run_due.new.self c.take_message.new.self c.run_due.ensures.engine.kind
-    (subst (λ (n : Running). Underway m kind setup start n event told (g.E.Engine.told c.args.engine.now)) (sym (c.in_ok-run_due.ensures.none c.if-branch.false)) u)
+    let behind = further_at g.E.Engine.meaning setup start event told kind (g.E.Engine.kind c.run_due.new.engine) c.run_due.new.self c.take_message.new.self c.run_due.ensures.engine.kind
+    (subst (λ (t : Option Told). Underway m kind setup start c.run_due.new.self event told t) (sym (c.in_ok-run_due.ensures.untold c.if-branch.false))
+    (subst (λ (n : Running). Underway m kind setup start n event told (g.E.Engine.told c.args.engine.now)) (sym (c.in_ok-run_due.ensures.none c.if-branch.false)) u))
     (λ bytes joins. c.in_ok-take_message.ensures.goes setup bytes joins) in
     let ends = ends_behind c.args.self.now c.run_due.new.self c.take_message.new.self (c.in_ok-run_due.ensures.none c.if-branch.false) c.in_ok-take_message.ensures.going c.requires.applied c.requires.due c.take_message.ensures.replica
     c.take_message.ensures.index (c.in_ok-take_message.ensures.none c.if-branch-2.false) (c.in_ok-take_message.ensures.turns c.if-branch-2.false) (c.in_ok-run_due.ensures.run c.if-branch.false)
@@ -161,6 +174,7 @@ returns-in_err-take_letter-clause-stops g c = λ opening start event told u has.
     more g.D.Disk.tells (g.D.Disk.states c.take_letter.new.disk) (StopsLetter (g.E.Engine.meaning (g.E.Engine.kind c.take_message.new.engine)) (g.E.Engine.kind c.take_message.new.engine) setup c.compact.new.self) P
     (λ kept s. stopped_letter law m kind setup start event c.compact.new.self later kept (subst (λ (n : Running). MayEnd (moment_of n)) still ends.0) c.in_ok-compact.ensures.going.holds.replica.id (subst AtRest still ends.1)
     (subst (λ z. StopsLetter (g.E.Engine.meaning z) z setup c.compact.new.self kept) kind2 s)) (c.in_err-take_letter.ensures.stops opening kept_behind)
+    )
 
 pub returns-clause-stops : goal.returns-clause-stops
 returns-clause-stops g c = λ opening start event told u has.
@@ -169,8 +183,9 @@ returns-clause-stops g c = λ opening start event told u has.
     let setup = read_setup opening in
     let law = c.raft_steps_are_kept.ensures.stops in
     let P = StopsBy m kind setup start event in
-    let behind = further_at g.E.Engine.meaning setup start event kind (g.E.Engine.kind c.run_due.new.engine) c.run_due.new.self c.take_message.new.self c.run_due.ensures.engine.kind
-    (subst (λ (n : Running). Underway m kind setup start n event told (g.E.Engine.told c.args.engine.now)) (sym (c.in_ok-run_due.ensures.none c.if-branch.false)) u)
+    let behind = further_at g.E.Engine.meaning setup start event told kind (g.E.Engine.kind c.run_due.new.engine) c.run_due.new.self c.take_message.new.self c.run_due.ensures.engine.kind
+    (subst (λ (t : Option Told). Underway m kind setup start c.run_due.new.self event told t) (sym (c.in_ok-run_due.ensures.untold c.if-branch.false))
+    (subst (λ (n : Running). Underway m kind setup start n event told (g.E.Engine.told c.args.engine.now)) (sym (c.in_ok-run_due.ensures.none c.if-branch.false)) u))
     (λ bytes joins. c.in_ok-take_message.ensures.goes setup bytes joins) in
     let ends = ends_behind c.args.self.now c.run_due.new.self c.take_message.new.self (c.in_ok-run_due.ensures.none c.if-branch.false) c.in_ok-take_message.ensures.going c.requires.applied c.requires.due c.take_message.ensures.replica
     c.take_message.ensures.index (c.in_ok-take_message.ensures.none c.if-branch-2.false) (c.in_ok-take_message.ensures.turns c.if-branch-2.false) (c.in_ok-run_due.ensures.run c.if-branch.false)
@@ -178,7 +193,7 @@ returns-clause-stops g c = λ opening start event told u has.
     let still = sym (c.in_ok-compact.ensures.none c.if-branch-3.false) in
     let later = subst (λ (n : Running). Underway m kind setup start n event told (g.E.Engine.told c.take_message.new.engine)) still behind in
     let kept_behind = c.in_ok-compact.ensures.stored (subst (λ (r : ReplicaValue). IsKept g.D.Disk.tells (g.D.Disk.states c.args.disk.now) r) (sym (c.take_message.ensures.replica ∙ c.run_due.ensures.replica)) has) in
-    let came = letter_at g.E.Engine.meaning setup start event kind (g.E.Engine.kind c.take_message.new.engine) c.compact.new.self c.take_letter.new.self (c.take_message.ensures.engine.kind ∙ c.run_due.ensures.engine.kind)
+    let came = letter_at g.E.Engine.meaning setup start event told kind (g.E.Engine.kind c.take_message.new.engine) c.compact.new.self c.take_letter.new.self (c.take_message.ensures.engine.kind ∙ c.run_due.ensures.engine.kind)
     later c.in_ok-compact.ensures.going (subst (λ (n : Running). MayEnd (moment_of n)) still ends.0) (subst AtRest still ends.1) (c.in_ok-take_letter.ensures.letter opening) in
     always_err c.close_heard.result
     (kept_finds g.D.Disk.tells (g.D.Disk.states c.take_letter.new.disk) c.take_letter.new.self.replica P (stopped_here law m kind setup start event c.take_letter.new.self came) (c.in_ok-take_letter.ensures.stored kept_behind))

@@ -14,6 +14,7 @@ use Rattle.node_replica.specs.Replicas.{kept_of}
 use Rattle.node_core.specs.Account.{Stopped}
 use Rattle.node_core.specs.Finding.{BeganStops}
 use Rattle.node_core.proofs.StopsOfStep.{began_stopped, client_stopped}
+use Rattle.node_core.proofs.Finding.{failed as always_err}
 use Rattle.node_core.proofs.running.Running.begin.Goals as goal
 
 pub returns-in_ok-connect-in-Connect-clause-begun : goal.returns-in_ok-connect-in-Connect-clause-begun
@@ -93,45 +94,63 @@ returns-in_ok-receive-in-Bytes-clause-led g c = led_hears c.args.self.now c.rece
 
 pub returns-in_err-connect-in-Connect-clause-stops : goal.returns-in_err-connect-in-Connect-clause-stops
 returns-in_err-connect-in-Connect-clause-stops g c = λ opening stood has.
+    always_err c.from_residual-in_err-connect-in-Connect.result
+    (
     let kind = g.E.Engine.kind c.args.engine.now in
     let m = g.E.Engine.meaning kind in
     kept_finds g.D.Disk.tells (g.D.Disk.states c.args.disk.now) c.args.self.now.replica (Stopped m kind (read_setup opening) c.args.self.now (Happens c.args.event))
     (subst (λ (e : Event). Stopped m kind (read_setup opening) c.args.self.now (Happens e) (kept_of c.args.self.now.replica)) (sym c.in-Connect.is) (client_stopped m kind (read_setup opening) c.args.self.now (happens.Connect c.in-Connect.conn) c.databases_stand.ensures stood tt)) has
+    )
 
 pub returns-in_err-receive-in-Bytes-clause-stops : goal.returns-in_err-receive-in-Bytes-clause-stops
 returns-in_err-receive-in-Bytes-clause-stops g c = λ opening stood has.
+    always_err c.from_residual-in_err-receive-in-Bytes.result
+    (
     let kind = g.E.Engine.kind c.args.engine.now in
     let m = g.E.Engine.meaning kind in
     kept_finds g.D.Disk.tells (g.D.Disk.states c.args.disk.now) c.args.self.now.replica (Stopped m kind (read_setup opening) c.args.self.now (Happens c.args.event))
     (subst (λ (e : Event). Stopped m kind (read_setup opening) c.args.self.now (Happens e) (kept_of c.args.self.now.replica)) (sym c.in-Bytes.is) (client_stopped m kind (read_setup opening) c.args.self.now (happens.Bytes c.in-Bytes.conn c.in-Bytes.bytes) c.databases_stand.ensures stood tt)) has
+    )
 
 pub returns-in_err-read_done-in-ReadDone-clause-stops : goal.returns-in_err-read_done-in-ReadDone-clause-stops
 returns-in_err-read_done-in-ReadDone-clause-stops g c = λ opening stood has.
+    always_err c.from_residual-in_err-read_done-in-ReadDone.result
+    (
     let kind = g.E.Engine.kind c.args.engine.now in
     let m = g.E.Engine.meaning kind in
     kept_finds g.D.Disk.tells (g.D.Disk.states c.args.disk.now) c.args.self.now.replica (Stopped m kind (read_setup opening) c.args.self.now (Happens c.args.event))
     (subst (λ (e : Event). Stopped m kind (read_setup opening) c.args.self.now (Happens e) (kept_of c.args.self.now.replica)) (sym c.in-ReadDone.is) (client_stopped m kind (read_setup opening) c.args.self.now (happens.ReadDone c.in-ReadDone.conn c.in-ReadDone.read) c.databases_stand.ensures stood tt)) has
+    )
 
 pub returns-in_err-take_raft-in-Timeout-clause-stops : goal.returns-in_err-take_raft-in-Timeout-clause-stops
 returns-in_err-take_raft-in-Timeout-clause-stops g c = λ opening stood has.
+    always_err c.from_residual.result
+    (
     let kind = g.E.Engine.kind c.args.engine.now in
     let m = g.E.Engine.meaning kind in
     more g.D.Disk.tells (g.D.Disk.states c.take_raft.new.disk) (BeganStops m kind (read_setup opening) c.args.self.now raft_events.Timeout) (Stopped m kind (read_setup opening) c.args.self.now (Happens c.args.event))
     (λ kept s. subst (λ (e : Event). Stopped m kind (read_setup opening) c.args.self.now (Happens e) kept) (sym c.in-Timeout.is)
     (began_stopped c.raft_steps_are_kept.ensures.stops m kind (read_setup opening) c.args.self.now (Happens happens.Timeout) raft_events.Timeout kept stood (with_timeout c.args.self.now) tt s)) (c.in_err-take_raft-in-Timeout.ensures.stops opening has)
+    )
 
 pub returns-in_err-take_raft-in-Beat-clause-stops : goal.returns-in_err-take_raft-in-Beat-clause-stops
 returns-in_err-take_raft-in-Beat-clause-stops g c = λ opening stood has.
+    always_err c.from_residual-in_err-take_raft-in-Beat.result
+    (
     let kind = g.E.Engine.kind c.args.engine.now in
     let m = g.E.Engine.meaning kind in
     more g.D.Disk.tells (g.D.Disk.states c.take_raft-in-Beat.new.disk) (BeganStops m kind (read_setup opening) c.args.self.now raft_events.Beat) (Stopped m kind (read_setup opening) c.args.self.now (Happens c.args.event))
     (λ kept s. subst (λ (e : Event). Stopped m kind (read_setup opening) c.args.self.now (Happens e) kept) (sym c.in-Beat.is)
     (began_stopped c.raft_steps_are_kept.ensures.stops m kind (read_setup opening) c.args.self.now (Happens happens.Beat) raft_events.Beat kept stood (with_beat c.args.self.now) tt s)) (c.in_err-take_raft-in-Beat.ensures.stops opening has)
+    )
 
 pub returns-in_err-take_raft-in-Peer-clause-stops : goal.returns-in_err-take_raft-in-Peer-clause-stops
 returns-in_err-take_raft-in-Peer-clause-stops g c = λ opening stood has.
+    always_err c.from_residual-in_err-take_raft-in-Peer.result
+    (
     let kind = g.E.Engine.kind c.args.engine.now in
     let m = g.E.Engine.meaning kind in
     more g.D.Disk.tells (g.D.Disk.states c.take_raft-in-Peer.new.disk) (BeganStops m kind (read_setup opening) c.args.self.now (raft_events.Message c.in-Peer.message)) (Stopped m kind (read_setup opening) c.args.self.now (Happens c.args.event))
     (λ kept s. subst (λ (e : Event). Stopped m kind (read_setup opening) c.args.self.now (Happens e) kept) (sym c.in-Peer.is)
     (began_stopped c.raft_steps_are_kept.ensures.stops m kind (read_setup opening) c.args.self.now (Happens (happens.Peer c.in-Peer.message)) (raft_events.Message c.in-Peer.message) kept stood (with_peer c.args.self.now c.in-Peer.message) tt s)) (c.in_err-take_raft-in-Peer.ensures.stops opening has)
+    )

@@ -5,6 +5,7 @@ use Rattle.node_core.proofs.Finding.{more, kept_finds}
 use Rattle.node_core.specs.Account.{StopsBy, Underway}
 use Rattle.node_core.proofs.StopsOfStep.{stopped_here}
 use Rattle.std.proofs.Common.{sym, subst}
+use Rattle.node_core.proofs.Finding.{failed as always_err}
 use Rattle.node_core.proofs.running.Running.run.Goals as goal
 
 pub returns-then-not-branch-clause-stored : goal.returns-then-not-branch-clause-stored
@@ -23,6 +24,8 @@ loop-preserved g c = turned_on g.E.Engine.meaning g.D.Disk.tells (g.D.Disk.state
 
 pub returns-in_err-turn-clause-stops : goal.returns-in_err-turn-clause-stops
 returns-in_err-turn-clause-stops g c = λ opening start event told u has.
+    always_err c.from_residual.result
+    (
     let k = g.E.Engine.kind c.args.engine.now in
     let l = g.E.Engine.kind c.loop.engine in
     let same = c.loop.invariant.same_kind in
@@ -30,6 +33,7 @@ returns-in_err-turn-clause-stops g c = λ opening start event told u has.
     (λ kept s. subst (λ z. StopsBy (g.E.Engine.meaning z) z (read_setup opening) start event kept) same s)
     (c.in_err-turn.ensures.stops opening start event told
     (subst (λ z. Underway (g.E.Engine.meaning z) z (read_setup opening) start c.loop.self event told (g.E.Engine.told c.loop.engine)) (sym same) (c.loop.invariant.on opening start event told u)) (c.loop.invariant.stored has))
+    )
 
 pub returns-clause-stops : goal.returns-clause-stops
 returns-clause-stops g c = λ opening start event told u has.

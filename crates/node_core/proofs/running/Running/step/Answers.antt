@@ -42,6 +42,8 @@ returns-clause-acts g c = λ opening.
 
 pub returns-in_err-begin-clause-stops : goal.returns-in_err-begin-clause-stops
 returns-in_err-begin-clause-stops g c = λ opening has.
+    always_err c.from_residual.result
+    (
     let kind = g.E.Engine.kind c.args.engine.now in
     let m = g.E.Engine.meaning kind in
     let setup = read_setup opening in
@@ -54,9 +56,12 @@ returns-in_err-begin-clause-stops g c = λ opening has.
     let P = StopsBy m kind setup old c.args.event in
     more g.D.Disk.tells (g.D.Disk.states c.begin.new.disk) (Stopped m kind setup from (Happens c.args.event)) P
     (λ kept s. first_stopped m kind setup old from c.args.event kept between s) (c.in_err-begin.ensures.stops opening rest (subst (λ (r : ReplicaValue). IsKept g.D.Disk.tells (g.D.Disk.states c.args.disk.now) r) (sym c.count_keeps.ensures) has))
+    )
 
 pub returns-in_err-run-clause-stops : goal.returns-in_err-run-clause-stops
 returns-in_err-run-clause-stops g c = λ opening has.
+    always_err c.from_residual-in_err-run.result
+    (
     let kind = g.E.Engine.kind c.args.engine.now in
     let m = g.E.Engine.meaning kind in
     let setup = read_setup opening in
@@ -75,6 +80,7 @@ returns-in_err-run-clause-stops g c = λ opening has.
     (c.in_err-run.ensures.stops opening old c.args.event (g.E.Engine.told c.args.engine.now)
     (subst (λ z. Underway (g.E.Engine.meaning z) z setup old c.begin.new.self c.args.event (g.E.Engine.told c.args.engine.now) (g.E.Engine.told c.begin.new.engine)) (sym same) started)
     (c.in_ok-begin.ensures.stored (subst (λ (r : ReplicaValue). IsKept g.D.Disk.tells (g.D.Disk.states c.args.disk.now) r) (sym c.count_keeps.ensures) has)))
+    )
 
 pub returns-clause-stops : goal.returns-clause-stops
 returns-clause-stops g c = λ opening has.

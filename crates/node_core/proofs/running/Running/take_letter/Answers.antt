@@ -7,6 +7,7 @@ use Rattle.node_core.proofs.Finding.{more, kept_finds}
 use Rattle.node_core.specs.Finding.{BeganStops, StopsLetter, letter_stopped, no_letter}
 use Rattle.raft_member.specs.Members.{read_setup}
 use Rattle.raft_core.specs.declared.event.RaftEvent.TheVariants as raft_events
+use Rattle.node_core.proofs.Finding.{failed as always_err}
 use Rattle.node_core.proofs.running.Running.take_letter.Goals as goal
 
 pub take_raft-requires-clause-led : goal.take_raft-requires-clause-led
@@ -33,16 +34,25 @@ returns-in-None-clause-led g c = led_same c.args.self.now _ c.requires.led refl 
 
 pub returns-in_err-next-clause-stops : goal.returns-in_err-next-clause-stops
 returns-in_err-next-clause-stops g c = λ opening has.
+    always_err c.from_residual.result
+    (
     kept_finds g.D.Disk.tells (g.D.Disk.states c.args.disk.now) c.args.self.now.replica (StopsLetter (g.E.Engine.meaning (g.E.Engine.kind c.args.engine.now)) (g.E.Engine.kind c.args.engine.now) (read_setup opening) c.args.self.now) (no_letter refl) has
+    )
 
 pub returns-in_err-push-in-Some-Wrong-clause-stops : goal.returns-in_err-push-in-Some-Wrong-clause-stops
 returns-in_err-push-in-Some-Wrong-clause-stops g c = λ opening has.
+    always_err c.from_residual-in_err-push-in-Some-Wrong.result
+    (
     kept_finds g.D.Disk.tells (g.D.Disk.states c.args.disk.now) c.args.self.now.replica (StopsLetter (g.E.Engine.meaning (g.E.Engine.kind c.args.engine.now)) (g.E.Engine.kind c.args.engine.now) (read_setup opening) c.args.self.now) (no_letter refl) has
+    )
 
 pub returns-in_err-take_raft-in-Some-Message-clause-stops :
     goal.returns-in_err-take_raft-in-Some-Message-clause-stops
 returns-in_err-take_raft-in-Some-Message-clause-stops g c = λ opening has.
+    always_err c.from_residual-in_err-take_raft-in-Some-Message.result
+    (
     let mid : Running = record c.args.self.now { links = c.next.new.self } in
     let event = raft_events.Message c.in-Some-Message.message in
     more g.D.Disk.tells (g.D.Disk.states c.take_raft.new.disk) (BeganStops (g.E.Engine.meaning (g.E.Engine.kind c.args.engine.now)) (g.E.Engine.kind c.args.engine.now) (read_setup opening) mid event) (StopsLetter (g.E.Engine.meaning (g.E.Engine.kind c.args.engine.now)) (g.E.Engine.kind c.args.engine.now) (read_setup opening) c.args.self.now)
     (λ kept s. letter_stopped c.in-Some-Message.message mid refl s) (c.in_err-take_raft-in-Some-Message.ensures.stops opening has)
+    )

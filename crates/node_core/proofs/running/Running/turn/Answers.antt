@@ -8,6 +8,7 @@ use Rattle.node_core.proofs.Finding.{more, kept_finds}
 use Rattle.node_core.specs.Account.{StopsBy}
 use Rattle.node_core.specs.Finding.{StopsOwn}
 use Rattle.node_core.proofs.StopsOfStep.{stopped_here, stopped_own}
+use Rattle.node_core.proofs.Finding.{failed as always_err}
 use Rattle.node_core.proofs.running.Running.turn.Goals as goal
 
 pub returns-then-branch-clause-on : goal.returns-then-branch-clause-on
@@ -38,21 +39,27 @@ returns-clause-stored g c = λ has. c.attend.ensures.stored (c.in_ok-take_due.en
 
 pub returns-in_err-take_due-clause-stops : goal.returns-in_err-take_due-clause-stops
 returns-in_err-take_due-clause-stops g c = λ opening start event told u has.
+    always_err c.from_residual.result
+    (
     let kind = g.E.Engine.kind c.args.engine.now in
     let m = g.E.Engine.meaning kind in
     more g.D.Disk.tells (g.D.Disk.states c.take_due.new.disk) (StopsOwn (read_setup opening) u.so_far.brought.bytes c.args.self.now) (StopsBy m kind (read_setup opening) start event)
     (λ kept s. stopped_own c.raft_steps_are_kept.ensures.stops m kind (read_setup opening) start event c.args.self.now u kept s) (c.in_err-take_due.ensures.stops opening u.so_far.brought.bytes has)
+    )
 
 pub returns-in_err-apply_next-clause-stops : goal.returns-in_err-apply_next-clause-stops
 returns-in_err-apply_next-clause-stops g c = λ opening start event told u has.
+    always_err c.from_residual-in_err-apply_next.result
+    (
     let kind = g.E.Engine.kind c.args.engine.now in
     let m = g.E.Engine.meaning kind in
     kept_finds g.D.Disk.tells (g.D.Disk.states c.take_due.new.disk) c.take_due.new.self.replica (StopsBy m kind (read_setup opening) start event)
     (stopped_here c.raft_steps_are_kept.ensures.stops m kind (read_setup opening) start event c.take_due.new.self
-    (had_none m kind (read_setup opening) start event c.args.self.now c.take_due.new.self u (c.in_ok-take_due.ensures.none c.if-branch.false))) (c.in_ok-take_due.ensures.stored has)
+    (had_none m kind (read_setup opening) start event told c.args.self.now c.take_due.new.self u (c.in_ok-take_due.ensures.none c.if-branch.false))) (c.in_ok-take_due.ensures.stored has)
+    )
 
 pub returns-clause-stops : goal.returns-clause-stops
 returns-clause-stops g c = λ opening start event told u has.
     let kind = g.E.Engine.kind c.args.engine.now in
     c.attend.ensures.stops opening start event told
-    (had_none (g.E.Engine.meaning kind) kind (read_setup opening) start event c.args.self.now c.take_due.new.self u (c.in_ok-take_due.ensures.none c.if-branch.false)) (c.in_ok-take_due.ensures.stored has)
+    (had_none (g.E.Engine.meaning kind) kind (read_setup opening) start event told c.args.self.now c.take_due.new.self u (c.in_ok-take_due.ensures.none c.if-branch.false)) (c.in_ok-take_due.ensures.stored has)
