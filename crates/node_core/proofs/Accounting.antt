@@ -302,7 +302,7 @@ begun_stops m kind setup x a begin machine stood comes none =
 
 -- ---- a step under way
 
-are_more : (event : Event) (begins : List Begin) (begin next : Begin) → AreOf event (begins ++ begin ∷ []) → IsMore next → AreOf event ((begins ++ begin ∷ []) ++ next ∷ [])
+pub are_more : (event : Event) (begins : List Begin) (begin next : Begin) → AreOf event (begins ++ begin ∷ []) → IsMore next → AreOf event ((begins ++ begin ∷ []) ++ next ∷ [])
 are_more event [] begin next are more = (are.0, (more, tt))
 are_more event (first ∷ begins) begin next are more = (are.0, all begins are.1)
   where

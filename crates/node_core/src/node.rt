@@ -88,7 +88,8 @@ impl Node {
         ensures applied { OnOk result (applied_of self.new ≡ (raft_of self.new).commit) }
         // It makes the acts of the rules, whatever the servers are with which the cluster was opened, and says what they say.
         ensures acts { (opening : List ServerValue) →
-            IfOk result (λ outs. StepsBy (E.meaning (E.kind engine.old)) (E.kind engine.old) (read_setup opening) self.old.running self.new.running event outs (E.told engine.old) (E.told engine.new)) }
+            IfOk result (λ outs. StepsBy (E.meaning (E.kind engine.old)) (E.kind engine.old) (read_setup opening) self.old.running self.new.running event outs
+            (E.told engine.old) (E.told engine.new)) }
         // Where it fails, a load finds what the acts of the rules left, if the disk kept what Raft was.
         ensures stops { (opening : List ServerValue) → IsUp self.old →
             LeavesBy D.tells (D.states disk.old) (D.states disk.new) (replica_of self.old) result

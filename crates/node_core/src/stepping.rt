@@ -54,7 +54,8 @@ impl Running {
             (StopsBy (E.meaning (E.kind engine.old)) (E.kind engine.old) (read_setup opening) self.old event) }
         // It makes the acts of the rules, and says what they say.
         ensures acts { (opening : List ServerValue) →
-            IfOk result (λ outs. StepsBy (E.meaning (E.kind engine.old)) (E.kind engine.old) (read_setup opening) self.old self.new event outs (E.told engine.old) (E.told engine.new)) }
+            IfOk result (λ outs. StepsBy (E.meaning (E.kind engine.old)) (E.kind engine.old) (read_setup opening) self.old self.new event outs
+            (E.told engine.old) (E.told engine.new)) }
     {
         raft_steps_are_kept();
         self.replica.count_keeps();
@@ -81,7 +82,8 @@ impl Running {
         ensures agrees { OnOk result (Agrees (E.known engine.new) self.new.clients self.new.applied.machine) }
         ensures engine { Stays (E.kind engine.old) (E.kind engine.new) (E.refused_openings engine.old) (E.refused_openings engine.new) }
         ensures begun { (opening : List ServerValue) →
-            OnOk result (SoFar (E.meaning (E.kind engine.old)) (E.kind engine.old) (read_setup opening) self.old self.new (Happens event) (E.told engine.old) (E.told engine.new)) }
+            OnOk result (SoFar (E.meaning (E.kind engine.old)) (E.kind engine.old) (read_setup opening) self.old self.new (Happens event)
+            (E.told engine.old) (E.told engine.new)) }
         ensures stops { (opening : List ServerValue) → AtRest self.old →
             LeavesBy D.tells (D.states disk.old) (D.states disk.new) self.old.replica result
             (Stopped (E.meaning (E.kind engine.old)) (E.kind engine.old) (read_setup opening) self.old (Happens event)) }
