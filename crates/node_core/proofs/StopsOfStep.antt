@@ -1,5 +1,5 @@
 -- What is kept where a step was stopped, as what the acts of the rules leave.
-use Rattle.std.proofs.Common.{Bool, ◌≡◌, inl, ℕ, cond, List, [], ◌∷◌, ◌++◌, Option, Some, None, Result, Ok, Err, refl, sym, ap, subst, ◌∙◌}
+use Rattle.std.proofs.Common.{Bool, ◌≡◌, inl, inr, ℕ, cond, List, [], ◌∷◌, ◌++◌, Option, Some, None, Result, Ok, Err, refl, sym, ap, subst, ◌∙◌}
 use Rattle.std.specs.Prelude.{◌==◌, OnErr}
 use Rattle.std.proofs.lemmas.Bool.{cond-true, cond-false, eq-eqb, ne_eqb}
 use Rattle.wire_msgs.specs.declared.request.Request.{Request}
@@ -25,7 +25,7 @@ use Rattle.node_core.specs.Posting.{ToldOr}
 use Rattle.node_core.specs.Taking.{TurnsOn, bytes_with, came_by}
 use Rattle.node_core.specs.Values.{seen, clients_in, waiting_on}
 use Rattle.node_core.specs.Whole.{IsOutside}
-use Rattle.node_core.proofs.Accounting.{begun_stops, since_stops, since_within, begin_within, since_ends, went_on, went_stops, are_more, so_far_on, underway_stops}
+use Rattle.node_core.proofs.Accounting.{begun_stops, since_stops, since_within, begin_within, since_ends, went_on, went_stops, are_more, since_on, underway_stops}
 use Rattle.node_core.proofs.Beginning.{BeginsWith, with_letter}
 use Rattle.node_core.proofs.Bridges.{asked_more}
 use Rattle.node_core.proofs.RaftAccounts.{told_turns}
@@ -76,8 +76,10 @@ module _ (law : StopLeaves) (m : Meaning) (kind : EngineKind) (setup : Setup) wh
         underway_stops m kind setup start a event kept u
         (stops_in u.so_far.brought u.so_far.late u.from a u.begin (raft.Local (raft.UseServers servers)) kept u.stood u.so_far.comes u.so_far.since tt tt s)
     stopped_own kept (in_own mid i told own first s) =
-        let f = so_far_on m kind setup u.from a mid u.begin u.so_far (λ bytes joins. told_turns m kind setup bytes joins a mid told) in
-        underway_stops m kind setup start a event kept u (stops_in u.so_far.brought f.late u.from mid u.begin i kept u.stood u.so_far.comes f.since own first s)
+        let x = u.so_far.brought in
+        let t = told_turns m kind setup x.bytes x.joins a mid told in
+        underway_stops m kind setup start a event kept u
+        (stops_in x _ u.from mid u.begin i kept u.stood u.so_far.comes (since_on m kind setup x u.so_far.late u.from a mid u.so_far.since t.turns (inr t.same) (inr t.snap)) own first s)
 
     -- at the begin of another act
     pub stopped_next : (b : Running) (next : Begin) (kept : Kept) → MayEnd (moment_of a) → a.replica.raft.id ≡ a.replica.id → Between a b → IsMore next → Stopped m kind setup b next kept → StopsBy m kind setup start event kept

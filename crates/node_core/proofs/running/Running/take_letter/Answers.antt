@@ -32,6 +32,12 @@ returns-in-None-clause-letter g c = λ opening. none_came (record { moment = ref
 pub returns-in-None-clause-led : goal.returns-in-None-clause-led
 returns-in-None-clause-led g c = led_same c.args.self.now _ c.requires.led refl refl
 
+pub returns-in_err-message-clause-stops : goal.returns-in_err-message-clause-stops
+returns-in_err-message-clause-stops g c = λ opening has.
+    always_err c.from_residual.result
+    (kept_finds g.D.Disk.tells (g.D.Disk.states c.args.disk.now) c.args.self.now.replica (StopsLetter (g.E.Engine.meaning (g.E.Engine.kind c.args.engine.now)) (g.E.Engine.kind c.args.engine.now) (read_setup opening) c.args.self.now)
+    (no_letter refl) has)
+
 pub returns-in_err-push-in-Some-Wrong-clause-stops : goal.returns-in_err-push-in-Some-Wrong-clause-stops
 returns-in_err-push-in-Some-Wrong-clause-stops g c = λ opening has.
     always_err c.from_residual-in_err-push-in-Some-Wrong.result
