@@ -1,12 +1,14 @@
 -- Turns of a node join to what happened since an act began, and that is an act, or one that was stopped.
 use Rattle.std.proofs.Common.{◌≡◌, ◌⊎◌, inl, inr, ⊎_elim, ℕ, Bool, false, List, [], ◌∷◌, ◌++◌, refl, sym, ap, ◌∙◌, subst, append-nil, append_assoc}
-use Rattle.std.specs.Prelude.{map, ◌||◌}
+use Rattle.std.specs.Prelude.{map, ◌||◌, Option}
 use Rattle.std.specs.List.{AllByRecursion, flat_map}
 use Rattle.std.proofs.lemmas.List.{map-append}
 use Rattle.wire_msgs.specs.declared.request.Request.{Request}
 use Rattle.sql_engine.specs.declared.kind.EngineKind.{EngineKind}
-use Rattle.sql_engine.specs.Meanings.{Meaning}
-use Rattle.session_rules.specs.Sessions.{Reply}
+use Rattle.sql_engine.specs.Meanings.{Meaning, Told, Tells}
+use Rattle.statement_runs.specs.Running.{TellsAll}
+use Rattle.session_rules.specs.Engines.{Answer}
+use Rattle.session_rules.specs.Sessions.{Reply, Job}
 use Rattle.page_apply.specs.Machines.{IsMachine}
 use Rattle.raft_rules.specs.Node as raft
 use Rattle.raft_vote.specs.declared.message.RaftMessage.{RaftMessage}
@@ -15,8 +17,9 @@ use Rattle.store_laws.specs.Store.{Kept}
 use Rattle.node_replica.specs.Mails.{MailValue, no_mail, posted, all_posted, sent}
 use Rattle.node_replica.specs.Replicas.{kept_of}
 use Rattle.node_rules.specs.Accounts.{Moment, resting, Piece, no_piece, both, read_by, Goes, Begins, SameTerm, MayEnd, with_input, LeftBy}
-use Rattle.node_rules.specs.Steps.{Letter, AllSent}
+use Rattle.node_rules.specs.Steps.{Letter, Made, AllSent}
 use Rattle.node_rules.specs.ClientTurns.{Hears}
+use Rattle.node_rules.specs.RaftTurns.{HasServers}
 use Rattle.node_rules.proofs.Connecting.{hearing_goes_holds}
 use Rattle.node_rules.proofs.Ends.{goes_to_end_holds, stops_between_holds, stops_within_holds}
 use Rattle.node_rules.proofs.Stretches.{nothing_goes_holds, goes_begins_holds, begins_on_holds, sent_on_holds}
@@ -24,7 +27,8 @@ use Rattle.node_core.specs.declared.event.Event.{Event}
 use Rattle.node_core.specs.declared.outs.Outs.{Outs}
 use Rattle.node_core.specs.declared.running.Running.{Running}
 use Rattle.node_core.specs.Values.{seen}
-use Rattle.node_core.specs.Account.{moment_of, letter_of, lived, responses_in, sent_so, Sends, Says, Brought, IsOwn, Adds, Turns, Since, Begin, IsLost, Brings, Comes_in, Takes, Act, Acts, Stopped, Fresh, IsResting, Between, Went, IsMore, Happens, AreOf, waits, runs, Underway, StepsBy, StopsBy}
+use Rattle.node_core.specs.Account.{moment_of, letter_of, lived, responses_in, sent_so, Sends, Says, Brought, IsOwn, Adds, Turns, KnowsServers, Since, Begin, IsLost, Brings, Comes_in, Takes, AtRest, none_made, made_both, Act, Acts, Stopped, Fresh, SoFar, Between, Went, IsMore, Happens, AreOf, Underway, StepsBy, StopsBy}
+use Rattle.node_core.specs.Taking.{TurnsOn}
 
 -- ---- what is said
 
@@ -47,18 +51,38 @@ posted_join mail [] ys = refl
 posted_join mail (x ∷ xs) ys = posted_join (posted mail x) xs ys
 
 -- nothing is said
-pub says_none : (old new : Running) → new.mail ≡ old.mail → new.outs.replies.items ≡ old.outs.replies.items → Says old new [] []
-says_none old new mail outs = record { posted = []; letters_are = refl; mail = mail; told = []; outs = outs ∙ sym (append-nil old.outs.replies.items); tells = sends_none }
+pub says_none : (old new : Running) → new.mail ≡ old.mail → new.outs.replies.items ≡ old.outs.replies.items → new.outs.reads.items ≡ old.outs.reads.items → Says old new [] [] []
+says_none old new mail outs reads = record {
+  posted = [];
+  letters_are = refl;
+  mail = mail;
+  told = [];
+  outs = outs ∙ sym (append-nil old.outs.replies.items);
+  tells = sends_none;
+  reads = reads ∙ sym (append-nil old.outs.reads.items);
+}
 
-pub says_join : (a b c : Running) (xs ys : List Letter) (rs qs : List (ℕ × Reply)) → Says a b xs rs → Says b c ys qs → Says a c (xs ++ ys) (rs ++ qs)
-says_join a b c xs ys rs qs x y = record {
+pub says_join : (a b c : Running) (xs ys : List Letter) (rs qs : List (ℕ × Reply)) (js ks : List (ℕ × Job)) → Says a b xs rs js → Says b c ys qs ks → Says a c (xs ++ ys) (rs ++ qs) (js ++ ks)
+says_join a b c xs ys rs qs js ks x y = record {
   posted = x.posted ++ y.posted;
   letters_are = ap (λ l. l ++ ys) x.letters_are ∙ ap (λ l. map letter_of x.posted ++ l) y.letters_are ∙ sym (map-append letter_of x.posted y.posted);
   mail = y.mail ∙ ap (λ m. all_posted m y.posted) x.mail ∙ sym (posted_join a.mail x.posted y.posted);
   told = x.told ++ y.told;
   outs = y.outs ∙ ap (λ l. l ++ y.told) x.outs ∙ append_assoc a.outs.replies.items x.told y.told;
   tells = sends_join rs qs x.told y.told x.tells y.tells;
+  reads = y.reads ∙ ap (λ l. l ++ ks) x.reads ∙ append_assoc a.outs.reads.items js ks;
 }
+
+-- ---- what the engine told
+
+pub heard_none : (told : Option Told) → TellsAll [] told told
+unfolding TellsAll
+heard_none told = refl
+
+pub heard_join : (xs ys : List Answer) (before mid now : Option Told) → TellsAll xs before mid → TellsAll ys mid now → TellsAll (xs ++ ys) before now
+unfolding TellsAll
+heard_join [] ys before mid now a b = subst (λ (t : Option Told). TellsAll ys t now) (sym a) b
+heard_join (x ∷ xs) ys before mid now a b = (a.0, a.1, heard_join xs ys a.0 mid now a.2 b)
 
 -- ---- what is taken in
 
@@ -69,7 +93,7 @@ own_join (x ∷ xs) ys a b = (a.0, own_join xs ys a.1 b)
 pub adds_none : (given : List raft.Input) → Adds given given
 adds_none given = record { own = []; each = tt; is = sym (append-nil given) }
 
-adds_join : (xs ys given : List raft.Input) → Adds xs given → Adds ys [] → Adds (xs ++ ys) given
+pub adds_join : (xs ys given : List raft.Input) → Adds xs given → Adds ys [] → Adds (xs ++ ys) given
 adds_join xs ys given a b = record {
   own = a.own ++ b.own;
   each = own_join a.own b.own a.each b.each;
@@ -79,42 +103,46 @@ adds_join xs ys given a b = record {
 -- ---- the account
 
 -- nothing was brought but what may come with an event beside Raft's inputs and requests
-pub since_nothing : (m : Meaning) (kind : EngineKind) (setup : Setup) (x : Brought) (n : Running) → x.inputs ≡ [] → ((conn : ℕ) → x.asks conn ≡ []) → Since m kind setup x false n n
+pub since_nothing : {told : Option Told} (m : Meaning) (kind : EngineKind) (setup : Setup) (x : Brought) (n : Running) → x.inputs ≡ [] → ((conn : ℕ) → x.asks conn ≡ []) → Since m kind setup x false n n told told
 since_nothing m kind setup x n inputs asks = record {
   piece = no_piece;
-  goes = goes_begins_holds m kind setup n.replica.id x.bytes x.joins x.read (moment_of n) (moment_of n) no_piece (nothing_goes_holds m kind setup n.replica.id x.bytes x.joins (moment_of n));
+  goes = λ known. goes_begins_holds m kind setup n.replica.id x.bytes x.joins x.read (moment_of n) (moment_of n) no_piece (nothing_goes_holds m kind setup n.replica.id x.bytes x.joins (moment_of n));
   inputs = subst (Adds []) (sym inputs) (adds_none []);
   asks = λ conn. sym (asks conn);
   is_late = refl;
-  says = says_none n n refl refl;
+  says = says_none n n refl refl refl;
+  heard = heard_none _;
   sent = tt;
   id = refl;
 }
 
 -- one turn more
-pub since_on : (m : Meaning) (kind : EngineKind) (setup : Setup) (x : Brought) (late : Bool) (a b c : Running) → Since m kind setup x late a b → (t : Turns m kind setup x.bytes x.joins b c) →
+pub since_on : {before mid now : Option Told} (m : Meaning) (kind : EngineKind) (setup : Setup) (x : Brought) (late : Bool) (a b c : Running) → Since m kind setup x late a b before mid → (t : Turns m kind setup x.bytes x.joins b c mid now) →
     (late ≡ false) ⊎ SameTerm (moment_of b) (moment_of c) → ((kept_of a.replica).snap ≡ (kept_of b.replica).snap) ⊎ ((kept_of b.replica).snap ≡ (kept_of c.replica).snap) →
-    Since m kind setup x (late || t.piece.late) a c
+    Since m kind setup x (late || t.piece.late) a c before now
 since_on m kind setup x late a b c s t when once = record {
   piece = both s.piece t.piece;
-  goes = begins_on_holds m kind setup a.replica.id x.bytes x.joins x.read (moment_of a) (moment_of b) (moment_of c) s.piece t.piece s.goes
+  goes = λ known. begins_on_holds m kind setup a.replica.id x.bytes x.joins x.read (moment_of a) (moment_of b) (moment_of c) s.piece t.piece (s.goes known)
       (subst (λ me. Goes m kind setup me x.bytes x.joins (moment_of b) (moment_of c) t.piece) s.id t.goes) (⊎_elim (λ e. inl (s.is_late ∙ e)) (λ e. inr e) when);
   inputs = adds_join s.piece.inputs t.piece.inputs x.inputs s.inputs t.inputs;
   asks = λ conn. ap (λ l. l ++ t.piece.asks conn) (s.asks conn) ∙ ap (λ l. x.asks conn ++ l) (t.asks conn) ∙ append-nil (x.asks conn);
   is_late = ap (λ z. z || t.piece.late) s.is_late;
-  says = says_join a b c s.piece.letters t.piece.letters s.piece.replies t.piece.replies s.says t.says;
+  says = says_join a b c s.piece.letters t.piece.letters s.piece.replies t.piece.replies s.piece.jobs t.piece.jobs s.says t.says;
+  heard = heard_join s.piece.answers t.piece.answers _ _ _ s.heard t.heard;
   sent = sent_on_holds (kept_of a.replica) (kept_of b.replica) (kept_of c.replica) s.piece.letters t.piece.letters s.sent t.sent once;
   id = t.id ∙ s.id;
 }
 
-pub since_fresh : (m : Meaning) (kind : EngineKind) (setup : Setup) (x : Brought) (late : Bool) (a b c : Running) → Fresh a b → Since m kind setup x late b c → Since m kind setup x late a c
+pub since_fresh : {before now : Option Told} (m : Meaning) (kind : EngineKind) (setup : Setup) (x : Brought) (late : Bool) (a b c : Running) → Fresh a b → Since m kind setup x late b c before now → Since m kind setup x late a c before now
 since_fresh m kind setup x late a b c f s = record {
   piece = s.piece;
-  goes = subst (λ me. Begins m kind setup me x.bytes x.joins x.read (moment_of a) (moment_of c) s.piece) f.id (subst (λ z. Begins m kind setup b.replica.id x.bytes x.joins x.read z (moment_of c) s.piece) f.moment s.goes);
+  goes = λ known. subst (λ me. Begins m kind setup me x.bytes x.joins x.read (moment_of a) (moment_of c) s.piece) f.id
+      (subst (λ z. Begins m kind setup b.replica.id x.bytes x.joins x.read z (moment_of c) s.piece) f.moment (s.goes (subst (λ (z : Moment). HasServers setup z z.node.members.servers) (sym f.moment) known)));
   inputs = s.inputs;
   asks = s.asks;
   is_late = s.is_late;
-  says = says_join a b c [] s.piece.letters [] s.piece.replies (says_none a b f.mail f.replies) s.says;
+  says = says_join a b c [] s.piece.letters [] s.piece.replies [] s.piece.jobs (says_none a b f.mail f.replies f.reads) s.says;
+  heard = s.heard;
   sent = subst (λ k. AllSent k (kept_of c.replica) s.piece.letters) f.kept s.sent;
   id = s.id ∙ f.id;
 }
@@ -131,110 +159,125 @@ taken_so old begin x p c inputs asks = record {
 }
 
 -- what happened until nothing was left to do is an act, and it was said
-pub since_ends : (m : Meaning) (kind : EngineKind) (setup : Setup) (x : Brought) (late : Bool) (a b : Running) (begin : Begin) → IsResting a → Comes_in a begin x → Since m kind setup x late a b → MayEnd (moment_of b) →
-    (letters : List Letter) × (replies : List (ℕ × Reply)) × Act m kind setup a b begin letters replies × Says a b letters replies
-since_ends m kind setup x late a b begin rests comes s end = (
-  s.piece.letters,
-  s.piece.replies,
+pub since_ends : {before now : Option Told} (m : Meaning) (kind : EngineKind) (setup : Setup) (x : Brought) (late : Bool) (a b : Running) (begin : Begin) → AtRest a → Comes_in a begin x → Since m kind setup x late a b before now → MayEnd (moment_of b) → b.replica.raft.id ≡ b.replica.id →
+    (made : Made) × Act m kind setup a b begin made × Says a b made.letters made.replies made.jobs × TellsAll made.answers before now
+since_ends m kind setup x late a b begin stood comes s end id = (
+  record { letters = s.piece.letters; replies = s.piece.replies; jobs = s.piece.jobs; answers = s.piece.answers },
   record {
+    stood = stood;
+    id = id ∙ s.id ∙ sym stood.id;
     taken = read_by x.bytes x.joins x.read s.piece;
     takes = taken_so a begin x s.piece comes s.inputs s.asks;
-    steps = goes_to_end_holds m kind setup a.replica.id x.bytes x.joins x.read (seen a) (moment_of b) s.piece (subst (λ z. Begins m kind setup a.replica.id x.bytes x.joins x.read z (moment_of b) s.piece) rests s.goes) end;
+    steps = λ known. goes_to_end_holds m kind setup a.replica.id x.bytes x.joins x.read (seen a) (moment_of b) s.piece (subst (λ z. Begins m kind setup a.replica.id x.bytes x.joins x.read z (moment_of b) s.piece) stood.rests (s.goes known)) end;
     sent = s.sent;
   },
   s.says,
+  s.heard,
 )
 
 -- a stop between two turns
-pub since_stops : (m : Meaning) (kind : EngineKind) (setup : Setup) (x : Brought) (late : Bool) (a b : Running) (begin : Begin) → IsResting a → Comes_in a begin x → Since m kind setup x late a b → Stopped m kind setup a begin (kept_of b.replica)
-since_stops m kind setup x late a b begin rests comes s = record {
+pub since_stops : {before now : Option Told} (m : Meaning) (kind : EngineKind) (setup : Setup) (x : Brought) (late : Bool) (a b : Running) (begin : Begin) → AtRest a → Comes_in a begin x → Since m kind setup x late a b before now → Stopped m kind setup a begin (kept_of b.replica)
+since_stops m kind setup x late a b begin stood comes s = record {
+  stood = stood;
   taken = read_by x.bytes x.joins x.read s.piece;
   takes = taken_so a begin x s.piece comes s.inputs s.asks;
-  stops = stops_between_holds m kind setup a.replica.id x.bytes x.joins x.read (seen a) (moment_of b) s.piece (subst (λ z. Begins m kind setup a.replica.id x.bytes x.joins x.read z (moment_of b) s.piece) rests s.goes);
+  stops = λ known. stops_between_holds m kind setup a.replica.id x.bytes x.joins x.read (seen a) (moment_of b) s.piece (subst (λ z. Begins m kind setup a.replica.id x.bytes x.joins x.read z (moment_of b) s.piece) stood.rests (s.goes known));
 }
 
 -- a stop within the step of one input more, which the node added
-pub since_within : (m : Meaning) (kind : EngineKind) (setup : Setup) (x : Brought) (late : Bool) (a b : Running) (begin : Begin) (i : raft.Input) (kept : Kept) → IsResting a → Comes_in a begin x → Since m kind setup x late a b → IsOwn i →
-    LeftBy setup a.replica.id x.bytes x.joins (moment_of b) i kept → Stopped m kind setup a begin kept
-since_within m kind setup x late a b begin i kept rests comes s own left = record {
+pub since_within : {before now : Option Told} (m : Meaning) (kind : EngineKind) (setup : Setup) (x : Brought) (late : Bool) (a b : Running) (begin : Begin) (i : raft.Input) (kept : Kept) → AtRest a → Comes_in a begin x → Since m kind setup x late a b before now → IsOwn i →
+    (KnowsServers setup a → LeftBy setup a.replica.id x.bytes x.joins (moment_of b) i kept) → Stopped m kind setup a begin kept
+since_within m kind setup x late a b begin i kept stood comes s own left = record {
+  stood = stood;
   taken = read_by x.bytes x.joins x.read (with_input s.piece i);
   takes = taken_so a begin x (with_input s.piece i) comes (adds_join s.piece.inputs (i ∷ []) x.inputs s.inputs (record { own = i ∷ []; each = (own, tt); is = refl })) s.asks;
-  stops = stops_within_holds m kind setup a.replica.id x.bytes x.joins x.read (seen a) (moment_of b) s.piece i kept (subst (λ z. Begins m kind setup a.replica.id x.bytes x.joins x.read z (moment_of b) s.piece) rests s.goes) left;
+  stops = λ known. stops_within_holds m kind setup a.replica.id x.bytes x.joins x.read (seen a) (moment_of b) s.piece i kept (subst (λ z. Begins m kind setup a.replica.id x.bytes x.joins x.read z (moment_of b) s.piece) stood.rests (s.goes known)) (left known);
 }
 
 -- or within the act's own input
-pub fresh_within : (m : Meaning) (kind : EngineKind) (setup : Setup) (x : Brought) (a b : Running) (begin : Begin) (i : raft.Input) (kept : Kept) → IsResting a → Comes_in a begin x → Fresh a b → x.inputs ≡ i ∷ [] → ((conn : ℕ) → x.asks conn ≡ []) →
-    LeftBy setup a.replica.id x.bytes x.joins (moment_of b) i kept → Stopped m kind setup a begin kept
-fresh_within m kind setup x a b begin i kept rests comes f is asks left = record {
+pub begin_within : (m : Meaning) (kind : EngineKind) (setup : Setup) (x : Brought) (a : Running) (begin : Begin) (i : raft.Input) (kept : Kept) → AtRest a → Comes_in a begin x → x.inputs ≡ i ∷ [] → ((conn : ℕ) → x.asks conn ≡ []) →
+    (KnowsServers setup a → LeftBy setup a.replica.id x.bytes x.joins (moment_of a) i kept) → Stopped m kind setup a begin kept
+begin_within m kind setup x a begin i kept stood comes is asks left = record {
+  stood = stood;
   taken = read_by x.bytes x.joins x.read (with_input no_piece i);
   takes = taken_so a begin x (with_input no_piece i) comes (subst (Adds (i ∷ [])) (sym is) (adds_none (i ∷ []))) (λ conn. sym (asks conn));
-  stops = stops_within_holds m kind setup a.replica.id x.bytes x.joins x.read (seen a) (resting (seen a)) no_piece i kept
+  stops = λ known. stops_within_holds m kind setup a.replica.id x.bytes x.joins x.read (seen a) (resting (seen a)) no_piece i kept
       (goes_begins_holds m kind setup a.replica.id x.bytes x.joins x.read (resting (seen a)) (resting (seen a)) no_piece (nothing_goes_holds m kind setup a.replica.id x.bytes x.joins (resting (seen a))))
-      (subst (λ z. LeftBy setup a.replica.id x.bytes x.joins z i kept) (f.moment ∙ rests) left);
+      (subst (λ z. LeftBy setup a.replica.id x.bytes x.joins z i kept) stood.rests (left known));
 }
 
 -- ---- the acts of a step
 
+made_assoc : (x y z : Made) → made_both (made_both x y) z ≡ made_both x (made_both y z)
+made_assoc x y z = λ i. record {
+  letters = append_assoc x.letters y.letters z.letters i;
+  replies = append_assoc x.replies y.replies z.replies i;
+  jobs = append_assoc x.jobs y.jobs z.jobs i;
+  answers = append_assoc x.answers y.answers z.answers i;
+}
+
+made_nil : (x : Made) → made_both x none_made ≡ x
+made_nil x = λ i. record { letters = append-nil x.letters i; replies = append-nil x.replies i; jobs = append-nil x.jobs i; answers = append-nil x.answers i }
+
 -- an act more behind those that there are, where only what the rules don't see has changed before it
-acts_end : (m : Meaning) (kind : EngineKind) (setup : Setup) (a b c d : Running) (begins : List Begin) (begin : Begin) (xs ys : List Letter) (rs qs : List (ℕ × Reply)) →
-    Acts m kind setup a b begins xs rs → seen c ≡ seen b → Act m kind setup c d begin ys qs → Acts m kind setup a d (begins ++ begin ∷ []) (xs ++ ys) (rs ++ qs)
-acts_end m kind setup a b c d [] begin xs ys rs qs all same act =
-    (c, d, ys, [], qs, [], same ∙ all.0, act, (refl, refl, refl), ap (λ l. l ++ ys) all.1 ∙ sym (append-nil ys), ap (λ l. l ++ qs) all.2 ∙ sym (append-nil qs))
-acts_end m kind setup a b c d (first ∷ begins) begin xs ys rs qs all same act = (
+acts_end : (m : Meaning) (kind : EngineKind) (setup : Setup) (a b c d : Running) (begins : List Begin) (begin : Begin) (xs ys : Made) →
+    Acts m kind setup a b begins xs → seen c ≡ seen b → Act m kind setup c d begin ys → Acts m kind setup a d (begins ++ begin ∷ []) (made_both xs ys)
+acts_end m kind setup a b c d [] begin xs ys all same act = (c, d, ys, none_made, same ∙ all.0, act, (refl, refl), ap (λ z. made_both z ys) all.1 ∙ sym (made_nil ys))
+acts_end m kind setup a b c d (first ∷ begins) begin xs ys all same act = (
   all.0,
   all.1,
   all.2,
-  all.3 ++ ys,
+  made_both all.3 ys,
   all.4,
-  all.5 ++ qs,
-  all.6,
-  all.7,
-  acts_end m kind setup all.1 b c d begins begin all.3 ys all.5 qs all.8 same act,
-  ap (λ l. l ++ ys) all.9 ∙ append_assoc all.2 all.3 ys,
-  ap (λ l. l ++ qs) all.10 ∙ append_assoc all.4 all.5 qs,
+  all.5,
+  acts_end m kind setup all.1 b c d begins begin all.3 ys all.6 same act,
+  ap (λ z. made_both z ys) all.7 ∙ made_assoc all.2 all.3 ys,
 )
 
-acts_still : (m : Meaning) (kind : EngineKind) (setup : Setup) (a b c : Running) (begins : List Begin) (xs : List Letter) (rs : List (ℕ × Reply)) → Acts m kind setup a b begins xs rs → seen c ≡ seen b → Acts m kind setup a c begins xs rs
-acts_still m kind setup a b c [] xs rs all same = (same ∙ all.0, all.1, all.2)
-acts_still m kind setup a b c (first ∷ begins) xs rs all same =
-    (all.0, all.1, all.2, all.3, all.4, all.5, all.6, all.7, acts_still m kind setup all.1 b c begins all.3 all.5 all.8 same, all.9, all.10)
+acts_still : (m : Meaning) (kind : EngineKind) (setup : Setup) (a b c : Running) (begins : List Begin) (xs : Made) → Acts m kind setup a b begins xs → seen c ≡ seen b → Acts m kind setup a c begins xs
+acts_still m kind setup a b c [] xs all same = (same ∙ all.0, all.1)
+acts_still m kind setup a b c (first ∷ begins) xs all same =
+    (all.0, all.1, all.2, all.3, all.4, all.5, acts_still m kind setup all.1 b c begins all.3 all.6 same, all.7)
 
 -- none yet
-pub went_none : (m : Meaning) (kind : EngineKind) (setup : Setup) (a : Running) → Went m kind setup a a []
-went_none m kind setup a = record { letters = []; replies = []; acts = (refl, refl, refl); says = says_none a a refl refl }
+pub went_none : {told : Option Told} (m : Meaning) (kind : EngineKind) (setup : Setup) (a : Running) → Went m kind setup a a [] told told
+went_none m kind setup a = record { made = none_made; acts = (refl, refl); says = says_none a a refl refl refl; heard = heard_none _ }
 
-pub went_on : (m : Meaning) (kind : EngineKind) (setup : Setup) (a b c d : Running) (begins : List Begin) (begin : Begin) (ys : List Letter) (qs : List (ℕ × Reply)) →
-    Went m kind setup a b begins → Between b c → Act m kind setup c d begin ys qs → Says c d ys qs → Went m kind setup a d (begins ++ begin ∷ [])
-went_on m kind setup a b c d begins begin ys qs w between act says = record {
-  letters = w.letters ++ ys;
-  replies = w.replies ++ qs;
-  acts = acts_end m kind setup a b c d begins begin w.letters ys w.replies qs w.acts between.same act;
-  says = says_join a b d w.letters ys w.replies qs w.says (says_join b c d [] ys [] qs (says_none b c between.mail between.replies) says);
+pub went_on : {before mid now : Option Told} (m : Meaning) (kind : EngineKind) (setup : Setup) (a b c d : Running) (begins : List Begin) (begin : Begin) (ys : Made) →
+    Went m kind setup a b begins before mid → Between b c → Act m kind setup c d begin ys → Says c d ys.letters ys.replies ys.jobs → TellsAll ys.answers mid now → Went m kind setup a d (begins ++ begin ∷ []) before now
+went_on m kind setup a b c d begins begin ys w between act says heard = record {
+  made = made_both w.made ys;
+  acts = acts_end m kind setup a b c d begins begin w.made ys w.acts between.same act;
+  says = says_join a b d w.made.letters ys.letters w.made.replies ys.replies w.made.jobs ys.jobs w.says
+      (says_join b c d [] ys.letters [] ys.replies [] ys.jobs (says_none b c between.mail between.replies between.reads) says);
+  heard = heard_join w.made.answers ys.answers _ _ _ w.heard heard;
 }
 
 -- what is said at the end is what was said since the begin, where nothing had been
-pub went_steps : (m : Meaning) (kind : EngineKind) (setup : Setup) (a b c : Running) (begins : List Begin) (event : Event) (outs : Outs) → a.mail ≡ no_mail → a.outs.replies.items ≡ [] → AreOf event begins → Went m kind setup a b begins → seen c ≡ seen b →
-    outs.messages.items ≡ sent b.mail → outs.replies.items ≡ b.outs.replies.items → StepsBy m kind setup a c event outs
-went_steps m kind setup a b c begins event outs quiet silent are w same messages replies = record {
+pub went_steps : {before now : Option Told} (m : Meaning) (kind : EngineKind) (setup : Setup) (a b c : Running) (begins : List Begin) (event : Event) (outs : Outs) → a.mail ≡ no_mail → a.outs.replies.items ≡ [] → a.outs.reads.items ≡ [] → AreOf event begins →
+    Went m kind setup a b begins before now → seen c ≡ seen b → outs.messages.items ≡ sent b.mail → outs.replies.items ≡ b.outs.replies.items → outs.reads.items ≡ b.outs.reads.items → StepsBy m kind setup a c event outs before now
+went_steps m kind setup a b c begins event outs quiet silent unread are w same messages replies reads = record {
   begins = begins;
   are = are;
+  made = w.made;
+  acts = acts_still m kind setup a b c begins w.made w.acts same;
   posted = w.says.posted;
-  replies = w.replies;
-  acts = subst (λ ls. Acts m kind setup a c begins ls w.replies) w.says.letters_are (acts_still m kind setup a b c begins w.letters w.replies w.acts same);
+  letters_are = w.says.letters_are;
   messages = messages ∙ ap sent w.says.mail ∙ ap (λ z. sent (all_posted z w.says.posted)) quiet;
-  tells = subst (Sends w.replies) (sym (replies ∙ w.says.outs ∙ ap (λ l. l ++ w.says.told) silent)) w.says.tells;
+  tells = subst (Sends w.made.replies) (sym (replies ∙ w.says.outs ∙ ap (λ l. l ++ w.says.told) silent)) w.says.tells;
+  reads = reads ∙ w.says.reads ∙ ap (λ l. l ++ w.made.jobs) unread;
+  heard = w.heard;
 }
 
 -- what the last act left, behind those before it
-pub went_stops : (m : Meaning) (kind : EngineKind) (setup : Setup) (a b c : Running) (begins : List Begin) (last : Begin) (event : Event) (kept : Kept) → AreOf event (begins ++ last ∷ []) → Went m kind setup a b begins → Between b c → Stopped m kind setup c last kept → StopsBy m kind setup a event kept
+pub went_stops : {before now : Option Told} (m : Meaning) (kind : EngineKind) (setup : Setup) (a b c : Running) (begins : List Begin) (last : Begin) (event : Event) (kept : Kept) → AreOf event (begins ++ last ∷ []) → Went m kind setup a b begins before now → Between b c → Stopped m kind setup c last kept → StopsBy m kind setup a event kept
 went_stops m kind setup a b c begins last event kept are w between stopped = record {
   begins = begins;
   last = last;
   are = are;
   mid = c;
-  letters = w.letters;
-  replies = w.replies;
-  acts = acts_still m kind setup a b c begins w.letters w.replies w.acts between.same;
+  made = w.made;
+  acts = acts_still m kind setup a b c begins w.made w.acts between.same;
   stopped = stopped;
 }
 
@@ -244,21 +287,22 @@ went_stops m kind setup a b c begins last event kept are w between stopped = rec
 asked_by : Moment → (ℕ → List Request) → Moment
 asked_by a asks = record a { node = record a.node { waiting = λ conn. a.node.waiting conn ++ asks conn } }
 
-pub begun_stops : (m : Meaning) (kind : EngineKind) (setup : Setup) (x : Brought) (a : Running) (begin : Begin) → IsMachine a.applied.machine → IsResting a → Comes_in a begin x → x.inputs ≡ [] → Stopped m kind setup a begin (kept_of a.replica)
+pub begun_stops : (m : Meaning) (kind : EngineKind) (setup : Setup) (x : Brought) (a : Running) (begin : Begin) → IsMachine a.applied.machine → AtRest a → Comes_in a begin x → x.inputs ≡ [] → Stopped m kind setup a begin (kept_of a.replica)
 unfolding asked_by
-begun_stops m kind setup x a begin machine rests comes none =
+begun_stops m kind setup x a begin machine stood comes none =
     let p : Piece = record no_piece { asks = x.asks } in
     let heard : Hears (moment_of a) (asked_by (moment_of a) x.asks) x.asks = record { sessions = refl; waiting = λ conn. refl; due = refl; rest = record { raft = refl; kept = refl; applied = refl; serving = refl; machine = machine; files = refl } } in
     let goes = goes_begins_holds m kind setup a.replica.id x.bytes x.joins x.read (moment_of a) (asked_by (moment_of a) x.asks) p (hearing_goes_holds m kind setup a.replica.id x.bytes x.joins (moment_of a) (asked_by (moment_of a) x.asks) x.asks heard) in
     record {
+      stood = stood;
       taken = read_by x.bytes x.joins x.read p;
       takes = taken_so a begin x p comes (subst (Adds []) (sym none) (adds_none [])) (λ conn. refl);
-      stops = stops_between_holds m kind setup a.replica.id x.bytes x.joins x.read (seen a) (asked_by (moment_of a) x.asks) p (subst (λ z. Begins m kind setup a.replica.id x.bytes x.joins x.read z (asked_by (moment_of a) x.asks) p) rests goes);
+      stops = λ known. stops_between_holds m kind setup a.replica.id x.bytes x.joins x.read (seen a) (asked_by (moment_of a) x.asks) p (subst (λ z. Begins m kind setup a.replica.id x.bytes x.joins x.read z (asked_by (moment_of a) x.asks) p) stood.rests goes);
     }
 
 -- ---- a step under way
 
-are_more : (event : Event) (begins : List Begin) (begin next : Begin) → AreOf event (begins ++ begin ∷ []) → IsMore next → AreOf event ((begins ++ begin ∷ []) ++ next ∷ [])
+pub are_more : (event : Event) (begins : List Begin) (begin next : Begin) → AreOf event (begins ++ begin ∷ []) → IsMore next → AreOf event ((begins ++ begin ∷ []) ++ next ∷ [])
 are_more event [] begin next are more = (are.0, (more, tt))
 are_more event (first ∷ begins) begin next are more = (are.0, all begins are.1)
   where
@@ -266,77 +310,69 @@ are_more event (first ∷ begins) begin next are more = (are.0, all begins are.1
     all [] h = (h.0, (more, tt))
     all (x ∷ xs) h = (h.0, all xs h.1)
 
--- the event begins the first act
-pub underway_starts : (m : Meaning) (kind : EngineKind) (setup : Setup) (a : Running) (event : Event) → IsResting a → Underway m kind setup a a event
-underway_starts m kind setup a event rests = record {
+-- the event's act has begun
+pub underway_starts : {before now : Option Told} (m : Meaning) (kind : EngineKind) (setup : Setup) (a from b : Running) (event : Event) → Between a from → AtRest from → SoFar m kind setup from b (Happens event) before now → Underway m kind setup a b event before now
+underway_starts m kind setup a from b event between stood so_far = record {
   begins = [];
   begin = Happens event;
   are = (refl, tt);
   mid = a;
+  told_between = _;
   went = went_none m kind setup a;
-  from = a;
-  between = record { same = refl; mail = refl; replies = refl };
-  rests = rests;
-  so_far = waits (record { moment = refl; mail = refl; replies = refl; kept = refl; id = refl });
-}
-
--- it is given to Raft, or is still due
-pub underway_waits : (m : Meaning) (kind : EngineKind) (setup : Setup) (a b c : Running) (event : Event) (u : Underway m kind setup a b event) → Fresh u.from c → Underway m kind setup a c event
-underway_waits m kind setup a b c event u f = record { begins = u.begins; begin = u.begin; are = u.are; mid = u.mid; went = u.went; from = u.from; between = u.between; rests = u.rests; so_far = waits f }
-
--- its first turn
-pub underway_first : (m : Meaning) (kind : EngineKind) (setup : Setup) (a b c : Running) (event : Event) (u : Underway m kind setup a b event) (x : Brought) (late : Bool) → Fresh u.from b → Comes_in u.from u.begin x → Since m kind setup x late b c → Underway m kind setup a c event
-underway_first m kind setup a b c event u x late f comes s = record {
-  begins = u.begins;
-  begin = u.begin;
-  are = u.are;
-  mid = u.mid;
-  went = u.went;
-  from = u.from;
-  between = u.between;
-  rests = u.rests;
-  so_far = runs x late comes (since_fresh m kind setup x late u.from b c f s);
+  from = from;
+  between = between;
+  stood = stood;
+  so_far = so_far;
 }
 
 -- a turn more, in which nothing comes in, and which leaves term, leadership and the kept snapshot
-pub underway_on : (m : Meaning) (kind : EngineKind) (setup : Setup) (a b c : Running) (event : Event) (u : Underway m kind setup a b event) (x : Brought) (late : Bool) → Comes_in u.from u.begin x → Since m kind setup x late u.from b →
-    Turns m kind setup x.bytes x.joins b c → SameTerm (moment_of b) (moment_of c) → (kept_of b.replica).snap ≡ (kept_of c.replica).snap → Underway m kind setup a c event
-underway_on m kind setup a b c event u x late comes s t same snap = record {
+pub so_far_on : {before mid now : Option Told} (m : Meaning) (kind : EngineKind) (setup : Setup) (a b c : Running) (begin : Begin) → SoFar m kind setup a b begin before mid → ((bytes : List ℕ) (joins : Option ℕ) → TurnsOn m kind setup bytes joins b c mid now) → SoFar m kind setup a c begin before now
+so_far_on m kind setup a b c begin f t =
+    let x = f.brought in
+    let on = t x.bytes x.joins in
+    record { brought = x; late = f.late || on.turns.piece.late; comes = f.comes; since = since_on m kind setup x f.late a b c f.since on.turns (inr on.same) (inr on.snap) }
+
+pub underway_on : {before mid now : Option Told} (m : Meaning) (kind : EngineKind) (setup : Setup) (a b c : Running) (event : Event) → Underway m kind setup a b event before mid → ((bytes : List ℕ) (joins : Option ℕ) → TurnsOn m kind setup bytes joins b c mid now) → Underway m kind setup a c event before now
+underway_on m kind setup a b c event u t = record {
   begins = u.begins;
   begin = u.begin;
   are = u.are;
   mid = u.mid;
+  told_between = u.told_between;
   went = u.went;
   from = u.from;
   between = u.between;
-  rests = u.rests;
-  so_far = runs x (late || t.piece.late) comes (since_on m kind setup x late u.from b c s t (inr same) (inr snap));
+  stood = u.stood;
+  so_far = so_far_on m kind setup u.from b c u.begin u.so_far t;
 }
 
--- the node rests again, and another act begins
-pub underway_next : (m : Meaning) (kind : EngineKind) (setup : Setup) (a b c : Running) (event : Event) (u : Underway m kind setup a b event) (x : Brought) (late : Bool) → Comes_in u.from u.begin x → Since m kind setup x late u.from b →
-    MayEnd (moment_of b) → Between b c → IsResting c → (next : Begin) → IsMore next → Underway m kind setup a c event
-underway_next m kind setup a b c event u x late comes s end between rests next more =
-    let r = since_ends m kind setup x late u.from b u.begin u.rests comes s end in
+-- the node rests again, and another act has begun
+pub underway_next : {before mid now : Option Told} (m : Meaning) (kind : EngineKind) (setup : Setup) (a b c d : Running) (event : Event) → Underway m kind setup a b event before mid → MayEnd (moment_of b) → b.replica.raft.id ≡ b.replica.id → Between b c → AtRest c → (next : Begin) → IsMore next →
+    SoFar m kind setup c d next mid now → Underway m kind setup a d event before now
+underway_next m kind setup a b c d event u end id between stood next more so_far =
+    let f = u.so_far in
+    let r = since_ends m kind setup f.brought f.late u.from b u.begin u.stood f.comes f.since end id in
     record {
       begins = u.begins ++ u.begin ∷ [];
       begin = next;
       are = are_more event u.begins u.begin next u.are more;
       mid = b;
-      went = went_on m kind setup a u.mid u.from b u.begins u.begin r.0 r.1 u.went u.between r.2 r.3;
+      told_between = _;
+      went = went_on m kind setup a u.mid u.from b u.begins u.begin r.0 u.went u.between r.1 r.2 r.3;
       from = c;
       between = between;
-      rests = rests;
-      so_far = waits (record { moment = refl; mail = refl; replies = refl; kept = refl; id = refl });
+      stood = stood;
+      so_far = so_far;
     }
 
 -- the step ends, and what was said is taken from it
-pub underway_ends : (m : Meaning) (kind : EngineKind) (setup : Setup) (a b c : Running) (event : Event) (outs : Outs) (u : Underway m kind setup a b event) (x : Brought) (late : Bool) → Comes_in u.from u.begin x → Since m kind setup x late u.from b →
-    MayEnd (moment_of b) → a.mail ≡ no_mail → a.outs.replies.items ≡ [] → seen c ≡ seen b → outs.messages.items ≡ sent b.mail → outs.replies.items ≡ b.outs.replies.items → StepsBy m kind setup a c event outs
-underway_ends m kind setup a b c event outs u x late comes s end quiet silent same messages replies =
-    let r = since_ends m kind setup x late u.from b u.begin u.rests comes s end in
-    went_steps m kind setup a b c (u.begins ++ u.begin ∷ []) event outs quiet silent u.are (went_on m kind setup a u.mid u.from b u.begins u.begin r.0 r.1 u.went u.between r.2 r.3) same messages replies
+pub underway_ends : {before now : Option Told} (m : Meaning) (kind : EngineKind) (setup : Setup) (a b c : Running) (event : Event) (outs : Outs) → Underway m kind setup a b event before now → MayEnd (moment_of b) → b.replica.raft.id ≡ b.replica.id →
+    a.mail ≡ no_mail → a.outs.replies.items ≡ [] → a.outs.reads.items ≡ [] → seen c ≡ seen b → outs.messages.items ≡ sent b.mail → outs.replies.items ≡ b.outs.replies.items → outs.reads.items ≡ b.outs.reads.items → StepsBy m kind setup a c event outs before now
+underway_ends m kind setup a b c event outs u end id quiet silent unread same messages replies reads =
+    let f = u.so_far in
+    let r = since_ends m kind setup f.brought f.late u.from b u.begin u.stood f.comes f.since end id in
+    went_steps m kind setup a b c (u.begins ++ u.begin ∷ []) event outs quiet silent unread u.are (went_on m kind setup a u.mid u.from b u.begins u.begin r.0 u.went u.between r.1 r.2 r.3) same messages replies reads
 
 -- the act under way was stopped
-pub underway_stops : (m : Meaning) (kind : EngineKind) (setup : Setup) (a b : Running) (event : Event) (kept : Kept) (u : Underway m kind setup a b event) → Stopped m kind setup u.from u.begin kept → StopsBy m kind setup a event kept
+pub underway_stops : {before now : Option Told} (m : Meaning) (kind : EngineKind) (setup : Setup) (a b : Running) (event : Event) (kept : Kept) (u : Underway m kind setup a b event before now) → Stopped m kind setup u.from u.begin kept → StopsBy m kind setup a event kept
 underway_stops m kind setup a b event kept u stopped = went_stops m kind setup a u.mid u.from u.begins u.begin event kept u.are u.went u.between stopped

@@ -18,9 +18,9 @@ use Rattle.node_core.specs.Whole.{IsGoing}
 
 pub applies_so : (old mid new : Running) → IsGoing old → old.applied.index < old.replica.raft.commit → IsMachine old.applied.machine → TakesEntry old mid → clients_in mid ≡ clients_in old
     → mid ≡ record old { applied = mid.applied; members = mid.members; view = mid.view } → mid.view.serving ≡ old.view.serving → clients_in new ≡ landed_at mid.applied.index (clients_in mid)
-    → new.outs.replies.items ≡ mid.outs.replies.items ++ told_at mid.applied.index (clients_in mid) → machine_of new.applied.machine ≡ machine_of mid.applied.machine
+    → new.outs.replies.items ≡ mid.outs.replies.items ++ told_at mid.applied.index (clients_in mid) → new.outs.reads.items ≡ mid.outs.reads.items → machine_of new.applied.machine ≡ machine_of mid.applied.machine
     → new ≡ record mid { clients = new.clients; applied = record mid.applied { machine = new.applied.machine }; outs = new.outs } → IsMachine new.applied.machine → AppliesSo old new
-applies_so old mid new going more stood t same entered serving landed said files told machine =
+applies_so old mid new going more stood t same entered serving landed said unread files told machine =
     let index : mid.applied.index ≡ suc old.applied.index = ap (λ (a : Applied). a.index) t.applied in
     let land : clients_in new ≡ landed_at (suc old.applied.index) (clients_in old) =
     landed ∙ ap (λ (n : ℕ). landed_at n (clients_in mid)) index ∙ ap (λ (k : Clients). landed_at (suc old.applied.index) k) same in
@@ -50,6 +50,7 @@ applies_so old mid new going more stood t same entered serving landed said files
       mail = ap (λ (n : Running). n.mail) told ∙ ap (λ (n : Running). n.mail) entered;
       outs = said ∙ ap (λ (n : Running). n.outs.replies.items ++ told_at mid.applied.index (clients_in mid)) entered
           ∙ ap (λ (n : ℕ). old.outs.replies.items ++ told_at n (clients_in mid)) index ∙ ap (λ (k : Clients). old.outs.replies.items ++ told_at (suc old.applied.index) k) same;
+      reads = unread ∙ ap (λ (n : Running). n.outs.reads.items) entered;
     }
 
 -- the entry behind the applied ones, as it is found by its index

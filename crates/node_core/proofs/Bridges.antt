@@ -13,13 +13,16 @@ use Rattle.sql_engine.specs.declared.kind.EngineKind.{EngineKind}
 use Rattle.sql_engine.specs.Meanings.{Meaning, Told}
 use Rattle.sql_engine.specs.Replies.{Statement}
 use Rattle.session_rules.specs.Causes.{failure, unread_cause}
-use Rattle.session_rules.specs.Engines.{AllowsFor}
+use Rattle.session_rules.specs.Engines.{AllowsFor, used_for}
 use Rattle.session_rules.specs.Events.{on_hangup, connects, connected}
 use Rattle.session_rules.specs.Machine.{machine_of}
 use Rattle.session_rules.specs.Requests.{on_request, handed, on_later, handed_later, without_later}
 use Rattle.session_rules.specs.Sessions.{Reply, Session, Gateway, View, HandsOver, JoinsPeer, Weighs, Turned, Refused, Lacks, Answers, Proposes, Lends, Affects, responses_of, may_ask, later_query, lent_query}
 use Rattle.session_world.specs.Answering.{comes}
+use Rattle.session_world.specs.Lending.{lends_by}
 use Rattle.session_world.specs.Nodes.{Standing}
+use Rattle.session_world.proofs.JobsKnown.{laters_stay_hold}
+use Rattle.statement_runs.specs.Running.{TellsAll}
 use Rattle.raft_rules.specs.Node.{is_leader}
 use Rattle.raft_rules.specs.NodeValues.{node_of}
 use Rattle.client_connection.specs.Connection.{Conn, opened, with_more, room, received}
@@ -38,7 +41,8 @@ use Rattle.node_rules.specs.Accounts.{Moment}
 use Rattle.node_rules.specs.ClientTurns.{Stays, Connects, HangsUp, Hears, Resumes, Reads}
 use Rattle.node_rules.specs.Turns.{KeepsRaft, view_at, gate_after, told_at_once, due_by, MayPropose, AreSpelled, Handles}
 use Rattle.node_rules.proofs.MayPropose.{requests_may_propose_hold, laters_may_propose_hold}
-use Rattle.node_core.specs.Acts.{messages_by, proposals_by}
+use Rattle.node_core.specs.Account.{heard_on as bytes_asked}
+use Rattle.node_core.specs.Acts.{messages_by, proposals_by, jobs_by}
 use Rattle.node_core.specs.Values.{request_in, requests_in, waiting_on}
 
 -- ---- what replies are as they are sent
@@ -85,17 +89,18 @@ record Came (v : View) (g : Gateway) (conn : ℕ) (t : Turned) (now : Gateway) (
   sessions : now ≡ gate_after g conn t
   due : proposals_by act ≡ due_by v.term t
   says : messages_by act ≡ as_sent (told_at_once conn t)
+  lends : jobs_by act ≡ lends_by conn t
   spelled : AreSpelled t
 
 came : (v : View) (g : Gateway) (conn : ℕ) (t : Turned) (now : Gateway) (act : GatewayAct) → Is v g conn t now act → Came v g conn t now (act_on conn act)
-came v g conn (Refused cause) now act h = record { comes_so = refl; sessions = h.0; due = ap (λ z. proposals_by (act_on conn z)) h.1; says = ap (λ z. messages_by (act_on conn z)) h.1; spelled = tt }
+came v g conn (Refused cause) now act h = record { comes_so = refl; sessions = h.0; due = ap (λ z. proposals_by (act_on conn z)) h.1; says = ap (λ z. messages_by (act_on conn z)) h.1; lends = ap (λ z. jobs_by (act_on conn z)) h.1; spelled = tt }
 came v g conn Lacks now act h = absurd h
-came v g conn (Answers s reply note) now act h = record { comes_so = refl; sessions = h.0; due = ap (λ z. proposals_by (act_on conn z)) h.1; says = ap (λ z. messages_by (act_on conn z)) h.1 ∙ one_sent conn reply; spelled = tt }
-came v g conn (Proposes s contents note) now act h = record { comes_so = refl; sessions = h.0; due = ap (λ z. proposals_by (act_on conn z)) h.1; says = ap (λ z. messages_by (act_on conn z)) h.1; spelled = h.2 }
-came v g conn (Lends s job) now act h = record { comes_so = refl; sessions = h.0; due = ap (λ z. proposals_by (act_on conn z)) h.1; says = ap (λ z. messages_by (act_on conn z)) h.1; spelled = tt }
-came v g conn (Affects (HandsOver id)) now act h = record { comes_so = refl; sessions = h.0; due = ap (λ z. proposals_by (act_on conn z)) h.1; says = ap (λ z. messages_by (act_on conn z)) h.1; spelled = tt }
-came v g conn (Affects (JoinsPeer id)) now act h = record { comes_so = refl; sessions = h.0; due = ap (λ z. proposals_by (act_on conn z)) h.1; says = ap (λ z. messages_by (act_on conn z)) h.1; spelled = tt }
-came v g conn (Affects (Weighs weight)) now act h = record { comes_so = refl; sessions = h.0; due = ap (λ z. proposals_by (act_on conn z)) h.1; says = ap (λ z. messages_by (act_on conn z)) h.1; spelled = tt }
+came v g conn (Answers s reply note) now act h = record { comes_so = refl; sessions = h.0; due = ap (λ z. proposals_by (act_on conn z)) h.1; says = ap (λ z. messages_by (act_on conn z)) h.1 ∙ one_sent conn reply; lends = ap (λ z. jobs_by (act_on conn z)) h.1; spelled = tt }
+came v g conn (Proposes s contents note) now act h = record { comes_so = refl; sessions = h.0; due = ap (λ z. proposals_by (act_on conn z)) h.1; says = ap (λ z. messages_by (act_on conn z)) h.1; lends = ap (λ z. jobs_by (act_on conn z)) h.1; spelled = h.2 }
+came v g conn (Lends s job) now act h = record { comes_so = refl; sessions = h.0; due = ap (λ z. proposals_by (act_on conn z)) h.1; says = ap (λ z. messages_by (act_on conn z)) h.1; lends = ap (λ z. jobs_by (act_on conn z)) h.1; spelled = tt }
+came v g conn (Affects (HandsOver id)) now act h = record { comes_so = refl; sessions = h.0; due = ap (λ z. proposals_by (act_on conn z)) h.1; says = ap (λ z. messages_by (act_on conn z)) h.1; lends = ap (λ z. jobs_by (act_on conn z)) h.1; spelled = tt }
+came v g conn (Affects (JoinsPeer id)) now act h = record { comes_so = refl; sessions = h.0; due = ap (λ z. proposals_by (act_on conn z)) h.1; says = ap (λ z. messages_by (act_on conn z)) h.1; lends = ap (λ z. jobs_by (act_on conn z)) h.1; spelled = tt }
+came v g conn (Affects (Weighs weight)) now act h = record { comes_so = refl; sessions = h.0; due = ap (λ z. proposals_by (act_on conn z)) h.1; says = ap (λ z. messages_by (act_on conn z)) h.1; lends = ap (λ z. jobs_by (act_on conn z)) h.1; spelled = tt }
 
 -- what waits before a message was taken
 first_waits : (k l : Clients) (o : Offer) → IsOffered k o → ((other : ℕ) → l.streams other ≡ with_stream k.streams o.conn (Some o.stream) other) → (other : ℕ) → waiting_on (k.streams other) ≡ cond (o.conn == other) (request_in (request_of o.message)) [] ++ waiting_on (l.streams other)
@@ -115,7 +120,7 @@ module _ (m : Meaning) (kind : EngineKind) (a b : Moment) (k l : Clients) (v : V
   -- a message that reads as a request
   pub took_handles : Shows a k → Shows b l → KeepsRaft a b → Sees v a → Sound k → (v.serving ≡ true → is_leader a.node.raft.role ≡ true) → a.due ≡ [] → b.due ≡ proposals_by act →
       (x : TookOffer (call_of m kind before now) v (machine_of a.node.machine) k refused refused_now l act) (request : Request) → request_of x.offer.message ≡ Ok request →
-      (replies : List (ℕ × Reply)) × Handles m kind a b x.offer.conn request replies × (messages_by act ≡ as_sent replies)
+      (replies : List (ℕ × Reply)) × (h : Handles m kind a b x.offer.conn request replies) × (messages_by act ≡ as_sent replies) × (jobs_by act ≡ lends_by x.offer.conn h.turned) × TellsAll h.answers before now
   took_handles sa sb rest sees sound leads idle due x request reads =
       let conn = x.offer.conn in
       let g = k.sessions in
@@ -133,6 +138,7 @@ module _ (m : Meaning) (kind : EngineKind) (a b : Moment) (k l : Clients) (v : V
           idle = idle;
           ready = ap (λ (z : Gateway). may_ask (z.session conn)) sa.sessions ∙ offered_asks k x.offer o sound;
           allowed = subst (λ (z : View). AllowsFor m kind (handed z mach a.node.sessions conn request) y.turned.answers) (sym view) (subst (λ (z : Gateway). AllowsFor m kind (handed v mach z conn request) y.turned.answers) (sym sa.sessions) y.turned.allowed);
+          exact = ap (λ (z : View). used_for (handed z mach a.node.sessions conn request) y.turned.answers) view ∙ ap (λ (z : Gateway). used_for (handed v mach z conn request) y.turned.answers) sa.sessions ∙ y.turned.exact;
           turned = t;
           is = ap (λ (z : View). on_request z mach a.node.sessions conn request y.turned.answers) view ∙ ap (λ (z : Gateway). on_request v mach z conn request y.turned.answers) sa.sessions;
           comes = c.comes_so;
@@ -144,12 +150,14 @@ module _ (m : Meaning) (kind : EngineKind) (a b : Moment) (k l : Clients) (v : V
           rest = rest;
         },
         ap messages_by y.act_is ∙ c.says,
+        ap jobs_by y.act_is ∙ c.lends,
+        y.turned.told,
       )
 
   -- one that doesn't is refused
   pub took_stays : Shows a k → Shows b l → KeepsRaft a b → b.due ≡ a.due →
       (x : TookOffer (call_of m kind before now) v (machine_of a.node.machine) k refused refused_now l act) (fault : MsgFault) → request_of x.offer.message ≡ Err fault →
-      Stays a b × (act ≡ acts.Reply x.offer.conn (bytes_of (failure (unread_cause fault) ∷ [])))
+      Stays a b × (act ≡ acts.Reply x.offer.conn (bytes_of (failure (unread_cause fault) ∷ []))) × (now ≡ before)
   took_stays sa sb rest due x fault reads =
       let conn = x.offer.conn in
       let y : Unread k.sessions conn fault before now l.sessions act = subst (λ (r : Result Request MsgFault). Comes (call_of m kind before now) (scene v (machine_of a.node.machine) k.sessions conn) r refused refused_now l.sessions act) reads x.came in
@@ -164,6 +172,7 @@ module _ (m : Meaning) (kind : EngineKind) (a b : Moment) (k l : Clients) (v : V
           rest = rest;
         },
         y.act_is,
+        y.untold,
       )
     where
       none : (b : Bool) (w : List Request) → cond b [] [] ++ w ≡ w
@@ -173,7 +182,7 @@ module _ (m : Meaning) (kind : EngineKind) (a b : Moment) (k l : Clients) (v : V
   -- a query that the node runs later than it was asked
   pub ran_resumes : (conn : ℕ) (statement : Statement) → Shows a k → Shows b l → ((other : ℕ) → l.streams other ≡ k.streams other) → KeepsRaft a b → Sees v a → (v.serving ≡ true → is_leader a.node.raft.role ≡ true) → a.due ≡ [] → b.due ≡ proposals_by act →
       later_query (k.sessions.session conn).later ≡ Some statement → RanLater (call_of m kind before now) (scene v (machine_of a.node.machine) k.sessions conn) statement refused refused_now l.sessions act →
-      (replies : List (ℕ × Reply)) × Resumes m kind a b conn replies × (messages_by act ≡ as_sent replies)
+      (replies : List (ℕ × Reply)) × (h : Resumes m kind a b conn replies) × (messages_by act ≡ as_sent replies) × (jobs_by act ≡ []) × TellsAll h.answers before now
   ran_resumes conn statement sa sb streams rest sees leads idle due later x =
       let mach = machine_of a.node.machine in
       let g = without_later k.sessions conn in
@@ -189,6 +198,7 @@ module _ (m : Meaning) (kind : EngineKind) (a b : Moment) (k l : Clients) (v : V
           idle = idle;
           later = ap (λ (z : Gateway). later_query (z.session conn).later) sa.sessions ∙ later;
           allowed = subst (λ (z : View). AllowsFor m kind (handed_later z mach (without_later a.node.sessions conn) conn statement) x.ran.answers) (sym view) (subst (λ (z : Gateway). AllowsFor m kind (handed_later v mach z conn statement) x.ran.answers) (sym gate) x.ran.allowed);
+          exact = ap (λ (z : View). used_for (handed_later z mach (without_later a.node.sessions conn) conn statement) x.ran.answers) view ∙ ap (λ (z : Gateway). used_for (handed_later v mach z conn statement) x.ran.answers) gate ∙ x.ran.exact;
           turned = t;
           is = ap (λ (z : View). on_later z mach (without_later a.node.sessions conn) conn statement x.ran.answers) view ∙ ap (λ (z : Gateway). on_later v mach z conn statement x.ran.answers) gate;
           comes = c.comes_so;
@@ -200,6 +210,8 @@ module _ (m : Meaning) (kind : EngineKind) (a b : Moment) (k l : Clients) (v : V
           rest = rest;
         },
         ap messages_by x.act_is ∙ c.says,
+        ap jobs_by x.act_is ∙ c.lends ∙ laters_stay_hold v mach g conn statement x.ran.answers,
+        x.ran.told,
       )
 
 -- ---- connections
@@ -232,6 +244,11 @@ received_waits c bytes = by c.full
     by true = ([], sym (append-nil c.waiting))
     by false = ((going_on client_limit c.end (take (room c) bytes)).messages, refl)
 
+-- what bytes ask on a stream, behind what waits there
+pub asked_more : (o : Option Conn) (bytes : List ℕ) → (asks : List Request) × (waiting_on o ++ asks ≡ bytes_asked o bytes)
+asked_more None bytes = ([], refl)
+asked_more (Some stream) bytes = let more = received_waits stream bytes in (requests_in more.0, sym (ap requests_in more.1 ∙ requests_append stream.waiting more.0))
+
 module _ (a b : Moment) (k l : Clients) (sa : Shows a k) (sb : Shows b l) (rest : KeepsRaft a b) (due : b.due ≡ a.due) where
   -- where clients have the sessions and streams that they had
   pub same_stays : l.sessions ≡ k.sessions → ((other : ℕ) → l.streams other ≡ k.streams other) → Stays a b
@@ -243,7 +260,7 @@ module _ (a b : Moment) (k l : Clients) (sa : Shows a k) (sb : Shows b l) (rest 
 
   -- a reader told a reply
   pub finished_reads : (conn : ℕ) (statement : Statement) (reply : Reply) (act : Option Act) → ((other : ℕ) → l.streams other ≡ k.streams other) → lent_query (k.sessions.session conn).later ≡ Some statement → Finishes k.sessions conn (Some statement) (Some reply) l.sessions act →
-      Reads a b conn × ((given : Act) → act ≡ Some given → messages_by given ≡ as_sent ((conn, reply) ∷ []))
+      Reads a b conn × ((given : Act) → act ≡ Some given → (messages_by given ≡ as_sent ((conn, reply) ∷ [])) × (jobs_by given ≡ []))
   finished_reads conn statement reply act streams lent x = (
     record {
       statement = statement;
@@ -252,7 +269,7 @@ module _ (a b : Moment) (k l : Clients) (sa : Shows a k) (sb : Shows b l) (rest 
       same = record { waiting = λ other. sb.waiting other ∙ ap waiting_on (streams other) ∙ sym (sa.waiting other); due = due };
       rest = rest;
     },
-    λ given e. ap messages_by (some_same (sym e ∙ x.1)) ∙ one_sent conn reply,
+    λ given e. (ap messages_by (some_same (sym e ∙ x.1)) ∙ one_sent conn reply, ap jobs_by (some_same (sym e ∙ x.1))),
   )
     where
       some_same : {x y : Act} → Some x ≡ Some y → x ≡ y

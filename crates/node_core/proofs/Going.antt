@@ -18,7 +18,7 @@ use Rattle.node_replica.specs.Replicas.{ReplicaValue, IsIntake, IsWhole}
 use Rattle.node_core.specs.declared.running.Running.{Running}
 use Rattle.node_core.specs.Values.{clients_in}
 use Rattle.node_core.specs.Waiting.{HasTurns}
-use Rattle.node_core.specs.Whole.{IsDue, InOffice, IsGoing, IsQuiet, Rests}
+use Rattle.node_core.specs.Whole.{IsDue, IsOwnDue, IsOutside, InOffice, IsGoing, IsLed, IsQuiet, Rests}
 
 -- ---- what its sessions are told
 
@@ -60,7 +60,25 @@ due_intake (events.Transfer to) d = tt
 due_intake (events.Snapped at) d = absurd d
 due_intake (events.Servers s) d = tt
 
-pub one_more_due : (es : List RaftEvent) (e : RaftEvent) → AllByRecursion IsDue es → IsDue e → AllByRecursion IsDue (es ++ e ∷ [])
+pub own_is_due : (event : RaftEvent) → IsOwnDue event → IsDue event
+own_is_due events.Timeout d = absurd d
+own_is_due events.Beat d = absurd d
+own_is_due (events.Message m) d = absurd d
+own_is_due (events.Propose es) d = tt
+own_is_due (events.Transfer to) d = tt
+own_is_due (events.Snapped at) d = absurd d
+own_is_due (events.Servers s) d = absurd d
+
+pub outside_is_due : (event : RaftEvent) → IsOutside event → IsDue event
+outside_is_due events.Timeout d = tt
+outside_is_due events.Beat d = tt
+outside_is_due (events.Message m) d = tt
+outside_is_due (events.Propose es) d = absurd d
+outside_is_due (events.Transfer to) d = absurd d
+outside_is_due (events.Snapped at) d = absurd d
+outside_is_due (events.Servers s) d = absurd d
+
+pub one_more_due : (es : List RaftEvent) (e : RaftEvent) → AllByRecursion IsOwnDue es → IsOwnDue e → AllByRecursion IsOwnDue (es ++ e ∷ [])
 one_more_due [] e a d = (d, tt)
 one_more_due (x ∷ es) e a d = (a.0, one_more_due es e a.1 d)
 
@@ -82,7 +100,7 @@ pub in_same_office : (o p : Option Office) (b c : Bool) (h i : NodeValue) → In
 in_same_office o p b c h i g oe be he =
     subst (λ (x : NodeValue). InOffice p c x) (sym he) (subst (λ (x : Bool). InOffice p x h) (sym be) (subst (λ (x : Option Office). InOffice x b h) (sym oe) g))
 
-pub still_going : (old new : Running) → IsGoing old → SameRest old new → AllByRecursion IsDue new.due.items → StandOver new.clients new.applied.machine → HasTurns (clients_in new) → IsGoing new
+pub still_going : (old new : Running) → IsGoing old → SameRest old new → AllByRecursion IsOwnDue new.due.items → StandOver new.clients new.applied.machine → HasTurns (clients_in new) → IsGoing new
 still_going old new g s due stand turns =
     let same : new.replica.raft ≡ old.replica.raft = ap (λ (r : ReplicaValue). r.raft) s.replica in
     let snap : new.replica.raft.snapshot.index ≡ old.replica.raft.snapshot.index = ap (λ (h : NodeValue). h.snapshot.index) same in
@@ -115,10 +133,10 @@ says_more old new g is = subst IsGoing (sym is) (still_going old (record old { o
     (record { replica = refl; members = refl; index = refl; servers = refl; office = refl; serving = refl; seen = refl; term = refl; last = refl }) g.holds.due g.holds.clients g.holds.turns)
 
 -- something is due behind what was due
-pub more_due : (old new : Running) (e : RaftEvent) → IsGoing old → IsDue e → new.due.items ≡ old.due.items ++ e ∷ [] → new ≡ record old { due = new.due } → IsGoing new
+pub more_due : (old new : Running) (e : RaftEvent) → IsGoing old → IsOwnDue e → new.due.items ≡ old.due.items ++ e ∷ [] → new ≡ record old { due = new.due } → IsGoing new
 more_due old new e g d is rest = subst IsGoing (sym rest) (still_going old (record old { due = new.due }) g
     (record { replica = refl; members = refl; index = refl; servers = refl; office = refl; serving = refl; seen = refl; term = refl; last = refl })
-    (subst (AllByRecursion IsDue) (sym is) (one_more_due old.due.items e g.holds.due d)) g.holds.clients g.holds.turns)
+    (subst (AllByRecursion IsOwnDue) (sym is) (one_more_due old.due.items e g.holds.due d)) g.holds.clients g.holds.turns)
 
 -- the clients have changed, and the marks of the databases with them
 pub clients_moved : (old new : Running) → IsGoing old → StandOver new.clients new.applied.machine → HasTurns (clients_in new)
@@ -129,8 +147,9 @@ clients_moved old new g stand turns is =
 
 -- ---- between two steps
 
-pub rests_then : (n m : Running) → IsGoing n → n.applied.index ≡ n.replica.raft.commit → n.due.items ≡ [] → (clients_in n).turns ≡ [] → n.heard ≡ None → m ≡ record n { outs = m.outs; mail = m.mail } → IsQuiet m → Rests m
-rests_then n m g applied idle turns heard is quiet = record {
+pub rests_then : (n m : Running) → IsGoing n → IsLed n → n.applied.index ≡ n.replica.raft.commit → n.due.items ≡ [] → (clients_in n).turns ≡ [] → n.heard ≡ None → m ≡ record n { outs = m.outs; mail = m.mail } → IsQuiet m → Rests m
+rests_then n m g led applied idle turns heard is quiet = record {
+  led = subst IsLed (sym is) (record { leads = led.leads; serves = led.serves; free = led.free });
   going = subst IsGoing (sym is) (says_more n (record n { outs = m.outs; mail = m.mail }) g refl);
   applied = subst (λ (x : Running). x.applied.index ≡ x.replica.raft.commit) (sym is) applied;
   idle = subst (λ (x : Running). x.due.items ≡ []) (sym is) idle;
@@ -138,6 +157,9 @@ rests_then n m g applied idle turns heard is quiet = record {
   heard = subst (λ (x : Running). x.heard ≡ None) (sym is) heard;
   quiet = quiet;
 }
+
+pub counted_led : (n m : Running) → IsLed n → m ≡ record n { replica = record n.replica { keeps = 0 } } → IsLed m
+counted_led n m led is = subst IsLed (sym is) (record { leads = led.leads; serves = led.serves; free = led.free })
 
 -- the count of keeps has no part in what holds
 pub counted_anew : (n m : Running) → IsGoing n → m ≡ record n { replica = record n.replica { keeps = 0 } } → IsGoing m

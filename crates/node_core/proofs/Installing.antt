@@ -18,10 +18,10 @@ use Rattle.node_state.specs.declared.applied.Applied.{Applied}
 use Rattle.node_core.specs.declared.running.Running.{Running}
 use Rattle.node_core.specs.Stepping.{Brings, HasStepped, HasTold, KeepsRest}
 use Rattle.node_core.specs.Waiting.{HasTurns}
-use Rattle.node_core.specs.Whole.{Holds, IsDue, IsGoing}
+use Rattle.node_core.specs.Whole.{Holds, IsOwnDue, IsGoing}
 
 -- the snapshot that is kept then is the one that the message brings
-brought : (r : ReplicaValue) (event : RaftEvent) (a : Applied) → Brings r event a → (snap_after r event).index ≡ a.index
+pub brought : (r : ReplicaValue) (event : RaftEvent) (a : Applied) → Brings r event a → (snap_after r event).index ≡ a.index
 brought r event a b =
     ap (λ (e : RaftEvent). (snap_after r e).index) b.event_is
     ∙ ap (λ (s : Snap). s.index) (cond-true (nat_lt r.raft.commit (stepped r (events.Message b.message)).snapshot.index) (snap_kept (offered (events.Message b.message))) r.snap b.puts)
@@ -57,5 +57,5 @@ holds_installed old step lost placed told event batch a g b s replica rest appli
       at = ap (λ (m : Configurations). m.at) members_told ∙ at_snap ∙ sym index_told;
       low = omega (arith, told_end, placed_end, raft_end, snap, index_told);
       high = omega (arith, within, raft_end, snap, index_told, placed_commit, commit);
-      due = subst (AllByRecursion IsDue) (sym (ap (λ (n : Running). n.due.items) t.is ∙ ap (λ (n : Running). n.due.items) is ∙ rest.due ∙ s.rest.due)) g.holds.due;
+      due = subst (AllByRecursion IsOwnDue) (sym (ap (λ (n : Running). n.due.items) t.is ∙ ap (λ (n : Running). n.due.items) is ∙ rest.due ∙ s.rest.due)) g.holds.due;
     }

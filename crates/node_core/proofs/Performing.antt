@@ -24,32 +24,36 @@ proposals_more (raft_events.Transfer to ∷ es) e = proposals_more es e
 proposals_more (raft_events.Snapped at ∷ es) e = proposals_more es e
 proposals_more (raft_events.Servers servers ∷ es) e = proposals_more es e
 
-due_more : (old new : Running) (e : RaftEvent) → new.due.items ≡ old.due.items ++ e ∷ [] → proposals_in new.due.items ≡ proposals_in old.due.items ++ proposals_in (e ∷ [])
+pub due_more : (old new : Running) (e : RaftEvent) → new.due.items ≡ old.due.items ++ e ∷ [] → proposals_in new.due.items ≡ proposals_in old.due.items ++ proposals_in (e ∷ [])
 due_more old new e is = ap proposals_in is ∙ proposals_more old.due.items e
 
 pub performed_propose : (old new : Running) (act : Act) (conn : ℕ) (entries : List Entry) → act ≡ acts.Propose conn entries → IsMachine old.applied.machine → new.due.items ≡ old.due.items ++ raft_events.Propose entries ∷ [] → new ≡ record old { due = new.due } → Performed old new act
 performed_propose old new act conn entries kind machine due is = subst (λ (a : Act). Performed old new a) (sym kind) (record {
   replies = ap (λ (n : Running). n.outs.replies.items) is ∙ sym (append-nil old.outs.replies.items);
+  reads = ap (λ (n : Running). n.outs.reads.items) is ∙ sym (append-nil old.outs.reads.items);
   mail = ap (λ (n : Running). n.mail) is;
   due = due_more old new (raft_events.Propose entries) due;
   clients = ap clients_in is;
   replica = ap (λ (n : Running). n.replica) is;
   index = ap (λ (n : Running). n.applied.index) is;
   serving = ap (λ (n : Running). n.view.serving) is;
+  office = ap (λ (n : Running). n.office) is;
   machine = subst (λ (n : Running). IsMachine n.applied.machine) (sym is) machine;
   files = ap (λ (n : Running). machine_of n.applied.machine) is;
 })
 
-pub performed_transfer : (old new : Running) (outs : Outs) (act : Act) (conn to : ℕ) (reply : List ℕ) → act ≡ acts.Transfer conn to reply → IsMachine old.applied.machine → outs.replies.items ≡ old.outs.replies.items ++ (conn, reply) ∷ []
+pub performed_transfer : (old new : Running) (outs : Outs) (act : Act) (conn to : ℕ) (reply : List ℕ) → act ≡ acts.Transfer conn to reply → IsMachine old.applied.machine → outs.replies.items ≡ old.outs.replies.items ++ (conn, reply) ∷ [] → outs.reads.items ≡ old.outs.reads.items
     → new.due.items ≡ old.due.items ++ raft_events.Transfer to ∷ [] → new ≡ record old { outs = outs; due = new.due } → Performed old new act
-performed_transfer old new outs act conn to reply kind machine said due is = subst (λ (a : Act). Performed old new a) (sym kind) (record {
+performed_transfer old new outs act conn to reply kind machine said unread due is = subst (λ (a : Act). Performed old new a) (sym kind) (record {
   replies = ap (λ (n : Running). n.outs.replies.items) is ∙ said;
+  reads = ap (λ (n : Running). n.outs.reads.items) is ∙ unread ∙ sym (append-nil old.outs.reads.items);
   mail = ap (λ (n : Running). n.mail) is;
   due = due_more old new (raft_events.Transfer to) due;
   clients = ap clients_in is;
   replica = ap (λ (n : Running). n.replica) is;
   index = ap (λ (n : Running). n.applied.index) is;
   serving = ap (λ (n : Running). n.view.serving) is;
+  office = ap (λ (n : Running). n.office) is;
   machine = subst (λ (n : Running). IsMachine n.applied.machine) (sym is) machine;
   files = ap (λ (n : Running). machine_of n.applied.machine) is;
 })

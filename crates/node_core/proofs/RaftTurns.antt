@@ -21,7 +21,7 @@ use Rattle.node_core.specs.declared.running.Running.{Running}
 use Rattle.node_core.specs.Stepping.{PutsNone, HasStepped, HasFollowed, HasTold}
 use Rattle.node_core.specs.Values.{clients_in}
 use Rattle.node_core.specs.Waiting.{HasTurns}
-use Rattle.node_core.specs.Whole.{IsDue, InOffice, Holds, IsGoing}
+use Rattle.node_core.specs.Whole.{IsOwnDue, InOffice, Holds, IsGoing}
 
 -- ---- the snapshot stays where none comes
 
@@ -33,7 +33,7 @@ none_comes r q event w node snap b =
     let lt : r.raft.commit < (stepped r event).snapshot.index = ltb-true _ _ b in
     omega (arith, i, j, lt)
 
-same_snap : (r q : ReplicaValue) (event : RaftEvent) (b : Bool) → nat_lt r.raft.commit (stepped r event).snapshot.index ≡ b → IsWhole q → node_of q.raft ≡ stepped r event → q.snap ≡ cond b (snap_kept (offered event)) r.snap → PutsNone r event → q.snap ≡ r.snap
+pub same_snap : (r q : ReplicaValue) (event : RaftEvent) (b : Bool) → nat_lt r.raft.commit (stepped r event).snapshot.index ≡ b → IsWhole q → node_of q.raft ≡ stepped r event → q.snap ≡ cond b (snap_kept (offered event)) r.snap → PutsNone r event → q.snap ≡ r.snap
 same_snap r q event false e w node snap none = snap
 same_snap r q (events.Message m) true e w node snap none = absurd cc
 same_snap r q events.Timeout true e w node snap none = absurd (none_comes r q events.Timeout w node snap e)
@@ -66,6 +66,7 @@ told old new servers v w short node snap commit is = record {
   whole = w;
   short = short;
   snapshot = keeps_snapshot old.replica new.replica (events.Servers servers) v w node snap tt;
+  snap = same_snap old.replica new.replica (events.Servers servers) _ refl w node snap tt;
   commit = commit;
   is = is;
 }
@@ -102,7 +103,7 @@ holds_after old told stepped followed event batch g t none s f =
       at = f.at ∙ ap (λ (m : Configurations). m.at) (s.rest.members ∙ members) ∙ h.at ∙ sym (index3 ∙ index2 ∙ index);
       low = omega (arith, snap1, snap2, snap3, index, index2, index3, low);
       high = omega (arith, index, index2, index3, high, commit1, commit2, commit3);
-      due = subst (AllByRecursion IsDue) (sym (ap (λ (n : Running). n.due.items) f.is ∙ s.rest.due ∙ due)) h.due;
+      due = subst (AllByRecursion IsOwnDue) (sym (ap (λ (n : Running). n.due.items) f.is ∙ s.rest.due ∙ due)) h.due;
     }
 
 -- the office has no part in it
@@ -134,7 +135,7 @@ leader_settled Follower e q = absurd cc
 
 -- nothing was told
 pub told_none : (n : Running) → IsWhole n.replica → raft.HasShortTerm (node_of n.replica.raft) → HasTold n n
-told_none n w s = record { whole = w; short = s; snapshot = refl; commit = omega arith; is = refl }
+told_none n w s = record { whole = w; short = s; snapshot = refl; snap = refl; commit = omega arith; is = refl }
 
 pub followed_none : (n m : Running) → IsWhole n.replica → raft.HasShortTerm (node_of n.replica.raft) → AllStand m.members → m.members.at ≡ n.members.at → InOffice n.office n.view.serving n.replica.raft → m ≡ record n { members = m.members } → HasFollowed n m
 followed_none n m w s stand at o is = subst (λ (x : Running). HasFollowed n x) (sym is) (record { whole = w; short = s; snapshot = refl; commit = omega arith; stand = stand; at = at; office = o; is = refl })

@@ -4,7 +4,7 @@ use Rattle.std.specs.List.{AllByRecursion}
 use Rattle.raft_rules.specs.Account.{loaded}
 use Rattle.raft_rules.specs.Laws.{HasShortTerm}
 use Rattle.raft_rules.specs.Log.{Entry, LogEnd}
-use Rattle.raft_rules.specs.Node.{Node, Server}
+use Rattle.raft_rules.specs.Node.{Node, Server, is_leader}
 use Rattle.raft_rules.specs.NodeValues.{NodeValue, IsCoherent, node_of}
 use Rattle.raft_vote.specs.Servers.{IsConfiguration}
 use Rattle.raft_world.specs.Members.{configuration}
@@ -15,11 +15,14 @@ use Rattle.session_rules.specs.Sessions.{View}
 use Rattle.client_sessions.specs.Clients.{Clients}
 use Rattle.node_replica.specs.Replicas.{ReplicaValue, IsWhole, kept_of, stored_at}
 use Rattle.node_state.specs.declared.applied.Applied.{Applied}
+use Rattle.node_rules.specs.RaftTurns.{HasEnded}
+use Rattle.node_rules.proofs.EndedSessions.{ends_on_holds}
 use Rattle.node_core.specs.declared.running.Running.{Running}
+use Rattle.node_core.specs.Account.{proposals_in, moment_of}
 use Rattle.node_core.specs.Starting.{AppliesKept, Begun, HasStarted}
 use Rattle.node_core.specs.Values.{seen, waiting_on}
 use Rattle.node_core.specs.Waiting.{HasTurns}
-use Rattle.node_core.specs.Whole.{InOffice, IsDue, Rests}
+use Rattle.node_core.specs.Whole.{InOffice, LeadsInOffice, ServesLast, IsFree, IsOwnDue, IsLed, Rests}
 use Rattle.node_core.proofs.Waiting.{none_turns}
 
 -- what is known of the parts of a node that starts
@@ -62,12 +65,17 @@ started_rests opening servers kept replica members applied view n p h =
           at = ap (λ (m : Configurations). m.at) h.members_are ∙ p.at ∙ sym index_n;
           low = omega (arith, snap, index, snap_n, index_n);
           high = omega (arith, commit, index, commit_n, index_n);
-          due = subst (AllByRecursion IsDue) (sym h.idle) tt;
+          due = subst (AllByRecursion IsOwnDue) (sym h.idle) tt;
         };
         office = subst (λ o. InOffice o n.view.serving n.replica.raft) (sym h.office) (ap (λ (v : View). v.serving) h.view_is ∙ p.serving);
         seen = ap (λ (v : View). v.servers) h.view_is ∙ p.told ∙ sym (ap (λ (a : Applied). a.servers) h.applied_is);
         in_term = ap (λ (v : View). v.term) h.view_is ∙ p.term ∙ sym (ap (λ (v : NodeValue). v.term) raft_is);
         last = ap (λ (v : View). v.last) h.view_is ∙ p.last ∙ sym (ap (λ (v : NodeValue). length (node_of v).log) raft_is);
+      };
+      led = record {
+        leads = subst (λ o. LeadsInOffice o n.replica.raft) (sym h.office) (ap (λ (v : NodeValue). is_leader v.role) raft_is ∙ ap (λ (s : Node). is_leader s.role) p.raft);
+        serves = subst (λ o. ServesLast o n.view.serving) (sym h.office) tt;
+        free = subst (λ o. IsFree o (moment_of n)) (sym h.office) (subst HasEnded (sym (ap (λ (k : Clients). k.sessions) h.clients)) ends_on_holds.started, ap proposals_in h.idle);
       };
       applied = index_n ∙ index ∙ sym commit ∙ sym commit_n;
       idle = h.idle;

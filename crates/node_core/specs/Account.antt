@@ -7,9 +7,10 @@ use Rattle.wire_msgs.specs.declared.request.Request.{Request}
 use Rattle.wire_msgs.specs.declared.response.Response.{Response}
 use Rattle.wire_msgs.specs.Responses.{response_bytes}
 use Rattle.sql_engine.specs.declared.kind.EngineKind.{EngineKind}
-use Rattle.sql_engine.specs.Meanings.{Meaning}
+use Rattle.sql_engine.specs.Meanings.{Meaning, Told}
 use Rattle.session_rules.specs.Causes.{failure, unread_cause}
-use Rattle.session_rules.specs.Sessions.{Reply, responses_of}
+use Rattle.session_rules.specs.Sessions.{Reply, Job, responses_of}
+use Rattle.statement_runs.specs.Running.{TellsAll}
 use Rattle.session_decisions.specs.Reading.{read_named}
 use Rattle.client_connection.specs.Connection.{Conn, received}
 use Rattle.page_apply.specs.Machines.{names_of}
@@ -28,7 +29,8 @@ use Rattle.node_replica.specs.Mails.{no_mail, all_posted, sent}
 use Rattle.node_replica.specs.Replicas.{kept_of}
 use Rattle.node_state.specs.Snapshot.{snapshot_in, offered_to}
 use Rattle.node_rules.specs.Accounts.{Moment, resting, Piece, Goes, Begins}
-use Rattle.node_rules.specs.Steps.{Letter, Taken, StepsSo, StopsSo, AllSent}
+use Rattle.node_rules.specs.RaftTurns.{HasServers}
+use Rattle.node_rules.specs.Steps.{Letter, Taken, Made, StepsSo, StopsSo, AllSent}
 use Rattle.node_core.specs.declared.event.Event.{Event}
 use Rattle.node_core.specs.declared.event.Event.TheVariants as events
 use Rattle.node_core.specs.declared.outs.Outs.{Outs}
@@ -89,14 +91,16 @@ pub record Sends (replies : List (ℕ × Reply)) (bytes : List (ℕ × List ℕ)
   pub lives : replies ≡ flat_map lived items
   pub sends : bytes ≡ map sent_so (flat_map responses_in items)
 
--- What a part of a step says: these letters are posted, and these replies are told behind the others.
-pub record Says (old new : Running) (letters : List Letter) (replies : List (ℕ × Reply)) : Type 0 where
+-- What a part of a step says: these letters are posted, these replies are told behind the others, and these jobs are handed to readers
+-- behind the others.
+pub record Says (old new : Running) (letters : List Letter) (replies : List (ℕ × Reply)) (jobs : List (ℕ × Job)) : Type 0 where
   pub posted : List RaftMessage
   pub letters_are : letters ≡ map letter_of posted
   pub mail : new.mail ≡ all_posted old.mail posted
   pub told : List (ℕ × List ℕ)
   pub outs : new.outs.replies.items ≡ old.outs.replies.items ++ told
   pub tells : Sends replies told
+  pub reads : new.outs.reads.items ≡ old.outs.reads.items ++ jobs
 
 -- ---- turns
 
@@ -125,23 +129,32 @@ pub record Adds (inputs given : List raft.Input) : Type 0 where
   pub is : inputs ≡ given ++ own
 
 -- A turn in which nothing comes in from outside: from the moment before it the rules come to the one after it, and it says what they say.
-pub record Turns (m : Meaning) (kind : EngineKind) (setup : Setup) (bytes : List ℕ) (joins : Option ℕ) (old new : Running) : Type 0 where
+-- The engine told the answers that they use, and no others.
+pub record Turns (m : Meaning) (kind : EngineKind) (setup : Setup) (bytes : List ℕ) (joins : Option ℕ) (old new : Running)
+    (told_before told_now : Option Told) : Type 0 where
   pub piece : Piece
   pub goes : Goes m kind setup old.replica.id bytes joins (moment_of old) (moment_of new) piece
   pub inputs : Adds piece.inputs []
   pub asks : (conn : ℕ) → piece.asks conn ≡ []
-  pub says : Says old new piece.letters piece.replies
+  pub says : Says old new piece.letters piece.replies piece.jobs
+  pub heard : TellsAll piece.answers told_before told_now
   pub sent : AllSent (kept_of old.replica) (kept_of new.replica) piece.letters
   pub id : new.replica.id ≡ old.replica.id
 
+-- The servers of the node's configurations are those that are applied: so it is of a node at rest in each run.
+abbrev pub KnowsServers : Setup → Running → Type 0
+KnowsServers setup n = HasServers setup (moment_of n) n.members.servers
+
 -- What happened since an act began, in which this came in. It is late where a reply may have waited for a proposal.
-pub record Since (m : Meaning) (kind : EngineKind) (setup : Setup) (x : Brought) (late : Bool) (old new : Running) : Type 0 where
+pub record Since (m : Meaning) (kind : EngineKind) (setup : Setup) (x : Brought) (late : Bool) (old new : Running) (told_before told_now : Option Told)
+    : Type 0 where
   pub piece : Piece
-  pub goes : Begins m kind setup old.replica.id x.bytes x.joins x.read (moment_of old) (moment_of new) piece
+  pub goes : KnowsServers setup old → Begins m kind setup old.replica.id x.bytes x.joins x.read (moment_of old) (moment_of new) piece
   pub inputs : Adds piece.inputs x.inputs
   pub asks : (conn : ℕ) → piece.asks conn ≡ x.asks conn
   pub is_late : piece.late ≡ late
-  pub says : Says old new piece.letters piece.replies
+  pub says : Says old new piece.letters piece.replies piece.jobs
+  pub heard : TellsAll piece.answers told_before told_now
   pub sent : AllSent (kept_of old.replica) (kept_of new.replica) piece.letters
   pub id : new.replica.id ≡ old.replica.id
 
@@ -261,36 +274,59 @@ pub record Takes (old : Running) (begin : Begin) (x : Taken) : Type 0 where
   pub read : x.read ≡ read_of begin
   pub asks : Brings old begin x.asks
 
--- An act of a step that ended well, with what it says.
-pub record Act (m : Meaning) (kind : EngineKind) (setup : Setup) (old new : Running) (begin : Begin) (letters : List Letter) (replies : List (ℕ ×
-    Reply)) : Type 0 where
+-- a node that rests: all that is committed is applied, and nothing is due
+abbrev pub IsResting : Running → Type 0
+IsResting n = moment_of n ≡ resting (seen n)
+
+-- So it is where an act begins; and the configurations go up to what is applied, and Raft's part is of the node's id.
+pub record AtRest (n : Running) : Type 0 where
+  pub rests : IsResting n
+  pub at : n.members.at ≡ n.applied.index
+  pub id : n.replica.raft.id ≡ n.replica.id
+
+-- nothing is made; and one after the other
+abbrev pub none_made : Made
+none_made = record { letters = []; replies = []; jobs = []; answers = [] }
+
+abbrev pub made_both : Made → Made → Made
+made_both x y = record {
+  letters = x.letters ++ y.letters;
+  replies = x.replies ++ y.replies;
+  jobs = x.jobs ++ y.jobs;
+  answers = x.answers ++ y.answers;
+}
+
+-- An act of a step that ended well, with what it makes.
+pub record Act (m : Meaning) (kind : EngineKind) (setup : Setup) (old new : Running) (begin : Begin) (made : Made) : Type 0 where
+  pub stood : AtRest old
+  pub id : new.replica.raft.id ≡ old.replica.raft.id
   pub taken : Taken
   pub takes : Takes old begin taken
-  pub steps : StepsSo m kind setup old.replica.id (seen old) (seen new) taken letters replies
-  pub sent : AllSent (kept_of old.replica) (kept_of new.replica) letters
+  pub steps : KnowsServers setup old → StepsSo m kind setup old.replica.id (seen old) (seen new) taken made.letters made.replies made.jobs made.answers
+  pub sent : AllSent (kept_of old.replica) (kept_of new.replica) made.letters
 
--- These acts lead from one node to another, and say this. Before each of them, and after the last, only what the rules don't see changes.
-abbrev pub Acts : Meaning → EngineKind → Setup → Running → Running → List Begin → List Letter → List (ℕ × Reply) → Type 0
-Acts m kind setup old new [] letters replies = (seen new ≡ seen old) × (letters ≡ []) × (replies ≡ [])
-Acts m kind setup old new (begin ∷ begins) letters replies =
-    (from : Running) × (mid : Running) × (first : List Letter) × (rest : List Letter) × (told : List (ℕ × Reply)) × (left : List (ℕ × Reply)) ×
-    (seen from ≡ seen old) × Act m kind setup from mid begin first told × Acts m kind setup mid new begins rest left × (letters ≡ first ++ rest) ×
-    (replies ≡ told ++ left)
+-- These acts lead from one node to another, and make this. Before each of them, and after the last, only what the rules don't see changes.
+abbrev pub Acts : Meaning → EngineKind → Setup → Running → Running → List Begin → Made → Type 0
+Acts m kind setup old new [] made = (seen new ≡ seen old) × (made ≡ none_made)
+Acts m kind setup old new (begin ∷ begins) made =
+    (from : Running) × (mid : Running) × (first : Made) × (rest : Made) × (seen from ≡ seen old) × Act m kind setup from mid begin first ×
+    Acts m kind setup mid new begins rest × (made ≡ made_both first rest)
 
 -- What the last of them left when it failed or was stopped.
 pub record Stopped (m : Meaning) (kind : EngineKind) (setup : Setup) (old : Running) (begin : Begin) (kept : Kept) : Type 0 where
+  pub stood : AtRest old
   pub taken : Taken
   pub takes : Takes old begin taken
-  pub stops : StopsSo m kind setup old.replica.id (seen old) kept taken
+  pub stops : KnowsServers setup old → StopsSo m kind setup old.replica.id (seen old) kept taken
 
 -- ---- the acts of a step
 
--- Acts led from one node to another, and what they say was said.
-pub record Went (m : Meaning) (kind : EngineKind) (setup : Setup) (old new : Running) (begins : List Begin) : Type 0 where
-  pub letters : List Letter
-  pub replies : List (ℕ × Reply)
-  pub acts : Acts m kind setup old new begins letters replies
-  pub says : Says old new letters replies
+-- Acts led from one node to another, what they say was said, and the engine told the answers that they use.
+pub record Went (m : Meaning) (kind : EngineKind) (setup : Setup) (old new : Running) (begins : List Begin) (told_before told_now : Option Told) : Type 0 where
+  pub made : Made
+  pub acts : Acts m kind setup old new begins made
+  pub says : Says old new made.letters made.replies made.jobs
+  pub heard : TellsAll made.answers told_before told_now
 
 -- a step goes on behind its event by messages of peers that came on connections, and by own snapshots
 abbrev pub IsMore : Begin → Type 0
@@ -307,50 +343,55 @@ pub record Between (old new : Running) : Type 0 where
   pub same : seen new ≡ seen old
   pub mail : new.mail ≡ old.mail
   pub replies : new.outs.replies.items ≡ old.outs.replies.items
+  pub reads : new.outs.reads.items ≡ old.outs.reads.items
 
 -- ---- a step that is under way
 
--- a node that rests: all that is committed is applied, and nothing is due
-abbrev pub IsResting : Running → Type 0
-IsResting n = moment_of n ≡ resting (seen n)
-
--- A node that only has it due: the moment is the same, and nothing is said.
+-- Only what the rules don't see has changed: the moment is the same, and nothing is said.
 pub record Fresh (old new : Running) : Type 0 where
   pub moment : moment_of new ≡ moment_of old
   pub mail : new.mail ≡ old.mail
   pub replies : new.outs.replies.items ≡ old.outs.replies.items
+  pub reads : new.outs.reads.items ≡ old.outs.reads.items
   pub kept : kept_of new.replica ≡ kept_of old.replica
   pub id : new.replica.id ≡ old.replica.id
 
--- Of an act that began at this node: its input is only due yet; or this came in by it, and this happened since.
-pub data SoFar (m : Meaning) (kind : EngineKind) (setup : Setup) (from now : Running) (begin : Begin) : Type 0 where
-  waits : Fresh from now → SoFar m kind setup from now begin
-  runs : (x : Brought) (late : Bool) → Comes_in from begin x → Since m kind setup x late from now → SoFar m kind setup from now begin
+-- Of an act that began at this node: this came in by it, and this happened since.
+pub record SoFar (m : Meaning) (kind : EngineKind) (setup : Setup) (from now : Running) (begin : Begin) (told_before told_now : Option Told) : Type 0 where
+  pub brought : Brought
+  pub late : Bool
+  pub comes : Comes_in from begin brought
+  pub since : Since m kind setup brought late from now told_before told_now
 
 -- A step of an event is under way: these acts have ended, and this one began where the node last rested.
-pub record Underway (m : Meaning) (kind : EngineKind) (setup : Setup) (start now : Running) (event : Event) : Type 0 where
+pub record Underway (m : Meaning) (kind : EngineKind) (setup : Setup) (start now : Running) (event : Event) (told_before told_now : Option Told) : Type 0 where
   pub begins : List Begin
   pub begin : Begin
   pub are : AreOf event (begins ++ begin ∷ [])
   pub mid : Running
-  pub went : Went m kind setup start mid begins
+  pub told_between : Option Told
+  pub went : Went m kind setup start mid begins told_before told_between
   pub from : Running
   pub between : Between mid from
-  pub rests : IsResting from
-  pub so_far : SoFar m kind setup from now begin
+  pub stood : AtRest from
+  pub so_far : SoFar m kind setup from now begin told_between told_now
 
 -- ---- what a step shows
 
 -- A step that ended well: its acts are those of the rules, the first one that of the event, and it says what they say: of the Appends and
--- Installs to one peer the last one.
-pub record StepsBy (m : Meaning) (kind : EngineKind) (setup : Setup) (old new : Running) (event : Event) (outs : Outs) : Type 0 where
+-- Installs to one peer the last one. It hands to readers what they lend, and the engine told the answers that they use, and no others.
+pub record StepsBy (m : Meaning) (kind : EngineKind) (setup : Setup) (old new : Running) (event : Event) (outs : Outs) (told_before told_now : Option Told)
+    : Type 0 where
   pub begins : List Begin
   pub are : AreOf event begins
+  pub made : Made
+  pub acts : Acts m kind setup old new begins made
   pub posted : List RaftMessage
-  pub replies : List (ℕ × Reply)
-  pub acts : Acts m kind setup old new begins (map letter_of posted) replies
+  pub letters_are : made.letters ≡ map letter_of posted
   pub messages : outs.messages.items ≡ sent (all_posted no_mail posted)
-  pub tells : Sends replies outs.replies.items
+  pub tells : Sends made.replies outs.replies.items
+  pub reads : outs.reads.items ≡ made.jobs
+  pub heard : TellsAll made.answers told_before told_now
 
 -- A step that failed or was stopped: what is kept is what the last of its acts left, and those before it ended well.
 pub record StopsBy (m : Meaning) (kind : EngineKind) (setup : Setup) (old : Running) (event : Event) (kept : Kept) : Type 0 where
@@ -358,7 +399,6 @@ pub record StopsBy (m : Meaning) (kind : EngineKind) (setup : Setup) (old : Runn
   pub last : Begin
   pub are : AreOf event (begins ++ last ∷ [])
   pub mid : Running
-  pub letters : List Letter
-  pub replies : List (ℕ × Reply)
-  pub acts : Acts m kind setup old mid begins letters replies
+  pub made : Made
+  pub acts : Acts m kind setup old mid begins made
   pub stopped : Stopped m kind setup mid last kept

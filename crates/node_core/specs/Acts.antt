@@ -1,6 +1,7 @@
--- What an act of clients says, and what it gives Raft to propose.
+-- What an act of clients says, what it gives Raft to propose, and what it hands to a reader.
 use Rattle.std.specs.Prelude.{ℕ, List, [], ◌∷◌, map}
 use Rattle.raft_rules.specs.Log.{Entry}
+use Rattle.session_rules.specs.Sessions.{Job}
 use Rattle.client_sessions.specs.declared.act.Act.{Act}
 use Rattle.client_sessions.specs.declared.act.Act.TheVariants.{Reply, Propose, Lend, Transfer, Peer}
 
@@ -19,3 +20,11 @@ proposals_by (Propose conn entries) = entries ∷ []
 proposals_by (Lend conn job) = []
 proposals_by (Transfer conn to reply) = []
 proposals_by (Peer conn id reply) = []
+
+-- the job that goes to a reader, with its connection, if it is one
+abbrev pub jobs_by : Act → List (ℕ × Job)
+jobs_by (Reply conn messages) = []
+jobs_by (Propose conn entries) = []
+jobs_by (Lend conn job) = (conn, job) ∷ []
+jobs_by (Transfer conn to reply) = []
+jobs_by (Peer conn id reply) = []

@@ -21,3 +21,4 @@ pub record AppliesSo (old new : Running) : Type 0 where
   pub applies : Applies (moment_of old) (moment_of new) (told_applied (suc old.applied.index) (clients_in old).sessions)
   pub mail : new.mail ≡ old.mail
   pub outs : new.outs.replies.items ≡ old.outs.replies.items ++ told_at (suc old.applied.index) (clients_in old)
+  pub reads : new.outs.reads.items ≡ old.outs.reads.items

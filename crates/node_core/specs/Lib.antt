@@ -8,3 +8,7 @@ pub mod Acts
 pub mod Account
 pub mod Performing
 pub mod Applying
+pub mod Posting
+pub mod Taking
+pub mod Duties
+pub mod Finding

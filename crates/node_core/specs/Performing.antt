@@ -10,13 +10,14 @@ use Rattle.client_sessions.specs.Clients.{Clients, hung_up}
 use Rattle.node_core.specs.declared.running.Running.{Running}
 use Rattle.node_rules.specs.ClientTurns.{Stays, Connects, HangsUp, Hears, Reads}
 use Rattle.node_core.specs.Account.{proposals_in, moment_of, Says, BytesAsk}
-use Rattle.node_core.specs.Acts.{messages_by, proposals_by}
+use Rattle.node_core.specs.Acts.{messages_by, proposals_by, jobs_by}
 use Rattle.node_core.specs.Values.{clients_in}
 
 -- nothing is said
 pub record SaysNothing (old new : Running) : Type 0 where
   pub mail : new.mail ≡ old.mail
   pub replies : new.outs.replies.items ≡ old.outs.replies.items
+  pub reads : new.outs.reads.items ≡ old.outs.reads.items
 
 -- a connection that carries a peer's messages from now on has gone
 abbrev pub gone_by : Act → Clients → Clients
@@ -26,15 +27,18 @@ gone_by (acts.Lend conn job) k = k
 gone_by (acts.Transfer conn to reply) k = k
 gone_by (acts.Peer conn id reply) k = hung_up k conn
 
--- An act was done: its messages stand behind those that were said, and its proposal is due behind what was due.
+-- An act was done: its messages stand behind those that were said, its job behind those that were handed to readers, and its proposal is
+-- due behind what was due.
 pub record Performed (old new : Running) (act : Act) : Type 0 where
   pub replies : new.outs.replies.items ≡ old.outs.replies.items ++ messages_by act
+  pub reads : new.outs.reads.items ≡ old.outs.reads.items ++ jobs_by act
   pub mail : new.mail ≡ old.mail
   pub due : proposals_in new.due.items ≡ proposals_in old.due.items ++ proposals_by act
   pub clients : clients_in new ≡ gone_by act (clients_in old)
   pub replica : new.replica ≡ old.replica
   pub index : new.applied.index ≡ old.applied.index
   pub serving : new.view.serving ≡ old.view.serving
+  pub office : new.office ≡ old.office
   pub machine : IsMachine new.applied.machine
   pub files : machine_of new.applied.machine ≡ machine_of old.applied.machine
 
@@ -48,6 +52,10 @@ ComesOr old new conn = Stays (moment_of old) (moment_of new) ⊎ Connects (momen
 abbrev pub GoesOr : Running → Running → ℕ → Type 0
 GoesOr old new conn = Stays (moment_of old) (moment_of new) ⊎ HangsUp (moment_of old) (moment_of new) conn
 
+-- the connection whose bytes came goes where its stream has ended, or none does
+abbrev pub ClosesSo : Running → Running → Type 0
+ClosesSo old new = Stays (moment_of old) (moment_of new) ⊎ ((conn : ℕ) × ((old.heard ≡ Some conn) × GoesOr old new conn))
+
 -- bytes come on a connection, with these requests behind those that wait
 abbrev pub HearsSo : Running → Running → ℕ → List ℕ → Type 0
 HearsSo old new conn bytes = (asks : ℕ → List Request) × Hears (moment_of old) (moment_of new) asks × BytesAsk old conn bytes asks
@@ -56,4 +64,4 @@ HearsSo old new conn bytes = (asks : ℕ → List Request) × Hears (moment_of o
 abbrev pub ReadsSo : Running → Running → ℕ → Option Reply → Type 0
 ReadsSo old new conn told =
     (Stays (moment_of old) (moment_of new) × SaysNothing old new)
-    ⊎ ((reply : Reply) × ((told ≡ Some reply) × (Reads (moment_of old) (moment_of new) conn × Says old new [] ((conn, reply) ∷ []))))
+    ⊎ ((reply : Reply) × ((told ≡ Some reply) × (Reads (moment_of old) (moment_of new) conn × Says old new [] ((conn, reply) ∷ []) [])))

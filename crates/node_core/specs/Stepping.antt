@@ -1,19 +1,21 @@
 -- What a step keeps, and that a node which is down stays so.
-use Rattle.std.specs.Prelude.{◌≡◌, ◌≤◌, ℕ, Bool, true, false, List, Option, Result, Err, OnOk}
+use Rattle.std.specs.Prelude.{◌≡◌, ◌≤◌, ℕ, Bool, true, false, List, length, Option, Result, Err, OnOk}
 use Rattle.sql_engine.specs.Known.{Known}
 use Rattle.disk_model.specs.Disk.{Disk}
 use Rattle.disk_model.specs.Trait.{Text}
 use Rattle.raft_rules.specs.Laws.{HasShortTerm}
+use Rattle.raft_rules.specs.Log.{Entry}
+use Rattle.raft_rules.specs.Node.{Server}
 use Rattle.raft_rules.specs.NodeValues.{node_of}
 use Rattle.raft_core.specs.declared.event.RaftEvent.{RaftEvent}
 use Rattle.raft_core.specs.declared.event.RaftEvent.TheVariants as events
 use Rattle.client_sessions.specs.Seen as clients
 use Rattle.raft_member.specs.Members.{AllStand}
 use Rattle.node_replica.specs.Looking.{puts_snapshot}
-use Rattle.node_replica.specs.Replicas.{ReplicaValue, IsKept, IsWhole, HasMoved, stepped, snap_after}
+use Rattle.node_replica.specs.Replicas.{ReplicaValue, IsKept, IsWhole, HasMoved, bytes_after, stepped, snap_after}
 use Rattle.node_state.specs.declared.applied.Applied.{Applied}
-use Rattle.node_state.specs.Applied.{HasNoPins}
-use Rattle.node_state.specs.Snapshot.{IsRestored}
+use Rattle.node_state.specs.Applied.{HasApplied, HasNoPins}
+use Rattle.node_state.specs.Snapshot.{IsRestored, SpellsSnapshot, made_by, commits_of}
 use Rattle.node_core.specs.declared.raft_turn.Offer.{Offer}
 use Rattle.node_core.specs.declared.raft_turn.Offer.TheVariants as offers
 use Rattle.raft_vote.specs.declared.message.RaftMessage.{RaftMessage}
@@ -23,6 +25,7 @@ use Rattle.node_core.specs.declared.fault.NodeFault.{NodeFault}
 use Rattle.node_core.specs.declared.fault.NodeFault.TheVariants as node
 use Rattle.node_core.specs.declared.node.Node.{Node}
 use Rattle.node_core.specs.declared.running.Running.{Running}
+use Rattle.node_core.specs.Taking.{IsLostBy}
 use Rattle.node_core.specs.Values.{clients_in}
 use Rattle.node_core.specs.Waiting.{HasTurns}
 use Rattle.node_core.specs.Whole.{InOffice}
@@ -49,12 +52,14 @@ pub record Brings (r : ReplicaValue) (event : RaftEvent) (a : Applied) : Type 0 
   pub puts : puts_snapshot r message ≡ true
   pub restored : IsRestored snapshot.index snapshot.bytes a
   pub unpinned : HasNoPins a.machine
+  pub shows : (opening : List Server) (front : List Entry) → length front ≡ snapshot.index → SpellsSnapshot (made_by opening front) snapshot.bytes →
+      HasApplied opening (commits_of front) front a
 
 -- what comes with an event of Raft beside it; of a message that counts as lost nothing is done
-abbrev pub IsOffer : ReplicaValue → RaftEvent → Offer → Type 0
-IsOffer r event offers.Nothing = PutsNone r event
-IsOffer r event (offers.Snapshot a) = Brings r event a
-IsOffer r event offers.Lost = Unit {0}
+abbrev pub IsOffer : Running → RaftEvent → Offer → Type 0
+IsOffer n event offers.Nothing = PutsNone n.replica event
+IsOffer n event (offers.Snapshot a) = Brings n.replica event a
+IsOffer n event offers.Lost = IsLostBy n event
 
 -- What no step of Raft changes: the configurations of the log, what is applied but for marks, what sessions are told of servers, and what
 -- is due.
@@ -65,12 +70,25 @@ pub record KeepsRest (old new : Running) : Type 0 where
   pub seen : new.view.servers ≡ old.view.servers
   pub due : new.due.items ≡ old.due.items
 
+-- Raft has made this step, which is kept; its messages are posted, and nothing else has followed yet.
+pub record HasMade (old new : Running) (event : RaftEvent) (batch : Option ℕ) : Type 0 where
+  pub whole : IsWhole new.replica
+  pub short : HasShortTerm (node_of old.replica.raft) → HasShortTerm (node_of new.replica.raft)
+  pub node : node_of new.replica.raft ≡ stepped old.replica event
+  pub snap : new.replica.snap ≡ snap_after old.replica event
+  pub bytes : new.replica.snap.bytes ≡ bytes_after old.replica event
+  pub commit : old.replica.raft.commit ≤ new.replica.raft.commit
+  pub installed : Bool
+  pub moved : HasMoved (node_of old.replica.raft) (node_of new.replica.raft) batch installed
+  pub is : new ≡ record old { replica = new.replica; mail = new.mail }
+
 -- Raft has made this step, and the sessions know of a leadership that was lost by it; nothing else has followed yet.
 pub record HasStepped (old new : Running) (event : RaftEvent) (batch : Option ℕ) : Type 0 where
   pub whole : IsWhole new.replica
   pub short : HasShortTerm (node_of new.replica.raft)
   pub node : node_of new.replica.raft ≡ stepped old.replica event
   pub snap : new.replica.snap ≡ snap_after old.replica event
+  pub bytes : new.replica.snap.bytes ≡ bytes_after old.replica event
   pub commit : old.replica.raft.commit ≤ new.replica.raft.commit
   pub installed : Bool
   pub moved : HasMoved (node_of old.replica.raft) (node_of new.replica.raft) batch installed
@@ -95,6 +113,7 @@ pub record HasTold (old new : Running) : Type 0 where
   pub whole : IsWhole new.replica
   pub short : HasShortTerm (node_of new.replica.raft)
   pub snapshot : new.replica.raft.snapshot ≡ old.replica.raft.snapshot
+  pub snap : new.replica.snap ≡ old.replica.snap
   pub commit : old.replica.raft.commit ≤ new.replica.raft.commit
   pub is : new ≡ record old { replica = new.replica; mail = new.mail }
 

@@ -1,7 +1,7 @@
 -- Whose message waits has a turn.
 use Rattle.std.specs.Prelude.{◌≡◌, ℕ, ◌==◌, Bool, true, false, List, [], None}
 use Rattle.std.specs.List.{list_any}
-use Rattle.session_rules.specs.Sessions.{Gateway}
+use Rattle.session_rules.specs.Sessions.{Gateway, is_due}
 use Rattle.client_sessions.specs.Clients.{Clients, offered}
 
 -- a connection is among these
@@ -15,3 +15,7 @@ HasTurns k = (conn : ℕ) → is_among conn k.turns ≡ false → offered k conn
 -- whoever has a session is among the connections that are searched
 abbrev pub IsSought : Gateway → Type 0
 IsSought g = (conn : ℕ) → (g.session conn).there ≡ true → is_among conn g.conns ≡ true
+
+-- no query waits to be run whose barrier is applied
+abbrev pub NoneIsDue : Clients → Type 0
+NoneIsDue k = (conn : ℕ) → is_due (k.sessions.session conn).later ≡ false

@@ -13,18 +13,35 @@ use Rattle.sql_engine.specs.Known.{Known}
 use Rattle.client_sessions.specs.Seen as clients
 use Rattle.client_sessions.specs.Seen.{StandOver}
 use Rattle.node_state.specs.declared.office.Office.{Office}
+use Rattle.node_state.specs.Office.{serves}
 use Rattle.node_replica.specs.Mails.{no_mail}
 use Rattle.node_replica.specs.Replicas.{IsWhole}
 use Rattle.node_core.specs.declared.node.Node.{Node}
+use Rattle.node_rules.specs.Accounts.{Moment}
+use Rattle.node_rules.specs.RaftTurns.{HasEnded}
 use Rattle.node_core.specs.declared.running.Running.{Running}
+use Rattle.node_core.specs.Account.{moment_of}
 use Rattle.node_core.specs.Values.{clients_in}
 use Rattle.node_core.specs.Waiting.{HasTurns}
 
--- What may be due at Raft: neither an own snapshot, which is kept first, nor other servers, which follow the log.
+-- What happens at Raft: neither an own snapshot, which is kept first, nor other servers, which follow the log.
 abbrev pub IsDue : RaftEvent → Type 0
 IsDue (events.Snapped end) = ⊥
 IsDue (events.Servers servers) = ⊥
 IsDue event = Unit {0}
+
+-- What the node itself gives Raft, which is due until its turn comes: proposals, and a leadership that is handed over.
+abbrev pub IsOwnDue : RaftEvent → Type 0
+IsOwnDue (events.Propose entries) = Unit {0}
+IsOwnDue (events.Transfer to) = Unit {0}
+IsOwnDue event = ⊥
+
+-- What comes from outside, and is taken at once.
+abbrev pub IsOutside : RaftEvent → Type 0
+IsOutside events.Timeout = Unit {0}
+IsOutside events.Beat = Unit {0}
+IsOutside (events.Message message) = Unit {0}
+IsOutside event = ⊥
 
 -- Who is in an office leads in its term; who is in none doesn't serve.
 abbrev pub InOffice : Option Office → Bool → NodeValue → Type 0
@@ -43,7 +60,30 @@ pub record Holds (n : Running) : Type 0 where
   pub at : n.members.at ≡ n.applied.index
   pub low : n.replica.raft.snapshot.index ≤ n.applied.index
   pub high : n.applied.index ≤ n.replica.raft.commit
-  pub due : AllByRecursion IsDue n.due.items
+  pub due : AllByRecursion IsOwnDue n.due.items
+
+-- ---- the office, between two turns
+
+-- who is in no office doesn't lead
+abbrev pub LeadsInOffice : Option Office → NodeValue → Type 0
+LeadsInOffice None h = is_leader h.role ≡ false
+LeadsInOffice (Some office) h = Unit {0}
+
+-- who is in an office serves in its last phase only
+abbrev pub ServesLast : Option Office → Bool → Type 0
+ServesLast None serving = Unit {0}
+ServesLast (Some office) serving = serves office.phase ≡ false → serving ≡ false
+
+-- without an office nothing is open or in flight at the sessions, and nothing is to be proposed
+abbrev pub IsFree : Option Office → Moment → Type 0
+IsFree None a = HasEnded a.node.sessions × (a.due ≡ [])
+IsFree (Some office) a = Unit {0}
+
+-- Who leads is in an office, and serves in its last phase; and without an office nothing is left of one.
+pub record IsLed (n : Running) : Type 0 where
+  pub leads : LeadsInOffice n.office n.replica.raft
+  pub serves : ServesLast n.office n.view.serving
+  pub free : IsFree n.office (moment_of n)
 
 -- Between two turns of a step its sessions are told of these servers, of Raft's term and of its log's last index, and that it serves only
 -- in its office.
@@ -60,10 +100,12 @@ pub record IsQuiet (n : Running) : Type 0 where
   pub replies : n.outs.replies.items ≡ []
   pub closed : n.outs.closed.items ≡ []
   pub messages : n.outs.messages.items ≡ []
+  pub reads : n.outs.reads.items ≡ []
 
 -- Between two steps: all that is committed is applied, and nothing is left to do or to say.
 pub record Rests (n : Running) : Type 0 where
   pub going : IsGoing n
+  pub led : IsLed n
   pub applied : n.applied.index ≡ n.replica.raft.commit
   pub idle : n.due.items ≡ []
   pub turns : (clients_in n).turns ≡ []

@@ -1,6 +1,6 @@
 //! A node's turn in which it applies an entry, and what a leader does then.
 
-ghost use Rattle.std.specs.Prelude.{◌≡◌, ◌≢◌, ◌<◌, ◌^◌, ◌++◌, suc, false, ℕ, List, [], Option, Err, OnOk, IfOk, IfErr};
+ghost use Rattle.std.specs.Prelude.{◌≡◌, ◌≢◌, ◌<◌, ◌^◌, ◌++◌, suc, true, false, ℕ, List, [], Option, Err, OnOk, IfOk, IfErr};
 ghost use Rattle.sql_engine.specs.Known.{Known};
 ghost use Rattle.raft_vote.specs.Servers.{IsConfiguration};
 ghost use Rattle.client_sessions.specs.declared.clients.Clients.{Clients as Held};
@@ -11,17 +11,21 @@ ghost use Rattle.client_sessions.specs.Calls.{landed_at, told_at};
 ghost use Rattle.client_sessions.specs.Seen.{clients_of, Agrees, StandOver};
 ghost use Rattle.node_state.specs.Applied.{with_entry};
 ghost use Rattle.raft_world.specs.Members.{Setup};
-ghost use Rattle.node_core.specs.Account.{Turns};
 ghost use Rattle.node_core.specs.Applying.{TakesEntry, AppliesSo};
+ghost use Rattle.node_core.specs.Duties.{DutySo, IsCalm, IsSettled, ServesFrom};
+ghost use Rattle.node_core.specs.Taking.{TurnsOn};
+ghost use Rattle.node_core.specs.Performing.{SaysNothing};
+ghost use Rattle.node_core.specs.Waiting.{NoneIsDue};
 ghost use Rattle.node_core.specs.Values.{clients_in};
 ghost use Rattle.node_core.specs.declared.fault.NodeFault.TheVariants as fault;
 ghost use Rattle.node_core.specs.Stepping.{StaysAgreed};
-ghost use Rattle.node_core.specs.Whole.{IsGoing};
+ghost use Rattle.node_core.specs.Whole.{IsGoing, IsLed};
 
 use crate::fault::NodeFault;
 use crate::running::{Running, one_more};
-use node_rules::stretches_join;
+use node_rules::{logs_turn, stretches_join};
 use node_state::{Applied, Effect};
+use page_apply::{Database, Machine};
 use raft_core::RaftEvent;
 use raft_vote::Entry;
 use sql_engine::Engine;
@@ -54,19 +58,37 @@ fn apply(alloc: Global, applied: &mut Applied, entry: &Entry) -> Result<Effect, 
     effect
 }
 
+/// Whether no pages are pending in these databases, which are all of a machine's.
+fn are_calm(machine: &Machine, databases: &[Database]) -> bool
+    requires { databases.now ≡ machine.now }
+    ensures { result ≡ true → IsCalm (machine_of databases.now) }
+{
+    for database in databases {
+        if machine.pending(database.name().as_str()).is_some() {
+            return false;
+        }
+    }
+    true
+}
+
 impl Running {
     /// Applies the next entry, which is committed.
     pub(crate) fn apply_next<E: Engine>(&mut self, engine: &mut E) -> Result<(), NodeFault>
         requires going { IsGoing self.old }
         requires more { self.old.applied.index < self.old.replica.raft.commit }
+        requires led { IsLed self.old }
         requires idle { self.old.due.items ≡ [] }
         requires agrees { Agrees (E.known engine.old) self.old.clients self.old.applied.machine }
         ensures going { OnOk result (IsGoing self.new) }
+        ensures led { OnOk result (IsLed self.new) }
         ensures index { OnOk result (self.new.applied.index ≡ suc self.old.applied.index) }
         ensures replica { self.new.replica ≡ self.old.replica }
         ensures wants { IfErr result (λ f. f ≡ fault.NoMemory) }
         ensures agrees { OnOk result (Agrees (E.known engine.new) self.new.clients self.new.applied.machine) }
         ensures engine { Stays (E.kind engine.old) (E.kind engine.new) (E.refused_openings engine.old) (E.refused_openings engine.new) }
+        ensures goes { (setup : Setup) (bytes : List ℕ) (joins : Option ℕ) →
+            OnOk result (TurnsOn (E.meaning (E.kind engine.old)) (E.kind engine.old) setup bytes joins self.old self.new
+            (E.told engine.old) (E.told engine.new)) }
     {
         let effect = self.apply_one()?;
         self.run_due(engine)?;
@@ -83,6 +105,7 @@ impl Running {
         ensures wants { IfErr result (λ f. f ≡ fault.NoMemory) }
         ensures agrees { StaysAgreed self.old self.new }
         ensures due { self.new.due.items ≡ self.old.due.items }
+        ensures office { self.new.office ≡ self.old.office }
         ensures applies { OnOk result (AppliesSo self.old self.new) }
     {
         self.databases_stand();
@@ -128,6 +151,7 @@ impl Running {
         ensures due { self.new.due.items ≡ self.old.due.items }
         ensures landed { OnOk result (clients_in self.new ≡ landed_at self.old.applied.index (clients_in self.old)) }
         ensures said { OnOk result (self.new.outs.replies.items ≡ self.old.outs.replies.items ++ told_at self.old.applied.index (clients_in self.old)) }
+        ensures unread { self.new.outs.reads.items ≡ self.old.outs.reads.items }
         ensures files { machine_of self.new.applied.machine ≡ machine_of self.old.applied.machine }
         ensures is { self.new ≡ record self.old {
           clients = self.new.clients;
@@ -145,17 +169,22 @@ impl Running {
     /// its view ends with the log's end. False where none is due, and then nothing has changed.
     pub(crate) fn run_due<E: Engine>(&mut self, engine: &mut E) -> Result<bool, NodeFault>
         requires going { IsGoing self.old }
+        requires led { IsLed self.old }
         requires idle { self.old.due.items ≡ [] }
         requires agrees { Agrees (E.known engine.old) self.old.clients self.old.applied.machine }
         ensures going { OnOk result (IsGoing self.new) }
+        ensures led { OnOk result (IsLed self.new) }
         ensures replica { self.new.replica ≡ self.old.replica }
         ensures index { self.new.applied.index ≡ self.old.applied.index }
         ensures wants { IfErr result (λ f. f ≡ fault.NoMemory) }
         ensures agrees { OnOk result (Agrees (E.known engine.new) self.new.clients self.new.applied.machine) }
         ensures engine { Stays (E.kind engine.old) (E.kind engine.new) (E.refused_openings engine.old) (E.refused_openings engine.new) }
         ensures none { IfOk result (λ more. more ≡ false → self.new ≡ self.old) }
+        ensures run { IfOk result (λ more. more ≡ false → NoneIsDue (clients_in self.new)) }
+        ensures untold { IfOk result (λ more. more ≡ false → E.told engine.new ≡ E.told engine.old) }
         ensures goes { (setup : Setup) (bytes : List ℕ) (joins : Option ℕ) →
-            OnOk result (Turns (E.meaning (E.kind engine.old)) (E.kind engine.old) setup bytes joins self.old self.new) }
+            OnOk result (TurnsOn (E.meaning (E.kind engine.old)) (E.kind engine.old) setup bytes joins self.old self.new
+            (E.told engine.old) (E.told engine.new)) }
     {
         stretches_join::<E>();
         let Some(conn) = self.clients.next_due() else {
@@ -168,22 +197,58 @@ impl Running {
     /// What a leader owes behind an entry: its Undos, or a checkpoint; and it may serve from then on.
     fn do_duties(&mut self, effect: &Effect) -> Result<(), NodeFault>
         requires going { IsGoing self.old }
+        requires led { IsLed self.old }
         ensures going { OnOk result (IsGoing self.new) }
+        ensures led { OnOk result (IsLed self.new) }
         ensures applied { self.new.applied ≡ self.old.applied }
         ensures replica { self.new.replica ≡ self.old.replica }
         ensures wants { IfErr result (λ f. f ≡ fault.NoMemory) }
         ensures agrees { StaysAgreed self.old self.new }
+        ensures quiet { SaysNothing self.old self.new }
+        ensures duties { OnOk result (DutySo self.old self.new) }
     {
+        self.databases_stand();
         let Some(office) = &mut self.office else {
             return Ok(());
         };
         let next = one_more(self.applied.index)?;
         let waiting = self.replica.tail(next);
         let entries = office.on_applied(self.alloc, &self.applied, effect, waiting)?;
-        self.view.serving = office.serves();
+        let serves = office.serves();
         if entries.is_empty() {
+            self.begin_service(serves);
             return Ok(());
         }
         self.give(RaftEvent::Propose(entries))
+    }
+
+    /// Serves from now on, where its office says so and the node is settled.
+    fn begin_service(&mut self, serves: bool)
+        ensures served { ServesFrom self.old self.new }
+        ensures unless { serves ≡ false → self.new ≡ self.old }
+    {
+        if !serves {
+            return;
+        }
+        if self.view.serving {
+            return;
+        }
+        if self.is_settled() {
+            self.view.serving = true;
+        }
+    }
+
+    /// Whether nothing is to be given to Raft, all of the log is applied, and no pages are pending. So it is where an office has come
+    /// to its end; it is looked at once more before the node serves.
+    fn is_settled(&self) -> bool
+        ensures { result ≡ true → IsSettled self.now }
+    {
+        if !self.due.is_empty() {
+            return false;
+        }
+        if self.applied.index != self.view.last {
+            return false;
+        }
+        are_calm(&self.applied.machine, self.applied.machine.databases())
     }
 }

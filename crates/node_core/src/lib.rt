@@ -2,6 +2,7 @@
 //! kept; then what is said comes out, in one fixed order.
 #![tactic(auto)]
 
+mod comparing;
 mod event;
 mod fault;
 mod laws;
@@ -9,6 +10,7 @@ mod leading;
 mod links;
 mod node;
 mod outs;
+mod own_turn;
 mod raft_turn;
 mod reading;
 mod running;

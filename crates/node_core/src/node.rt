@@ -1,13 +1,16 @@
 //! A node, and its calls.
 
-ghost use Rattle.std.specs.Prelude.{◌≡◌, [], Err, IfOk, OnOk, OnErr};
+ghost use Rattle.std.specs.Prelude.{◌≡◌, List, [], Err, IfOk, OnOk, OnErr};
 ghost use Rattle.sql_engine.specs.Meanings.{Stays};
 ghost use Rattle.raft_vote.specs.Servers.{IsConfiguration};
+ghost use Rattle.raft_rules.specs.Node.{Server as ServerValue};
 ghost use Rattle.raft_core.specs.Roles.{role_value};
 ghost use Rattle.node_core.specs.declared.fault.NodeFault.TheVariants as fault;
 ghost use Rattle.node_core.specs.Faults.{StartCause, StepCause};
 ghost use Rattle.raft_member.specs.Members.{read_setup};
 ghost use Rattle.node_rules.specs.Steps.{StartsSo};
+ghost use Rattle.node_core.specs.Account.{StepsBy, StopsBy};
+ghost use Rattle.node_core.specs.Finding.{LeavesBy};
 ghost use Rattle.node_core.specs.Starting.{StartsOver};
 ghost use Rattle.node_core.specs.Stepping.{IsDown, IsUp, StaysDown, StaysStored};
 ghost use Rattle.node_core.specs.Values.{applied_of, databases_of, keeps_of, kept_by, node_of, raft_of, replica_of, servers_told};
@@ -83,6 +86,14 @@ impl Node {
         ensures stored { StaysStored D.tells (D.states disk.old) (D.states disk.new) (replica_of self.old) (replica_of self.new) result }
         // All that is committed is applied.
         ensures applied { OnOk result (applied_of self.new ≡ (raft_of self.new).commit) }
+        // It makes the acts of the rules, whatever the servers are with which the cluster was opened, and says what they say.
+        ensures acts { (opening : List ServerValue) →
+            IfOk result (λ outs. StepsBy (E.meaning (E.kind engine.old)) (E.kind engine.old) (read_setup opening) self.old.running self.new.running event outs
+            (E.told engine.old) (E.told engine.new)) }
+        // Where it fails, a load finds what the acts of the rules left, if the disk kept what Raft was.
+        ensures stops { (opening : List ServerValue) → IsUp self.old →
+            LeavesBy D.tells (D.states disk.old) (D.states disk.new) (replica_of self.old) result
+            (StopsBy (E.meaning (E.kind engine.old)) (E.kind engine.old) (read_setup opening) self.old.running event) }
         ensures cause { StepCause (D.faults disk.old) (D.faults disk.new) result }
         ensures engine { Stays (E.kind engine.old) (E.kind engine.new) (E.refused_openings engine.old) (E.refused_openings engine.new) }
     {

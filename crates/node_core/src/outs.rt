@@ -41,7 +41,8 @@ impl Outs {
 
     /// Messages to clients are said, behind the others.
     pub(crate) fn tell_all(&mut self, told: Vec<(u64, WireBytes)>) -> Result<(), AllocError>
-        ensures { OnOk result (self.new.replies.items ≡ self.old.replies.items ++ told.items) }
+        ensures said { OnOk result (self.new.replies.items ≡ self.old.replies.items ++ told.items) }
+        ensures rest { self.new ≡ record self.old { replies = self.new.replies } }
     {
         let mut told = told;
         self.replies.append(&mut told)?;
@@ -50,7 +51,8 @@ impl Outs {
 
     /// Messages to one client are said, behind the others.
     pub(crate) fn reply(&mut self, conn: u64, messages: Items<WireBytes>) -> Result<(), AllocError>
-        ensures { OnOk result (self.new.replies.items ≡ self.old.replies.items ++ map (λ (m : List ℕ). (conn, m)) messages) }
+        ensures said { OnOk result (self.new.replies.items ≡ self.old.replies.items ++ map (λ (m : List ℕ). (conn, m)) messages) }
+        ensures rest { self.new ≡ record self.old { replies = self.new.replies } }
     {
         for message in messages.into_vec() {
             self.replies.push((conn, message))?;

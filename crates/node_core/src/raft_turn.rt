@@ -1,24 +1,28 @@
 //! A node's turn in which an event of Raft happens: what it leaves is kept and posted, and then sessions, databases,
 //! configurations and office follow.
 
-ghost use Rattle.std.specs.Prelude.{◌≡◌, ◌≢◌, ◌<◌, ◌==◌, ◌&&◌, false, List, [], None, Err, OnOk, IfOk, MatchOption, IfErr};
+ghost use Rattle.std.specs.Prelude.{◌≡◌, ◌≢◌, ◌<◌, ◌==◌, ◌&&◌, true, false, ℕ, List, [], None, Err, OnOk, IfOk, MatchOption, IfErr};
 ghost use Rattle.sql_engine.specs.Meanings.{Stays};
 ghost use Rattle.page_apply.specs.declared.database.Database.{Database};
 ghost use Rattle.page_apply.specs.Machines.{IsMachine};
 ghost use Rattle.client_sessions.specs.Seen.{Agrees, HasNoMarks, StandOver};
 ghost use Rattle.raft_rules.specs.Laws.{HasShortTerm};
-ghost use Rattle.raft_rules.specs.Node.{Candidate, is_leader};
+ghost use Rattle.raft_rules.specs.Node.{Candidate, Server as ServerValue, Local, UseServers, is_leader};
 ghost use Rattle.raft_rules.specs.NodeValues.{node_of};
 ghost use Rattle.raft_vote.specs.Servers.{IsConfiguration};
-ghost use Rattle.raft_member.specs.Members.{AllStand};
-ghost use Rattle.raft_core.specs.Events.{EventFits};
-ghost use Rattle.node_replica.specs.Replicas.{HasMoved, IsIntake, IsWhole};
+ghost use Rattle.raft_member.specs.Members.{AllStand, read_setup};
+ghost use Rattle.raft_core.specs.Events.{EventFits, input_of};
+ghost use Rattle.node_replica.specs.Replicas.{IsIntake, IsWhole};
 ghost use Rattle.node_core.specs.declared.fault.NodeFault.TheVariants as fault;
+ghost use Rattle.node_core.specs.Account.{moment_of};
 ghost use Rattle.node_core.specs.Faults.{StepCause};
-ghost use Rattle.node_core.specs.Stepping.{Brings, HasFollowed, HasStepped, HasTold, IsOffer, KeepsRest, PutsNone, StaysAgreed, StaysStored};
+ghost use Rattle.node_core.specs.Finding.{BeganStops, LeavesBy, StopsBehind, StopsFollowing, StopsIn, StopsInstalling, StopsTelling};
+ghost use Rattle.node_core.specs.Posting.{FollowsOn, InstallsOn, LeavesSo, LosesSo, OfficeSo, Posts, ToldOr, ends_office};
+ghost use Rattle.node_core.specs.Stepping.{Brings, HasFollowed, HasMade, HasStepped, HasTold, IsOffer, KeepsRest, PutsNone, StaysAgreed, StaysStored};
+ghost use Rattle.node_core.specs.Taking.{BeganBy, bytes_with};
 ghost use Rattle.node_core.specs.Values.{clients_in};
 ghost use Rattle.node_core.specs.Waiting.{HasTurns};
-ghost use Rattle.node_core.specs.Whole.{InOffice, IsDue, IsGoing};
+ghost use Rattle.node_core.specs.Whole.{InOffice, IsFree, IsGoing, IsLed, IsOutside, LeadsInOffice, ServesLast};
 
 use crate::fault::NodeFault;
 use crate::running::Running;
@@ -28,7 +32,6 @@ use disk_model::Disk;
 use node_replica::Moved;
 use node_state::{Applied, Office};
 use raft_core::RaftEvent;
-use raft_member::change_in;
 use raft_vote::{Servers, What};
 use sql_engine::Engine;
 use std::alloc::AllocError;
@@ -49,7 +52,7 @@ impl Running {
     /// place of entries.
     fn offered(&self, event: &RaftEvent) -> Result<Offer, AllocError>
         requires going { IsGoing self.now }
-        ensures { IfOk result (IsOffer self.now.replica event.now) }
+        ensures { IfOk result (IsOffer self.now event.now) }
     {
         let RaftEvent::Message(message) = event else {
             return Ok(Offer::Nothing);
@@ -67,18 +70,28 @@ impl Running {
         }
     }
 
-    /// An event of Raft happens. A message whose snapshot can't be taken changes nothing, not even the term.
+    /// What comes from outside happens at Raft, where nothing is due. A message whose snapshot can't be taken changes nothing,
+    /// not even the term.
     pub(crate) fn take_raft<D: Disk, E: Engine>(
         &mut self,
         event: RaftEvent,
         disk: &mut D,
         engine: &mut E,
     ) -> Result<(), NodeFault>
-        requires due { IsDue event }
+        requires comes { IsOutside event }
         requires going { IsGoing self.old }
+        requires led { IsLed self.old }
+        requires idle { self.old.due.items ≡ [] }
         requires agrees { Agrees (E.known engine.old) self.old.clients self.old.applied.machine }
         ensures going { OnOk result (IsGoing self.new) }
+        ensures led { OnOk result (IsLed self.new) }
+        // An act of the rules has begun by it.
+        ensures began { (opening : List ServerValue) →
+            OnOk result (BeganBy (E.meaning (E.kind engine.old)) (E.kind engine.old) (read_setup opening) self.old self.new event
+            (E.told engine.old) (E.told engine.new)) }
         ensures stored { StaysStored D.tells (D.states disk.old) (D.states disk.new) self.old.replica self.new.replica result }
+        ensures stops { (opening : List ServerValue) → LeavesBy D.tells (D.states disk.old) (D.states disk.new) self.old.replica result
+            (BeganStops (E.meaning (E.kind engine.old)) (E.kind engine.old) (read_setup opening) self.old event) }
         ensures cause { StepCause (D.faults disk.old) (D.faults disk.new) result }
         ensures agrees { OnOk result (Agrees (E.known engine.new) self.new.clients self.new.applied.machine) }
         ensures engine { Stays (E.kind engine.old) (E.kind engine.new) (E.refused_openings engine.old) (E.refused_openings engine.new) }
@@ -96,6 +109,41 @@ impl Running {
         }
     }
 
+    /// A law: the databases are a machine.
+    pub(crate) fn holds_machine(&self)
+        ensures { IsMachine self.now.applied.machine }
+    {
+        let _databases = self.applied.machine.databases();
+    }
+
+    /// One step of Raft, kept and posted. Answers from which index on the log is another one now, where it is.
+    pub(crate) fn make_step<D: Disk>(
+        &mut self,
+        event: RaftEvent,
+        disk: &mut D,
+    ) -> Result<Option<u64>, NodeFault>
+        requires whole { IsWhole self.old.replica }
+        requires fits { EventFits self.old.replica.raft event }
+        requires intake { IsIntake event }
+        ensures made { IfOk result (λ batch. HasMade self.old self.new event batch) }
+        ensures posts { OnOk result (Posts self.old self.new (input_of event)) }
+        ensures stored { StaysStored D.tells (D.states disk.old) (D.states disk.new) self.old.replica self.new.replica result }
+        // Where it fails, a load finds what a stop in the step leaves.
+        ensures stops { (opening : List ServerValue) → LeavesBy D.tells (D.states disk.old) (D.states disk.new) self.old.replica result
+            (StopsIn (read_setup opening) (bytes_with event) self.old (input_of event)) }
+        ensures cause { StepCause (D.faults disk.old) (D.faults disk.new) result }
+        ensures agrees { StaysAgreed self.old self.new }
+        ensures runs { result ≢ Err fault.Down }
+    {
+        let Moved {
+            batch,
+            messages,
+            ..
+        } = self.replica.step(event, disk)?;
+        self.mail.post_all(messages)?;
+        Ok(batch)
+    }
+
     /// One step of Raft, kept and posted; and sessions hear of a leadership that was lost, before anything else follows. Answers
     /// from which index on the log is another one now, where it is.
     fn keep_step<D: Disk>(
@@ -107,42 +155,68 @@ impl Running {
         requires short { HasShortTerm (node_of self.old.replica.raft) }
         requires stand { StandOver self.old.clients self.old.applied.machine }
         requires turns { HasTurns (clients_in self.old) }
-        requires unserved { self.old.office ≡ None → self.old.view.serving ≡ false }
+        requires office { InOffice self.old.office self.old.view.serving self.old.replica.raft }
+        requires led { IsLed self.old }
+        requires idle { self.old.due.items ≡ [] }
         requires fits { EventFits self.old.replica.raft event }
         requires intake { IsIntake event }
         ensures stepped { IfOk result (λ batch. HasStepped self.old self.new event batch) }
+        ensures posts { OnOk result (Posts self.old self.new (input_of event)) }
+        ensures offices { OnOk result (OfficeSo self.old self.new) }
+        ensures serves { OnOk result (ServesLast self.new.office self.new.view.serving) }
+        ensures free { OnOk result (IsFree self.new.office (moment_of self.new)) }
         ensures stored { StaysStored D.tells (D.states disk.old) (D.states disk.new) self.old.replica self.new.replica result }
+        ensures stops { (opening : List ServerValue) → LeavesBy D.tells (D.states disk.old) (D.states disk.new) self.old.replica result
+            (StopsIn (read_setup opening) (bytes_with event) self.old (input_of event)) }
         ensures cause { StepCause (D.faults disk.old) (D.faults disk.new) result }
         ensures agrees { StaysAgreed self.old self.new }
         ensures runs { result ≢ Err fault.Down }
     {
-        let Moved {
-            batch,
-            messages,
-            ..
-        } = self.replica.step(event, disk)?;
-        self.mail.post_all(messages)?;
+        self.holds_machine();
+        let batch = self.make_step(event, disk)?;
         self.note_loss()?;
         Ok(batch)
     }
 
-    /// A step of Raft in which no snapshot comes.
+    /// A step of Raft for what comes from outside, in which no snapshot comes.
     fn step_raft<D: Disk>(&mut self, event: RaftEvent, disk: &mut D) -> Result<(), NodeFault>
-        requires due { IsDue event }
+        requires comes { IsOutside event }
         requires none { PutsNone self.old.replica event }
         requires going { IsGoing self.old }
+        requires led { IsLed self.old }
+        requires idle { self.old.due.items ≡ [] }
         ensures going { OnOk result (IsGoing self.new) }
+        ensures led { OnOk result (IsLed self.new) }
+        ensures began { OnOk result (FollowsOn self.old self.new event) }
         ensures stored { StaysStored D.tells (D.states disk.old) (D.states disk.new) self.old.replica self.new.replica result }
+        ensures stops { (opening : List ServerValue) → LeavesBy D.tells (D.states disk.old) (D.states disk.new) self.old.replica result
+            (StopsFollowing (read_setup opening) self.old event) }
         ensures cause { StepCause (D.faults disk.old) (D.faults disk.new) result }
         ensures agrees { OnOk result (StaysAgreed self.old self.new) }
         ensures runs { result ≢ Err fault.Down }
     {
-        self.tell_change(&event, disk)?;
         let batch = self.keep_step(event, disk)?;
         self.follow_log(batch, disk)?;
         self.note_win();
         self.look()?;
         Ok(())
+    }
+
+    /// The configurations follow the log, which is another one from this index on. False only where they are those that they
+    /// were.
+    pub(crate) fn follow_members(&mut self, batch: Option<u64>) -> Result<bool, NodeFault>
+        requires stand { AllStand self.old.members }
+        requires past { MatchOption batch (Unit {0}) (λ first. (self.old.replica.raft.base < first) × (self.old.members.at < first)) }
+        ensures is { self.new ≡ record self.old { members = self.new.members } }
+        ensures stand { OnOk result (AllStand self.new.members) }
+        ensures at { OnOk result (self.new.members.at ≡ self.old.members.at) }
+        ensures stays { IfOk result (λ others. others ≡ false → self.new ≡ self.old) }
+        ensures wants { IfErr result (λ f. f ≡ fault.NoMemory) }
+    {
+        let Some(first) = batch else {
+            return Ok(false);
+        };
+        Ok(self.replica.follow(&mut self.members, first)?)
     }
 
     /// The configurations follow the log, which is another one from this index on; and where others are current now, a node that
@@ -153,15 +227,16 @@ impl Running {
         requires stand { AllStand self.old.members }
         requires office { InOffice self.old.office self.old.view.serving self.old.replica.raft }
         requires past { MatchOption batch (Unit {0}) (λ first. (self.old.replica.raft.base < first) × (self.old.members.at < first)) }
+        requires machine { IsMachine self.old.applied.machine }
         ensures followed { OnOk result (HasFollowed self.old self.new) }
+        ensures tells { OnOk result (ToldOr (record self.old { members = self.new.members }) self.new) }
         ensures stored { StaysStored D.tells (D.states disk.old) (D.states disk.new) self.old.replica self.new.replica result }
+        ensures stops { (opening : List ServerValue) (came : List ℕ) → LeavesBy D.tells (D.states disk.old) (D.states disk.new) self.old.replica result
+            (StopsBehind (read_setup opening) came self.old) }
         ensures cause { StepCause (D.faults disk.old) (D.faults disk.new) result }
         ensures runs { result ≢ Err fault.Down }
     {
-        let Some(first) = batch else {
-            return Ok(());
-        };
-        if !self.replica.follow(&mut self.members, first)? {
+        if !self.follow_members(batch)? {
             return Ok(());
         }
         self.tell_servers(disk)
@@ -176,11 +251,16 @@ impl Running {
         applied: Applied,
         disk: &mut D,
     ) -> Result<(), NodeFault>
-        requires due { IsDue event }
         requires brings { Brings self.old.replica event applied }
         requires going { IsGoing self.old }
+        requires led { IsLed self.old }
+        requires idle { self.old.due.items ≡ [] }
         ensures going { OnOk result (IsGoing self.new) }
+        ensures led { OnOk result (IsLed self.new) }
+        ensures began { (opening : List ServerValue) → OnOk result (InstallsOn (read_setup opening) self.old self.new event) }
         ensures stored { StaysStored D.tells (D.states disk.old) (D.states disk.new) self.old.replica self.new.replica result }
+        ensures stops { (opening : List ServerValue) → LeavesBy D.tells (D.states disk.old) (D.states disk.new) self.old.replica result
+            (StopsInstalling (read_setup opening) self.old event) }
         ensures cause { StepCause (D.faults disk.old) (D.faults disk.new) result }
         ensures runs { result ≢ Err fault.Down }
         ensures anew { OnOk result (Agrees [] self.new.clients self.new.applied.machine) }
@@ -213,45 +293,22 @@ impl Running {
         Ok(())
     }
 
-    /// A leader that proposes a change tells Raft its servers first, so that its entry is counted by them.
-    fn tell_change<D: Disk>(&mut self, event: &RaftEvent, disk: &mut D) -> Result<(), NodeFault>
-        requires whole { IsWhole self.old.replica }
-        requires short { HasShortTerm (node_of self.old.replica.raft) }
-        requires none { PutsNone self.old.replica event.now }
-        ensures told { OnOk result (HasTold self.old self.new) }
-        ensures none { OnOk result (PutsNone self.new.replica event.now) }
-        ensures stored { StaysStored D.tells (D.states disk.old) (D.states disk.new) self.old.replica self.new.replica result }
-        ensures cause { StepCause (D.faults disk.old) (D.faults disk.new) result }
-        ensures runs { result ≢ Err fault.Down }
-    {
-        let RaftEvent::Propose(entries) = event else {
-            return Ok(());
-        };
-        let [entry] = entries.as_slice() else {
-            return Ok(());
-        };
-        if !self.leads() {
-            return Ok(());
-        }
-        match change_in(self.alloc, entry)? {
-            Some(servers) => self.tell(servers, disk),
-            None => Ok(()),
-        }
-    }
-
     /// Raft is told servers.
-    fn tell<D: Disk>(&mut self, servers: Servers, disk: &mut D) -> Result<(), NodeFault>
+    pub(crate) fn tell<D: Disk>(&mut self, servers: Servers, disk: &mut D) -> Result<(), NodeFault>
         requires whole { IsWhole self.old.replica }
         requires short { HasShortTerm (node_of self.old.replica.raft) }
         requires stands { IsConfiguration servers }
         requires settled { self.old.replica.raft.role ≢ Candidate }
+        requires machine { IsMachine self.old.applied.machine }
         ensures told { OnOk result (HasTold self.old self.new) }
+        ensures tells { OnOk result (LeavesSo self.old self.new (Local (UseServers servers))) }
         ensures stored { StaysStored D.tells (D.states disk.old) (D.states disk.new) self.old.replica self.new.replica result }
+        ensures stops { (opening : List ServerValue) (came : List ℕ) → LeavesBy D.tells (D.states disk.old) (D.states disk.new) self.old.replica result
+            (StopsIn (read_setup opening) came self.old (Local (UseServers servers))) }
         ensures cause { StepCause (D.faults disk.old) (D.faults disk.new) result }
         ensures runs { result ≢ Err fault.Down }
     {
-        let moved = self.replica.step(RaftEvent::Servers(servers), disk)?;
-        self.mail.post_all(moved.messages)?;
+        self.make_step(RaftEvent::Servers(servers), disk)?;
         Ok(())
     }
 
@@ -262,9 +319,13 @@ impl Running {
         requires short { HasShortTerm (node_of self.old.replica.raft) }
         requires stand { AllStand self.old.members }
         requires office { InOffice self.old.office self.old.view.serving self.old.replica.raft }
+        requires machine { IsMachine self.old.applied.machine }
         ensures told { OnOk result (HasTold self.old self.new) }
+        ensures tells { OnOk result (ToldOr self.old self.new) }
         ensures office { OnOk result (InOffice self.new.office self.new.view.serving self.new.replica.raft) }
         ensures stored { StaysStored D.tells (D.states disk.old) (D.states disk.new) self.old.replica self.new.replica result }
+        ensures stops { (opening : List ServerValue) (came : List ℕ) → LeavesBy D.tells (D.states disk.old) (D.states disk.new) self.old.replica result
+            (StopsTelling (read_setup opening) came self.old) }
         ensures cause { StepCause (D.faults disk.old) (D.faults disk.new) result }
         ensures runs { result ≢ Err fault.Down }
     {
@@ -283,7 +344,11 @@ impl Running {
         ensures stand { OnOk result (StandOver self.new.clients self.new.applied.machine) }
         ensures turns { OnOk result (HasTurns (clients_in self.new)) }
         ensures office { OnOk result (InOffice self.new.office self.new.view.serving self.new.replica.raft) }
+        ensures stays { ends_office self.old.office self.old.replica.raft ≡ false → self.new ≡ self.old }
+        ensures loses { ends_office self.old.office self.old.replica.raft ≡ true → OnOk result (LosesSo self.old self.new) }
+        ensures leaves { ends_office self.old.office self.old.replica.raft ≡ true → (self.new.office ≡ None) × (self.new.view.serving ≡ false) }
         ensures replica { self.new.replica ≡ self.old.replica }
+        ensures mail { self.new.mail ≡ self.old.mail }
         ensures rest { KeepsRest self.old self.new }
         ensures wants { IfErr result (λ f. f ≡ fault.NoMemory) }
         ensures agrees { StaysAgreed self.old self.new }
@@ -297,7 +362,8 @@ impl Running {
 
     /// Whether the leadership of its office is lost.
     fn has_lost(&self) -> bool
-        ensures { result ≡ false → (self.now.office ≡ None → self.now.view.serving ≡ false) →
+        ensures is { result ≡ ends_office self.now.office self.now.replica.raft }
+        ensures stays { result ≡ false → (self.now.office ≡ None → self.now.view.serving ≡ false) →
             InOffice self.now.office self.now.view.serving self.now.replica.raft }
     {
         match self.office {
@@ -333,12 +399,15 @@ impl Running {
         ensures anew { OnOk result ((databases : List Database) → IsMachine databases → Agrees [] self.new.clients databases) }
         ensures office { (self.new.office ≡ self.old.office) × (self.new.view.serving ≡ self.old.view.serving) }
         ensures replica { self.new.replica ≡ self.old.replica }
+        ensures mail { self.new.mail ≡ self.old.mail }
+        ensures loses { OnOk result (LosesSo self.old self.new) }
         ensures rest { KeepsRest self.old self.new }
         ensures wants { IfErr result (λ f. f ≡ fault.NoMemory) }
         ensures agrees { StaysAgreed self.old self.new }
     {
         let told = self.clients.on_lost(&mut self.applied.machine)?;
         self.clients.have_ended();
+        self.holds_machine();
         self.outs.tell_all(told)?;
         Ok(())
     }
@@ -347,6 +416,9 @@ impl Running {
     fn note_win(&mut self)
         requires office { InOffice self.old.office self.old.view.serving self.old.replica.raft }
         ensures office { InOffice self.new.office self.new.view.serving self.new.replica.raft }
+        ensures leads { LeadsInOffice self.new.office self.new.replica.raft }
+        ensures serves { ServesLast self.old.office self.old.view.serving → ServesLast self.new.office self.new.view.serving }
+        ensures stays { self.new.office ≡ None → self.old.office ≡ None }
         ensures is { self.new ≡ record self.old { office = self.new.office } }
     {
         if self.office.is_some() {

@@ -1,16 +1,17 @@
 //! Queries that readers answer beside a node, and queries that are yet to be answered.
 
-ghost use Rattle.std.specs.Prelude.{◌≡◌, ◌<◌, ℕ, List, [], Option, length, OnOk, IfErr, MatchOption};
+ghost use Rattle.std.specs.Prelude.{◌≡◌, ◌<◌, ◌++◌, ◌∷◌, ℕ, List, [], Option, length, OnOk, IfErr, MatchOption};
 ghost use Rattle.raft_world.specs.Members.{Setup};
 ghost use Rattle.node_core.specs.declared.event.Event.TheVariants as happens;
-ghost use Rattle.node_core.specs.Account.{Turns, SoFar, Happens};
+ghost use Rattle.node_core.specs.Account.{SoFar, Happens};
+ghost use Rattle.node_core.specs.Taking.{TurnsOn};
 ghost use Rattle.node_core.specs.Performing.{ReadsSo};
 ghost use Rattle.sql_engine.specs.Meanings.{Stays};
 ghost use Rattle.session_decisions.specs.Reading.{read_named};
 ghost use Rattle.client_sessions.specs.Seen.{Agrees};
 ghost use Rattle.node_core.specs.declared.fault.NodeFault.TheVariants as fault;
 ghost use Rattle.node_core.specs.Stepping.{StaysAgreed};
-ghost use Rattle.node_core.specs.Whole.{IsGoing};
+ghost use Rattle.node_core.specs.Whole.{IsGoing, IsLed};
 
 use crate::fault::NodeFault;
 use crate::running::Running;
@@ -51,6 +52,7 @@ impl Running {
         ensures wants { IfErr result (λ f. f ≡ fault.NoMemory) }
         ensures agrees { StaysAgreed self.old self.new }
         ensures said { OnOk result (self.new.outs.replies.items ≡ self.old.outs.replies.items) }
+        ensures lends { OnOk result (self.new.outs.reads.items ≡ self.old.outs.reads.items ++ (conn, job) ∷ []) }
         ensures is { self.new ≡ record self.old {
           lent = self.new.lent;
           view = record self.old.view { readers = self.new.view.readers };
@@ -96,16 +98,19 @@ impl Running {
         engine: &mut E,
     ) -> Result<(), NodeFault>
         requires going { IsGoing self.old }
+        requires led { IsLed self.old }
         requires idle { self.old.due.items ≡ [] }
         requires agrees { Agrees (E.known engine.old) self.old.clients self.old.applied.machine }
         ensures going { OnOk result (IsGoing self.new) }
+        ensures led { OnOk result (IsLed self.new) }
         ensures replica { self.new.replica ≡ self.old.replica }
         ensures index { self.new.applied.index ≡ self.old.applied.index }
         ensures wants { IfErr result (λ f. f ≡ fault.NoMemory) }
         ensures agrees { OnOk result (Agrees (E.known engine.new) self.new.clients self.new.applied.machine) }
         ensures engine { Stays (E.kind engine.old) (E.kind engine.new) (E.refused_openings engine.old) (E.refused_openings engine.new) }
         ensures begun { (setup : Setup) →
-            OnOk result (SoFar (E.meaning (E.kind engine.old)) (E.kind engine.old) setup self.old self.new (Happens (happens.ReadDone conn read))) }
+            OnOk result (SoFar (E.meaning (E.kind engine.old)) (E.kind engine.old) setup self.old self.new (Happens (happens.ReadDone conn read))
+            (E.told engine.old) (E.told engine.new)) }
     {
         if !self.take_back(conn) {
             return Ok(());
@@ -122,6 +127,7 @@ impl Running {
     fn tell_read(&mut self, conn: u64, read: Read) -> Result<(), NodeFault>
         requires going { IsGoing self.old }
         ensures going { OnOk result (IsGoing self.new) }
+        ensures office { OnOk result (self.new.office ≡ self.old.office) }
         ensures replica { self.new.replica ≡ self.old.replica }
         ensures index { self.new.applied.index ≡ self.old.applied.index }
         ensures wants { IfErr result (λ f. f ≡ fault.NoMemory) }
@@ -146,16 +152,19 @@ impl Running {
         engine: &mut E,
     ) -> Result<(), NodeFault>
         requires going { IsGoing self.old }
+        requires led { IsLed self.old }
         requires idle { self.old.due.items ≡ [] }
         requires agrees { Agrees (E.known engine.old) self.old.clients self.old.applied.machine }
         ensures going { OnOk result (IsGoing self.new) }
+        ensures led { OnOk result (IsLed self.new) }
         ensures replica { self.new.replica ≡ self.old.replica }
         ensures index { self.new.applied.index ≡ self.old.applied.index }
         ensures wants { IfErr result (λ f. f ≡ fault.NoMemory) }
         ensures agrees { OnOk result (Agrees (E.known engine.new) self.new.clients self.new.applied.machine) }
         ensures engine { Stays (E.kind engine.old) (E.kind engine.new) (E.refused_openings engine.old) (E.refused_openings engine.new) }
         ensures goes { (setup : Setup) (bytes : List ℕ) (joins : Option ℕ) →
-            OnOk result (Turns (E.meaning (E.kind engine.old)) (E.kind engine.old) setup bytes joins self.old self.new) }
+            OnOk result (TurnsOn (E.meaning (E.kind engine.old)) (E.kind engine.old) setup bytes joins self.old self.new
+            (E.told engine.old) (E.told engine.new)) }
     {
         clients_turn::<E>();
         stretches_join::<E>();

@@ -3,23 +3,28 @@
 ghost use Rattle.std.specs.Prelude.{◌≡◌, ◌≢◌, ◌++◌, ◌∷◌, ℕ, List, Option, [], map, false, None, Err, OnOk, IfOk, IfErr};
 ghost use Rattle.page_apply.specs.Machines.{IsMachine};
 ghost use Rattle.session_rules.specs.Machine.{machine_of};
+ghost use Rattle.raft_member.specs.Members.{read_setup};
+ghost use Rattle.raft_rules.specs.Node.{Server as ServerValue};
 ghost use Rattle.raft_world.specs.Members.{Setup};
 ghost use Rattle.client_sessions.specs.Clients.{hung_up};
-ghost use Rattle.node_rules.specs.ClientTurns.{Stays as StaysSo};
-ghost use Rattle.node_core.specs.Account.{Turns, moment_of};
-ghost use Rattle.node_core.specs.Performing.{ComesOr, GoesOr, HearsSo, Performed, SaysNothing};
+ghost use Rattle.node_core.specs.Account.{moment_of};
+ghost use Rattle.node_core.specs.Performing.{ClosesSo, ComesOr, GoesOr, HearsSo, Performed, SaysNothing};
 ghost use Rattle.sql_engine.specs.Meanings.{Stays};
 ghost use Rattle.client_sessions.specs.Seen.{Agrees};
 ghost use Rattle.node_core.specs.declared.fault.NodeFault.TheVariants as fault;
-ghost use Rattle.node_core.specs.Stepping.{StaysAgreed};
+ghost use Rattle.node_core.specs.Faults.{StepCause};
+ghost use Rattle.node_core.specs.Stepping.{StaysAgreed, StaysStored};
+ghost use Rattle.node_core.specs.Finding.{LeavesBy, StopsLetter};
+ghost use Rattle.node_core.specs.Taking.{TookLetter, TurnsOn};
 ghost use Rattle.node_core.specs.Values.{clients_in};
-ghost use Rattle.node_core.specs.Whole.{IsDue, IsGoing};
+ghost use Rattle.node_core.specs.Whole.{IsGoing, IsLed, IsOwnDue};
 
 use crate::fault::NodeFault;
 use crate::links::Letter;
 use crate::running::Running;
 use client_connection::CloseReason;
 use client_sessions::{Act, Joining};
+use disk_model::Disk;
 use dq_base::Items;
 use node_rules::{clients_turn, stretches_join};
 use raft_core::RaftEvent;
@@ -29,7 +34,7 @@ use wire_words::WireBytes;
 impl Running {
     /// Gives Raft an event, behind those that are due.
     pub(crate) fn give(&mut self, event: RaftEvent) -> Result<(), NodeFault>
-        requires due { IsDue event }
+        requires due { IsOwnDue event }
         requires going { IsGoing self.old }
         ensures going { OnOk result (IsGoing self.new) }
         ensures applied { self.new.applied ≡ self.old.applied }
@@ -48,6 +53,7 @@ impl Running {
     pub(crate) fn connect(&mut self, conn: u64) -> Result<(), NodeFault>
         requires going { IsGoing self.old }
         ensures going { OnOk result (IsGoing self.new) }
+        ensures office { self.new.office ≡ self.old.office }
         ensures replica { self.new.replica ≡ self.old.replica }
         ensures index { self.new.applied.index ≡ self.old.applied.index }
         ensures wants { IfErr result (λ f. f ≡ fault.NoMemory) }
@@ -71,6 +77,7 @@ impl Running {
     pub(crate) fn receive(&mut self, conn: u64, bytes: &[u8]) -> Result<(), NodeFault>
         requires going { IsGoing self.old }
         ensures going { OnOk result (IsGoing self.new) }
+        ensures office { self.new.office ≡ self.old.office }
         ensures replica { self.new.replica ≡ self.old.replica }
         ensures index { self.new.applied.index ≡ self.old.applied.index }
         ensures wants { IfErr result (λ f. f ≡ fault.NoMemory) }
@@ -92,6 +99,7 @@ impl Running {
     pub(crate) fn hang_up(&mut self, conn: u64)
         requires going { IsGoing self.old }
         ensures going { IsGoing self.new }
+        ensures office { self.new.office ≡ self.old.office }
         ensures replica { self.new.replica ≡ self.old.replica }
         ensures index { self.new.applied.index ≡ self.old.applied.index }
         ensures agrees { StaysAgreed self.old self.new }
@@ -103,23 +111,34 @@ impl Running {
         self.databases_stand();
     }
 
-    /// Takes the next message of a peer: it is due at Raft, or its connection is closed. False where none waits.
-    pub(crate) fn take_letter(&mut self) -> Result<bool, NodeFault>
+    /// Takes the next message of a peer: it happens at Raft, or its connection is closed. False where none waits.
+    pub(crate) fn take_letter<D: Disk, E: Engine>(
+        &mut self,
+        disk: &mut D,
+        engine: &mut E,
+    ) -> Result<bool, NodeFault>
         requires going { IsGoing self.old }
+        requires led { IsLed self.old }
+        requires idle { self.old.due.items ≡ [] }
+        requires agrees { Agrees (E.known engine.old) self.old.clients self.old.applied.machine }
         ensures going { OnOk result (IsGoing self.new) }
-        ensures replica { self.new.replica ≡ self.old.replica }
-        ensures index { self.new.applied.index ≡ self.old.applied.index }
-        ensures wants { IfErr result (λ f. f ≡ fault.NoMemory) }
-        ensures agrees { StaysAgreed self.old self.new }
+        ensures led { OnOk result (IsLed self.new) }
+        ensures stored { StaysStored D.tells (D.states disk.old) (D.states disk.new) self.old.replica self.new.replica result }
+        ensures cause { StepCause (D.faults disk.old) (D.faults disk.new) result }
+        ensures agrees { OnOk result (Agrees (E.known engine.new) self.new.clients self.new.applied.machine) }
+        ensures engine { Stays (E.kind engine.old) (E.kind engine.new) (E.refused_openings engine.old) (E.refused_openings engine.new) }
         ensures none { IfOk result (λ more. more ≡ false → self.new ≡ record self.old { links = self.new.links }) }
-        ensures goes { OnOk result (StaysSo (moment_of self.old) (moment_of self.new)) }
-        ensures quiet { SaysNothing self.old self.new }
+        ensures letter { (opening : List ServerValue) →
+            OnOk result (TookLetter (E.meaning (E.kind engine.old)) (E.kind engine.old) (read_setup opening) self.old self.new
+            (E.told engine.old) (E.told engine.new)) }
+        ensures stops { (opening : List ServerValue) → LeavesBy D.tells (D.states disk.old) (D.states disk.new) self.old.replica result
+            (StopsLetter (E.meaning (E.kind engine.old)) (E.kind engine.old) (read_setup opening) self.old) }
+        ensures runs { result ≢ Err fault.Down }
     {
-        self.databases_stand();
         let me = self.id();
         match self.links.next(me)? {
             Some(Letter::Message(message)) => {
-                self.give(RaftEvent::Message(message))?;
+                self.take_raft(RaftEvent::Message(message), disk, engine)?;
                 Ok(true)
             }
             Some(Letter::Wrong(conn)) => {
@@ -135,9 +154,11 @@ impl Running {
     #[tactic(auto, using(crate::proofs::Waiting::took_turns, crate::proofs::Waiting::none_turn))]
     pub(crate) fn take_message<E: Engine>(&mut self, engine: &mut E) -> Result<bool, NodeFault>
         requires going { IsGoing self.old }
+        requires led { IsLed self.old }
         requires idle { self.old.due.items ≡ [] }
         requires agrees { Agrees (E.known engine.old) self.old.clients self.old.applied.machine }
         ensures going { OnOk result (IsGoing self.new) }
+        ensures led { OnOk result (IsLed self.new) }
         ensures replica { self.new.replica ≡ self.old.replica }
         ensures index { self.new.applied.index ≡ self.old.applied.index }
         ensures wants { IfErr result (λ f. f ≡ fault.NoMemory) }
@@ -146,7 +167,9 @@ impl Running {
         ensures none { IfOk result (λ more. more ≡ false → self.new.due.items ≡ self.old.due.items) }
         ensures turns { IfOk result (λ more. more ≡ false → (clients_in self.new).turns ≡ []) }
         ensures goes { (setup : Setup) (bytes : List ℕ) (joins : Option ℕ) →
-            OnOk result (Turns (E.meaning (E.kind engine.old)) (E.kind engine.old) setup bytes joins self.old self.new) }
+            OnOk result (TurnsOn (E.meaning (E.kind engine.old)) (E.kind engine.old) setup bytes joins self.old self.new
+            (E.told engine.old) (E.told engine.new)) }
+        ensures sessions { IfOk result (λ more. more ≡ false → (clients_in self.new).sessions ≡ (clients_in self.old).sessions) }
     {
         clients_turn::<E>();
         stretches_join::<E>();
@@ -209,6 +232,7 @@ impl Running {
         ensures wants { IfErr result (λ f. f ≡ fault.NoMemory) }
         ensures agrees { StaysAgreed self.old self.new }
         ensures said { OnOk result (self.new.outs.replies.items ≡ self.old.outs.replies.items ++ map (λ (m : List ℕ). (conn, m)) messages) }
+        ensures unread { self.new.outs.reads.items ≡ self.old.outs.reads.items }
         ensures is { self.new ≡ record self.old { outs = self.new.outs } }
     {
         self.outs.reply(conn, messages)?;
@@ -244,12 +268,16 @@ impl Running {
     pub(crate) fn close_heard(&mut self) -> Result<bool, NodeFault>
         requires going { IsGoing self.old }
         ensures going { OnOk result (IsGoing self.new) }
+        ensures office { self.new.office ≡ self.old.office }
         ensures replica { self.new.replica ≡ self.old.replica }
         ensures index { self.new.applied.index ≡ self.old.applied.index }
         ensures wants { IfErr result (λ f. f ≡ fault.NoMemory) }
         ensures agrees { StaysAgreed self.old self.new }
         ensures none { IfOk result (λ more. more ≡ false → (self.new ≡ self.old) × (self.new.heard ≡ None)) }
+        ensures goes { OnOk result (ClosesSo self.old self.new) }
+        ensures quiet { SaysNothing self.old self.new }
     {
+        self.databases_stand();
         let Some(conn) = self.heard else {
             return Ok(false);
         };
@@ -265,6 +293,7 @@ impl Running {
     fn closing(&mut self, conn: u64) -> Option<CloseReason>
         requires going { IsGoing self.old }
         ensures going { IsGoing self.new }
+        ensures office { self.new.office ≡ self.old.office }
         ensures replica { self.new.replica ≡ self.old.replica }
         ensures index { self.new.applied.index ≡ self.old.applied.index }
         ensures heard { self.new.heard ≡ self.old.heard }

@@ -1,23 +1,32 @@
 //! One step of a node.
 
-ghost use Rattle.raft_world.specs.Members.{Setup};
-ghost use Rattle.node_core.specs.Account.{SoFar, Happens};
-ghost use Rattle.std.specs.Prelude.{◌≡◌, ◌≢◌, [], true, false, Err, IfOk, OnOk, IfErr};
-ghost use Rattle.sql_engine.specs.Meanings.{Stays};
+ghost use Rattle.raft_member.specs.Members.{read_setup};
+ghost use Rattle.raft_rules.specs.Node.{Server as ServerValue};
+ghost use Rattle.node_rules.specs.Accounts.{MayEnd};
+ghost use Rattle.node_core.specs.declared.event.Event.{Event as EventValue};
+ghost use Rattle.node_core.specs.declared.running.Running.{Running as RunningValue};
+ghost use Rattle.node_core.specs.Account.{AtRest, SoFar, Stopped, Happens, StepsBy, StopsBy, Underway, moment_of};
+ghost use Rattle.node_core.specs.Finding.{LeavesBy};
+ghost use Rattle.node_core.specs.Taking.{CompactsSo};
+ghost use Rattle.std.specs.Prelude.{◌≡◌, ◌≢◌, ℕ, List, Option, [], true, false, Err, IfOk, OnOk, IfErr};
+ghost use Rattle.sql_engine.specs.Meanings.{Stays, Told};
 ghost use Rattle.client_sessions.specs.Seen.{Agrees};
 ghost use Rattle.node_replica.specs.Mails.{sent};
 ghost use Rattle.node_core.specs.declared.fault.NodeFault.TheVariants as fault;
 ghost use Rattle.node_core.specs.Faults.{StepCause};
+ghost use Rattle.node_core.specs.Finding.{LeavesBy, StopsCompacting};
 ghost use Rattle.node_core.specs.Stepping.{StaysAgreed, StaysStored};
 ghost use Rattle.node_core.specs.Values.{clients_in};
-ghost use Rattle.node_core.specs.Whole.{IsGoing, IsIdle, IsQuiet, Rests};
+ghost use Rattle.node_core.specs.Whole.{IsGoing, IsIdle, IsLed, IsQuiet, Rests};
 
+use crate::comparing::are_same;
 use crate::event::Event;
 use crate::fault::NodeFault;
 use crate::outs::Outs;
 use crate::running::Running;
 use disk_model::Disk;
 use node_replica::Mail;
+use node_rules::{raft_steps_are_kept, raft_turns};
 use raft_core::RaftEvent;
 use raft_vote::SharedBytes;
 use sql_engine::Engine;
@@ -39,29 +48,53 @@ impl Running {
         ensures cause { StepCause (D.faults disk.old) (D.faults disk.new) result }
         ensures runs { result ≢ Err fault.Down }
         ensures engine { Stays (E.kind engine.old) (E.kind engine.new) (E.refused_openings engine.old) (E.refused_openings engine.new) }
+        // Where it fails, a load finds what the acts of the rules left, if the disk kept what Raft was.
+        ensures stops { (opening : List ServerValue) →
+            LeavesBy D.tells (D.states disk.old) (D.states disk.new) self.old.replica result
+            (StopsBy (E.meaning (E.kind engine.old)) (E.kind engine.old) (read_setup opening) self.old event) }
+        // It makes the acts of the rules, and says what they say.
+        ensures acts { (opening : List ServerValue) →
+            IfOk result (λ outs. StepsBy (E.meaning (E.kind engine.old)) (E.kind engine.old) (read_setup opening) self.old self.new event outs
+            (E.told engine.old) (E.told engine.new)) }
     {
+        raft_steps_are_kept();
         self.replica.count_keeps();
-        self.begin(event, engine)?;
+        self.begin(event, disk, engine)?;
         self.run(disk, engine)?;
         self.take_outs()
     }
 
-    /// The event is given to clients, or is due at Raft.
-    fn begin<E: Engine>(&mut self, event: Event, engine: &mut E) -> Result<(), NodeFault>
+    /// The event is given to clients, or happens at Raft.
+    fn begin<D: Disk, E: Engine>(
+        &mut self,
+        event: Event,
+        disk: &mut D,
+        engine: &mut E,
+    ) -> Result<(), NodeFault>
         requires going { IsGoing self.old }
+        requires led { IsLed self.old }
         requires idle { self.old.due.items ≡ [] }
         requires agrees { Agrees (E.known engine.old) self.old.clients self.old.applied.machine }
         ensures going { OnOk result (IsGoing self.new) }
-        ensures replica { self.new.replica ≡ self.old.replica }
-        ensures wants { IfErr result (λ f. f ≡ fault.NoMemory) }
+        ensures led { OnOk result (IsLed self.new) }
+        ensures stored { StaysStored D.tells (D.states disk.old) (D.states disk.new) self.old.replica self.new.replica result }
+        ensures cause { StepCause (D.faults disk.old) (D.faults disk.new) result }
         ensures agrees { OnOk result (Agrees (E.known engine.new) self.new.clients self.new.applied.machine) }
         ensures engine { Stays (E.kind engine.old) (E.kind engine.new) (E.refused_openings engine.old) (E.refused_openings engine.new) }
-        ensures begun { (setup : Setup) → OnOk result (SoFar (E.meaning (E.kind engine.old)) (E.kind engine.old) setup self.old self.new (Happens event)) }
+        ensures begun { (opening : List ServerValue) →
+            OnOk result (SoFar (E.meaning (E.kind engine.old)) (E.kind engine.old) (read_setup opening) self.old self.new (Happens event)
+            (E.told engine.old) (E.told engine.new)) }
+        ensures stops { (opening : List ServerValue) → AtRest self.old →
+            LeavesBy D.tells (D.states disk.old) (D.states disk.new) self.old.replica result
+            (Stopped (E.meaning (E.kind engine.old)) (E.kind engine.old) (read_setup opening) self.old (Happens event)) }
+        ensures runs { result ≢ Err fault.Down }
     {
+        self.databases_stand();
+        raft_steps_are_kept();
         match event {
-            Event::Timeout => self.give(RaftEvent::Timeout)?,
-            Event::Beat => self.give(RaftEvent::Beat)?,
-            Event::Peer(message) => self.give(RaftEvent::Message(message))?,
+            Event::Timeout => self.take_raft(RaftEvent::Timeout, disk, engine)?,
+            Event::Beat => self.take_raft(RaftEvent::Beat, disk, engine)?,
+            Event::Peer(message) => self.take_raft(RaftEvent::Message(message), disk, engine)?,
             Event::Connect(conn) => self.connect(conn)?,
             Event::Hangup(conn) => self.hang_up(conn),
             Event::Bytes(conn, bytes) => self.receive(conn, bytes.as_slice())?,
@@ -73,6 +106,7 @@ impl Running {
     /// Turns, until nothing is left to do.
     fn run<D: Disk, E: Engine>(&mut self, disk: &mut D, engine: &mut E) -> Result<(), NodeFault>
         requires going { IsGoing self.old }
+        requires led { IsLed self.old }
         requires agrees { Agrees (E.known engine.old) self.old.clients self.old.applied.machine }
         ensures going { OnOk result (IsGoing self.new) }
         ensures stored { StaysStored D.tells (D.states disk.old) (D.states disk.new) self.old.replica self.new.replica result }
@@ -83,8 +117,20 @@ impl Running {
         ensures idle { OnOk result (self.new.due.items ≡ []) }
         ensures turns { OnOk result ((clients_in self.new).turns ≡ []) }
         ensures heard { OnOk result (self.new.heard ≡ None) }
+        ensures led { OnOk result (IsLed self.new) }
+        // A step that is under way is so behind it.
+        ensures on { (opening : List ServerValue) (start : RunningValue) (event : EventValue) (told : Option Told) →
+            Underway (E.meaning (E.kind engine.old)) (E.kind engine.old) (read_setup opening) start self.old event told (E.told engine.old) →
+            OnOk result (Underway (E.meaning (E.kind engine.old)) (E.kind engine.old) (read_setup opening) start self.new event told (E.told engine.new)) }
+        ensures ends { OnOk result (MayEnd (moment_of self.new)) }
+        // Where it fails, a load finds what the acts of the rules left, if the disk kept what Raft was.
+        ensures stops { (opening : List ServerValue) (start : RunningValue) (event : EventValue) (told : Option Told) →
+            Underway (E.meaning (E.kind engine.old)) (E.kind engine.old) (read_setup opening) start self.old event told (E.told engine.old) →
+            LeavesBy D.tells (D.states disk.old) (D.states disk.new) self.old.replica result
+            (StopsBy (E.meaning (E.kind engine.old)) (E.kind engine.old) (read_setup opening) start event) }
         ensures runs { result ≢ Err fault.Down }
     {
+        raft_steps_are_kept();
         for _ in 0..u64::MAX {
             if !self.turn(disk, engine)? {
                 return Ok(());
@@ -99,18 +145,30 @@ impl Running {
     /// as if it had come alone. False where there is nothing.
     fn turn<D: Disk, E: Engine>(&mut self, disk: &mut D, engine: &mut E) -> Result<bool, NodeFault>
         requires going { IsGoing self.old }
+        requires led { IsLed self.old }
         requires agrees { Agrees (E.known engine.old) self.old.clients self.old.applied.machine }
         ensures going { OnOk result (IsGoing self.new) }
         ensures stored { StaysStored D.tells (D.states disk.old) (D.states disk.new) self.old.replica self.new.replica result }
         ensures cause { StepCause (D.faults disk.old) (D.faults disk.new) result }
         ensures agrees { OnOk result (Agrees (E.known engine.new) self.new.clients self.new.applied.machine) }
         ensures engine { Stays (E.kind engine.old) (E.kind engine.new) (E.refused_openings engine.old) (E.refused_openings engine.new) }
+        ensures led { OnOk result (IsLed self.new) }
         // Where nothing is left, nothing is due, and all that is committed is applied.
         ensures idle { IfOk result (λ more. more ≡ false → IsIdle self.new) }
+        // A step that is under way is so behind it.
+        ensures on { (opening : List ServerValue) (start : RunningValue) (event : EventValue) (told : Option Told) →
+            Underway (E.meaning (E.kind engine.old)) (E.kind engine.old) (read_setup opening) start self.old event told (E.told engine.old) →
+            OnOk result (Underway (E.meaning (E.kind engine.old)) (E.kind engine.old) (read_setup opening) start self.new event told (E.told engine.new)) }
+        ensures ends { IfOk result (λ more. more ≡ false → MayEnd (moment_of self.new)) }
+        // Where it fails, a load finds what the acts of the rules left, if the disk kept what Raft was.
+        ensures stops { (opening : List ServerValue) (start : RunningValue) (event : EventValue) (told : Option Told) →
+            Underway (E.meaning (E.kind engine.old)) (E.kind engine.old) (read_setup opening) start self.old event told (E.told engine.old) →
+            LeavesBy D.tells (D.states disk.old) (D.states disk.new) self.old.replica result
+            (StopsBy (E.meaning (E.kind engine.old)) (E.kind engine.old) (read_setup opening) start event) }
         ensures runs { result ≢ Err fault.Down }
     {
-        if let Some(event) = self.due.pop_front() {
-            self.take_raft(event, disk, engine)?;
+        raft_steps_are_kept();
+        if self.take_due(disk)? {
             return Ok(true);
         }
         if self.applied.index < self.replica.view().commit {
@@ -128,6 +186,7 @@ impl Running {
     ) -> Result<bool, NodeFault>
         requires going { IsGoing self.old }
         requires agrees { Agrees (E.known engine.old) self.old.clients self.old.applied.machine }
+        requires led { IsLed self.old }
         requires due { self.old.due.items ≡ [] }
         requires applied { self.old.applied.index ≡ self.old.replica.raft.commit }
         ensures going { OnOk result (IsGoing self.new) }
@@ -135,9 +194,22 @@ impl Running {
         ensures cause { StepCause (D.faults disk.old) (D.faults disk.new) result }
         ensures agrees { OnOk result (Agrees (E.known engine.new) self.new.clients self.new.applied.machine) }
         ensures engine { Stays (E.kind engine.old) (E.kind engine.new) (E.refused_openings engine.old) (E.refused_openings engine.new) }
+        ensures led { OnOk result (IsLed self.new) }
         ensures idle { IfOk result (λ more. more ≡ false → IsIdle self.new) }
+        // A step that is under way is so behind it.
+        ensures on { (opening : List ServerValue) (start : RunningValue) (event : EventValue) (told : Option Told) →
+            Underway (E.meaning (E.kind engine.old)) (E.kind engine.old) (read_setup opening) start self.old event told (E.told engine.old) →
+            OnOk result (Underway (E.meaning (E.kind engine.old)) (E.kind engine.old) (read_setup opening) start self.new event told (E.told engine.new)) }
+        ensures ends { IfOk result (λ more. more ≡ false → MayEnd (moment_of self.new)) }
+        // Where it fails, a load finds what the acts of the rules left, if the disk kept what Raft was.
+        ensures stops { (opening : List ServerValue) (start : RunningValue) (event : EventValue) (told : Option Told) →
+            Underway (E.meaning (E.kind engine.old)) (E.kind engine.old) (read_setup opening) start self.old event told (E.told engine.old) →
+            LeavesBy D.tells (D.states disk.old) (D.states disk.new) self.old.replica result
+            (StopsBy (E.meaning (E.kind engine.old)) (E.kind engine.old) (read_setup opening) start event) }
         ensures runs { result ≢ Err fault.Down }
     {
+        raft_turns::<E>();
+        raft_steps_are_kept();
         if self.run_due(engine)? {
             return Ok(true);
         }
@@ -147,7 +219,7 @@ impl Running {
         if self.compact(disk)? {
             return Ok(true);
         }
-        if self.take_letter()? {
+        if self.take_letter(disk, engine)? {
             return Ok(true);
         }
         self.close_heard()
@@ -156,10 +228,17 @@ impl Running {
     /// Takes a snapshot where one is due. False where none is.
     fn compact<D: Disk>(&mut self, disk: &mut D) -> Result<bool, NodeFault>
         requires going { IsGoing self.old }
+        requires led { IsLed self.old }
+        requires idle { self.old.due.items ≡ [] }
+        requires applied { self.old.applied.index ≡ self.old.replica.raft.commit }
         ensures going { OnOk result (IsGoing self.new) }
         ensures stored { StaysStored D.tells (D.states disk.old) (D.states disk.new) self.old.replica self.new.replica result }
+        ensures stops { (opening : List ServerValue) (came : List ℕ) → LeavesBy D.tells (D.states disk.old) (D.states disk.new) self.old.replica result
+            (StopsCompacting (read_setup opening) came self.old) }
         ensures cause { StepCause (D.faults disk.old) (D.faults disk.new) result }
+        ensures led { OnOk result (IsLed self.new) }
         ensures none { IfOk result (λ more. more ≡ false → self.new ≡ self.old) }
+        ensures takes { (opening : List ServerValue) → IfOk result (λ more. more ≡ true → CompactsSo (read_setup opening) self.old self.new) }
         ensures agrees { StaysAgreed self.old self.new }
         ensures runs { result ≢ Err fault.Down }
     {
@@ -167,6 +246,11 @@ impl Running {
         if !self.replica.is_due(index) {
             return Ok(false);
         }
+        // Its bytes have the servers that are applied, which the node's configurations have too.
+        if !are_same(self.members.applied(), self.applied.servers.as_slice()) {
+            return Ok(false);
+        }
+        self.holds_machine();
         let bytes = SharedBytes::new(self.alloc, self.applied.snapshot(self.alloc)?)?;
         let messages = self.replica.snapshot(index, bytes, disk)?;
         self.mail.post_all(messages)?;
@@ -178,6 +262,7 @@ impl Running {
     fn take_outs(&mut self) -> Result<Outs, NodeFault>
         ensures said { IfOk result (λ outs. (outs.replies.items ≡ self.old.outs.replies.items) × (outs.closed.items ≡ self.old.outs.closed.items)) }
         ensures messages { IfOk result (λ outs. outs.messages.items ≡ sent self.old.mail) }
+        ensures reads { IfOk result (λ outs. outs.reads.items ≡ self.old.outs.reads.items) }
         ensures rest { self.new ≡ record self.old { outs = self.new.outs; mail = self.new.mail } }
         ensures quiet { IsQuiet self.new }
         ensures wants { IfErr result (λ f. f ≡ fault.NoMemory) }

@@ -154,6 +154,7 @@ impl Replica {
         requires fits { EventFits self.old.raft event }
         requires intake { IsIntake event }
         ensures whole { OnOk result (IsWhole self.new) }
+        ensures id { self.new.id ≡ self.old.id }
         ensures raft { OnOk result (node_of self.new.raft ≡ stepped self.old event) }
         ensures short { HasShortTerm (node_of self.old.raft) → OnOk result (HasShortTerm (node_of self.new.raft)) }
         ensures commit { OnOk result (self.old.raft.commit ≤ self.new.raft.commit) }
@@ -220,6 +221,7 @@ impl Replica {
         requires past { self.old.raft.snapshot.index < index }
         requires applied { index ≤ self.old.raft.commit }
         ensures whole { OnOk result (IsWhole self.new) }
+        ensures id { self.new.id ≡ self.old.id }
         ensures raft { OnOk result (node_of self.new.raft ≡ stepped self.old (snapped self.old index)) }
         ensures short { HasShortTerm (node_of self.old.raft) → OnOk result (HasShortTerm (node_of self.new.raft)) }
         ensures commit { OnOk result (self.old.raft.commit ≤ self.new.raft.commit) }

@@ -136,7 +136,7 @@ each_in w index trail session serving (conn ∷ conns) leads h =
 
 pub applying_goes_holds : (m : Meaning) (kind : EngineKind) → ApplyingGoes m kind
 unfolding happens
-applying_goes_holds m kind vs n bytes joins a b replies x = quiet_goes m kind vs n bytes joins a b (λ conn. []) replies true x.raft (λ s w st long.
+applying_goes_holds m kind vs n bytes joins a b replies x = quiet_goes m kind vs n bytes joins a b (λ conn. []) replies [] true x.raft (λ s w st long.
     let k = a.applied in
     let i = suc k in
     let content = (entry_seen x.entry).content in
@@ -185,6 +185,8 @@ applying_goes_holds m kind vs n bytes joins a b replies x = quiet_goes m kind vs
       };
       says = refl;
       replies = x.says ∙ sym (shift.told_applied i) ∙ ap (told_applied i) (sym st.sessions) ∙ ap (λ j. told_applied (suc j) w.gate) (sym st.applied) ∙ sym (told_all (suc w.applied) w.trail w.gate);
+      lends = refl;
+      uses = refl;
       terms = λ f. each_in (happens w Apply) (suc w.applied) w.trail w.gate.session w.serving w.gate.conns f.leads f.flights;
       early = λ z. absurd (true≢false z);
       joined = λ conn z. ((λ q. cc), tt);

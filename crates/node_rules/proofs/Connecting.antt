@@ -22,7 +22,7 @@ use Rattle.node_rules.proofs.Stretches.{part_self, part_none}
 -- ---- nothing, and what is asked
 
 pub staying_goes_holds : (m : Meaning) (kind : EngineKind) → StayingGoes m kind
-staying_goes_holds m kind vs n bytes joins a b x = quiet_goes m kind vs n bytes joins a b (λ conn. []) [] false x.rest.raft (λ s w st long.
+staying_goes_holds m kind vs n bytes joins a b x = quiet_goes m kind vs n bytes joins a b (λ conn. []) [] [] false x.rest.raft (λ s w st long.
     let due = due_stays vs a b s w st x.same.due in
     record {
       life = [];
@@ -32,6 +32,8 @@ staying_goes_holds m kind vs n bytes joins a b x = quiet_goes m kind vs n bytes 
       stands = moved vs a b s w w st x.rest (st.sessions ∙ ap (shifted st.lacks) (sym x.sessions)) due.0 due.1 refl refl refl refl refl;
       says = sym (append-nil w.said);
       replies = refl;
+      lends = refl;
+      uses = refl;
       terms = λ f. tt;
       early = λ z. tt;
       joined = λ conn z. tt;
@@ -40,7 +42,7 @@ staying_goes_holds m kind vs n bytes joins a b x = quiet_goes m kind vs n bytes 
     })
 
 pub hearing_goes_holds : (m : Meaning) (kind : EngineKind) → HearingGoes m kind
-hearing_goes_holds m kind vs n bytes joins a b asks x = quiet_goes m kind vs n bytes joins a b asks [] false x.rest.raft (λ s w st long.
+hearing_goes_holds m kind vs n bytes joins a b asks x = quiet_goes m kind vs n bytes joins a b asks [] [] false x.rest.raft (λ s w st long.
     let due = due_stays vs a b s w st x.due in
     record {
       life = [];
@@ -50,6 +52,8 @@ hearing_goes_holds m kind vs n bytes joins a b asks x = quiet_goes m kind vs n b
       stands = moved vs a b s w w st x.rest (st.sessions ∙ ap (shifted st.lacks) (sym x.sessions)) due.0 due.1 refl refl refl refl refl;
       says = sym (append-nil w.said);
       replies = refl;
+      lends = refl;
+      uses = refl;
       terms = λ f. tt;
       early = λ z. tt;
       joined = λ conn z. tt;
@@ -79,7 +83,7 @@ came vs a b s w conn x st false e =
 
 pub connecting_goes_holds : (m : Meaning) (kind : EngineKind) → ConnectingGoes m kind
 unfolding happens
-connecting_goes_holds m kind vs n bytes a b conn x = quiet_goes m kind vs n bytes (Some conn) a b (λ conn. []) [] false x.rest.raft (λ s w st long.
+connecting_goes_holds m kind vs n bytes a b conn x = quiet_goes m kind vs n bytes (Some conn) a b (λ conn. []) [] [] false x.rest.raft (λ s w st long.
     let room : connects w.gate conn ≡ connects a.node.sessions conn = ap (λ (g : Gateway). connects g conn) st.sessions ∙ (events_shift_hold st.lacks a.node.sessions).connects conn in
     let c = came vs a b s w conn x st (connects a.node.sessions conn) refl in
     let on : happens w (Connect conn) ≡ cond (connects a.node.sessions conn) (joined w conn) w = ap (λ (t : Bool). cond t (joined w conn) w) room in
@@ -91,6 +95,8 @@ connecting_goes_holds m kind vs n bytes a b conn x = quiet_goes m kind vs n byte
       stands = subst (StandsAt vs b s) (sym on) c.stands;
       says = ap (λ (v : Life). v.said) on ∙ c.said ∙ sym (append-nil w.said);
       replies = refl;
+      lends = refl;
+      uses = refl;
       terms = λ f. tt;
       early = λ z. tt;
       joined = λ other z. ((λ q. z (ap Some (same_conn conn other q))), tt);
@@ -110,7 +116,7 @@ hung_closed g conn o = left_closed (g.session conn) (g.session conn).flight (sub
 
 pub hanging_goes_holds : (m : Meaning) (kind : EngineKind) → HangingGoes m kind
 unfolding happens
-hanging_goes_holds m kind vs n bytes joins a b conn x = quiet_goes m kind vs n bytes joins a b (λ conn. []) [] false x.rest.raft (λ s w st long.
+hanging_goes_holds m kind vs n bytes joins a b conn x = quiet_goes m kind vs n bytes joins a b (λ conn. []) [] [] false x.rest.raft (λ s w st long.
     let due = due_stays vs a b s w st x.due in
     let gate : on_hangup w.gate conn ≡ shifted st.lacks b.node.sessions = ap (λ (g : Gateway). on_hangup g conn) st.sessions ∙ (events_shift_hold st.lacks a.node.sessions).hangup conn ∙ ap (shifted st.lacks) (sym x.sessions) in
     record {
@@ -121,6 +127,8 @@ hanging_goes_holds m kind vs n bytes joins a b conn x = quiet_goes m kind vs n b
       stands = moved vs a b s w (happens w (Hangup conn)) st x.rest gate due.0 due.1 refl refl refl refl refl;
       says = sym (append-nil w.said);
       replies = refl;
+      lends = refl;
+      uses = refl;
       terms = λ f. tt;
       early = λ z. tt;
       joined = λ other z. ((λ q. cc), tt);

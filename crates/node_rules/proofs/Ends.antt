@@ -90,6 +90,8 @@ goes_to_end_holds m kind vs n bytes joins read old b p x end s w is stands takes
       at,
       x.letters,
       r.replies ∙ ap (map told) (sym news),
+      r.lends,
+      r.uses,
       r.joined,
       r.handles,
       λ conn o other. let k = r.completes conn o other in record { all = k.all; handled = k.handled; waits = end.waits conn o; run = end.run conn o },

@@ -17,6 +17,7 @@ use Rattle.session_rules.proofs.RestartedEvents.{events_shift_hold}
 use Rattle.session_world.specs.Nodes.{Said, Node as Life, Standing, databases, view_of}
 use Rattle.session_world.specs.Life.{Event as Doing, Call, ArePlain, query_by, tells, called, happens}
 use Rattle.session_world.specs.Answering.{Handled, comes}
+use Rattle.session_world.specs.Lending.{lends_by, lent_by, uses, answers_by}
 use Rattle.raft_rules.specs.Log.{Entry}
 use Rattle.raft_rules.specs.Node.{Node, is_leader}
 use Rattle.raft_rules.specs.NodeValues.{node_of}
@@ -29,7 +30,7 @@ use Rattle.cluster_world.proofs.Proposals.{proposals_seen_hold, proposals_weave_
 use Rattle.node_rules.specs.Steps.{told, calls, ArePartOf}
 use Rattle.node_rules.specs.Accounts.{Moment, with_due, DueWeaves, StandsAt, no_piece, NoneWaited, Lives}
 use Rattle.node_rules.specs.Turns.{KeepsRaft, view_at, gate_after, told_at_once, due_by, IsNumberedBy, MayPropose, HandlingGoes}
-use Rattle.node_rules.proofs.Moving.{no_inputs, moved, in_term}
+use Rattle.node_rules.proofs.Moving.{no_inputs, moved, in_term, all_used}
 use Rattle.node_rules.proofs.Stretches.{part_self}
 
 -- what comes of it, at what the moment stands for
@@ -113,6 +114,14 @@ shifted_comes lacks (Proposes own contents note) = refl
 shifted_comes lacks (Lends own job) = refl
 shifted_comes lacks (Affects effect) = refl
 
+shifted_lends : (lacks : List ℕ → ℕ) (conn : ℕ) (t : Turned) → lends_by conn (shifted_turned lacks t) ≡ lends_by conn t
+shifted_lends lacks conn (Refused cause) = refl
+shifted_lends lacks conn Lacks = refl
+shifted_lends lacks conn (Answers own reply note) = refl
+shifted_lends lacks conn (Proposes own contents note) = refl
+shifted_lends lacks conn (Lends own job) = refl
+shifted_lends lacks conn (Affects effect) = refl
+
 -- the request as the life handles it
 record Same (w : Life) (lacks : List ℕ → ℕ) (standing : Standing) (conn : ℕ) (request : Request) (answers : List Answer) (v : View) (m : Machine) (g : Gateway) : Type 0 where
   ready : may_ask (w.gate.session conn) ≡ may_ask (g.session conn)
@@ -141,10 +150,10 @@ unfolding happens
 handling_goes_holds counts m kind vs n bytes joins a b conn request replies h = record {
   made = ap node_of h.rest.raft;
   letters = refl;
-  lives = λ s w is x takes told_so. subst (Lives m kind vs n joins a b (record no_piece { replies = replies }) s w) (sym (no_inputs is takes.alike)) (alone s w x (takes.kept 0).1.0);
+  lives = λ s w is x takes told_so. subst (Lives m kind vs n joins a b (record no_piece { replies = replies; jobs = lends_by conn h.turned; answers = h.answers }) s w) (sym (no_inputs is takes.alike)) (alone s w x (takes.kept 0).1.0);
 }
   where
-    alone : (s : Node) (w : Life) → StandsAt vs a s w → s.commit ≤ length s.log → Lives m kind vs n joins a b (record no_piece { replies = replies }) s w []
+    alone : (s : Node) (w : Life) → StandsAt vs a s w → s.commit ≤ length s.log → Lives m kind vs n joins a b (record no_piece { replies = replies; jobs = lends_by conn h.turned; answers = h.answers }) s w []
     alone s w x long =
         let u = same counts w x.lacks x.since h.standing conn request h.answers (view_at a h.standing) (machine_of a.node.machine) a.node.sessions (view_is vs a s w h.standing x h.idle) x.files x.sessions in
         let e : Doing = Call conn h.standing request h.answers in
@@ -161,6 +170,8 @@ handling_goes_holds counts m kind vs n bytes joins a b conn request replies h = 
           stands = subst (StandsAt vs b s) (sym on) r.stands;
           says = ap (λ (z : Life). z.said) on ∙ r.says;
           replies = h.says ∙ r.replies;
+          lends = sym (append-nil (lent_by w e) ∙ cond-true (may_ask (w.gate.session conn)) _ [] ready ∙ ap (lends_by conn) turned ∙ shifted_lends x.lacks conn h.turned);
+          uses = sym (append-nil (answers_by w e) ∙ cond-true (may_ask (w.gate.session conn)) _ [] ready ∙ ap (λ z. uses z h.answers) u.given ∙ all_used _ h.answers h.exact);
           terms = λ f. in_term (happens w e) r.said r.early;
           early = λ z. r.early;
           joined = λ other z. ((λ q. cc), tt);

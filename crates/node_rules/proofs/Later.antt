@@ -1,5 +1,5 @@
 -- A query that is answered later than it was asked, by the node or by a reader, is a stretch of an event.
-use Rattle.std.proofs.Common.{◌≡◌, ℕ, true, false, List, [], ◌∷◌, refl, sym, ap, ◌∙◌, subst}
+use Rattle.std.proofs.Common.{◌≡◌, ℕ, true, false, List, [], ◌∷◌, refl, sym, ap, ◌∙◌, subst, append-nil}
 use Rattle.std.specs.Prelude.{Some}
 use Rattle.sql_engine.specs.declared.kind.EngineKind.{EngineKind}
 use Rattle.sql_engine.specs.Meanings.{Meaning}
@@ -13,6 +13,7 @@ use Rattle.session_rules.proofs.RestartedEvents.{events_shift_hold}
 use Rattle.session_world.specs.Nodes.{Said, Node as Life, Standing, databases, view_of}
 use Rattle.session_world.specs.Life.{Event as Doing, Resume, Done, undue, outcome_later, resumed_by, resumed, said_read, read_by, read, called, happens, AllowsLater, AllowsRead}
 use Rattle.session_world.specs.Answering.{comes}
+use Rattle.session_world.specs.Lending.{uses, answers_later}
 use Rattle.raft_rules.specs.Node.{Node}
 use Rattle.raft_rules.specs.NodeValues.{node_of}
 use Rattle.raft_world.specs.Members.{Setup}
@@ -21,7 +22,7 @@ use Rattle.node_rules.specs.Accounts.{Moment, StandsAt, no_piece, Lives}
 use Rattle.node_rules.specs.Turns.{KeepsRaft, view_at}
 use Rattle.node_rules.specs.ClientTurns.{ResumingGoes, ReadingBegins}
 use Rattle.node_rules.proofs.Handling.{comes_of, shifted_comes, view_is}
-use Rattle.node_rules.proofs.Moving.{no_inputs, quiet_goes, moved, due_stays, in_term, part_same, all_same}
+use Rattle.node_rules.proofs.Moving.{no_inputs, quiet_goes, moved, due_stays, in_term, all_used, part_same, all_same}
 
 -- ---- the node runs it
 
@@ -74,7 +75,7 @@ resumed_is w conn (Affects effect) c = refl
 
 pub resuming_goes_holds : LatersRestart → (m : Meaning) (kind : EngineKind) → ResumingGoes m kind
 unfolding happens undue_stands
-resuming_goes_holds laters m kind vs n bytes joins a b conn replies x = quiet_goes m kind vs n bytes joins a b (λ conn. []) replies false x.rest.raft (λ s w st long.
+resuming_goes_holds laters m kind vs n bytes joins a b conn replies x = quiet_goes m kind vs n bytes joins a b (λ conn. []) replies x.answers false x.rest.raft (λ s w st long.
     let u = undue_stands vs a s w conn st in
     let later : later_query (w.gate.session conn).later ≡ Some x.statement = ap (λ (g : Gateway). later_query (g.session conn).later) st.sessions ∙ x.later in
     let like = same laters w st.lacks st.since x.standing conn x.statement x.answers (view_at a x.standing) (machine_of a.node.machine) (without_later a.node.sessions conn) (view_is vs a s w x.standing st x.idle) st.files u.sessions in
@@ -92,6 +93,8 @@ resuming_goes_holds laters m kind vs n bytes joins a b conn replies x = quiet_go
       stands = subst (StandsAt vs b s) (sym on) r.stands;
       says = ap (λ (z : Life). z.said) on ∙ r.says;
       replies = x.says ∙ r.replies;
+      lends = refl;
+      uses = sym (append-nil (answers_later w conn x.standing x.answers (later_query (w.gate.session conn).later)) ∙ ap (answers_later w conn x.standing x.answers) later ∙ ap (λ z. uses z x.answers) like.given ∙ all_used _ x.answers x.exact);
       terms = λ f. in_term (happens w e) r.said r.early;
       early = λ z. r.early;
       joined = λ other z. ((λ q. cc), tt);
@@ -123,6 +126,8 @@ reading_begins_holds m kind vs n bytes joins a b conn reply x = record {
         stands = subst (StandsAt vs b s) (sym on) (moved vs a b s w v st x.rest gate due.0 due.1 refl refl refl refl refl);
         says = ap (λ (z : Life). z.said) on;
         replies = refl;
+        lends = refl;
+        uses = refl;
         terms = λ f. in_term (happens w e) said (refl, tt);
         early = λ z. (refl, tt);
         joined = λ other z. ((λ q. cc), tt);

@@ -15,6 +15,7 @@ use Rattle.session_rules.proofs.RestartedEvents.{events_shift_hold}
 use Rattle.session_world.specs.Nodes.{Trail, Said, Node as Life}
 use Rattle.session_world.specs.Life.{Event as Doing, Apply, said_by, said_applied, happens, run_from as lives_on}
 use Rattle.session_world.specs.Answering.{handled_in}
+use Rattle.session_world.specs.Lending.{lent_in, answers_in}
 use Rattle.session_world.specs.Laws.{NoneComes}
 use Rattle.cluster_world.specs.Clusters.{AllFitIn}
 use Rattle.node_rules.specs.Steps.{calls}
@@ -75,6 +76,8 @@ pub record Climbs (m : Meaning) (kind : EngineKind) (logs : ℕ → List Line) (
   pub none : (conn : ℕ) → NoneComes conn life
   pub calls_none : (conn : ℕ) → calls conn life ≡ []
   pub handled : (conn : ℕ) → handled_in conn w life ≡ []
+  pub lends : lent_in w life ≡ []
+  pub uses : answers_in w life ≡ []
 
 pub climbs : (m : Meaning) (kind : EngineKind) (logs : ℕ → List Line) (lacks : List ℕ → ℕ) (g : Gateway) (count : ℕ) (w : Life) → w.gate ≡ shifted lacks (on_lost g) → w.applied + count ≤ length w.log → Climbs m kind logs w count
 unfolding happens
@@ -91,6 +94,8 @@ climbs m kind logs lacks g zero w gate short = record {
   none = λ conn. tt;
   calls_none = λ conn. refl;
   handled = λ conn. refl;
+  lends = refl;
+  uses = refl;
 }
 climbs m kind logs lacks g (suc count) w gate short =
     let next : Life = happens w Apply in
@@ -112,4 +117,6 @@ climbs m kind logs lacks g (suc count) w gate short =
       none = λ conn. ((λ q. cc), r.none conn);
       calls_none = λ conn. r.calls_none conn;
       handled = λ conn. r.handled conn;
+      lends = r.lends;
+      uses = r.uses;
     }

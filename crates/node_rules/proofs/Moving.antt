@@ -1,12 +1,15 @@
 -- Stretches of an event in which Raft takes nothing in.
-use Rattle.std.proofs.Common.{◌≡◌, ℕ, ◌≤◌, Bool, List, [], ◌∷◌, ◌++◌, length, refl, sym, ap, ◌∙◌, subst, arith, append-nil}
+use Rattle.std.proofs.Common.{◌≡◌, ℕ, ◌≤◌, Bool, List, [], ◌∷◌, ◌++◌, length, take, refl, sym, ap, ◌∙◌, subst, arith, append-nil}
 use Rattle.std.specs.Prelude.{Option}
+use Rattle.std.proofs.lemmas.List.{take_all}
 use Rattle.sql_engine.specs.declared.kind.EngineKind.{EngineKind}
 use Rattle.sql_engine.specs.Meanings.{Meaning}
 use Rattle.wire_msgs.specs.declared.request.Request.{Request}
+use Rattle.session_rules.specs.Engines.{Answer, Handed, used_for}
 use Rattle.session_rules.specs.Restarts.{restarted, shifted}
 use Rattle.session_rules.specs.Seen.{log_seen}
 use Rattle.session_rules.specs.Sessions.{Reply}
+use Rattle.session_world.specs.Lending.{uses}
 use Rattle.session_world.specs.Nodes.{Said, Node as Life, databases}
 use Rattle.raft_rules.specs.Node.{Node, Input}
 use Rattle.raft_rules.specs.NodeValues.{NodeValue, IsCoherent, node_of}
@@ -25,13 +28,13 @@ pub no_inputs : (is : List Input) → AlikeInputs is [] → is ≡ []
 no_inputs [] e = refl
 no_inputs (i ∷ is) e = absurd cc
 
--- a turn in which Raft takes nothing in is a stretch, where the life has such events
-pub quiet_goes : (m : Meaning) (kind : EngineKind) (vs : Setup) (n : ℕ) (bytes : List ℕ) (joins : Option ℕ) (a b : Moment) (asks : ℕ → List Request) (replies : List (ℕ × Reply)) (late : Bool) → b.node.raft ≡ a.node.raft →
-    ((s : Node) (w : Life) → StandsAt vs a s w → s.commit ≤ length s.log → Lives m kind vs n joins a b (record { inputs = []; asks = asks; letters = []; replies = replies; late = late }) s w []) → Goes m kind vs n bytes joins a b (record { inputs = []; asks = asks; letters = []; replies = replies; late = late })
-quiet_goes m kind vs n bytes joins a b asks replies late raft alone = record {
+-- a turn in which Raft takes nothing in, and which lends nothing, is a stretch, where the life has such events
+pub quiet_goes : (m : Meaning) (kind : EngineKind) (vs : Setup) (n : ℕ) (bytes : List ℕ) (joins : Option ℕ) (a b : Moment) (asks : ℕ → List Request) (replies : List (ℕ × Reply)) (answers : List Answer) (late : Bool) → b.node.raft ≡ a.node.raft →
+    ((s : Node) (w : Life) → StandsAt vs a s w → s.commit ≤ length s.log → Lives m kind vs n joins a b (record { inputs = []; asks = asks; letters = []; replies = replies; jobs = []; answers = answers; late = late }) s w []) → Goes m kind vs n bytes joins a b (record { inputs = []; asks = asks; letters = []; replies = replies; jobs = []; answers = answers; late = late })
+quiet_goes m kind vs n bytes joins a b asks replies answers late raft alone = record {
   made = ap node_of raft;
   letters = refl;
-  lives = λ s w is x takes told_so. subst (Lives m kind vs n joins a b (record { inputs = []; asks = asks; letters = []; replies = replies; late = late }) s w) (sym (no_inputs is takes.alike)) (alone s w x (takes.kept 0).1.0);
+  lives = λ s w is x takes told_so. subst (Lives m kind vs n joins a b (record { inputs = []; asks = asks; letters = []; replies = replies; jobs = []; answers = answers; late = late }) s w) (sym (no_inputs is takes.alike)) (alone s w x (takes.kept 0).1.0);
 }
 
 -- a moment that differs from one in sessions and in what is due alone
@@ -63,6 +66,10 @@ due_stays vs a b s w x e = (subst (λ l. w.log ≡ log_seen (with_due s.term s.l
 pub in_term : (w : Life) (xs : List Said) → NoneWaited xs → InTerm w xs
 in_term w [] a = tt
 in_term w (y ∷ xs) a = let z : y.index ≡ 0 = a.0 in ((λ h. absurd (omega (arith, h, z))), in_term w xs a.1)
+
+-- answers that are all used are those that are
+pub all_used : (given : Option Handed) (answers : List Answer) → used_for given answers ≡ length answers → uses given answers ≡ answers
+all_used given answers e = ap (λ (k : ℕ). take k answers) e ∙ take_all (length answers) answers (omega arith)
 
 -- what waits is what waited
 pub part_same : (xs ys : List Request) → xs ≡ ys → ArePartOf xs (ys ++ [])

@@ -92,6 +92,8 @@ owing_goes_holds m kind vs n bytes joins a b contents o = record {
           };
           says = sym (append-nil w.said);
           replies = refl;
+          lends = refl;
+          uses = refl;
           terms = λ f. tt;
           early = λ z. tt;
           joined = λ conn other. ((λ q. cc), tt);

@@ -17,6 +17,7 @@ use Rattle.session_rules.proofs.RestartedEvents.{events_shift_hold}
 use Rattle.session_world.specs.Nodes.{Said, Node as Life, databases}
 use Rattle.session_world.specs.Life.{Event as Doing, Lose, told_all, happens, run_from as lives_on}
 use Rattle.session_world.specs.Answering.{handled_in}
+use Rattle.session_world.specs.Lending.{lent_in, answers_in}
 use Rattle.session_world.specs.Laws.{NoneComes}
 use Rattle.raft_rules.specs.Log.{Entry, LogEnd}
 use Rattle.raft_rules.specs.Node.{Node, Timeout, Beat, Propose, Transfer, Snapped, UseServers, Input, Local, Receive, is_leader}
@@ -39,7 +40,7 @@ use Rattle.node_rules.specs.RaftTurns.{raft_after, RaftSteps, KeepsSnapshot, All
 use Rattle.node_rules.proofs.RaftLives.{Led, IsReady, goes_with}
 use Rattle.node_rules.proofs.RaftShapes.{Shape, Still, step_shape, servers_still, beat_still, transfer_still}
 use Rattle.node_rules.proofs.SnapshotSteps.{snapshots_stay}
-use Rattle.node_rules.proofs.Stretches.{part_self, tail_is, lives_join, none_join, calls_join, handled_join}
+use Rattle.node_rules.proofs.Stretches.{part_self, tail_is, lives_join, none_join, calls_join, handled_join, none_lent, none_used}
 use Rattle.node_rules.proofs.Taking.{kept_stands}
 
 -- ---- what is kept
@@ -198,6 +199,8 @@ pub record Ends (m : Meaning) (kind : EngineKind) (logs : ℕ → List Line) (b 
   pub none : (conn : ℕ) → NoneComes conn life
   pub calls_none : (conn : ℕ) → calls conn life ≡ []
   pub handled : (conn : ℕ) → handled_in conn w life ≡ []
+  pub lends : lent_in w life ≡ []
+  pub uses : answers_in w life ≡ []
 
 pub lives_so : (m : Meaning) (kind : EngineKind) (vs : Setup) (me : ℕ) (joins : Option ℕ) (a b : Moment) (i j : Input) (letters : List Letter) (replies : List (ℕ × Reply)) (s : Node) (w : Life) →
     let t = (member_step vs me s j).node in RaftSteps me a b i letters → Stepped vs me a s t (node_of b.node.raft) → Ends m kind (step_logs vs me s (j ∷ [])) b t w replies → ((es : List Entry) → j ≢ Local (Propose es)) → b.due ≡ [] → b.applied ≤ t.commit →
@@ -229,6 +232,8 @@ lives_so m kind vs me joins a b i j letters replies s w step st e other due with
       };
       says = e.said;
       replies = told_back replies;
+      lends = sym e.lends;
+      uses = sym e.uses;
       terms = λ f. term_of_none (lives_on w e.life) (told_all replies) (told_none replies);
       early = λ z. told_none replies;
       joined = λ conn differs. e.none conn;
@@ -288,6 +293,8 @@ still_lives m kind vs me joins a b i j letters s w step x st still other due res
       };
       says = sym (append-nil w.said);
       replies = refl;
+      lends = refl;
+      uses = refl;
       terms = λ f. tt;
       early = λ z. tt;
       joined = λ conn differs. tt;
@@ -336,6 +343,8 @@ pub record Before (m : Meaning) (kind : EngineKind) (logs : ℕ → List Line) (
   pub none : (conn : ℕ) → NoneComes conn life
   pub calls_none : (conn : ℕ) → calls conn life ≡ []
   pub handled : (conn : ℕ) → handled_in conn w life ≡ []
+  pub lends : lent_in w life ≡ []
+  pub uses : answers_in w life ≡ []
 
 -- what is said where none was told
 still_said : (said : List Said) (replies : List (ℕ × Reply)) → replies ≡ [] → said ≡ said ++ told_all replies
@@ -361,6 +370,8 @@ loses_first m kind logs a b s t w replies vs x rises sessions serving told =
       none = λ conn. ((λ q. cc), tt);
       calls_none = λ conn. refl;
       handled = λ conn. refl;
+      lends = refl;
+      uses = refl;
     }
 
 -- the term stays
@@ -379,6 +390,8 @@ stays_first m kind logs a b s t w replies vs x ready sessions serving told = rec
   none = λ conn. tt;
   calls_none = λ conn. refl;
   handled = λ conn. refl;
+  lends = refl;
+  uses = refl;
 }
 
 -- a term that isn't another one, or is a greater one
@@ -433,6 +446,8 @@ ends_with m kind vs me a b s t w replies logs x f l applied files =
       none = λ conn. none_join conn f.life l.life (f.none conn) (l.none conn);
       calls_none = λ conn. calls_join conn f.life l.life ∙ ap (λ (c : List Request). c ++ calls conn l.life) (f.calls_none conn) ∙ l.calls_none conn;
       handled = λ conn. handled_join conn w f.life l.life ∙ ap (λ (h : List Handled). h ++ handled_in conn (lives_on w f.life) l.life) (f.handled conn) ∙ l.handled conn;
+      lends = none_lent w f.life l.life f.lends l.lends;
+      uses = none_used w f.life l.life f.uses l.uses;
     }
 
 pub following_goes_holds : (m : Meaning) (kind : EngineKind) → FollowingGoes m kind

@@ -9,6 +9,7 @@ use Rattle.session_rules.specs.Seen.{log_seen}
 use Rattle.session_world.specs.Nodes.{Node as Life, databases}
 use Rattle.session_world.specs.Life.{Event as Doing, Lead, Append, Follow, happens, run_from as lives_on}
 use Rattle.session_world.specs.Answering.{handled_in}
+use Rattle.session_world.specs.Lending.{lent_in, answers_in}
 use Rattle.session_world.specs.Laws.{NoneComes}
 use Rattle.raft_rules.specs.Log.{Entry}
 use Rattle.raft_rules.specs.Node.{Node, Input, Local, Propose, is_leader}
@@ -38,6 +39,8 @@ pub record Led (m : Meaning) (kind : EngineKind) (logs : ℕ → List Line) (w :
   pub none : (conn : ℕ) → NoneComes conn life
   pub calls_none : (conn : ℕ) → calls conn life ≡ []
   pub handled : (conn : ℕ) → handled_in conn w life ≡ []
+  pub lends : lent_in w life ≡ []
+  pub uses : answers_in w life ≡ []
 
 module _ (m : Meaning) (kind : EngineKind) (logs : ℕ → List Line) where
   -- it stays as it is
@@ -57,6 +60,8 @@ module _ (m : Meaning) (kind : EngineKind) (logs : ℕ → List Line) where
     none = λ conn. tt;
     calls_none = λ conn. refl;
     handled = λ conn. refl;
+    lends = refl;
+    uses = refl;
   }
 
   -- who doesn't lead follows a log with the front that is applied
@@ -80,6 +85,8 @@ module _ (m : Meaning) (kind : EngineKind) (logs : ℕ → List Line) where
         none = λ conn. ((λ q. cc), tt);
         calls_none = λ conn. refl;
         handled = λ conn. refl;
+        lends = refl;
+        uses = refl;
       }
 
   -- leadership is won in the term
@@ -100,6 +107,8 @@ module _ (m : Meaning) (kind : EngineKind) (logs : ℕ → List Line) where
     none = λ conn. ((λ q. cc), tt);
     calls_none = λ conn. refl;
     handled = λ conn. refl;
+    lends = refl;
+    uses = refl;
   }
 
   -- a leader's barrier
@@ -120,6 +129,8 @@ module _ (m : Meaning) (kind : EngineKind) (logs : ℕ → List Line) where
     none = λ conn. ((λ q. cc), tt);
     calls_none = λ conn. refl;
     handled = λ conn. refl;
+    lends = refl;
+    uses = refl;
   }
 
   -- and that of one who wins
@@ -140,6 +151,8 @@ module _ (m : Meaning) (kind : EngineKind) (logs : ℕ → List Line) where
     none = λ conn. ((λ q. cc), ((λ q. cc), tt));
     calls_none = λ conn. refl;
     handled = λ conn. refl;
+    lends = refl;
+    uses = refl;
   }
 
 -- the log of a leader with its barrier

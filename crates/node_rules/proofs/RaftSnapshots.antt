@@ -36,7 +36,7 @@ use Rattle.node_rules.proofs.RaftGoes.{Stepped, stepped_to, Ends, lives_so, stil
 use Rattle.node_rules.proofs.RaftLives.{goes_with}
 use Rattle.node_rules.proofs.RaftShapes.{Snapt, snapped_still}
 use Rattle.node_rules.proofs.SnapshotSteps.{snapshots_come, snapshots_taken}
-use Rattle.node_rules.proofs.Stretches.{lives_join, none_join, calls_join, handled_join}
+use Rattle.node_rules.proofs.Stretches.{lives_join, none_join, calls_join, handled_join, none_lent, none_used}
 use Rattle.node_rules.proofs.Taking.{kept_stands}
 
 some_same : {A : Type 0} {a b : A} → Some a ≡ Some b → a ≡ b
@@ -244,6 +244,8 @@ install_ends m kind vs me a b bytes message letters s j w replies x st h past up
       none = λ conn. none_join conn f.life (l.life ++ c.life) (f.none conn) (none_join conn l.life c.life (l.none conn) (c.none conn));
       calls_none = λ conn. calls_join conn f.life (l.life ++ c.life) ∙ ap (λ (e : List Request). e ++ calls conn (l.life ++ c.life)) (f.calls_none conn) ∙ calls_join conn l.life c.life ∙ ap (λ (e : List Request). e ++ calls conn c.life) (l.calls_none conn) ∙ c.calls_none conn;
       handled = λ conn. handled_join conn w f.life (l.life ++ c.life) ∙ ap (λ (e : List Handled). e ++ handled_in conn v (l.life ++ c.life)) (f.handled conn) ∙ handled_join conn v l.life c.life ∙ ap (λ (e : List Handled). e ++ handled_in conn u c.life) (l.handled conn) ∙ c.handled conn;
+      lends = none_lent w f.life (l.life ++ c.life) f.lends (none_lent v l.life c.life l.lends c.lends);
+      uses = none_used w f.life (l.life ++ c.life) f.uses (none_used v l.life c.life l.uses c.uses);
     }
 
 pub install_goes_holds : (m : Meaning) (kind : EngineKind) → InstallGoes m kind

@@ -19,7 +19,7 @@ use Rattle.node_rules.proofs.Moving.{quiet_goes, due_stays, part_same, all_same}
 
 pub serving_goes_holds : (m : Meaning) (kind : EngineKind) → ServingGoes m kind
 unfolding happens
-serving_goes_holds m kind vs n bytes joins a b x = quiet_goes m kind vs n bytes joins a b (λ conn. []) [] false x.raft (λ s w st long.
+serving_goes_holds m kind vs n bytes joins a b x = quiet_goes m kind vs n bytes joins a b (λ conn. []) [] [] false x.raft (λ s w st long.
     let due = due_stays vs a b s w st x.same.due in
     let role : is_leader s.role ≡ true = sym (ap (λ (z : Node). is_leader z.role) st.twin.node) ∙ x.leads in
     let log : w.log ≡ log_seen s.log = subst (λ l. w.log ≡ log_seen (with_due s.term s.log l)) x.idle st.log in
@@ -49,6 +49,8 @@ serving_goes_holds m kind vs n bytes joins a b x = quiet_goes m kind vs n bytes 
       };
       says = sym (append-nil w.said);
       replies = refl;
+      lends = refl;
+      uses = refl;
       terms = λ f. tt;
       early = λ z. tt;
       joined = λ conn z. ((λ q. cc), tt);

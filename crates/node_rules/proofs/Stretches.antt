@@ -12,6 +12,7 @@ use Rattle.session_rules.specs.Restarts.{shifted}
 use Rattle.session_world.specs.Nodes.{Said, Node as Life}
 use Rattle.session_world.specs.Life.{Event as Doing, Connect, Hangup, Call, Resume, Done, Apply, Lose, Lead, Serve, Append, Follow, happens, run_from as lives_on}
 use Rattle.session_world.specs.Answering.{Handled, handled_by, handled_in, IsOpen}
+use Rattle.session_world.specs.Lending.{lent_by, lent_in, answers_by, answers_in}
 use Rattle.session_world.specs.Laws.{NoneComes}
 use Rattle.session_world.proofs.Replying.{open_back}
 use Rattle.raft_rules.specs.Node as raft
@@ -191,6 +192,25 @@ pub handled_join : (conn : ℕ) (w : Life) (xs ys : List Doing) → handled_in c
 handled_join conn w [] ys = refl
 handled_join conn w (x ∷ xs) ys = ap (λ l. handled_by conn w x ++ l) (handled_join conn (happens w x) xs ys) ∙ sym (append_assoc (handled_by conn w x) (handled_in conn (happens w x) xs) (handled_in conn (lives_on (happens w x) xs) ys))
 
+-- ---- queries that are lent, and answers that are used
+
+pub lent_join : (w : Life) (xs ys : List Doing) → lent_in w (xs ++ ys) ≡ lent_in w xs ++ lent_in (lives_on w xs) ys
+lent_join w [] ys = refl
+lent_join w (x ∷ xs) ys = ap (λ l. lent_by w x ++ l) (lent_join (happens w x) xs ys) ∙ sym (append_assoc (lent_by w x) (lent_in (happens w x) xs) (lent_in (lives_on (happens w x) xs) ys))
+
+pub answers_join : (w : Life) (xs ys : List Doing) → answers_in w (xs ++ ys) ≡ answers_in w xs ++ answers_in (lives_on w xs) ys
+answers_join w [] ys = refl
+answers_join w (x ∷ xs) ys = ap (λ l. answers_by w x ++ l) (answers_join (happens w x) xs ys) ∙ sym (append_assoc (answers_by w x) (answers_in (happens w x) xs) (answers_in (lives_on (happens w x) xs) ys))
+
+-- where there are none in either part
+pub none_lent : (w : Life) (xs ys : List Doing) → lent_in w xs ≡ [] → lent_in (lives_on w xs) ys ≡ [] → lent_in w (xs ++ ys) ≡ []
+none_lent w xs ys a b = lent_join w xs ys ∙ ap (λ l. l ++ lent_in (lives_on w xs) ys) a ∙ b
+
+pub none_used : (w : Life) (xs ys : List Doing) → answers_in w xs ≡ [] → answers_in (lives_on w xs) ys ≡ [] → answers_in w (xs ++ ys) ≡ []
+none_used w xs ys a b = answers_join w xs ys ∙ ap (λ l. l ++ answers_in (lives_on w xs) ys) a ∙ b
+
+-- ---- requests that are handled
+
 pub calls_join : (conn : ℕ) (xs ys : List Doing) → calls conn (xs ++ ys) ≡ calls conn xs ++ calls conn ys
 calls_join conn [] ys = refl
 calls_join conn (Connect k ∷ xs) ys = calls_join conn xs ys
@@ -344,6 +364,8 @@ module _ (m : Meaning) (kind : EngineKind) where
         stands = subst (StandsAt vs c (steps (member_step vs n) s (is ++ js))) (sym on) (subst (λ z. StandsAt vs c z (lives_on (lives_on w x.life) y.life)) (sym (steps_join (member_step vs n) s is js)) end);
         says = ap (λ (v : Life). v.said) on ∙ y.says ∙ ap (λ l. l ++ y.said) x.says ∙ append_assoc w.said x.said y.said;
         replies = ap (λ l. l ++ q.replies) x.replies ∙ ap (λ l. map told x.said ++ l) y.replies ∙ sym (map-append told x.said y.said);
+        lends = ap (λ l. l ++ q.jobs) x.lends ∙ ap (λ l. lent_in w x.life ++ l) y.lends ∙ sym (lent_join w x.life y.life);
+        uses = ap (λ l. l ++ q.answers) x.uses ∙ ap (λ l. answers_in w x.life ++ l) y.uses ∙ sym (answers_join w x.life y.life);
         terms = λ f. subst (λ v. InTerm v (x.said ++ y.said)) (sym on) (term_join (lives_on (lives_on w x.life) y.life) x.said y.said (earlier when f) (y.terms (lives_so m kind (step_logs vs n s is) w x.life x.fits f)));
         early = λ e. let r = neither p.late q.late e in none_waited x.said y.said (x.early r.0) (y.early r.1);
         joined = λ conn other. none_join conn x.life y.life (x.joined conn other) (y.joined conn other);
@@ -388,6 +410,8 @@ nothing_goes_holds m kind vs n bytes joins a = record {
     stands = stands;
     says = sym (append-nil w.said);
     replies = refl;
+    lends = refl;
+    uses = refl;
     terms = λ f. tt;
     early = λ e. tt;
     joined = λ conn other. tt;

@@ -118,6 +118,8 @@ proposal_goes_holds m kind vs me bytes joins a b es letters p = record {
           };
           says = sym (append-nil w.said);
           replies = refl;
+          lends = refl;
+          uses = refl;
           terms = λ f. tt;
           early = λ z. tt;
           joined = λ conn other. tt;

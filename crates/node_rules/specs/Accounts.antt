@@ -5,13 +5,15 @@ use Rattle.sql_engine.specs.declared.kind.EngineKind.{EngineKind}
 use Rattle.sql_engine.specs.Meanings.{Meaning}
 use Rattle.page_apply.specs.Machines.{IsMachine}
 use Rattle.wire_msgs.specs.declared.request.Request.{Request}
+use Rattle.session_rules.specs.Engines.{Answer}
 use Rattle.session_rules.specs.Machine.{machine_of}
 use Rattle.session_rules.specs.Restarts.{restarted, shifted}
 use Rattle.session_rules.specs.Seen.{log_seen}
-use Rattle.session_rules.specs.Sessions.{Reply, is_due, is_busy}
+use Rattle.session_rules.specs.Sessions.{Reply, Job, is_due, is_busy}
 use Rattle.session_world.specs.Nodes.{Said, Node as Life, databases}
 use Rattle.session_world.specs.Life.{Event as Doing, run_from as lives_on}
 use Rattle.session_world.specs.Answering.{Handled, handled_in, IsOpen}
+use Rattle.session_world.specs.Lending.{lent_in, answers_in}
 use Rattle.raft_rules.specs.Log.{Entry}
 use Rattle.raft_rules.specs.Node as raft
 use Rattle.raft_rules.specs.Node.{is_leader}
@@ -71,17 +73,19 @@ pub record StandsAt (setup : Setup) (a : Moment) (s : raft.Node) (w : Life) : Ty
 
 -- ---- stretches
 
--- What comes of a stretch: what Raft takes in, what connections ask, what is said; and whether a reply may be one that waited for
--- a proposal.
+-- What comes of a stretch: what Raft takes in, what connections ask, what is said; the queries that are handed to readers, and the
+-- answers that the engine told; and whether a reply may be one that waited for a proposal.
 pub record Piece : Type 0 where
   pub inputs : List raft.Input
   pub asks : ℕ → List Request
   pub letters : List Letter
   pub replies : List (ℕ × Reply)
+  pub jobs : List (ℕ × Job)
+  pub answers : List Answer
   pub late : Bool
 
 abbrev pub no_piece : Piece
-no_piece = record { inputs = []; asks = λ conn. []; letters = []; replies = []; late = false }
+no_piece = record { inputs = []; asks = λ conn. []; letters = []; replies = []; jobs = []; answers = []; late = false }
 
 -- one after the other
 abbrev pub both : Piece → Piece → Piece
@@ -90,6 +94,8 @@ both p q = record {
   asks = λ conn. p.asks conn ++ q.asks conn;
   letters = p.letters ++ q.letters;
   replies = p.replies ++ q.replies;
+  jobs = p.jobs ++ q.jobs;
+  answers = p.answers ++ q.answers;
   late = p.late || q.late;
 }
 
@@ -120,6 +126,8 @@ pub record Lives (m : Meaning) (kind : EngineKind) (setup : Setup) (me : ℕ) (j
   pub stands : StandsAt setup b (steps (member_step setup me) s is) (lives_on w life)
   pub says : (lives_on w life).said ≡ w.said ++ said
   pub replies : p.replies ≡ map told said
+  pub lends : p.jobs ≡ lent_in w life
+  pub uses : p.answers ≡ answers_in w life
   pub terms : FlightsServed w → InTerm (lives_on w life) said
   pub early : p.late ≡ false → NoneWaited said
   pub joined : JoinsOnly joins life
@@ -187,7 +195,7 @@ pub record MayEnd (a : Moment) : Type 0 where
 abbrev pub GoesToEnd : Meaning → EngineKind → Type 0
 GoesToEnd m kind =
     (setup : Setup) (me : ℕ) (bytes : List ℕ) (joins : Option ℕ) (read : Option (ℕ × Reply)) (old : Node) (b : Moment) (p : Piece) →
-    Begins m kind setup me bytes joins read (resting old) b p → MayEnd b → StepsSo m kind setup me old b.node (read_by bytes joins read p) p.letters p.replies
+    Begins m kind setup me bytes joins read (resting old) b p → MayEnd b → StepsSo m kind setup me old b.node (read_by bytes joins read p) p.letters p.replies p.jobs p.answers
 
 -- A stop between two stretches: what is kept is what the node had kept at this moment.
 abbrev pub StopsBetween : Meaning → EngineKind → Type 0

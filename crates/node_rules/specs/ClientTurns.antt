@@ -6,7 +6,7 @@ use Rattle.sql_engine.specs.declared.kind.EngineKind.{EngineKind}
 use Rattle.sql_engine.specs.Meanings.{Meaning}
 use Rattle.sql_engine.specs.Replies.{Statement}
 use Rattle.page_apply.specs.Machines.{IsMachine}
-use Rattle.session_rules.specs.Engines.{Answer, AllowsFor}
+use Rattle.session_rules.specs.Engines.{Answer, AllowsFor, used_for}
 use Rattle.session_rules.specs.Events.{on_applied, told_applied, on_lost, on_hangup, connects, connected}
 use Rattle.session_rules.specs.Machine.{machine_of}
 use Rattle.session_rules.specs.Requests.{on_later, handed_later, without_later}
@@ -109,7 +109,7 @@ EndedStay = (index : ℕ) (g : Gateway) → on_lost g ≡ g → (on_applied inde
 -- ---- queries that are answered later than they were asked
 
 -- A query that is yet to be answered is run by the node, where nothing is due at Raft: its barrier is applied, or its reader gave it
--- back. By answers that the engine may give it comes to what the rules say.
+-- back. By answers that the engine may give, all of which it uses, it comes to what the rules say.
 pub record Resumes (m : Meaning) (kind : EngineKind) (a b : Moment) (conn : ℕ) (replies : List (ℕ × Reply)) : Type 0 where
   pub standing : Standing
   pub statement : Statement
@@ -117,6 +117,7 @@ pub record Resumes (m : Meaning) (kind : EngineKind) (a b : Moment) (conn : ℕ)
   pub idle : a.due ≡ []
   pub later : later_query (a.node.sessions.session conn).later ≡ Some statement
   pub allowed : AllowsFor m kind (handed_later (view_at a standing) (machine_of a.node.machine) (without_later a.node.sessions conn) conn statement) answers
+  pub exact : used_for (handed_later (view_at a standing) (machine_of a.node.machine) (without_later a.node.sessions conn) conn statement) answers ≡ length answers
   pub turned : Turned
   pub is : on_later (view_at a standing) (machine_of a.node.machine) (without_later a.node.sessions conn) conn statement answers ≡ turned
   pub comes : comes turned ≡ true
@@ -127,10 +128,11 @@ pub record Resumes (m : Meaning) (kind : EngineKind) (a b : Moment) (conn : ℕ)
   pub waiting : (other : ℕ) → b.node.waiting other ≡ a.node.waiting other
   pub rest : KeepsRaft a b
 
+-- that is a stretch in which nothing is lent
 abbrev pub ResumingGoes : Meaning → EngineKind → Type 0
 ResumingGoes m kind =
     (setup : Setup) (me : ℕ) (bytes : List ℕ) (joins : Option ℕ) (a b : Moment) (conn : ℕ) (replies : List (ℕ × Reply)) →
-    Resumes m kind a b conn replies → Goes m kind setup me bytes joins a b (record no_piece { replies = replies })
+    (x : Resumes m kind a b conn replies) → Goes m kind setup me bytes joins a b (record no_piece { replies = replies; answers = x.answers })
 
 -- The reader of a connection's query tells a reply, and the connection waits for it no more.
 pub record Reads (a b : Moment) (conn : ℕ) : Type 0 where
@@ -140,7 +142,7 @@ pub record Reads (a b : Moment) (conn : ℕ) : Type 0 where
   pub same : KeepsWaiting a b
   pub rest : KeepsRaft a b
 
--- that is the first stretch of an event in which a reader told this
+-- That is the first stretch of an event in which a reader told this. It was the reader's engine that told the answers.
 abbrev pub ReadingBegins : Meaning → EngineKind → Type 0
 ReadingBegins m kind =
     (setup : Setup) (me : ℕ) (bytes : List ℕ) (joins : Option ℕ) (a b : Moment) (conn : ℕ) (reply : Reply) →

@@ -8,13 +8,14 @@ use Rattle.sql_engine.specs.declared.kind.EngineKind.{EngineKind}
 use Rattle.sql_engine.specs.Meanings.{Meaning}
 use Rattle.sql_engine.specs.Replies.{Statement}
 use Rattle.page_apply.specs.Machines.{IsMachine}
-use Rattle.session_rules.specs.Engines.{Answer, AllowsFor}
+use Rattle.session_rules.specs.Engines.{Answer, AllowsFor, used_for}
 use Rattle.session_rules.specs.Entries.{Content, Does, tx_of, written}
 use Rattle.session_rules.specs.Machine.{Machine, machine_of}
 use Rattle.session_rules.specs.Requests.{on_request, on_later, handed, with_session, affected_by}
 use Rattle.session_rules.specs.Seen.{HasSpelling}
 use Rattle.session_rules.specs.Sessions.{Reply, Refusal, empty, Gateway, View, may_ask, Turned, Refused, Lacks, Answers, Proposes as Suggests, Lends, Affects}
 use Rattle.session_world.specs.Answering.{comes}
+use Rattle.session_world.specs.Lending.{lends_by}
 use Rattle.session_world.specs.Life.{ArePlain}
 use Rattle.session_world.specs.Nodes.{Standing}
 use Rattle.raft_rules.specs.Log.{Entry}
@@ -112,13 +113,15 @@ LatersMayPropose =
     (v : View) (leads : Bool) (m : Machine) (g : Gateway) (conn : ℕ) (statement : Statement) (answers : List Answer) → (v.serving ≡ true → leads ≡ true) →
     AreSpelled (on_later v m g conn statement answers) → MayPropose v leads (on_later v m g conn statement answers)
 
--- A client's request was handled, where nothing was due at Raft: by answers that the engine may give it came to what the rules say.
+-- A client's request was handled, where nothing was due at Raft: by answers that the engine may give, all of which it used, it came to
+-- what the rules say.
 pub record Handles (m : Meaning) (kind : EngineKind) (a b : Moment) (conn : ℕ) (request : Request) (replies : List (ℕ × Reply)) : Type 0 where
   pub standing : Standing
   pub answers : List Answer
   pub idle : a.due ≡ []
   pub ready : may_ask (a.node.sessions.session conn) ≡ true
   pub allowed : AllowsFor m kind (handed (view_at a standing) (machine_of a.node.machine) a.node.sessions conn request) answers
+  pub exact : used_for (handed (view_at a standing) (machine_of a.node.machine) a.node.sessions conn request) answers ≡ length answers
   pub turned : Turned
   pub is : on_request (view_at a standing) (machine_of a.node.machine) a.node.sessions conn request answers ≡ turned
   pub comes : comes turned ≡ true
@@ -129,11 +132,12 @@ pub record Handles (m : Meaning) (kind : EngineKind) (a b : Moment) (conn : ℕ)
   pub waits : (other : ℕ) → a.node.waiting other ≡ cond (conn == other) (request ∷ []) [] ++ b.node.waiting other
   pub rest : KeepsRaft a b
 
--- that is a stretch, in which no reply waited
+-- That is a stretch, in which no reply waited. A query that it lends goes to a reader.
 abbrev pub HandlingGoes : Meaning → EngineKind → Type 0
 HandlingGoes m kind =
     (setup : Setup) (me : ℕ) (bytes : List ℕ) (joins : Option ℕ) (a b : Moment) (conn : ℕ) (request : Request) (replies : List (ℕ × Reply)) →
-    Handles m kind a b conn request replies → Goes m kind setup me bytes joins a b (record no_piece { replies = replies })
+    (x : Handles m kind a b conn request replies) →
+    Goes m kind setup me bytes joins a b (record no_piece { replies = replies; jobs = lends_by conn x.turned; answers = x.answers })
 
 -- ---- Raft takes what is due
 

@@ -11,6 +11,7 @@ use Rattle.sql_engine.specs.Meanings.{Meaning}
 use Rattle.session_rules.specs.Sessions.{Flight, Later, Due, Lent, later_query, is_due, Session, Gateway, is_busy}
 use Rattle.session_world.specs.Nodes.{Said, Trail, Node as Life}
 use Rattle.session_world.specs.Life.{Event as Doing, AllFit, run_from as lives_on}
+use Rattle.session_world.specs.Lending.{handed_on}
 use Rattle.session_world.specs.Laws.{NoneComes}
 use Rattle.session_world.specs.Answering.{Handled, handled_in, said_to, IsOpen}
 use Rattle.session_world.proofs.Invariant.{NodeOk as LifeOk, FlightIs, FlightOk, IsFree, free_flies}
@@ -126,24 +127,24 @@ module _ (mean : Meaning) (kind : EngineKind) where
 
   pub runs_complete_hold : RunsComplete mean kind
   unfolding run
-  runs_complete_hold vs events n came added new letters replies conn h o joins =
-      let p = hold_parts mean kind vs first_run events (Goes n came added new letters replies ∷ []) h in
+  runs_complete_hold vs events n came added new letters replies jobs conn h o joins =
+      let p = hold_parts mean kind vs first_run events (Goes n came added new letters replies jobs ∷ []) h in
       let x = runs_make_acts_hold mean kind vs events p.0 in
       let acts = x.0 in
       let r = run_from first_run events in
       let e = p.1.0 in
-      let g = goes mean kind vs r acts n came added e.0 new letters replies e.1 e.2 x.1 in
+      let g = goes mean kind vs r acts n came added e.0 new letters replies jobs e.1 e.2 e.3 e.4 x.1 in
       let a = Moves n (causes came added) g.places g.life in
       let c = cluster vs acts in
       let d = cluster vs (acts ++ a ∷ []) in
-      let after = with_place r n (Up new) letters (map (spoken n) replies) in
+      let after = with_place r n (Up new) (handed_on (r.jobs n) jobs) letters (map (spoken n) replies) in
       let here : after.places n ≡ Up new = cond-true (n == n) (Up new) (r.places n) (eq-eqb n n refl) in
       let life : d.lives n ≡ lives_on (c.lives n) g.life = life_later vs acts (a ∷ []) n tt ∙ ap (lives_on (c.lives n)) (mine mean kind n g.life) in
       let su = subst (λ w. Stands vs new (node_at vs d.raft n) w) life (up_at mean kind vs after (acts ++ a ∷ []) n new here g.is) in
       let ok = cluster_ok mean kind vs acts x.1.fit in
       let fit = move_fit mean kind vs c n (causes came added) g.places g.life ok (last_fits mean kind vs acts a g.is.fit) in
-      let y = completed vs e.0 new (node_at vs c.raft n) (node_at vs d.raft n) (c.lives n) g.life (taken r n came added) conn (up_at mean kind vs r acts n e.0 e.1 x.1) su (ok.lives n) fit (g.joined conn joins) o (g.completes conn o joins) in (
+      let y = completed vs e.0 new (node_at vs c.raft n) (node_at vs d.raft n) (c.lives n) g.life (taken r n came added) conn (up_at mean kind vs r acts n e.0 e.2 x.1) su (ok.lives n) fit (g.joined conn joins) o (g.completes conn o joins) in (
         e.0,
-        e.1,
+        e.2,
         record { each = ap (λ k. told_to conn k + owed new conn) g.says ∙ y.0; waits = y.1 },
       )

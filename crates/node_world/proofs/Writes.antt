@@ -23,6 +23,7 @@ use Rattle.session_rules.specs.Sessions.{is_due, Reply, Kind, Opening, Writing, 
 use Rattle.session_rules.proofs.Following.{machines_follow_hold}
 use Rattle.session_world.specs.Answering.{asks_for, outcome, transaction_ran, Handled, comes}
 use Rattle.session_world.specs.Examples as lives
+use Rattle.session_world.specs.Lending.{lent_in, answers_in}
 use Rattle.session_world.specs.Life.{Event as Doing, Connect as Comes_in, Apply, Lose, Lead, Serve, Append, happens as goes_on, run_from as lives_on}
 use Rattle.session_world.specs.Nodes.{Said, Trail, Node as Life}
 use Rattle.session_world.proofs.Examples.{may_set}
@@ -58,7 +59,7 @@ use Rattle.dq_base.specs.Changes.{changed_from, changed}
 use Rattle.page_apply.specs.ByName.{at_name, change_first}
 use Rattle.frame_commands.specs.Splitting.{split_from}
 use Rattle.session_rules.specs.Asking.{asked_by}
-use Rattle.session_rules.specs.Engines.{takes, runs}
+use Rattle.session_rules.specs.Engines.{Answer, takes, runs, used}
 use Rattle.session_rules.specs.Events.{tidy, landed, settled_by, on_applied, told_applied, on_lost, told_lost, on_hangup, connects, connected}
 use Rattle.session_rules.specs.Limits.{holds, other_holds, change_in_flight, all_names, one_too_many, flown, pages_with, too_full, hindrance}
 use Rattle.session_rules.specs.Requests.{row_cause, outside_write, outside, inside, committed, does, on_request, handed, with_session}
@@ -158,31 +159,33 @@ one_input local (i ∷ is) a =
         unlike w q = cc
 
 -- what a call shows at a node of the world and a life
-abbrev Shows : Node → Node → Taken → List Letter → List (ℕ × Reply) → raft.Node → Life → List raft.Input → Type 0
-Shows old new x letters replies s w is =
+abbrev Shows : Node → Node → Taken → List Letter → List (ℕ × Reply) → List Answer → raft.Node → Life → List raft.Input → Type 0
+Shows old new x letters replies answers s w is =
     (life : List Doing) × StepFits cells Cells (fixed only) 1 s is w life
     × Stands (fixed only) new (steps (member_step (fixed only) 1) s is) (lives_on w life)
     × (map (λ (l : Letter). l.message) letters ≡ said (compacted_step 1) (node_of old.raft) x.inputs)
     × (replies ≡ map told (said_in w life))
+    × ([] ≡ lent_in w life)
+    × (answers ≡ answers_in w life)
     × JoinsOnly x.joins life
     × Handles old new.waiting x life
     × Completes old new x w life
 
-at_life : (old new : Node) (x : Taken) (letters : List Letter) (replies : List (ℕ × Reply)) (s t : raft.Node) (w v : Life) (is js : List raft.Input) → s ≡ t → w ≡ v → is ≡ js → Shows old new x letters replies t v js → Shows old new x letters replies s w is
-at_life old new x letters replies s t w v is js p q r h =
-    subst (λ (z : raft.Node). Shows old new x letters replies z w is) (sym p)
-    (subst (λ (z : Life). Shows old new x letters replies t z is) (sym q)
-    (subst (λ (z : List raft.Input). Shows old new x letters replies t v z) (sym r) h))
+at_life : (old new : Node) (x : Taken) (letters : List Letter) (replies : List (ℕ × Reply)) (answers : List Answer) (s t : raft.Node) (w v : Life) (is js : List raft.Input) → s ≡ t → w ≡ v → is ≡ js → Shows old new x letters replies answers t v js → Shows old new x letters replies answers s w is
+at_life old new x letters replies answers s t w v is js p q r h =
+    subst (λ (z : raft.Node). Shows old new x letters replies answers z w is) (sym p)
+    (subst (λ (z : Life). Shows old new x letters replies answers t z is) (sym q)
+    (subst (λ (z : List raft.Input). Shows old new x letters replies answers t v z) (sym r) h))
 
 -- a call at a leader that has applied these contents, which takes in what is local
-holds_at : (contents : List Content) (g : Gateway) (m : List Database) (new : Node) (x : Taken) (replies : List (ℕ × Reply)) (js : List raft.Input) → log_seen (written 1 contents) ≡ entries_of 1 contents → NoneOpen g → SameVoters (raft.voters only) x.inputs → ((is : List raft.Input) → AlikeInputs is x.inputs → is ≡ js) →
-    new.members ≡ record { at = 0; servers = only; later = [] } → ((trail : ℕ → Trail) (before : List Said) → Shows (leading contents g m) new x [] replies (node_of (leading contents g m).raft) (life_of contents g trail before) js) → StepHolds {E = ℕ} cells Cells (fixed only) 1 (leading contents g m) new new.kept x (Ok ([], replies))
-holds_at contents g m new x replies js seen none voters only_these members shows = record {
+holds_at : (contents : List Content) (g : Gateway) (m : List Database) (new : Node) (x : Taken) (replies : List (ℕ × Reply)) (answers : List Answer) (js : List raft.Input) → log_seen (written 1 contents) ≡ entries_of 1 contents → NoneOpen g → SameVoters (raft.voters only) x.inputs → ((is : List raft.Input) → AlikeInputs is x.inputs → is ≡ js) →
+    new.members ≡ record { at = 0; servers = only; later = [] } → ((trail : ℕ → Trail) (before : List Said) → Shows (leading contents g m) new x [] replies answers (node_of (leading contents g m).raft) (life_of contents g trail before) js) → StepHolds {E = ℕ} cells Cells (fixed only) 1 (leading contents g m) new new.kept x (Ok (record { letters = []; replies = replies; jobs = []; answers = answers }))
+holds_at contents g m new x replies answers js seen none voters only_these members shows = record {
   tells = fixed_tells_hold only 1 (leading contents g m) x voters;
   counts = fixed_counts_hold only 1 (leading contents g m) new x voters (let at : new.members.at ≡ 0 = ap (λ (c : Configurations). c.at) members in omega (arith, at)) (ap (λ (c : Configurations). c.servers) members) (ap (λ (c : Configurations). c.later) members);
   whole = λ s w is st t told_so reads served.
       let node = twin_is s (node_of (leading contents g m).raft) refl st.twin in
-      at_life (leading contents g m) new x [] replies s (node_of (leading contents g m).raft) w (life_of contents g w.trail w.said) is js node (life_is contents g m s w seen none node st) (only_these is t.alike) (shows w.trail w.said);
+      at_life (leading contents g m) new x [] replies answers s (node_of (leading contents g m).raft) w (life_of contents g w.trail w.said) is js node (life_is contents g m s w seen none node st) (only_these is t.alike) (shows w.trail w.said);
   sent = tt;
   failed = tt;
 }
@@ -256,7 +259,7 @@ elects = Lose 1 ∷ Lead 1 ∷ Append (Other ∷ []) ∷ Apply ∷ Serve ∷ []
 nothing_said : (before : List Said) → drop (length before) ((before ++ []) ++ []) ≡ []
 nothing_said before = ap (drop (length before)) (append-nil (before ++ []) ∙ append-nil before) ∙ drop_all (length before) before (omega arith)
 
-elects_so : (trail : ℕ → Trail) (before : List Said) → Shows (lone only only) (leading (Other ∷ []) no_sessions []) (taken first_run 1 Timeout []) [] [] (node_of (lone only only).raft) (blank_life trail before) (raft.Local raft.Timeout ∷ [])
+elects_so : (trail : ℕ → Trail) (before : List Said) → Shows (lone only only) (leading (Other ∷ []) no_sessions []) (taken first_run 1 Timeout []) [] [] [] (node_of (lone only only).raft) (blank_life trail before) (raft.Local raft.Timeout ∷ [])
 unfolding is_space is_digit is_letter is_word_start is_word_part is_sigil is_quote is_in_line has_end kind_of quoted starred decimal in_range parameter solid extended finished statements_from scan_of sigil_token dash_token slash_token sign_token token_of tokens_past is_write is_left_out keyword_of followed_by kind_so_far parts_of first_count cut first_nul zeros resized page_from sizes_page page_at stated_main stated_side replaced put_pages applied is_sizes order_fault length_fault fault_before changed_from changed at_name change_first split_from asked_by takes runs tx_of tidy on_applied told_applied on_lost told_lost on_hangup connects connected holds other_holds change_in_flight all_names one_too_many flown pages_with too_full hindrance with_commit framed act files row_cause outside_write outside inside committed does on_request handed with_session may_ask goes_on cell_page with_page with_cell wiped outcome_of change_at configuration voters_after may_change member_step log_end matches merged conflict_place accept first_replaced accept_above first_replaced_above is_up_to_date term_at voters others peers majority on_grants may_start_election start_election on_ask_vote grants_with on_vote agrees take_entries replaces_committed on_append on_install on_snapped on_ack message_in_range on_message on_propose on_beat on_transfer on_servers majority_stores commit_below commit_index needs_snapshot message_to finish serve raft_step step_acts put run is_stored_by_majority commit_up_to may_grant compacted_step writes_it writing
 elects_so trail before =
     let v = lives_on (blank_life trail before) elects in
@@ -271,18 +274,20 @@ elects_so trail before =
       stands_after (Other ∷ []) no_sessions [] (steps (member_step (fixed only) 1) (node_of (lone only only).raft) (raft.Local raft.Timeout ∷ [])) v v.trail v.said refl refl (stands_leading (Other ∷ []) no_sessions [] v.trail v.said first_seen none_in machine_none files_none),
       refl,
       sym (ap (map told) quiet),
+      refl,
+      refl,
       (λ conn j. ((λ q. cc), ((λ q. cc), ((λ q. cc), ((λ q. cc), ((λ q. cc), tt)))))),
       (λ conn. tt),
       (λ conn o j. record { all = refl; handled = refl; waits = λ e. refl; run = refl }),
     )
 
-elects_hold : StepHolds {E = ℕ} cells Cells (fixed only) 1 (lone only only) (leading (Other ∷ []) no_sessions []) (leading (Other ∷ []) no_sessions []).kept (taken first_run 1 Timeout []) (Ok ([], []))
+elects_hold : StepHolds {E = ℕ} cells Cells (fixed only) 1 (lone only only) (leading (Other ∷ []) no_sessions []) (leading (Other ∷ []) no_sessions []).kept (taken first_run 1 Timeout []) (Ok (record { letters = []; replies = []; jobs = []; answers = [] }))
 elects_hold = record {
   tells = fixed_tells_hold only 1 (lone only only) (taken first_run 1 Timeout []) tt;
   counts = fixed_counts_hold only 1 (lone only only) (leading (Other ∷ []) no_sessions []) (taken first_run 1 Timeout []) tt (omega arith) refl refl;
   whole = λ s w is st t told_so reads served.
       let node = twin_is s (node_of (lone only only).raft) refl st.twin in
-      at_life (lone only only) (leading (Other ∷ []) no_sessions []) (taken first_run 1 Timeout []) [] [] s (node_of (lone only only).raft) w (blank_life w.trail w.said) is (raft.Local raft.Timeout ∷ []) node (blank_is s w node st) (one_input raft.Timeout is t.alike) (elects_so w.trail w.said);
+      at_life (lone only only) (leading (Other ∷ []) no_sessions []) (taken first_run 1 Timeout []) [] [] [] s (node_of (lone only only).raft) w (blank_life w.trail w.said) is (raft.Local raft.Timeout ∷ []) node (blank_is s w node st) (one_input raft.Timeout is t.alike) (elects_so w.trail w.said);
   sent = tt;
   failed = tt;
 }
@@ -292,7 +297,7 @@ elects_hold = record {
 same_number : (n k : ℕ) → Comes_in n ≡ Comes_in k → n ≡ k
 same_number n k e = cc
 
-comes_so : (trail : ℕ → Trail) (before : List Said) → Shows (leading (Other ∷ []) no_sessions []) (leading (Other ∷ []) (client []) []) (taken first_run 1 (Connect 5) []) [] [] (node_of (leading (Other ∷ []) no_sessions []).raft) (life_of (Other ∷ []) no_sessions trail before) []
+comes_so : (trail : ℕ → Trail) (before : List Said) → Shows (leading (Other ∷ []) no_sessions []) (leading (Other ∷ []) (client []) []) (taken first_run 1 (Connect 5) []) [] [] [] (node_of (leading (Other ∷ []) no_sessions []).raft) (life_of (Other ∷ []) no_sessions trail before) []
 unfolding is_space is_digit is_letter is_word_start is_word_part is_sigil is_quote is_in_line has_end kind_of quoted starred decimal in_range parameter solid extended finished statements_from scan_of sigil_token dash_token slash_token sign_token token_of tokens_past is_write is_left_out keyword_of followed_by kind_so_far parts_of first_count cut first_nul zeros resized page_from sizes_page page_at stated_main stated_side replaced put_pages applied is_sizes order_fault length_fault fault_before changed_from changed at_name change_first split_from asked_by takes runs tx_of tidy on_applied told_applied on_lost told_lost on_hangup connects connected holds other_holds change_in_flight all_names one_too_many flown pages_with too_full hindrance with_commit framed act files row_cause outside_write outside inside committed does on_request handed with_session may_ask goes_on cell_page with_page with_cell wiped outcome_of change_at configuration voters_after may_change member_step log_end matches merged conflict_place accept first_replaced accept_above first_replaced_above is_up_to_date term_at voters others peers majority on_grants may_start_election start_election on_ask_vote grants_with on_vote agrees take_entries replaces_committed on_append on_install on_snapped on_ack message_in_range on_message on_propose on_beat on_transfer on_servers majority_stores commit_below commit_index needs_snapshot message_to finish serve raft_step step_acts put run is_stored_by_majority commit_up_to may_grant compacted_step writes_it writing
 comes_so trail before =
     let w = life_of (Other ∷ []) no_sessions trail before in
@@ -304,6 +309,8 @@ comes_so trail before =
       stands_after (Other ∷ []) (client []) [] (node_of (leading (Other ∷ []) no_sessions []).raft) v v.trail v.said refl refl (stands_leading (Other ∷ []) (client []) [] v.trail v.said first_seen (none_at []) machine_none files_none),
       refl,
       sym (ap (map told) quiet),
+      refl,
+      refl,
       (λ conn j. ((λ q. j (ap (λ k. Some k) (same_number 5 conn q))), tt)),
       (λ conn. tt),
       (λ conn o j. record { all = refl; handled = refl; waits = λ e. refl; run = client_runs [] conn }),
@@ -342,7 +349,7 @@ settles false index pages kind old e q = refl
 abbrev opens_life : List Doing
 opens_life = lives.opens 5 ∷ Apply ∷ []
 
-opens_so : (trail : ℕ → Trail) (before : List Said) → Shows (leading (Other ∷ []) (client []) []) (leading (Other ∷ opening ∷ []) (client (codes "d")) opened) (taken first_run 1 (Asks 5 (asks_open ∷ [])) (raft.Propose (written 0 (opening ∷ [])) ∷ [])) [] ((5, db) ∷ []) (node_of (leading (Other ∷ []) (client []) []).raft) (life_of (Other ∷ []) (client []) trail before) (raft.Local (raft.Propose (written 0 (opening ∷ []))) ∷ [])
+opens_so : (trail : ℕ → Trail) (before : List Said) → Shows (leading (Other ∷ []) (client []) []) (leading (Other ∷ opening ∷ []) (client (codes "d")) opened) (taken first_run 1 (Asks 5 (asks_open ∷ [])) (raft.Propose (written 0 (opening ∷ [])) ∷ [])) [] ((5, db) ∷ []) [] (node_of (leading (Other ∷ []) (client []) []).raft) (life_of (Other ∷ []) (client []) trail before) (raft.Local (raft.Propose (written 0 (opening ∷ []))) ∷ [])
 unfolding is_space is_digit is_letter is_word_start is_word_part is_sigil is_quote is_in_line has_end kind_of quoted starred decimal in_range parameter solid extended finished statements_from scan_of sigil_token dash_token slash_token sign_token token_of tokens_past is_write is_left_out keyword_of followed_by kind_so_far parts_of first_count cut first_nul zeros resized page_from sizes_page page_at stated_main stated_side replaced put_pages applied is_sizes order_fault length_fault fault_before changed_from changed at_name change_first split_from asked_by takes runs tx_of tidy on_applied told_applied on_lost told_lost on_hangup connects connected holds other_holds change_in_flight all_names one_too_many flown pages_with too_full hindrance with_commit framed act files row_cause outside_write outside inside committed does on_request handed with_session may_ask goes_on cell_page with_page with_cell wiped outcome_of change_at configuration voters_after may_change member_step log_end matches merged conflict_place accept first_replaced accept_above first_replaced_above is_up_to_date term_at voters others peers majority on_grants may_start_election start_election on_ask_vote grants_with on_vote agrees take_entries replaces_committed on_append on_install on_snapped on_ack message_in_range on_message on_propose on_beat on_transfer on_servers majority_stores commit_below commit_index needs_snapshot message_to finish serve raft_step step_acts put run is_stored_by_majority commit_up_to may_grant compacted_step writes_it writing
 opens_so trail before =
     let w = life_of (Other ∷ []) (client []) trail before in
@@ -361,6 +368,8 @@ opens_so trail before =
       stands_after (Other ∷ opening ∷ []) (client (codes "d")) opened (steps (member_step (fixed only) 1) (node_of (leading (Other ∷ []) (client []) []).raft) (raft.Local (raft.Propose (written 0 (opening ∷ []))) ∷ [])) v v.trail v.said refl is (stands_leading (Other ∷ opening ∷ []) (client (codes "d")) opened v.trail v.said two_seen (none_at (codes "d")) machine_opened files_opened),
       refl,
       sym (ap (map told) says),
+      refl,
+      refl,
       (λ conn j. ((λ q. cc), ((λ q. cc), tt))),
       (λ conn. part_asked (5 == conn) asks_open),
       (λ conn o j. record { all = all_asked (5 == conn) asks_open; handled = one_handled (5 == conn) (may_ask (w.gate.session 5) && comes (outcome w 5 lives.alone_here asks_open [])) (record { request = asks_open; before = transaction_ran w 5; own = asks_for w 5 lives.alone_here asks_open }) asks_open refl refl; waits = λ e. refl; run = client_runs (codes "d") conn }),
@@ -369,8 +378,12 @@ opens_so trail before =
 abbrev writes_life : List Doing
 writes_life = lives.sets 5 empty_image 7 ∷ Apply ∷ []
 
-writes_so : (trail : ℕ → Trail) (before : List Said) → Shows (leading (Other ∷ opening ∷ []) (client (codes "d")) opened) (leading (Other ∷ opening ∷ writing ∷ []) (client (codes "d")) wrote) (taken first_run 1 (Asks 5 (asks_set ∷ [])) (raft.Propose (written 0 (writing ∷ [])) ∷ [])) [] ((5, result 1) ∷ []) (node_of (leading (Other ∷ opening ∷ []) (client (codes "d")) opened).raft) (life_of (Other ∷ opening ∷ []) (client (codes "d")) trail before) (raft.Local (raft.Propose (written 0 (writing ∷ []))) ∷ [])
-unfolding is_space is_digit is_letter is_word_start is_word_part is_sigil is_quote is_in_line has_end kind_of quoted starred decimal in_range parameter solid extended finished statements_from scan_of sigil_token dash_token slash_token sign_token token_of tokens_past is_write is_left_out keyword_of followed_by kind_so_far parts_of first_count cut first_nul zeros resized page_from sizes_page page_at stated_main stated_side replaced put_pages applied is_sizes order_fault length_fault fault_before changed_from changed at_name change_first split_from asked_by takes runs tx_of tidy on_applied told_applied on_lost told_lost on_hangup connects connected holds other_holds change_in_flight all_names one_too_many flown pages_with too_full hindrance with_commit framed act files row_cause outside_write outside inside committed does on_request handed with_session may_ask goes_on cell_page with_page with_cell wiped outcome_of change_at configuration voters_after may_change member_step log_end matches merged conflict_place accept first_replaced accept_above first_replaced_above is_up_to_date term_at voters others peers majority on_grants may_start_election start_election on_ask_vote grants_with on_vote agrees take_entries replaces_committed on_append on_install on_snapped on_ack message_in_range on_message on_propose on_beat on_transfer on_servers majority_stores commit_below commit_index needs_snapshot message_to finish serve raft_step step_acts put run is_stored_by_majority commit_up_to may_grant compacted_step writes_it writing
+-- what the engine told of it
+abbrev set_answers : List Answer
+set_answers = Ok (lives.set_on empty_image 7) ∷ []
+
+writes_so : (trail : ℕ → Trail) (before : List Said) → Shows (leading (Other ∷ opening ∷ []) (client (codes "d")) opened) (leading (Other ∷ opening ∷ writing ∷ []) (client (codes "d")) wrote) (taken first_run 1 (Asks 5 (asks_set ∷ [])) (raft.Propose (written 0 (writing ∷ [])) ∷ [])) [] ((5, result 1) ∷ []) set_answers (node_of (leading (Other ∷ opening ∷ []) (client (codes "d")) opened).raft) (life_of (Other ∷ opening ∷ []) (client (codes "d")) trail before) (raft.Local (raft.Propose (written 0 (writing ∷ []))) ∷ [])
+unfolding used is_space is_digit is_letter is_word_start is_word_part is_sigil is_quote is_in_line has_end kind_of quoted starred decimal in_range parameter solid extended finished statements_from scan_of sigil_token dash_token slash_token sign_token token_of tokens_past is_write is_left_out keyword_of followed_by kind_so_far parts_of first_count cut first_nul zeros resized page_from sizes_page page_at stated_main stated_side replaced put_pages applied is_sizes order_fault length_fault fault_before changed_from changed at_name change_first split_from asked_by takes runs tx_of tidy on_applied told_applied on_lost told_lost on_hangup connects connected holds other_holds change_in_flight all_names one_too_many flown pages_with too_full hindrance with_commit framed act files row_cause outside_write outside inside committed does on_request handed with_session may_ask goes_on cell_page with_page with_cell wiped outcome_of change_at configuration voters_after may_change member_step log_end matches merged conflict_place accept first_replaced accept_above first_replaced_above is_up_to_date term_at voters others peers majority on_grants may_start_election start_election on_ask_vote grants_with on_vote agrees take_entries replaces_committed on_append on_install on_snapped on_ack message_in_range on_message on_propose on_beat on_transfer on_servers majority_stores commit_below commit_index needs_snapshot message_to finish serve raft_step step_acts put run is_stored_by_majority commit_up_to may_grant compacted_step writes_it writing
 writes_so trail before =
     let w = life_of (Other ∷ opening ∷ []) (client (codes "d")) trail before in
     let v = lives_on w writes_life in
@@ -389,6 +402,8 @@ writes_so trail before =
       stands_after (Other ∷ opening ∷ writing ∷ []) (client (codes "d")) wrote (steps (member_step (fixed only) 1) (node_of (leading (Other ∷ opening ∷ []) (client (codes "d")) opened).raft) (raft.Local (raft.Propose (written 0 (writing ∷ []))) ∷ [])) v v.trail v.said refl is (stands_leading (Other ∷ opening ∷ writing ∷ []) (client (codes "d")) wrote v.trail v.said three_seen (none_at (codes "d")) machine_wrote files_wrote),
       refl,
       sym (ap (map told) says),
+      refl,
+      refl,
       (λ conn j. ((λ q. cc), ((λ q. cc), tt))),
       (λ conn. part_asked (5 == conn) asks_set),
       (λ conn o j. record { all = all_asked (5 == conn) asks_set; handled = one_handled (5 == conn) (may_ask (w.gate.session 5) && comes (outcome w 5 lives.alone_here asks_set (Ok (lives.set_on empty_image 7) ∷ []))) (record { request = asks_set; before = transaction_ran w 5; own = asks_for w 5 lives.alone_here asks_set }) asks_set refl refl; waits = λ e. refl; run = client_runs (codes "d") conn }),
@@ -401,13 +416,13 @@ unfolding voters configuration voters_after peers others
 run_writes_holds = (
   (nothing_kept, refl, lone_starts (fixed only) only refl refl),
   (
-    (lone only only, refl, elects_hold),
+    (lone only only, [], refl, tt, elects_hold),
     (
-      (leading (Other ∷ []) no_sessions [], refl, holds_at (Other ∷ []) no_sessions [] (leading (Other ∷ []) (client []) []) _ [] [] first_seen none_in tt (λ is a. no_more is a) refl comes_so),
+      (leading (Other ∷ []) no_sessions [], [], refl, tt, holds_at (Other ∷ []) no_sessions [] (leading (Other ∷ []) (client []) []) _ [] [] [] first_seen none_in tt (λ is a. no_more is a) refl comes_so),
       (
-        (leading (Other ∷ []) (client []) [], refl, holds_at (Other ∷ []) (client []) [] (leading (Other ∷ opening ∷ []) (client (codes "d")) opened) _ ((5, db) ∷ []) (raft.Local (raft.Propose (written 0 (opening ∷ []))) ∷ []) first_seen (none_at []) tt (λ is a. one_input (raft.Propose (written 0 (opening ∷ []))) is a) refl opens_so),
+        (leading (Other ∷ []) (client []) [], [], refl, tt, holds_at (Other ∷ []) (client []) [] (leading (Other ∷ opening ∷ []) (client (codes "d")) opened) _ ((5, db) ∷ []) [] (raft.Local (raft.Propose (written 0 (opening ∷ []))) ∷ []) first_seen (none_at []) tt (λ is a. one_input (raft.Propose (written 0 (opening ∷ []))) is a) refl opens_so),
         (
-          (leading (Other ∷ opening ∷ []) (client (codes "d")) opened, refl, holds_at (Other ∷ opening ∷ []) (client (codes "d")) opened (leading (Other ∷ opening ∷ writing ∷ []) (client (codes "d")) wrote) _ ((5, result 1) ∷ []) (raft.Local (raft.Propose (written 0 (writing ∷ []))) ∷ []) two_seen (none_at (codes "d")) tt (λ is a. one_input (raft.Propose (written 0 (writing ∷ []))) is a) refl writes_so),
+          (leading (Other ∷ opening ∷ []) (client (codes "d")) opened, set_answers, refl, tt, holds_at (Other ∷ opening ∷ []) (client (codes "d")) opened (leading (Other ∷ opening ∷ writing ∷ []) (client (codes "d")) wrote) _ ((5, result 1) ∷ []) set_answers (raft.Local (raft.Propose (written 0 (writing ∷ []))) ∷ []) two_seen (none_at (codes "d")) tt (λ is a. one_input (raft.Propose (written 0 (writing ∷ []))) is a) refl writes_so),
           tt,
         ),
       ),

@@ -25,3 +25,5 @@ pub mod Turns
 pub mod Examples
 pub mod Flying
 pub mod Opened
+pub mod JobsStay
+pub mod JobsKnown

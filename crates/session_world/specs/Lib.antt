@@ -7,3 +7,4 @@ pub mod Logs
 pub mod Alone
 pub mod Examples
 pub mod Answering
+pub mod Lending

@@ -29,6 +29,7 @@ ghost use Rattle.session_world.specs.Laws.{
   LivesSee,
   QueriesHaveDatabases,
 };
+ghost use Rattle.session_world.specs.Lending.{JobsAreKnown, JobsStay, LatersStay};
 ghost use Rattle.session_world.specs.Logs.{OneCommit, CommitsApply, OnlyCommits, UndosClear};
 
 use sql_engine::Engine;
@@ -122,6 +123,15 @@ pub fn flights_stand<E: Engine>()
 /// and while a reader has it. So it is after any list of events, whatever an engine answers.
 pub fn queries_have_databases()
     ensures { QueriesHaveDatabases }
+{}
+
+/// The job of a query that a reader has, the query over the image of the moment at which it was lent, stays the same until its reader
+/// is done or gives it back, or the client goes. It is the last one that was handed out for its connection, by a request; a query that
+/// is run later than it was asked is never lent.
+pub fn jobs_stay<E: Engine>()
+    ensures stay { (kind : _) → JobsStay (E.meaning kind) kind }
+    ensures known { (kind : _) → JobsAreKnown (E.meaning kind) kind }
+    ensures later { LatersStay }
 {}
 
 /// One voter that never stops: after each turn all of its log is applied, each reply is right by it, its log is woven, and

@@ -14,10 +14,11 @@ returns-in-Joined c =
     let new : Running = record c.args.self.now { clients = c.connect.new.self } in
     record {
       going = clients_moved c.args.self.now _ going (c.in_ok-connect.ensures.stand machine going.holds.clients) (came_turns (clients_of c.args.self.now.clients machine) _ c.args.conn joined going.holds.turns) refl;
+      office = refl;
       replica = refl;
       index = refl;
       wants = tt;
       agrees = λ known a. c.in_ok-connect.ensures.agrees known machine a;
       goes = comes_so c.args.self.now new c.args.conn (record { replica = refl; index = refl; serving = refl; due = refl; machine = c.databases_stand.ensures; files = refl }) going.holds.clients.sound joined;
-      quiet = record { mail = refl; replies = refl };
+      quiet = record { mail = refl; replies = refl; reads = refl };
     }

@@ -1,21 +1,57 @@
-use Rattle.std.proofs.Common.{sym, ap, subst}
-use Rattle.page_apply.specs.Machines.{IsMachine}
-use Rattle.session_rules.specs.Machine.{machine_of}
+use Rattle.std.proofs.Common.{refl}
 use Rattle.node_core.specs.declared.running.Running.{Running}
-use Rattle.node_core.specs.Values.{clients_in}
-use Rattle.node_core.proofs.ClientMoves.{stays_so, message_due}
+use Rattle.node_core.specs.Taking.{came, none_came}
+use Rattle.node_core.proofs.Led.{led_same}
+use Rattle.store_laws.specs.Store.{Kept}
+use Rattle.node_core.proofs.Finding.{more, kept_finds}
+use Rattle.node_core.specs.Finding.{BeganStops, StopsLetter, letter_stopped, no_letter}
+use Rattle.raft_member.specs.Members.{read_setup}
+use Rattle.raft_core.specs.declared.event.RaftEvent.TheVariants as raft_events
+use Rattle.node_core.proofs.Finding.{failed as always_err}
 use Rattle.node_core.proofs.running.Running.take_letter.Goals as goal
 
-pub returns-in_ok-give-in-Some-Message-clause-goes :
-    goal.returns-in_ok-give-in-Some-Message-clause-goes
-returns-in_ok-give-in-Some-Message-clause-goes c =
-    let is = c.in_ok-give-in-Some-Message.ensures.is in
-    stays_so c.args.self.now c.give.new.self
-    (record {
-      replica = ap (λ (n : Running). n.replica) is;
-      index = ap (λ (n : Running). n.applied.index) is;
-      serving = ap (λ (n : Running). n.view.serving) is;
-      due = message_due c.args.self.now c.give.new.self _ c.in_ok-give-in-Some-Message.ensures.due;
-      machine = subst (λ (n : Running). IsMachine n.applied.machine) (sym is) c.databases_stand.ensures;
-      files = ap (λ (n : Running). machine_of n.applied.machine) is;
-    }) (ap clients_in is)
+pub take_raft-requires-clause-led : goal.take_raft-requires-clause-led
+take_raft-requires-clause-led g c = led_same c.args.self.now (record c.args.self.now { links = c.next.new.self }) c.requires.led refl refl
+
+pub returns-in_ok-take_raft-in-Some-Message-clause-letter :
+    goal.returns-in_ok-take_raft-in-Some-Message-clause-letter
+returns-in_ok-take_raft-in-Some-Message-clause-letter g c = λ opening.
+    came c.in-Some-Message.message (record c.args.self.now { links = c.next.new.self }) refl (c.in_ok-take_raft-in-Some-Message.ensures.began opening)
+
+pub returns-in_ok-push-in-Some-Wrong-clause-letter :
+    goal.returns-in_ok-push-in-Some-Wrong-clause-letter
+returns-in_ok-push-in-Some-Wrong-clause-letter g c = λ opening. none_came (record { moment = refl; mail = refl; replies = refl; reads = refl; kept = refl; id = refl }) refl
+
+pub returns-in_ok-push-in-Some-Wrong-clause-led :
+    goal.returns-in_ok-push-in-Some-Wrong-clause-led
+returns-in_ok-push-in-Some-Wrong-clause-led g c = led_same c.args.self.now _ c.requires.led refl refl
+
+pub returns-in-None-clause-letter : goal.returns-in-None-clause-letter
+returns-in-None-clause-letter g c = λ opening. none_came (record { moment = refl; mail = refl; replies = refl; reads = refl; kept = refl; id = refl }) refl
+
+pub returns-in-None-clause-led : goal.returns-in-None-clause-led
+returns-in-None-clause-led g c = led_same c.args.self.now _ c.requires.led refl refl
+
+pub returns-in_err-message-clause-stops : goal.returns-in_err-message-clause-stops
+returns-in_err-message-clause-stops g c = λ opening has.
+    always_err c.from_residual.result
+    (kept_finds g.D.Disk.tells (g.D.Disk.states c.args.disk.now) c.args.self.now.replica (StopsLetter (g.E.Engine.meaning (g.E.Engine.kind c.args.engine.now)) (g.E.Engine.kind c.args.engine.now) (read_setup opening) c.args.self.now)
+    (no_letter refl) has)
+
+pub returns-in_err-push-in-Some-Wrong-clause-stops : goal.returns-in_err-push-in-Some-Wrong-clause-stops
+returns-in_err-push-in-Some-Wrong-clause-stops g c = λ opening has.
+    always_err c.from_residual-in_err-push-in-Some-Wrong.result
+    (
+    kept_finds g.D.Disk.tells (g.D.Disk.states c.args.disk.now) c.args.self.now.replica (StopsLetter (g.E.Engine.meaning (g.E.Engine.kind c.args.engine.now)) (g.E.Engine.kind c.args.engine.now) (read_setup opening) c.args.self.now) (no_letter refl) has
+    )
+
+pub returns-in_err-take_raft-in-Some-Message-clause-stops :
+    goal.returns-in_err-take_raft-in-Some-Message-clause-stops
+returns-in_err-take_raft-in-Some-Message-clause-stops g c = λ opening has.
+    always_err c.from_residual-in_err-take_raft-in-Some-Message.result
+    (
+    let mid : Running = record c.args.self.now { links = c.next.new.self } in
+    let event = raft_events.Message c.in-Some-Message.message in
+    more g.D.Disk.tells (g.D.Disk.states c.take_raft.new.disk) (BeganStops (g.E.Engine.meaning (g.E.Engine.kind c.args.engine.now)) (g.E.Engine.kind c.args.engine.now) (read_setup opening) mid event) (StopsLetter (g.E.Engine.meaning (g.E.Engine.kind c.args.engine.now)) (g.E.Engine.kind c.args.engine.now) (read_setup opening) c.args.self.now)
+    (λ kept s. letter_stopped c.in-Some-Message.message mid refl s) (c.in_err-take_raft-in-Some-Message.ensures.stops opening has)
+    )

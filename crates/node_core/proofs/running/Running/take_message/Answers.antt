@@ -1,16 +1,38 @@
 use Rattle.std.proofs.Common.{refl}
 use Rattle.node_core.proofs.ClientTurns.{took_turns_on, idle_turns_on}
+use Rattle.node_core.proofs.Led.{took_led, idle_led, idle_sessions}
+use Rattle.node_core.proofs.Looping.{turns_kept}
 use Rattle.node_core.proofs.running.Running.take_message.Goals as goal
 
 pub returns-in_ok-perform-in-Some-clause-goes : goal.returns-in_ok-perform-in-Some-clause-goes
 returns-in_ok-perform-in-Some-clause-goes g c = λ setup bytes joins.
     let kind = g.E.Engine.kind c.args.engine.now in
-    took_turns_on (g.E.Engine.meaning kind) kind (c.stretches_join.ensures.on kind) (c.clients_turn.ensures.stays kind) (c.clients_turn.ensures.leaves kind) setup bytes joins
+    turns_kept (g.E.Engine.meaning kind) kind setup bytes joins c.args.self.now c.perform.new.self c.perform.ensures.replica
+    (took_turns_on (g.E.Engine.meaning kind) kind (c.stretches_join.ensures.on kind) (c.clients_turn.ensures.stays kind) (c.clients_turn.ensures.leaves kind) setup bytes joins
     (c.clients_turn.ensures.handles kind) (c.clients_turn.ensures.resumes kind) c.args.self.now _ c.requires.going c.requires.idle refl c.databases_stand.ensures c.in_ok-act.ensures.files _ _ _ _
+    c.in-Some.act c.perform.new.self c.in_ok-act.act c.in_ok-act.ensures.turn c.in-Some.is c.in_ok-perform-in-Some.ensures.performed)
+
+pub returns-in_ok-perform-in-Some-clause-led : goal.returns-in_ok-perform-in-Some-clause-led
+returns-in_ok-perform-in-Some-clause-led g c =
+    let kind = g.E.Engine.kind c.args.engine.now in
+    took_led (g.E.Engine.meaning kind) kind c.args.self.now _ c.requires.going c.requires.led c.requires.idle refl c.databases_stand.ensures c.in_ok-act.ensures.files _ _ _ _
     c.in-Some.act c.perform.new.self c.in_ok-act.act c.in_ok-act.ensures.turn c.in-Some.is c.in_ok-perform-in-Some.ensures.performed
 
 pub returns-in-None-clause-goes : goal.returns-in-None-clause-goes
 returns-in-None-clause-goes g c = λ setup bytes joins.
     let kind = g.E.Engine.kind c.args.engine.now in
-    idle_turns_on (g.E.Engine.meaning kind) kind (c.stretches_join.ensures.on kind) (c.clients_turn.ensures.stays kind) (c.clients_turn.ensures.leaves kind) setup bytes joins
-    c.args.self.now _ _ _ refl c.databases_stand.ensures c.in_ok-act.ensures.files _ _ c.in_ok-act.act c.in_ok-act.ensures.turn c.in-None.is
+    turns_kept (g.E.Engine.meaning kind) kind setup bytes joins c.args.self.now _ refl
+    (idle_turns_on (g.E.Engine.meaning kind) kind (c.stretches_join.ensures.on kind) (c.clients_turn.ensures.stays kind) (c.clients_turn.ensures.leaves kind) setup bytes joins
+    c.args.self.now _ _ _ refl c.databases_stand.ensures c.in_ok-act.ensures.files _ _ c.in_ok-act.act c.in_ok-act.ensures.turn c.in-None.is)
+
+pub returns-in-None-clause-led : goal.returns-in-None-clause-led
+returns-in-None-clause-led g c =
+    let kind = g.E.Engine.kind c.args.engine.now in
+    idle_led (g.E.Engine.meaning kind) kind c.args.self.now _ c.requires.going c.requires.led c.requires.idle refl c.databases_stand.ensures c.in_ok-act.ensures.files _ _ _ _
+    c.in_ok-act.act c.in_ok-act.ensures.turn c.in-None.is
+
+pub returns-in-None-clause-sessions : goal.returns-in-None-clause-sessions
+returns-in-None-clause-sessions g c = λ none.
+    let kind = g.E.Engine.kind c.args.engine.now in
+    idle_sessions (g.E.Engine.meaning kind) kind c.args.self.now _ c.requires.going c.requires.led c.requires.idle refl c.databases_stand.ensures c.in_ok-act.ensures.files _ _ _ _
+    c.in_ok-act.act c.in_ok-act.ensures.turn c.in-None.is

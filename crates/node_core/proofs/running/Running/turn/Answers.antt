@@ -1,6 +1,65 @@
 use Rattle.std.proofs.Common.{sym, subst}
+use Rattle.raft_member.specs.Members.{read_setup}
 use Rattle.node_replica.specs.Replicas.{ReplicaValue, IsKept}
+use Rattle.node_core.proofs.Looping.{goes_further, had_none}
+use Rattle.node_core.proofs.RaftAccounts.{owns_turns}
+use Rattle.store_laws.specs.Store.{Kept}
+use Rattle.node_core.proofs.Finding.{more, kept_finds}
+use Rattle.node_core.specs.Account.{StopsBy}
+use Rattle.node_core.specs.Finding.{StopsOwn}
+use Rattle.node_core.proofs.StopsOfStep.{stopped_here, stopped_own}
+use Rattle.node_core.proofs.Finding.{failed as always_err}
 use Rattle.node_core.proofs.running.Running.turn.Goals as goal
 
+pub returns-then-branch-clause-on : goal.returns-then-branch-clause-on
+returns-then-branch-clause-on g c = λ opening start event told u.
+    let kind = g.E.Engine.kind c.args.engine.now in
+    goes_further (g.E.Engine.meaning kind) kind (read_setup opening) start event told c.args.self.now c.take_due.new.self u
+    (λ bytes joins. owns_turns (g.E.Engine.meaning kind) kind (read_setup opening) bytes joins c.args.self.now c.take_due.new.self (c.in_ok-take_due.ensures.goes c.if-branch.true))
+
 pub returns-then-self-view-clause-stored : goal.returns-then-self-view-clause-stored
-returns-then-self-view-clause-stored g c = λ has. subst (λ (r : ReplicaValue). IsKept g.D.Disk.tells (g.D.Disk.states c.args.disk.now) r) (sym c.apply_next.ensures.replica) has
+returns-then-self-view-clause-stored g c = λ has.
+    subst (λ (r : ReplicaValue). IsKept g.D.Disk.tells (g.D.Disk.states c.take_due.new.disk) r) (sym c.apply_next.ensures.replica) (c.in_ok-take_due.ensures.stored has)
+
+pub returns-then-self-view-clause-on : goal.returns-then-self-view-clause-on
+returns-then-self-view-clause-on g c = λ opening start event told u.
+    let kind = g.E.Engine.kind c.args.engine.now in
+    goes_further (g.E.Engine.meaning kind) kind (read_setup opening) start event told c.take_due.new.self c.apply_next.new.self
+    (had_none (g.E.Engine.meaning kind) kind (read_setup opening) start event told c.args.self.now c.take_due.new.self u (c.in_ok-take_due.ensures.none c.if-branch.false))
+    (λ bytes joins. c.in_ok-apply_next.ensures.goes (read_setup opening) bytes joins)
+
+pub returns-clause-on : goal.returns-clause-on
+returns-clause-on g c = λ opening start event told u.
+    let kind = g.E.Engine.kind c.args.engine.now in
+    c.attend.ensures.on opening start event told
+    (had_none (g.E.Engine.meaning kind) kind (read_setup opening) start event told c.args.self.now c.take_due.new.self u (c.in_ok-take_due.ensures.none c.if-branch.false))
+
+pub returns-clause-stored : goal.returns-clause-stored
+returns-clause-stored g c = λ has. c.attend.ensures.stored (c.in_ok-take_due.ensures.stored has)
+
+pub returns-in_err-take_due-clause-stops : goal.returns-in_err-take_due-clause-stops
+returns-in_err-take_due-clause-stops g c = λ opening start event told u has.
+    always_err c.from_residual.result
+    (
+    let kind = g.E.Engine.kind c.args.engine.now in
+    let m = g.E.Engine.meaning kind in
+    more g.D.Disk.tells (g.D.Disk.states c.take_due.new.disk) (StopsOwn (read_setup opening) u.so_far.brought.bytes c.args.self.now) (StopsBy m kind (read_setup opening) start event)
+    (λ kept s. stopped_own c.raft_steps_are_kept.ensures.stops m kind (read_setup opening) start event c.args.self.now u kept s) (c.in_err-take_due.ensures.stops opening u.so_far.brought.bytes has)
+    )
+
+pub returns-in_err-apply_next-clause-stops : goal.returns-in_err-apply_next-clause-stops
+returns-in_err-apply_next-clause-stops g c = λ opening start event told u has.
+    always_err c.from_residual-in_err-apply_next.result
+    (
+    let kind = g.E.Engine.kind c.args.engine.now in
+    let m = g.E.Engine.meaning kind in
+    kept_finds g.D.Disk.tells (g.D.Disk.states c.take_due.new.disk) c.take_due.new.self.replica (StopsBy m kind (read_setup opening) start event)
+    (stopped_here c.raft_steps_are_kept.ensures.stops m kind (read_setup opening) start event c.take_due.new.self
+    (had_none m kind (read_setup opening) start event told c.args.self.now c.take_due.new.self u (c.in_ok-take_due.ensures.none c.if-branch.false))) (c.in_ok-take_due.ensures.stored has)
+    )
+
+pub returns-clause-stops : goal.returns-clause-stops
+returns-clause-stops g c = λ opening start event told u has.
+    let kind = g.E.Engine.kind c.args.engine.now in
+    c.attend.ensures.stops opening start event told
+    (had_none (g.E.Engine.meaning kind) kind (read_setup opening) start event told c.args.self.now c.take_due.new.self u (c.in_ok-take_due.ensures.none c.if-branch.false)) (c.in_ok-take_due.ensures.stored has)

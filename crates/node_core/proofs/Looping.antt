@@ -1,0 +1,220 @@
+-- Turns of a step join, and lead a step that is under way to its end.
+use Rattle.std.proofs.Common.{◌≡◌, ◌⊎◌, inl, inr, ⊎_elim, ℕ, Bool, true, false, List, [], ◌∷◌, ◌++◌, Option, Some, None, Result, Ok, Err, refl, sym, ap, subst, ◌∙◌, append-nil}
+use Rattle.std.specs.Prelude.{OnOk, IfOk}
+use Rattle.wire_msgs.specs.declared.request.Request.{Request}
+use Rattle.sql_engine.specs.declared.kind.EngineKind.{EngineKind}
+use Rattle.sql_engine.specs.Meanings.{Meaning, Told}
+use Rattle.client_connection.specs.Connection.{Conn}
+use Rattle.session_rules.specs.Entries.{Content}
+use Rattle.session_rules.specs.Events.{told_applied}
+use Rattle.session_rules.specs.Sessions.{Gateway, is_due}
+use Rattle.raft_rules.specs.Node.{is_leader}
+use Rattle.raft_vote.specs.declared.message.RaftMessage.{RaftMessage}
+use Rattle.raft_core.specs.declared.event.RaftEvent.TheVariants as raft_events
+use Rattle.raft_world.specs.Members.{Setup}
+use Rattle.client_sessions.specs.Calls.{told_at}
+use Rattle.client_sessions.specs.Clients.{Clients, offered_on}
+use Rattle.store_laws.specs.Store.{Kept}
+use Rattle.node_replica.specs.Mails.{sent}
+use Rattle.node_replica.specs.Replicas.{ReplicaValue, kept_of}
+use Rattle.node_rules.specs.Accounts.{Moment, no_piece, both, Goes, MayEnd}
+use Rattle.node_rules.specs.ClientTurns.{Stays, HangsUp, Serves}
+use Rattle.node_rules.specs.RaftTurns.{SnapshotGoes}
+use Rattle.node_rules.specs.Turns.{Owes}
+use Rattle.node_rules.proofs.Stretches.{nothing_goes_holds, goes_on_holds, sent_on_holds}
+use Rattle.node_core.specs.declared.event.Event.{Event}
+use Rattle.node_core.specs.declared.outs.Outs.{Outs}
+use Rattle.node_core.specs.declared.running.Running.{Running}
+use Rattle.node_core.specs.Account.{proposals_in, moment_of, Turns, Comes, Compacts, AtRest, Fresh, Underway, StepsBy}
+use Rattle.node_core.specs.Applying.{AppliesSo}
+use Rattle.node_core.specs.Duties.{DutySo}
+use Rattle.node_core.specs.Performing.{SaysNothing, GoesOr, ClosesSo}
+use Rattle.node_core.specs.Posting.{HadNone}
+use Rattle.node_core.specs.Taking.{TurnsOn, BeganBy, TookLetter, came, none_came, CompactsSo}
+use Rattle.node_core.specs.Values.{seen, clients_in, waiting_on}
+use Rattle.node_core.specs.Waiting.{is_among, NoneIsDue}
+use Rattle.node_core.specs.Whole.{IsGoing, IsQuiet}
+use Rattle.node_core.proofs.Accounting.{says_none, says_join, heard_none, heard_join, adds_none, adds_join, underway_on, underway_next, underway_ends}
+use Rattle.node_core.proofs.Beginning.{begins_raft, begins_compact, with_letter}
+use Rattle.node_core.proofs.ClientTurns.{sends_so}
+use Rattle.node_core.proofs.TurnsOf.{turns_stays, turns_hangs, turns_applies, turns_owes, turns_serves}
+
+pub on_ok_then : {T F P Q : Type 0} (r : Result T F) → (P → Q) → OnOk r P → OnOk r Q
+on_ok_then (Ok x) f p = f p
+on_ok_then (Err e) f p = tt
+
+-- ---- turns
+
+module _ (m : Meaning) (kind : EngineKind) (setup : Setup) (bytes : List ℕ) (joins : Option ℕ) where
+  -- a turn without a step of Raft
+  pub turns_kept : {before now : Option Told} (a b : Running) → b.replica ≡ a.replica → Turns m kind setup bytes joins a b before now → TurnsOn m kind setup bytes joins a b before now
+  turns_kept a b replica t = record {
+    turns = t;
+    same = record { term = ap (λ (r : ReplicaValue). r.raft.term) replica; leads = ap (λ (r : ReplicaValue). is_leader r.raft.role) replica };
+    snap = ap (λ (r : ReplicaValue). (kept_of r).snap) (sym replica);
+  }
+
+  pub turns_join : {before mid now : Option Told} (a b c : Running) → TurnsOn m kind setup bytes joins a b before mid → TurnsOn m kind setup bytes joins b c mid now → TurnsOn m kind setup bytes joins a c before now
+  turns_join a b c x y =
+      let s = x.turns in
+      let t = y.turns in
+      record {
+        turns = record {
+          piece = both s.piece t.piece;
+          goes = goes_on_holds m kind setup a.replica.id bytes joins (moment_of a) (moment_of b) (moment_of c) s.piece t.piece s.goes
+              (subst (λ me. Goes m kind setup me bytes joins (moment_of b) (moment_of c) t.piece) s.id t.goes) (inr y.same);
+          inputs = adds_join s.piece.inputs t.piece.inputs [] s.inputs t.inputs;
+          asks = λ conn. ap (λ (l : List Request). l ++ t.piece.asks conn) (s.asks conn) ∙ t.asks conn;
+          says = says_join a b c s.piece.letters t.piece.letters s.piece.replies t.piece.replies s.piece.jobs t.piece.jobs s.says t.says;
+          heard = heard_join s.piece.answers t.piece.answers _ _ _ s.heard t.heard;
+          sent = sent_on_holds (kept_of a.replica) (kept_of b.replica) (kept_of c.replica) s.piece.letters t.piece.letters s.sent t.sent (inl x.snap);
+          id = t.id ∙ s.id;
+        };
+        same = record { term = y.same.term ∙ x.same.term; leads = y.same.leads ∙ x.same.leads };
+        snap = x.snap ∙ y.snap;
+      }
+
+  id_stays : (a b : Running) → b.replica ≡ a.replica → b.replica.id ≡ a.replica.id
+  id_stays a b replica = ap (λ (r : ReplicaValue). r.id) replica
+
+  pub fresh_turn : {told : Option Told} (a b : Running) → Fresh a b → TurnsOn m kind setup bytes joins a b told told
+  fresh_turn a b f = record {
+    turns = record {
+      piece = no_piece;
+      goes = subst (λ z. Goes m kind setup a.replica.id bytes joins (moment_of a) z no_piece) (sym f.moment) (nothing_goes_holds m kind setup a.replica.id bytes joins (moment_of a));
+      inputs = adds_none [];
+      asks = λ conn. refl;
+      says = says_none a b f.mail f.replies f.reads;
+      heard = heard_none _;
+      sent = tt;
+      id = f.id;
+    };
+    same = record { term = ap (λ (z : Moment). z.node.raft.term) f.moment; leads = ap (λ (z : Moment). is_leader z.node.raft.role) f.moment };
+    snap = ap (λ (k : Kept). k.snap) (sym f.kept);
+  }
+
+  -- nothing that the rules see
+  pub stays_turn : {told : Option Told} (a b : Running) → b.replica ≡ a.replica → Stays (moment_of a) (moment_of b) → SaysNothing a b → TurnsOn m kind setup bytes joins a b told told
+  stays_turn a b replica x quiet = turns_kept a b replica (turns_stays m kind setup a b (id_stays a b replica) bytes joins x (says_none a b quiet.mail quiet.replies quiet.reads))
+
+  goes_turn : {told : Option Told} (a b : Running) (conn : ℕ) → b.replica ≡ a.replica → GoesOr a b conn → SaysNothing a b → TurnsOn m kind setup bytes joins a b told told
+  goes_turn a b conn replica (inl x) quiet = stays_turn a b replica x quiet
+  goes_turn a b conn replica (inr x) quiet = turns_kept a b replica (turns_hangs m kind setup a b (id_stays a b replica) bytes joins conn x (says_none a b quiet.mail quiet.replies quiet.reads))
+
+  pub closes_turn : {told : Option Told} (a b : Running) → b.replica ≡ a.replica → ClosesSo a b → SaysNothing a b → TurnsOn m kind setup bytes joins a b told told
+  closes_turn a b replica (inl x) quiet = stays_turn a b replica x quiet
+  closes_turn a b replica (inr x) quiet = goes_turn a b x.0 replica x.1.1 quiet
+
+  -- an entry is applied, and what a leader owes behind it
+  applies_turn : {told : Option Told} (a b : Running) → b.replica ≡ a.replica → AppliesSo a b → TurnsOn m kind setup bytes joins a b told told
+  applies_turn a b replica x =
+      let replies = told_applied _ (clients_in a).sessions in
+      turns_kept a b replica (turns_applies m kind setup a b (id_stays a b replica) bytes joins replies x.applies
+      (record { posted = []; letters_are = refl; mail = x.mail; told = told_at _ (clients_in a); outs = x.outs; tells = sends_so replies (told_at _ (clients_in a)) refl; reads = x.reads ∙ sym (append-nil a.outs.reads.items) }))
+
+  duties_turn : {told : Option Told} (a b : Running) → b.replica ≡ a.replica → DutySo a b → SaysNothing a b → TurnsOn m kind setup bytes joins a b told told
+  duties_turn a b replica (inl x) quiet = stays_turn a b replica x quiet
+  duties_turn a b replica (inr (inl x)) quiet = turns_kept a b replica (turns_serves m kind setup a b (id_stays a b replica) bytes joins x (says_none a b quiet.mail quiet.replies quiet.reads))
+  duties_turn a b replica (inr (inr x)) quiet = turns_kept a b replica (turns_owes m kind setup a b (id_stays a b replica) bytes joins x.0 x.1 (says_none a b quiet.mail quiet.replies quiet.reads))
+
+  pub entry_turn : {before now : Option Told} (a b c d : Running) → b.replica ≡ a.replica → d.replica ≡ c.replica → AppliesSo a b → TurnsOn m kind setup bytes joins b c before now → DutySo c d → SaysNothing c d → TurnsOn m kind setup bytes joins a d before now
+  entry_turn a b c d first last x t duty quiet = turns_join a b d (applies_turn a b first x) (turns_join b c d t (duties_turn c d last duty quiet))
+
+-- ---- the end of an act
+
+waits_none : (conn : ℕ) (busy : Bool) (stream : Option Conn) → offered_on conn [] busy stream ≡ None → busy ≡ false → waiting_on stream ≡ []
+waits_none conn true stream none idle = absurd cc
+waits_none conn false None none idle = refl
+waits_none conn false (Some stream) none idle = by stream.waiting none
+  where
+    by : (waiting : List _) → offered_on conn [] false (Some (record stream { waiting = waiting })) ≡ None → waiting_on (Some (record stream { waiting = waiting })) ≡ []
+    by [] e = refl
+    by (x ∷ xs) e = absurd cc
+
+-- where nothing is left to do, an act may end
+pub may_end : (n : Running) → IsGoing n → n.applied.index ≡ n.replica.raft.commit → n.due.items ≡ [] → (clients_in n).turns ≡ [] → NoneIsDue (clients_in n) → MayEnd (moment_of n)
+may_end n going applied due turns none = record {
+  applied = applied;
+  due = ap proposals_in due;
+  waits = λ conn open_ idle. waits_none conn _ ((clients_in n).streams conn) (going.holds.turns conn (subst (λ (l : List ℕ). is_among conn l ≡ false) (sym turns) refl)) idle;
+  run = λ conn open_. none conn;
+}
+
+-- and the node rests
+pub at_rest : (n : Running) → IsGoing n → n.applied.index ≡ n.replica.raft.commit → n.due.items ≡ [] → AtRest n
+at_rest n going applied due = record {
+  rests = λ i. record { node = seen n; applied = applied i; due = ap proposals_in due i };
+  at = going.holds.at;
+  id = going.holds.replica.id;
+}
+
+-- ---- a step under way
+
+module _ (m : Meaning) (kind : EngineKind) (setup : Setup) (start : Running) (event : Event) (told : Option Told) where
+  abbrev So : Running → Option Told → Type 0
+  So n now = Underway m kind setup start n event told now
+
+  pub goes_further : {mid now : Option Told} (a b : Running) → So a mid → ((bytes : List ℕ) (joins : Option ℕ) → TurnsOn m kind setup bytes joins a b mid now) → So b now
+  goes_further a b u t = underway_on m kind setup start a b event u t
+
+  -- nothing was due
+  pub had_none : {now : Option Told} (a b : Running) → So a now → HadNone a b → So b now
+  had_none a b u h = goes_further a b u (λ bytes joins. fresh_turn m kind setup bytes joins a b (record {
+    moment = ap moment_of h.is ∙ (λ i. record { node = seen a; applied = a.applied.index; due = (ap proposals_in h.now ∙ sym (ap proposals_in h.was)) i });
+    mail = ap (λ (n : Running). n.mail) h.is;
+    replies = ap (λ (n : Running). n.outs.replies.items) h.is;
+    reads = ap (λ (n : Running). n.outs.reads.items) h.is;
+    kept = ap (λ (n : Running). kept_of n.replica) h.is;
+    id = ap (λ (n : Running). n.replica.id) h.is;
+  }))
+
+  -- an own snapshot is an act of its own
+  pub compacts : {now : Option Told} → SnapshotGoes m kind → (a b : Running) → So a now → IsGoing a → MayEnd (moment_of a) → AtRest a → CompactsSo setup a b → So b now
+  compacts law a b u going end rest c =
+      underway_next m kind setup start a a b event u end going.holds.replica.id (record { same = refl; mail = refl; replies = refl; reads = refl }) rest (Compacts a.applied.index) tt (begins_compact m kind setup a b law c)
+
+  -- and so is a message of a peer that came on a connection
+  pub letter_came : {mid now : Option Told} (a b : Running) → So a mid → IsGoing a → MayEnd (moment_of a) → AtRest a → TookLetter m kind setup a b mid now → So b now
+  letter_came a b u going end rest (none_came f same) = subst (So b) same (goes_further a b u (λ bytes joins. fresh_turn m kind setup bytes joins a b f))
+  letter_came a b u going end rest (came message mid is began) =
+      underway_next m kind setup start a mid b event u end going.holds.replica.id
+      (record { same = ap seen is; mail = ap (λ (n : Running). n.mail) is; replies = ap (λ (n : Running). n.outs.replies.items) is; reads = ap (λ (n : Running). n.outs.reads.items) is })
+      (subst AtRest (sym is) (record { rests = rest.rests; at = rest.at; id = rest.id })) (Comes message) tt (begins_raft m kind setup mid b (Comes message) (raft_events.Message message) (with_letter mid message) began)
+
+-- ---- along an engine, whose kind stays
+
+module _ (M : EngineKind → Meaning) (setup : Setup) (start : Running) (event : Event) (told : Option Told) (k : EngineKind) where
+  abbrev On : EngineKind → Running → Option Told → Type 0
+  On l n now = Underway (M l) l setup start n event told now
+
+  pub further_at : {mid now : Option Told} (l : EngineKind) (a b : Running) → l ≡ k → On k a mid → ((bytes : List ℕ) (joins : Option ℕ) → TurnsOn (M l) l setup bytes joins a b mid now) → On k b now
+  further_at {mid} {now} l a b e u t = subst (λ z. On z b now) e (goes_further (M l) l setup start event told a b (subst (λ z. On z a mid) (sym e) u) t)
+
+  pub letter_at : {mid now : Option Told} (l : EngineKind) (a b : Running) → l ≡ k → On k a mid → IsGoing a → MayEnd (moment_of a) → AtRest a → TookLetter (M l) l setup a b mid now → On k b now
+  letter_at {mid} {now} l a b e u going end rest t = subst (λ z. On z b now) e (letter_came (M l) l setup start event told a b (subst (λ z. On z a mid) (sym e) u) going end rest t)
+
+  pub closed_at : {F : Type 0} {now : Option Told} (r : Result Bool F) (a b : Running) → On k a now → b.replica ≡ a.replica → OnOk r (ClosesSo a b) → SaysNothing a b → OnOk r (On k b now)
+  closed_at (Ok more) a b u replica c quiet = goes_further (M k) k setup start event told a b u (λ bytes joins. closes_turn (M k) k setup bytes joins a b replica c quiet)
+  closed_at (Err f) a b u replica c quiet = tt
+
+-- where nothing was left but to look at a connection
+pub ends_closed : {F : Type 0} (r : Result Bool F) (a b : Running) → MayEnd (moment_of a) → IfOk r (λ more. more ≡ false → (b ≡ a) × (b.heard ≡ None)) → IfOk r (λ more. more ≡ false → MayEnd (moment_of b))
+ends_closed (Ok more) a b end f = λ q. subst (λ (n : Running). MayEnd (moment_of n)) (sym (f q).0) end
+ends_closed (Err f) a b end none = tt
+
+-- behind the last of clients' messages
+pub ends_behind : (old a b : Running) → a ≡ old → IsGoing b → old.applied.index ≡ old.replica.raft.commit → old.due.items ≡ [] → b.replica ≡ a.replica → b.applied.index ≡ a.applied.index → b.due.items ≡ a.due.items → (clients_in b).turns ≡ []
+    → NoneIsDue (clients_in a) → (clients_in b).sessions ≡ (clients_in a).sessions → MayEnd (moment_of b) × AtRest b
+ends_behind old a b same going applied due replica index dues turns none sessions =
+    let at : b.applied.index ≡ b.replica.raft.commit = index ∙ ap (λ (n : Running). n.applied.index) same ∙ applied ∙ ap (λ (n : Running). n.replica.raft.commit) (sym same) ∙ ap (λ (r : ReplicaValue). r.raft.commit) (sym replica) in
+    let idle : b.due.items ≡ [] = dues ∙ ap (λ (n : Running). n.due.items) same ∙ due in
+    (may_end b going at idle turns (λ conn. ap (λ (g : Gateway). is_due (g.session conn).later) sessions ∙ none conn), at_rest b going at idle)
+
+-- ---- what the step says
+
+pub steps_said : {F : Type 0} {before now : Option Told} (m : Meaning) (kind : EngineKind) (setup : Setup) (a b c : Running) (event : Event) (r : Result Outs F) → Underway m kind setup a b event before now → MayEnd (moment_of b) → b.replica.raft.id ≡ b.replica.id → IsQuiet a
+    → c ≡ record b { outs = c.outs; mail = c.mail } → IfOk r (λ outs. (outs.replies.items ≡ b.outs.replies.items) × (outs.closed.items ≡ b.outs.closed.items)) → IfOk r (λ outs. outs.messages.items ≡ sent b.mail)
+    → IfOk r (λ outs. outs.reads.items ≡ b.outs.reads.items) → IfOk r (λ outs. StepsBy m kind setup a c event outs before now)
+steps_said m kind setup a b c event (Ok outs) u end id quiet rest said messages reads =
+    underway_ends m kind setup a b c event outs u end id quiet.mail quiet.replies quiet.reads (ap seen rest) messages said.0 reads
+steps_said m kind setup a b c event (Err f) u end id quiet rest said messages reads = tt

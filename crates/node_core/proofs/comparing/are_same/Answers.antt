@@ -1,0 +1,14 @@
+use Rattle.std.proofs.Common.{refl}
+use Rattle.node_core.proofs.AlikeLists.{next_alike, alike}
+use Rattle.node_core.proofs.comparing.are_same.Goals as goal
+
+pub loop-place-init : goal.loop-place-init
+loop-place-init c = refl
+
+pub loop-place-preserved : goal.loop-place-preserved
+loop-place-preserved c =
+    next_alike c.loop-place.place c.args.ones.now c.args.others.now c.index-ones-place.result c.index-others-place.result c.loop-place.invariant c.index-ones-place.is c.index-others-place.is
+    (c.is_same.ensures c.if-not-is_same.false) c.loop-place-test.true c.if-ones-others.false
+
+pub returns : goal.returns
+returns c = λ same. alike c.loop-place.place c.args.ones.now c.args.others.now c.loop-place.invariant c.loop-place-test.false c.if-ones-others.false

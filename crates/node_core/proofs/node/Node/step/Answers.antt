@@ -1,0 +1,5 @@
+use Rattle.node_core.proofs.Finding.{failed}
+use Rattle.node_core.proofs.node.Node.step.Goals as goal
+
+pub returns-in_err-outs-clause-stops : goal.returns-in_err-outs-clause-stops
+returns-in_err-outs-clause-stops g c = λ opening up has. failed c.from_residual.result (c.in_err-outs.ensures.stops opening has)

@@ -1,0 +1,29 @@
+use Rattle.std.proofs.Common.{sym, ap, subst}
+use Rattle.node_replica.specs.Replicas.{ReplicaValue, IsKept}
+use Rattle.node_core.specs.declared.running.Running.{Running}
+use Rattle.raft_member.specs.Members.{read_setup}
+use Rattle.std.proofs.lemmas.Result.{on_err_weaker}
+use Rattle.node_core.specs.Finding.{StopsBehind, StopsTelling}
+use Rattle.node_core.proofs.Finding.{failed, kept_finds, more}
+use Rattle.node_core.proofs.StopsOfTurns.{telling_from, untold_behind}
+use Rattle.node_core.proofs.running.Running.follow_log.Goals as goal
+
+pub returns-then-not-branch-clause-stored : goal.returns-then-not-branch-clause-stored
+returns-then-not-branch-clause-stored g c = λ has.
+    subst (λ (r : ReplicaValue). IsKept g.D.Disk.tells (g.D.Disk.states c.args.disk.now) r) (sym (ap (λ (n : Running). n.replica) c.follow_members.ensures.is)) has
+
+pub returns-clause-stored : goal.returns-clause-stored
+returns-clause-stored g c = λ has.
+    c.tell_servers.ensures.stored (subst (λ (r : ReplicaValue). IsKept g.D.Disk.tells (g.D.Disk.states c.args.disk.now) r) (sym (ap (λ (n : Running). n.replica) c.follow_members.ensures.is)) has)
+
+pub returns-in_err-follow_members-clause-stops : goal.returns-in_err-follow_members-clause-stops
+returns-in_err-follow_members-clause-stops g c = λ opening came has.
+    failed c.from_residual.result (kept_finds g.D.Disk.tells (g.D.Disk.states c.args.disk.now) c.args.self.now.replica (StopsBehind (read_setup opening) came c.args.self.now) (untold_behind (read_setup opening) came c.args.self.now) has)
+
+pub returns-clause-stops : goal.returns-clause-stops
+returns-clause-stops g c = λ opening came has.
+    on_err_weaker c.tell_servers.result
+    (more g.D.Disk.tells (g.D.Disk.states c.tell_servers.new.disk) (StopsTelling (read_setup opening) came c.follow_members.new.self) (StopsBehind (read_setup opening) came c.args.self.now)
+    (λ kept s. telling_from (read_setup opening) came c.args.self.now c.follow_members.new.self kept c.follow_members.ensures.is s))
+    (c.tell_servers.ensures.stops opening came
+    (subst (λ (r : ReplicaValue). IsKept g.D.Disk.tells (g.D.Disk.states c.args.disk.now) r) (sym (ap (λ (n : Running). n.replica) c.follow_members.ensures.is)) has))

@@ -1,0 +1,21 @@
+use Rattle.std.proofs.lemmas.Result.{on_ok_weaker, on_err_weaker}
+use Rattle.node_core.specs.Posting.{told_servers}
+use Rattle.raft_member.specs.Members.{read_setup}
+use Rattle.raft_rules.specs.Node.{Local, UseServers}
+use Rattle.std.proofs.Common.{refl}
+use Rattle.node_core.specs.Finding.{StopsIn, StopsTelling, untold_yet, in_telling}
+use Rattle.node_core.proofs.Finding.{failed, kept_finds, more}
+use Rattle.node_core.proofs.running.Running.tell_servers.Goals as goal
+
+pub returns-clause-tells : goal.returns-clause-tells
+returns-clause-tells g c = on_ok_weaker c.tell.result (λ l. told_servers c.in_ok-servers.servers l) c.tell.ensures.tells
+
+pub returns-in_err-servers-clause-stops : goal.returns-in_err-servers-clause-stops
+returns-in_err-servers-clause-stops g c = λ opening came has.
+    failed c.from_residual.result (kept_finds g.D.Disk.tells (g.D.Disk.states c.args.disk.now) c.args.self.now.replica (StopsTelling (read_setup opening) came c.args.self.now) (untold_yet refl) has)
+
+pub returns-clause-stops : goal.returns-clause-stops
+returns-clause-stops g c = λ opening came has.
+    on_err_weaker c.tell.result
+    (more g.D.Disk.tells (g.D.Disk.states c.tell.new.disk) (StopsIn (read_setup opening) came c.args.self.now (Local (UseServers c.in_ok-servers.servers))) (StopsTelling (read_setup opening) came c.args.self.now)
+    (λ kept s. in_telling c.in_ok-servers.servers s)) (c.tell.ensures.stops opening came has)

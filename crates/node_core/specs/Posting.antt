@@ -1,0 +1,147 @@
+-- A step of Raft within a turn: what it leaves is kept, what it says is posted, and sessions follow its office.
+use Rattle.std.specs.Prelude.{◌≡◌, ℕ, Bool, true, false, not, ◌&&◌, ◌==◌, List, [], ◌∷◌, ◌++◌, map, Option, Some, None}
+use Rattle.page_apply.specs.Machines.{IsMachine}
+use Rattle.session_rules.specs.Machine.{machine_of}
+use Rattle.session_rules.specs.Sessions.{Reply}
+use Rattle.raft_rules.specs.Log.{Entry}
+use Rattle.raft_rules.specs.Node as raft
+use Rattle.raft_rules.specs.Node.{is_leader}
+use Rattle.raft_rules.specs.NodeValues.{NodeValue}
+use Rattle.raft_vote.specs.declared.message.RaftMessage.{RaftMessage}
+use Rattle.raft_vote.specs.Messages.{message_value}
+use Rattle.raft_core.specs.declared.event.RaftEvent.{RaftEvent}
+use Rattle.raft_core.specs.declared.event.RaftEvent.TheVariants as events
+use Rattle.raft_core.specs.Events.{input_of}
+use Rattle.raft_world.specs.Members.{Setup}
+use Rattle.client_sessions.specs.Calls.{lost_all, told_all_lost}
+use Rattle.node_state.specs.declared.office.Office.{Office as Held}
+use Rattle.node_replica.specs.Mails.{all_posted}
+use Rattle.node_replica.specs.Replicas.{kept_of}
+use Rattle.node_rules.specs.Accounts.{Moment, SameTerm}
+use Rattle.node_rules.specs.RaftTurns.{RaftSteps, Leaves, Office, Follows, Installs}
+use Rattle.node_rules.specs.Steps.{AllSent}
+use Rattle.node_rules.specs.Turns.{Proposes}
+use Rattle.node_core.specs.declared.running.Running.{Running}
+use Rattle.node_core.specs.Account.{moment_of, bytes_in, letter_of, Sends, Fresh}
+use Rattle.node_core.specs.Values.{clients_in}
+
+-- ---- a step
+
+-- Raft has made a step of this input, which is kept. Its messages are posted behind those that were, and a snapshot that is sent is the kept one.
+pub record Posts (old new : Running) (i : raft.Input) : Type 0 where
+  pub posted : List RaftMessage
+  pub steps : RaftSteps old.replica.id (moment_of old) (moment_of new) i (map letter_of posted)
+  pub mail : new.mail ≡ all_posted old.mail posted
+  pub sent : AllSent (kept_of old.replica) (kept_of new.replica) (map letter_of posted)
+  pub id : new.replica.id ≡ old.replica.id
+
+-- It left the log, and all else: term, leadership, the kept snapshot, clients and databases.
+pub record LeavesSo (old new : Running) (i : raft.Input) : Type 0 where
+  pub posts : Posts old new i
+  pub leaves : Leaves old.replica.id (moment_of old) (moment_of new) i (map letter_of posts.posted)
+  pub outs : new.outs ≡ old.outs
+  pub same : SameTerm (moment_of old) (moment_of new)
+  pub snap : (kept_of old.replica).snap ≡ (kept_of new.replica).snap
+
+-- or nothing has changed
+pub data ToldOr (old new : Running) : Type 0 where
+  untold : new ≡ old → ToldOr old new
+  told_servers : (servers : List raft.Server) → LeavesSo old new (raft.Local (raft.UseServers servers)) → ToldOr old new
+
+-- A leader took the first proposal that was due, and nothing else has changed.
+pub record ProposesSo (old new : Running) (entries : List Entry) : Type 0 where
+  pub posts : Posts old new (raft.Local (raft.Propose entries))
+  pub proposes : Proposes old.replica.id (moment_of old) (moment_of new) entries (map letter_of posts.posted)
+  pub outs : new.outs ≡ old.outs
+  pub same : SameTerm (moment_of old) (moment_of new)
+  pub snap : (kept_of old.replica).snap ≡ (kept_of new.replica).snap
+
+-- ---- an office that is lost
+
+-- a step has ended the leadership of this office
+abbrev pub ends_office : Option Held → NodeValue → Bool
+ends_office None h = false
+ends_office (Some office) h = not (is_leader h.role && (office.term == h.term))
+
+-- The clients of a leadership that was lost were told, and what was open or in flight has ended.
+pub record LosesSo (old new : Running) : Type 0 where
+  pub clients : clients_in new ≡ lost_all (clients_in old)
+  pub told : new.outs.replies.items ≡ old.outs.replies.items ++ told_all_lost (clients_in old)
+  pub reads : new.outs.reads.items ≡ old.outs.reads.items
+  pub files : machine_of new.applied.machine ≡ machine_of old.applied.machine
+  pub machine : IsMachine new.applied.machine
+
+-- What a step left of sessions and service, and who was told.
+pub record OfficeSo (old new : Running) : Type 0 where
+  pub replies : List (ℕ × Reply)
+  pub office : Office (moment_of old) (moment_of new) replies
+  pub told : List (ℕ × List ℕ)
+  pub outs : new.outs.replies.items ≡ old.outs.replies.items ++ told
+  pub tells : Sends replies told
+  pub reads : new.outs.reads.items ≡ old.outs.reads.items
+  pub waiting : (conn : ℕ) → (moment_of new).node.waiting conn ≡ (moment_of old).node.waiting conn
+  pub machine : IsMachine new.applied.machine
+  pub files : machine_of new.applied.machine ≡ machine_of old.applied.machine
+
+-- ---- the step of an event from outside
+
+-- A step in which no snapshot came.
+pub record FollowsSo (old new : Running) (i : raft.Input) : Type 0 where
+  pub posts : Posts old new i
+  pub replies : List (ℕ × Reply)
+  pub follows : Follows old.replica.id (moment_of old) (moment_of new) i (map letter_of posts.posted) replies
+  pub told : List (ℕ × List ℕ)
+  pub outs : new.outs.replies.items ≡ old.outs.replies.items ++ told
+  pub tells : Sends replies told
+  pub reads : new.outs.reads.items ≡ old.outs.reads.items
+
+-- A step that put a snapshot in the place of entries, with these bytes.
+pub record InstallsSo (setup : Setup) (old new : Running) (bytes : List ℕ) (message : raft.Message) : Type 0 where
+  pub posts : Posts old new (raft.Receive message)
+  pub replies : List (ℕ × Reply)
+  pub installs : Installs setup old.replica.id (moment_of old) (moment_of new) bytes message (map letter_of posts.posted) replies
+  pub told : List (ℕ × List ℕ)
+  pub outs : new.outs.replies.items ≡ old.outs.replies.items ++ told
+  pub tells : Sends replies told
+  pub reads : new.outs.reads.items ≡ old.outs.reads.items
+
+-- ---- what a turn of Raft's shows
+
+-- An event from outside, without a snapshot: Raft's step, and then it may be told other servers.
+pub record FollowsOn (old new : Running) (event : RaftEvent) : Type 0 where
+  pub mid : Running
+  pub follows : FollowsSo old mid (input_of event)
+  pub last : Running
+  pub tells : ToldOr mid last
+  pub fresh : Fresh last new
+
+-- A message that brought a snapshot: Raft's step, and then it may be told the snapshot's servers.
+pub record InstallsOn (setup : Setup) (old new : Running) (event : RaftEvent) : Type 0 where
+  pub message : RaftMessage
+  pub event_is : event ≡ events.Message message
+  pub mid : Running
+  pub installs : InstallsSo setup old mid (bytes_in message.what) (message_value message)
+  pub last : Running
+  pub tells : ToldOr mid last
+  pub fresh : Fresh last new
+
+-- What the node gave Raft itself: a proposal, before which Raft was told the servers that it makes, if any; or a leadership is handed over.
+pub data OwnsSo (old new : Running) : Type 0 where
+  owns_proposal : (mid last : Running) (entries : List Entry) → ToldOr old mid → ProposesSo mid last entries → Fresh last new → OwnsSo old new
+  owns_transfer : (mid last : Running) (to : ℕ) → ToldOr old mid → LeavesSo mid last (raft.Local (raft.Transfer to)) → Fresh last new → OwnsSo old new
+
+-- An event was the first of what was due.
+pub record WasDue (event : RaftEvent) (before now : Running) : Type 0 where
+  pub first : before.due.items ≡ event ∷ now.due.items
+  pub is : now ≡ record before { due = now.due }
+
+-- only who leads proposes
+abbrev pub MayTake : RaftEvent → NodeValue → Type 0
+MayTake (events.Propose entries) h = is_leader h.role ≡ true
+MayTake event h = Unit {0}
+
+-- Nothing was due, and nothing has changed.
+pub record HadNone (old new : Running) : Type 0 where
+  pub was : old.due.items ≡ []
+  pub now : new.due.items ≡ []
+  pub is : new ≡ record old { due = new.due }

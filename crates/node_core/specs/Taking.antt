@@ -1,0 +1,62 @@
+-- What Raft's turns show: an event from outside begins an act, what the node gave Raft is a turn, and an own snapshot is an act of its own.
+use Rattle.std.specs.Prelude.{◌≡◌, ℕ, false, List, [], ◌∷◌, Option, None}
+use Rattle.sql_engine.specs.declared.kind.EngineKind.{EngineKind}
+use Rattle.sql_engine.specs.Meanings.{Meaning, Told}
+use Rattle.raft_vote.specs.declared.message.RaftMessage.{RaftMessage}
+use Rattle.raft_core.specs.declared.event.RaftEvent.{RaftEvent}
+use Rattle.raft_core.specs.declared.event.RaftEvent.TheVariants as events
+use Rattle.raft_core.specs.Events.{input_of}
+use Rattle.raft_world.specs.Members.{Setup}
+use Rattle.node_replica.specs.Replicas.{kept_of}
+use Rattle.node_rules.specs.Accounts.{SameTerm}
+use Rattle.node_rules.specs.RaftTurns.{TakesSnapshot}
+use Rattle.node_rules.specs.Steps.{Letter, AllSent}
+use Rattle.node_core.specs.declared.running.Running.{Running}
+use Rattle.node_core.specs.Account.{moment_of, bytes_in, Says, Brought, Turns, KnowsServers, Since, LosesMessage, Fresh}
+
+-- ---- turns
+
+-- A turn that leaves term, leadership and the kept snapshot.
+pub record TurnsOn (m : Meaning) (kind : EngineKind) (setup : Setup) (bytes : List ℕ) (joins : Option ℕ) (old new : Running)
+    (told_before told_now : Option Told) : Type 0 where
+  pub turns : Turns m kind setup bytes joins old new told_before told_now
+  pub same : SameTerm (moment_of old) (moment_of new)
+  pub snap : (kept_of old.replica).snap ≡ (kept_of new.replica).snap
+
+-- ---- an event from outside
+
+-- the bytes of the snapshot that comes with it
+abbrev pub bytes_with : RaftEvent → List ℕ
+bytes_with (events.Message message) = bytes_in message.what
+bytes_with event = []
+
+-- what comes in by it
+abbrev pub came_by : RaftEvent → Brought
+came_by event = record { inputs = input_of event ∷ []; bytes = bytes_with event; joins = None; read = None; asks = λ conn. [] }
+
+-- a message that counts as lost
+abbrev pub IsLostBy : Running → RaftEvent → Type 0
+IsLostBy old (events.Message message) = LosesMessage old message
+IsLostBy old event = ⊥
+
+-- Its act has begun: its input was taken in; or its message counts as lost, and nothing has changed.
+pub data BeganBy (m : Meaning) (kind : EngineKind) (setup : Setup) (old new : Running) (event : RaftEvent) (told_before told_now : Option Told) : Type 0 where
+  takes : Since m kind setup (came_by event) false old new told_before told_now → BeganBy m kind setup old new event told_before told_now
+  loses : IsLostBy old event → new ≡ old → told_before ≡ told_now → BeganBy m kind setup old new event told_before told_now
+
+-- A message of a peer came on a connection, and its act has begun where only the connections' messages were others; or nothing came that
+-- the rules see.
+pub data TookLetter (m : Meaning) (kind : EngineKind) (setup : Setup) (old new : Running) (told_before told_now : Option Told) : Type 0 where
+  came : (message : RaftMessage) (mid : Running) → mid ≡ record old { links = mid.links } →
+      BeganBy m kind setup mid new (events.Message message) told_before told_now → TookLetter m kind setup old new told_before told_now
+  none_came : Fresh old new → told_before ≡ told_now → TookLetter m kind setup old new told_before told_now
+
+-- ---- an own snapshot
+
+-- The snapshot of what is applied was kept, and this was said.
+pub record CompactsSo (setup : Setup) (old new : Running) : Type 0 where
+  pub letters : List Letter
+  pub takes : KnowsServers setup old → TakesSnapshot setup old.replica.id (moment_of old) (moment_of new) old.applied.index letters
+  pub says : Says old new letters [] []
+  pub sent : AllSent (kept_of old.replica) (kept_of new.replica) letters
+  pub id : new.replica.id ≡ old.replica.id

@@ -1,0 +1,99 @@
+//! A node's turn for what it gives Raft itself: proposals, and a leadership that is handed over. Term and leadership stay.
+
+ghost use Rattle.std.specs.Prelude.{◌≡◌, ◌≢◌, ◌<◌, true, false, ℕ, List, None, Err, OnOk, IfOk};
+ghost use Rattle.page_apply.specs.Machines.{IsMachine};
+ghost use Rattle.raft_rules.specs.Laws.{HasShortTerm};
+ghost use Rattle.raft_rules.specs.Node.{Server as ServerValue};
+ghost use Rattle.raft_rules.specs.NodeValues.{node_of};
+ghost use Rattle.raft_member.specs.Members.{read_setup};
+ghost use Rattle.node_replica.specs.Replicas.{IsWhole};
+ghost use Rattle.node_core.specs.declared.fault.NodeFault.TheVariants as fault;
+ghost use Rattle.node_core.specs.Faults.{StepCause};
+ghost use Rattle.node_core.specs.Finding.{LeavesBy, StopsOwn, StopsTelling};
+ghost use Rattle.node_core.specs.Posting.{HadNone, MayTake, OwnsSo, ToldOr, WasDue};
+ghost use Rattle.node_core.specs.Stepping.{HasTold, StaysAgreed, StaysStored};
+ghost use Rattle.node_core.specs.Whole.{IsGoing, IsLed, IsOwnDue};
+ghost use Rattle.node_core.specs.declared.running.Running.{Running as RunningValue};
+
+use crate::fault::NodeFault;
+use crate::running::Running;
+use disk_model::Disk;
+use raft_core::RaftEvent;
+use raft_member::change_in;
+
+impl Running {
+    /// The first of what the node has given Raft itself happens: a proposal, or a leadership that is handed over. False where
+    /// nothing is due.
+    pub(crate) fn take_due<D: Disk>(&mut self, disk: &mut D) -> Result<bool, NodeFault>
+        requires going { IsGoing self.old }
+        requires led { IsLed self.old }
+        ensures going { OnOk result (IsGoing self.new) }
+        ensures led { OnOk result (IsLed self.new) }
+        ensures none { IfOk result (λ more. more ≡ false → HadNone self.old self.new) }
+        ensures goes { IfOk result (λ more. more ≡ true → OwnsSo self.old self.new) }
+        ensures stored { StaysStored D.tells (D.states disk.old) (D.states disk.new) self.old.replica self.new.replica result }
+        ensures stops { (opening : List ServerValue) (came : List ℕ) → LeavesBy D.tells (D.states disk.old) (D.states disk.new) self.old.replica result
+            (StopsOwn (read_setup opening) came self.old) }
+        ensures cause { StepCause (D.faults disk.old) (D.faults disk.new) result }
+        ensures agrees { OnOk result (StaysAgreed self.old self.new) }
+        ensures runs { result ≢ Err fault.Down }
+    {
+        let Some(event) = self.due.pop_front() else {
+            return Ok(false);
+        };
+        self.step_own(event, disk)?;
+        Ok(true)
+    }
+
+    /// A step of Raft for what the node gives it itself. Term and leadership stay.
+    fn step_own<D: Disk>(&mut self, event: RaftEvent, disk: &mut D) -> Result<(), NodeFault>
+        requires own { IsOwnDue event }
+        requires takes { MayTake event self.old.replica.raft }
+        requires going { IsGoing self.old }
+        requires led { IsLed self.old }
+        ensures going { OnOk result (IsGoing self.new) }
+        ensures led { OnOk result (IsLed self.new) }
+        ensures goes { (before : RunningValue) → WasDue event before self.old → OnOk result (OwnsSo before self.new) }
+        ensures stored { StaysStored D.tells (D.states disk.old) (D.states disk.new) self.old.replica self.new.replica result }
+        ensures stops { (before : RunningValue) (opening : List ServerValue) (came : List ℕ) → WasDue event before self.old →
+            LeavesBy D.tells (D.states disk.old) (D.states disk.new) self.old.replica result (StopsOwn (read_setup opening) came before) }
+        ensures cause { StepCause (D.faults disk.old) (D.faults disk.new) result }
+        ensures agrees { OnOk result (StaysAgreed self.old self.new) }
+        ensures runs { result ≢ Err fault.Down }
+    {
+        self.holds_machine();
+        self.tell_change(&event, disk)?;
+        let batch = self.make_step(event, disk)?;
+        self.follow_members(batch)?;
+        self.look()?;
+        Ok(())
+    }
+
+    /// A leader that proposes a change tells Raft its servers first, so that its entry is counted by them.
+    fn tell_change<D: Disk>(&mut self, event: &RaftEvent, disk: &mut D) -> Result<(), NodeFault>
+        requires whole { IsWhole self.old.replica }
+        requires short { HasShortTerm (node_of self.old.replica.raft) }
+        requires machine { IsMachine self.old.applied.machine }
+        ensures told { OnOk result (HasTold self.old self.new) }
+        ensures tells { OnOk result (ToldOr self.old self.new) }
+        ensures stored { StaysStored D.tells (D.states disk.old) (D.states disk.new) self.old.replica self.new.replica result }
+        ensures stops { (opening : List ServerValue) (came : List ℕ) → LeavesBy D.tells (D.states disk.old) (D.states disk.new) self.old.replica result
+            (StopsTelling (read_setup opening) came self.old) }
+        ensures cause { StepCause (D.faults disk.old) (D.faults disk.new) result }
+        ensures runs { result ≢ Err fault.Down }
+    {
+        let RaftEvent::Propose(entries) = event else {
+            return Ok(());
+        };
+        let [entry] = entries.as_slice() else {
+            return Ok(());
+        };
+        if !self.leads() {
+            return Ok(());
+        }
+        match change_in(self.alloc, entry)? {
+            Some(servers) => self.tell(servers, disk),
+            None => Ok(()),
+        }
+    }
+}
