@@ -1,5 +1,5 @@
 -- What calls lead to, put together.
-use Rattle.std.proofs.Common.{◌≡◌, ℕ, ◌-◌, ◌+◌, zero, suc, Bool, true, false, cond, List, [], ◌∷◌, ◌++◌, set, get_or, slice_get, length, Option, Some, None, is_some, Result, Ok, Err, refl, sym, ap, subst, ◌∙◌, true≢false}
+use Rattle.std.proofs.Common.{◌≡◌, ℕ, ◌-◌, zero, suc, Bool, true, false, cond, List, [], ◌∷◌, ◌++◌, set, get_or, slice_get, Option, Some, None, is_some, Result, Ok, Err, refl, sym, ap, subst, ◌∙◌}
 use Rattle.std.proofs.lemmas.List.{append-nil, append_assoc}
 use Rattle.session_rules.specs.Engines.{Answer}
 use Rattle.script_lines.specs.declared.faults.EventFault.{EventFault}
@@ -10,17 +10,17 @@ use Rattle.script_lines.specs.Usage.{with_event}
 use Rattle.script_nodes.specs.declared.outside.Outside.{Outside}
 use Rattle.script_nodes.specs.declared.place.Ended.{Ended}
 use Rattle.script_nodes.specs.declared.said.Said.{Said}
-use Rattle.script_nodes.specs.Outcomes.{Ending, Steps, Starts, Stops, Fails, Unreadable, Outcome, Doing, Start, Connect, Hangup, Receive, Item, Turn, Does as Did, Crashes as Crashed, noted}
+use Rattle.script_nodes.specs.Outcomes.{Ending, Steps, Starts, Stops, Fails, Unreadable, Outcome, Doing, Start, Connect, Hangup, Receive, Item, Turn, Does as Did, Crashes as Crashed}
 use Rattle.raft_vote.specs.declared.fault.PeerFault.{PeerFault}
 use Rattle.raft_vote.specs.declared.message.RaftMessage.{RaftMessage}
 use Rattle.script_lines.specs.declared.events.Event.{Event}
 use Rattle.script_lines.specs.declared.events.Event.TheVariants as event
 use Rattle.script_lines.specs.declared.grammar.Aim.TheVariants.{Nothing}
 use Rattle.script_nodes.specs.declared.said.Said.TheVariants as says
-use Rattle.script_nodes.specs.World.{Link, Letter, with_link, without, without_node, closings, node_of, connects, on_link, hangs_up, is_node, arriving, arrived_at, delivered, delivers, arrives, crashes, fallen, exists, takes, happens, settles, settled_so, first_waiting, all_start}
-use Rattle.script_nodes.specs.World.{Place, World, Halt, NotThere, TooMany, Went, quiet, halted, then_on, onward, said_before, asked, asked_so, unless_many, after_ending, with_turn, at_node, starts, is_up, empty_place, counted, counted_so}
+use Rattle.script_nodes.specs.World.{Letter, with_link, without, without_node, closings, node_of, connects, on_link, hangs_up, is_node, arriving, arrived_at, delivered, delivers, arrives, crashes, fallen, exists, takes, happens, settles, settled_so, first_waiting, all_start}
+use Rattle.script_nodes.specs.World.{Place, World, Halt, NotThere, TooMany, Went, quiet, halted, then_on, onward, said_before, asked, asked_so, unless_many, at_node, starts, empty_place, counted, counted_so}
 use Rattle.script_nodes.specs.Places.{Comes, TellsEnding, place_after, place_after_crash}
-use Rattle.script_nodes.specs.Holding.{Held, beside, world_of, with_note, places_after, Asks, Overruns, Leads, HaltsAt, Halts, DoesBy, Does, Tells, TellsAll}
+use Rattle.script_nodes.specs.Holding.{Held, beside, world_of, places_after, Asks, Overruns, Leads, HaltsAt, Halts, DoesBy, Does, TellsAll}
 
 -- ---- nothing, and one after another
 

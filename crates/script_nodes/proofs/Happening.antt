@@ -1,8 +1,6 @@
 -- What the calls of a cluster lead to, from what its parts did.
-use Rattle.std.proofs.Common.{◌≡◌, ℕ, ◌-◌, ◌+◌, ◌<◌, ◌≤◌, zero, suc, Bool, true, false, not, leb, ◌&&◌, List, [], ◌∷◌, ◌++◌, map, set, get_or, slice_get, length, is_some, unwrap_or, Option, Some, None, Result, Ok, Err, refl, sym, ap, subst, ◌∙◌, true≢false, arith}
+use Rattle.std.proofs.Common.{◌≡◌, ℕ, ◌-◌, ◌+◌, ◌<◌, ◌≤◌, zero, suc, Bool, true, false, List, [], ◌∷◌, ◌++◌, set, get_or, slice_get, length, is_some, unwrap_or, Option, Some, None, Result, Ok, Err, refl, sym, ap, subst, ◌∙◌, true≢false, arith}
 use Rattle.std.proofs.lemmas.List.{append-nil}
-use Rattle.std.proofs.lemmas.Bool.{leb-true, and_parts}
-use Rattle.raft_vote.specs.declared.fault.PeerFault.{PeerFault}
 use Rattle.raft_vote.specs.declared.message.RaftMessage.{RaftMessage}
 use Rattle.script_lines.specs.declared.events.Event.{Event}
 use Rattle.script_lines.specs.declared.events.Event.TheVariants as event
@@ -17,10 +15,10 @@ use Rattle.script_nodes.specs.declared.said.Said.TheVariants as says
 use Rattle.script_nodes.specs.Outcomes.{Doing, Start, Connect, Hangup, Receive, Outcome, Turn}
 use Rattle.script_nodes.specs.Places.{place_after_crash}
 use Rattle.script_nodes.specs.Seen.{Arrives}
-use Rattle.script_nodes.specs.World.{Place, Link, Letter, World, Went, Halt, NotThere, TooMany, empty_place, halted, asked, at_node, starts, connects, on_link, hangs_up, crashes, delivers, counted, settles, happens, takes, exists, arrived_at, arriving, with_link, without, without_node, closings, node_of, is_node, is_known, first_waiting, quiet, all_start}
-use Rattle.script_nodes.specs.Holding.{Held, beside, world_of, Leads, Halts, HaltsAt, DoesBy, Does}
+use Rattle.script_nodes.specs.World.{Place, Link, Letter, World, Went, Halt, NotThere, TooMany, empty_place, halted, asked, at_node, starts, connects, hangs_up, crashes, delivers, counted, settles, happens, takes, exists, arrived_at, with_link, without, without_node, closings, node_of, is_node, first_waiting, all_start}
+use Rattle.script_nodes.specs.Holding.{Held, beside, world_of, Leads, Halts, DoesBy, Does}
 use Rattle.script_nodes.specs.Clusters.{ComesAt, TellsIn, Counts, once, settle_count, world_now}
-use Rattle.script_nodes.proofs.Doing.{asked_does, at_node_up, at_node_down, starts_down, connect_up, connect_down, hangs_open, hangs_shut, delivers_read, delivers_away, delivers_unread, crash_up, counted_does, counted_halts, in_result, takes_there, takes_missing, settles_more, settles_halts, settles_all, starts_more, then_halts, quiet_does}
+use Rattle.script_nodes.proofs.Doing.{asked_does, at_node_up, starts_down, connect_up, connect_down, hangs_open, hangs_shut, delivers_read, delivers_away, delivers_unread, crash_up, counted_does, counted_halts, in_result, takes_there, takes_missing, settles_more, settles_halts, settles_all, starts_more, then_halts, quiet_does}
 
 -- ---- an event at a node
 

@@ -1,10 +1,9 @@
 -- Places as the code has them.
-use Rattle.std.proofs.Common.{◌≡◌, ℕ, ◌+◌, ◌-◌, ◌<◌, ◌≤◌, zero, suc, Bool, true, false, leb, ltb, ◌&&◌, List, [], ◌∷◌, ◌++◌, map, drop, set, get_or, length, is_some, Option, Some, None, Result, Ok, Err, IfOk, OnOk, refl, sym, ap, subst, ◌∙◌, add-one, arith}
+use Rattle.std.proofs.Common.{◌≡◌, ℕ, ◌+◌, ◌-◌, ◌<◌, ◌≤◌, zero, suc, Bool, true, false, leb, ◌&&◌, List, [], ◌∷◌, ◌++◌, map, drop, set, get_or, length, is_some, Result, Ok, Err, IfOk, OnOk, refl, sym, ap, subst, ◌∙◌, add-one, arith}
 use Rattle.std.proofs.lemmas.List.{map-append, length-map, append-nil, append_assoc, at_drop_more, at_drop_all}
 use Rattle.std.proofs.lemmas.Bool.{leb-true, and_parts}
 use Rattle.script_nodes.specs.declared.outside.Outside.{Outside}
 use Rattle.script_nodes.specs.declared.place.Came.{Came}
-use Rattle.script_nodes.specs.declared.place.Ended.{Ended}
 use Rattle.script_nodes.specs.declared.said.Said.{Said}
 use Rattle.script_nodes.specs.World.{Place, empty_place, empty_places, shown_so, all_shown_from}
 use Rattle.script_nodes.specs.Places.{Comes}

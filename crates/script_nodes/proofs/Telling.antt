@@ -1,5 +1,5 @@
 -- What came of an event at a node, noted and said.
-use Rattle.std.proofs.Common.{◌≡◌, ℕ, ◌-◌, suc, Bool, true, false, cond, List, [], ◌∷◌, ◌++◌, map, set, length, Option, Some, None, Result, Ok, Err, IfOk, refl, sym, ap, subst, ◌∙◌}
+use Rattle.std.proofs.Common.{◌≡◌, ℕ, ◌-◌, suc, Bool, true, false, cond, List, [], ◌∷◌, ◌++◌, map, set, length, Option, Some, None, Result, Ok, Err, IfOk, sym, ap, subst, ◌∙◌}
 use Rattle.std.proofs.lemmas.List.{append-nil, append_assoc}
 use Rattle.store_laws.specs.Store.{Kept}
 use Rattle.session_rules.specs.Engines.{Answer}
@@ -12,11 +12,11 @@ use Rattle.script_nodes.specs.declared.place.Outs.{Outs as CodeOuts}
 use Rattle.script_nodes.specs.declared.said.Said.{Said}
 use Rattle.script_nodes.specs.declared.said.Said.TheVariants as says
 use Rattle.script_nodes.specs.declared.said.DownCause.TheVariants as causes
-use Rattle.script_nodes.specs.Outcomes.{Standing, Outs, Ending, Steps, Starts, Stops, Fails, Unreadable, Outcome, Item, Answered, Loaded, Turn, met_by, noted_by}
-use Rattle.script_nodes.specs.World.{Place, after_step, after_ending, closings, bytes_in, replies_said, closed_said, messages_said}
+use Rattle.script_nodes.specs.Outcomes.{Standing, Outs, Ending, Steps, Starts, Stops, Fails, Unreadable, Item, Answered, Loaded, met_by, noted_by}
+use Rattle.script_nodes.specs.World.{Place, after_step, closings, replies_said, closed_said, messages_said}
 use Rattle.script_nodes.specs.Places.{TellsEnding, outs_of}
 use Rattle.script_nodes.specs.Seen.{loaded_in}
-use Rattle.script_nodes.specs.Holding.{Held, beside, world_of, with_note, note_of, places_after, SaysAll, SaysNone, SaysOuts, Falls, Asks, Overruns, Tells}
+use Rattle.script_nodes.specs.Holding.{beside, world_of, with_note, note_of, places_after, SaysAll, SaysNone, SaysOuts, Falls, Asks, Tells}
 
 -- ---- a step
 

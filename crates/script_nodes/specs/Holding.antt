@@ -1,7 +1,6 @@
 -- What the code of a cluster holds of a world, and what its calls lead to.
 use Rattle.std.specs.Prelude.{◌≡◌, ◌-◌, ◌++◌, ℕ, suc, Bool, true, false, List, [], ◌∷◌, map, set, length, Option, Some, None, Result, Ok, Err}
 use Rattle.session_rules.specs.Engines.{Answer}
-use Rattle.raft_vote.specs.declared.message.RaftMessage.{RaftMessage}
 use Rattle.script_lines.specs.declared.faults.EventFault.{EventFault}
 use Rattle.script_lines.specs.declared.faults.EventFault.TheVariants as faults
 use Rattle.script_lines.specs.declared.grammar.Aim.{Aim}

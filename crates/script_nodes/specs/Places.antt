@@ -1,5 +1,5 @@
 -- What comes of an event at a place, as the code has it.
-use Rattle.std.specs.Prelude.{◌≡◌, Bool, true, false, Option, Some, None, if◌then◌else◌}
+use Rattle.std.specs.Prelude.{◌≡◌, Bool, true, Some, None, if◌then◌else◌}
 use Rattle.file_digest.specs.Digest.{digest}
 use Rattle.script_nodes.specs.declared.place.Ended.{Ended}
 use Rattle.script_nodes.specs.declared.place.Ended.TheVariants as ended

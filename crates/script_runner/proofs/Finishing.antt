@@ -1,7 +1,6 @@
 -- How a line goes, and how a script ends.
-use Rattle.std.proofs.Common.{◌≡◌, ◌≢◌, ℕ, ◌<◌, ◌≤◌, List, [], ◌∷◌, ◌++◌, Option, Some, None, Result, Ok, Err, length, refl, sym, ap, subst, ◌∙◌}
-use Rattle.std.specs.Prelude.{OnOk, OnErr, IsErr}
-use Rattle.std.specs.Io.KnownBytes.{Appends, Consumes, IsAtEnd}
+use Rattle.std.proofs.Common.{◌≡◌, ℕ, ◌<◌, List, [], ◌∷◌, ◌++◌, Option, Some, None, length, sym, ap, subst, ◌∙◌}
+use Rattle.std.specs.Io.KnownBytes.{Appends, IsAtEnd}
 use Rattle.std.proofs.lemmas.List.{append-nil}
 use Rattle.dq_base.specs.Sink.{AppendsFront}
 use Rattle.dq_base.proofs.ContentLaws.{Appends-then, AppendsFront-nothing, AppendsFront-longer, AppendsFront-then}
@@ -9,17 +8,16 @@ use Rattle.script_lines.specs.Lines.{Cursor, to_come, TakesLine}
 use Rattle.script_lines.specs.declared.lines.LineFault.{LineFault}
 use Rattle.script_lines.specs.declared.lines.LineFault.TheVariants as line
 use Rattle.script_nodes.specs.declared.said.Said.{Said}
-use Rattle.script_nodes.specs.Outcomes.{Outcome as Came, Item, Turn}
+use Rattle.script_nodes.specs.Outcomes.{Item}
 use Rattle.script_nodes.specs.Printed.{printed as text_of}
 use Rattle.script_nodes.specs.Run.{Stage, Next, Fault, Line, Large, Run, step, run, fault_text, printed}
 use Rattle.script_runner.specs.declared.printing.PrintFault.{PrintFault}
 use Rattle.script_runner.specs.declared.printing.PrintFault.TheVariants as print
 use Rattle.script_runner.specs.declared.run.Outcome.{Outcome}
 use Rattle.script_runner.specs.declared.run.Outcome.TheVariants as outcome
-use Rattle.script_runner.specs.Stages.{Stands, Goes, Ends, stage_of, journal_of, closing_of}
+use Rattle.script_runner.specs.Stages.{Stands, Goes, Ends, journal_of, closing_of}
 use Rattle.script_runner.specs.Ending.{MayFollow, Anything, IsRun, Reached, ReadWhole, Settles, StopsShort, Stopped, Prints, PrintsFront, Ended, Ran, RanOut, RanShort, Breaks, line_outcome, print_outcome, fault_line, HasLine}
-use Rattle.script_runner.proofs.Running.{settles_feed, settles_last, short_feed, short_last, short_reading, completes, short_closing}
-use Rattle.script_runner.proofs.Printed.{text_of-append}
+use Rattle.script_runner.proofs.Running.{settles_feed, settles_last, short_feed, short_last, completes, short_closing}
 
 -- ---- one line
 

@@ -1,6 +1,5 @@
 -- Running a script line by line gives the run that its bytes make.
-use Rattle.std.proofs.Common.{◌≡◌, ◌≢◌, ℕ, zero, suc, ◌<◌, ◌≤◌, List, [], ◌∷◌, ◌++◌, Option, Some, None, Result, Ok, Err, length, refl, sym, ap, subst, ◌∙◌, append_assoc, arith}
-use Rattle.std.specs.Prelude.{OnOk, OnErr, IfErr, MatchResult}
+use Rattle.std.proofs.Common.{◌≡◌, ℕ, suc, ◌<◌, ◌≤◌, List, [], ◌∷◌, ◌++◌, Option, Some, None, length, refl, sym, ap, subst, ◌∙◌, append_assoc, arith}
 use Rattle.std.specs.Io.KnownBytes.{Appends, Consumes, Keeps, IsAtEnd}
 use Rattle.std.proofs.lemmas.List.{append-nil, length-append, nil_from_length}
 use Rattle.std.proofs.lemmas.Bool.{lt-leb, le-leb}
@@ -12,7 +11,7 @@ use Rattle.script_lines.specs.Grammar.{line_of}
 use Rattle.script_nodes.specs.declared.said.Said.{Said}
 use Rattle.script_nodes.specs.Outcomes.{Outcome, Item, Turn}
 use Rattle.script_nodes.specs.Printed.{printed as text_of}
-use Rattle.script_nodes.specs.Run.{Stage, Opening, Next, Fault, Line, Large, Run, step, said_before, onward, ends_at, closing, journal_at, run_from, run, stops, fault_text, printed}
+use Rattle.script_nodes.specs.Run.{Stage, Next, Fault, Line, Large, Run, step, said_before, onward, ends_at, closing, journal_at, run_from, run, stops}
 use Rattle.script_runner.specs.Stages.{Stands, AtStart, AtNodes, stage_of, journal_of, closing_of, Goes, Ends, EndsAt}
 use Rattle.script_runner.specs.Ending.{MayFollow, Anything, IsRun, Reached, ReadWhole, Settles, StopsShort}
 use Rattle.script_runner.proofs.Lining.{lines_feed, lines_last, feed_first, last_first, line_begins, end_left, held, held_end, without_separator, some_line, starts, Consumes-none}

@@ -1,5 +1,5 @@
 -- What a line does, from what the cluster did.
-use Rattle.std.proofs.Common.{◌≡◌, ℕ, ◌+◌, ◌≤◌, zero, suc, Bool, true, false, cond, nat_le, List, [], ◌∷◌, ◌++◌, length, map, Option, Some, None, Result, Ok, Err, refl, sym, ap, subst, ◌∙◌}
+use Rattle.std.proofs.Common.{◌≡◌, ℕ, ◌+◌, ◌≤◌, zero, suc, Bool, cond, List, [], ◌∷◌, ◌++◌, length, map, Option, Some, None, Result, Ok, Err, refl, sym, ap, subst, ◌∙◌}
 use Rattle.std.specs.Option.{option_map}
 use Rattle.std.proofs.lemmas.Bool.{le-leb}
 use Rattle.std.proofs.lemmas.List.{append-nil, length-map}
@@ -16,7 +16,7 @@ use Rattle.script_nodes.specs.Outcomes.{Outcome, Item, Turn}
 use Rattle.script_nodes.specs.World.{Place, World, Went, Halt, NotThere, TooMany, takes, opened, all_start, empty_places, shown}
 use Rattle.script_nodes.specs.Holding.{Held, world_of, Leads, Halts, HaltsAt, Does}
 use Rattle.script_nodes.specs.Clusters.{empty_held, held, world_now}
-use Rattle.script_nodes.specs.Run.{Stage, Opening, Within, Next, Fault, Line, Large, line_step, said_step, step, next_by, fault_by, stays, stops, shows, journal_at}
+use Rattle.script_nodes.specs.Run.{Stage, Within, Next, Line, Large, line_step, said_step, step, next_by, fault_by, stays, stops, shows, journal_at}
 use Rattle.script_nodes.specs.declared.cluster.Cluster.{Cluster}
 use Rattle.script_runner.specs.declared.stage.Stage.{Stage as CodeStage}
 use Rattle.script_runner.specs.declared.stage.Stage.TheVariants as stage

@@ -1,5 +1,5 @@
 -- Where a script is as the code has it, and what a line leads to there.
-use Rattle.std.specs.Prelude.{◌≡◌, ◌++◌, ℕ, List, [], Option, Some, None, Result, Ok, Err}
+use Rattle.std.specs.Prelude.{◌≡◌, ◌++◌, ℕ, List, [], Some, None, Result, Ok, Err}
 use Rattle.script_lines.specs.declared.faults.EventFault.{EventFault}
 use Rattle.script_lines.specs.declared.faults.EventFault.TheVariants as faults
 use Rattle.script_nodes.specs.declared.said.Said.{Said}
@@ -9,7 +9,6 @@ use Rattle.script_nodes.specs.Holding.{Held, world_of}
 use Rattle.script_nodes.specs.Clusters.{held}
 use Rattle.script_nodes.specs.Run as run
 use Rattle.script_nodes.specs.Run.{Fault, Line, Large, Next, step, line_step, closing, journal_at}
-use Rattle.script_nodes.specs.declared.cluster.Cluster.{Cluster}
 use Rattle.script_runner.specs.declared.stage.Stage.{Stage}
 use Rattle.script_runner.specs.declared.stage.Stage.TheVariants as stage
 

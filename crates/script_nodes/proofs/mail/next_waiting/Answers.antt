@@ -1,4 +1,3 @@
-use Rattle.std.proofs.Common.{◌+◌, ◌≤◌, length, arith}
 use Rattle.script_nodes.proofs.Posting.{waits_at, none_left, one_more_at}
 use Rattle.script_nodes.proofs.mail.next_waiting.Goals as goal
 

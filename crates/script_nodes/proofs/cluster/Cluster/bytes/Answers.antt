@@ -1,7 +1,7 @@
 use Rattle.std.proofs.Common.{sym, ◌∙◌}
 use Rattle.script_nodes.specs.Outcomes.{Bytes}
 use Rattle.script_nodes.specs.Clusters.{held}
-use Rattle.script_nodes.proofs.Doing.{on_shut, on_open}
+use Rattle.script_nodes.proofs.Doing.{on_shut}
 use Rattle.script_nodes.proofs.cluster.Cluster.bytes.Goals as goal
 
 pub returns-in-None : goal.returns-in-None

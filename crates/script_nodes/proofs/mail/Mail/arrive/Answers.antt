@@ -1,6 +1,5 @@
-use Rattle.std.proofs.Common.{◌≡◌, ◌≤◌, ◌∙◌, List, length, take, map, ap, sym, subst}
+use Rattle.std.proofs.Common.{◌∙◌, List, ap}
 use Rattle.script_nodes.specs.World.{Letter, arrived_at}
-use Rattle.script_nodes.specs.Seen.{HaveArrived}
 use Rattle.script_nodes.proofs.Posting.{marked_code, marked_whole}
 use Rattle.script_nodes.proofs.mail.Mail.arrive.Goals as goal
 
