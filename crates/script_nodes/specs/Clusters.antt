@@ -11,7 +11,8 @@ use Rattle.script_nodes.specs.declared.said.Said.{Said}
 use Rattle.script_lines.specs.declared.events.Event.{Event}
 use Rattle.script_lines.specs.declared.events.Event.TheVariants as event
 use Rattle.script_nodes.specs.Outcomes.{Ending, Timeout, Beat, Bytes}
-use Rattle.script_nodes.specs.World.{Place, World, Went, NotThere, halted, empty_place, empty_places, at_node, connects, on_link, node_of, hangs_up, delivers, crashes, starts}
+use Rattle.script_nodes.specs.World.{Place, World, Went, NotThere, halted, empty_place, empty_places}
+use Rattle.script_nodes.specs.World.{at_node, connects, on_link, node_of, hangs_up, delivers, crashes, starts}
 use Rattle.script_nodes.specs.Places.{Comes, TellsEnding}
 use Rattle.script_nodes.specs.Seen.{answers_in}
 use Rattle.script_nodes.specs.Holding.{Held, TellsAll, beside, world_of}
@@ -38,7 +39,8 @@ Counts false old new = (with_event old.usage ≡ None) × (new ≡ old)
 
 -- however the event ended of which this came, it is noted and said
 abbrev pub TellsIn : {T : Type 0} → Result T EventFault → ℕ → Aim → Came → Outside → Outside → List Said → List Said → Type 0
-TellsIn result node aim came old new before now = (failed : Bool) (ending : Ending) → TellsEnding failed came.ended ending → TellsAll result node aim (answers_in came.answers) failed ending old new before now
+TellsIn result node aim came old new before now = (failed : Bool) (ending : Ending) → TellsEnding failed came.ended ending
+    → TellsAll result node aim (answers_in came.answers) failed ending old new before now
 
 -- how many messages may arrive by an event, where it settles
 abbrev pub settle_count : Event → Option ℕ

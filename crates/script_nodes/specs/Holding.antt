@@ -93,16 +93,20 @@ with_note h aim answers failed ending = record h { journal = h.journal ++ noted 
 -- what came of an event at a node is noted and said: it leads here
 pub record Asks (node : ℕ) (aim : Aim) (answers : List Answer) (failed : Bool) (ending : Ending) (old new : Held) (before now : List Said) : Type 0 where
   pub more : List Said
-  pub goes : (turns : List Turn) (later : List Outcome) → after_ending node ending (world_of (with_note old aim answers failed ending) turns later) ≡ record { world = world_of new turns later; said = more; halt = None }
+  pub goes : (turns : List Turn) (later : List Outcome)
+      → after_ending node ending (world_of (with_note old aim answers failed ending) turns later)
+      ≡ record { world = world_of new turns later; said = more; halt = None }
   pub says : now ≡ before ++ more
 
 -- it isn't in the run, as its messages are too many
 pub record Overruns (node : ℕ) (aim : Aim) (answers : List Answer) (failed : Bool) (ending : Ending) (old : Held) : Type 0 where
-  pub halts : (turns : List Turn) (later : List Outcome) → (after_ending node ending (world_of (with_note old aim answers failed ending) turns later)).halt ≡ Some TooMany
+  pub halts : (turns : List Turn) (later : List Outcome)
+      → (after_ending node ending (world_of (with_note old aim answers failed ending) turns later)).halt ≡ Some TooMany
 
 abbrev pub Tells : Bool → ℕ → Aim → List Answer → Bool → Ending → Outside → Outside → List Said → List Said → Type 0
 Tells true node aim answers failed ending old new before now =
-    (voters : ℕ) (places : List Place) → Asks node aim answers failed ending (beside voters places old) (beside voters (places_after node ending places) new) before now
+    (voters : ℕ) (places : List Place)
+    → Asks node aim answers failed ending (beside voters places old) (beside voters (places_after node ending places) new) before now
 Tells false node aim answers failed ending old new before now =
     ((voters : ℕ) (places : List Place) → Overruns node aim answers failed ending (beside voters places old)) × (new ≡ old) × (now ≡ before)
 
@@ -121,7 +125,8 @@ pub record Leads (go : World → Went) (old new : Held) (before now : List Said)
   pub outcomes : List Outcome
   pub turns : List Turn
   pub more : List Said
-  pub goes : (earlier : List Turn) (later : List Outcome) → go (world_of old earlier (outcomes ++ later)) ≡ record { world = world_of new (earlier ++ turns) later; said = more; halt = None }
+  pub goes : (earlier : List Turn) (later : List Outcome)
+      → go (world_of old earlier (outcomes ++ later)) ≡ record { world = world_of new (earlier ++ turns) later; said = more; halt = None }
   pub says : now ≡ before ++ more
 
 -- it ended so, when this was noted, and this said

@@ -1,5 +1,6 @@
 -- The nodes of a script with their clients and messages, and what the events of a script do to them.
-use Rattle.std.specs.Prelude.{◌==◌, ◌-◌, ◌+◌, ◌&&◌, ℕ, zero, suc, Bool, true, false, not, nat_le, List, [], ◌∷◌, ◌++◌, length, map, set, get_or, slice_get, slice_index, drop}
+use Rattle.std.specs.Prelude.{◌==◌, ◌-◌, ◌+◌, ◌&&◌, ℕ, zero, suc, Bool, true, false, not}
+use Rattle.std.specs.Prelude.{nat_le, List, [], ◌∷◌, ◌++◌, length, map, set, get_or, slice_get, slice_index, drop}
 use Rattle.std.specs.Prelude.{is_some, Option, Some, None, Result, Ok, Err, if◌then◌else◌}
 use Rattle.std.specs.List.{filter, sum_by}
 use Rattle.std.specs.Option.{option_map}

@@ -69,7 +69,8 @@ fn start_at<P: NodePlace>(
 /// The node at a place goes, and its disk takes the outcome of a pick.
 fn crash_at<P: NodePlace>(places: &mut Vec<P>, index: usize, pick: u32) -> Result<(), AllocError>
     requires { index < length places.old.items }
-    ensures { OnOk result (map P.shows places.new.items ≡ set (map P.shows places.old.items) index (place_after_crash (get_or (map P.shows places.old.items) index empty_place))) }
+    ensures { OnOk result (map P.shows places.new.items
+        ≡ set (map P.shows places.old.items) index (place_after_crash (get_or (map P.shows places.old.items) index empty_place))) }
 {
     places[index].crash(pick)
 }
@@ -252,7 +253,8 @@ impl<P: NodePlace> Cluster<P> {
         aim: Aim,
         said: &mut Vec<Said>,
     ) -> Result<(), EventFault>
-        ensures { Does (λ (w : World). on_link (Hears connection bytes) aim w (node_of w.links connection)) result (held P.shows self.old) (held P.shows self.new) said.old.items said.new.items }
+        ensures { Does (λ (w : World). on_link (Hears connection bytes) aim w (node_of w.links connection))
+            result (held P.shows self.old) (held P.shows self.new) said.old.items said.new.items }
     {
         match self.outside.connections.node_of(connection) {
             Some(node) => self.at_node(node, NodeEvent::Bytes(connection, bytes), aim, said),

@@ -39,7 +39,8 @@ pub record Reached (first now written printed_now : Option (List ℕ)) (at : Sta
   pub said : List Said
   pub taken : Consumes first now read
   pub told : Appends written printed_now (text_of said)
-  pub goes_on : (more : List ℕ) (later : List Came) → run (read ++ more) (outcomes ++ later) ≡ said_before said (run_from (stage_of at turns later) number (lines_of more))
+  pub goes_on : (more : List ℕ) (later : List Came) → run (read ++ more) (outcomes ++ later)
+      ≡ said_before said (run_from (stage_of at turns later) number (lines_of more))
 
 -- The script was read to its end and led here, having said this, and what was said was printed.
 pub record ReadWhole (first now written printed_now : Option (List ℕ)) (at : Stands) : Type 0 where

@@ -40,7 +40,8 @@ pub record Goes (go : run.Stage → Next) (old new : Stands) (before now : List 
   pub outcomes : List Outcome
   pub turns : List Turn → List Turn
   pub more : List Said
-  pub goes : (earlier : List Turn) (later : List Outcome) → go (stage_of old earlier (outcomes ++ later)) ≡ record { stage = stage_of new (turns earlier) later; said = more; fault = None }
+  pub goes : (earlier : List Turn) (later : List Outcome)
+      → go (stage_of old earlier (outcomes ++ later)) ≡ record { stage = stage_of new (turns earlier) later; said = more; fault = None }
   pub says : now ≡ before ++ more
 
 -- it ended there for this fault, when this was noted, and this said

@@ -81,8 +81,10 @@ fn run_line<P: NodePlace, K: Sink>(
     sink: &mut K,
 ) -> Result<(), Outcome>
     requires { number ≤ line_count_limit }
-    ensures ok { OnOk result (Ran (λ (s : Shown). step s number line.now) (stands P.shows stage.old) (stands P.shows stage.new) (K.written sink.old) (K.written sink.new)) }
-    ensures err { IfErr result (λ outcome. Breaks outcome number (λ (s : Shown). step s number line.now) (stands P.shows stage.old) (stands P.shows stage.new) (K.written sink.old) (K.written sink.new)) }
+    ensures ok { OnOk result (Ran (λ (s : Shown). step s number line.now)
+        (stands P.shows stage.old) (stands P.shows stage.new) (K.written sink.old) (K.written sink.new)) }
+    ensures err { IfErr result (λ outcome. Breaks outcome number (λ (s : Shown). step s number line.now)
+        (stands P.shows stage.old) (stands P.shows stage.new) (K.written sink.old) (K.written sink.new)) }
     ensures write { IsErrOf result Outcome.WriteFault → Rose (K.faults sink.old) (K.faults sink.new) }
     ensures count { K.faults sink.old ≤ K.faults sink.new }
 {
@@ -115,7 +117,8 @@ fn run_next<P: NodePlace, S: Source, K: Sink>(
 ) -> Result<bool, Outcome>
     requires { number ≤ line_count_limit }
     // From wherever the script came, it comes one line further, or it ends.
-    ensures goes { (first written : Option (List ℕ)) → Reached first (to_come lines.old (S.left source.old)) written (K.written sink.old) (stands P.shows stage.old) number →
+    ensures goes { (first written : Option (List ℕ)) →
+        Reached first (to_come lines.old (S.left source.old)) written (K.written sink.old) (stands P.shows stage.old) number →
         MatchResult result
         (λ more. MatchBool more
         (Reached first (to_come lines.new (S.left source.new)) written (K.written sink.new) (stands P.shows stage.new) (number + 1))
@@ -144,8 +147,11 @@ fn run_next<P: NodePlace, S: Source, K: Sink>(
 
 /// Reads what stands behind the last line that a script may have: nothing may.
 fn run_past<S: Source>(lines: &mut LineReader, source: &mut S) -> Result<(), Outcome>
-    ensures goes { (first written printed : Option (List ℕ)) (at : Stands) → Reached first (to_come lines.old (S.left source.old)) written printed at (line_count_limit + 1) →
-        MatchResult result (λ _. ReadWhole first (S.left source.new) written printed at) (λ outcome. Stopped outcome (journal_of at) first (S.left source.new) written printed) }
+    ensures goes { (first written printed : Option (List ℕ)) (at : Stands) →
+        Reached first (to_come lines.old (S.left source.old)) written printed at (line_count_limit + 1) →
+        MatchResult result
+        (λ _. ReadWhole first (S.left source.new) written printed at)
+        (λ outcome. Stopped outcome (journal_of at) first (S.left source.new) written printed) }
     ensures read { IsErrOf result Outcome.ReadFault → Rose (S.faults source.old) (S.faults source.new) }
     ensures write { IsErrOf result Outcome.WriteFault → ⊥ }
     ensures source_count { S.faults source.old ≤ S.faults source.new }
@@ -165,7 +171,8 @@ fn run_lines<P: NodePlace, S: Source, K: Sink>(
     source: &mut S,
     sink: &mut K,
 ) -> Result<(), Outcome>
-    ensures goes { (first written : Option (List ℕ)) → Reached first (to_come lines.old (S.left source.old)) written (K.written sink.old) (stands P.shows stage.old) 1 →
+    ensures goes { (first written : Option (List ℕ)) →
+        Reached first (to_come lines.old (S.left source.old)) written (K.written sink.old) (stands P.shows stage.old) 1 →
         MatchResult result
         (λ _. ReadWhole first (S.left source.new) written (K.written sink.new) (stands P.shows stage.new))
         (λ outcome. Stopped outcome (journal_of (stands P.shows stage.new)) first (S.left source.new) written (K.written sink.new)) }
@@ -205,7 +212,8 @@ fn run_whole<P: NodePlace, S: Source, K: Sink>(
     source: &mut S,
     sink: &mut K,
 ) -> Outcome
-    ensures goes { (first written : Option (List ℕ)) → Reached first (to_come lines.old (S.left source.old)) written (K.written sink.old) (stands P.shows stage.old) 1 →
+    ensures goes { (first written : Option (List ℕ)) →
+        Reached first (to_come lines.old (S.left source.old)) written (K.written sink.old) (stands P.shows stage.old) 1 →
         Stopped result (journal_of (stands P.shows stage.new)) first (S.left source.new) written (K.written sink.new) }
     ensures read { result ≡ Outcome.ReadFault → Rose (S.faults source.old) (S.faults source.new) }
     ensures write { result ≡ Outcome.WriteFault → Rose (K.faults sink.old) (K.faults sink.new) }

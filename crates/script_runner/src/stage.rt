@@ -29,7 +29,8 @@ impl<P: NodePlace> Stage<P> {
         spare: u32,
         said: &mut Vec<Said>,
     ) -> Result<(), EventFault>
-        ensures { (number : ℕ) → DoesLine number (λ (s : Shown). line_step s number (ScriptLine.Nodes voters spare)) result (stands P.shows self.old) (stands P.shows self.new) said.old.items said.new.items }
+        ensures { (number : ℕ) → DoesLine number (λ (s : Shown). line_step s number (ScriptLine.Nodes voters spare))
+            result (stands P.shows self.old) (stands P.shows self.new) said.old.items said.new.items }
     {
         let Stage::Opening { place } = self else {
             return Err(EventFault::NotThere);
@@ -42,7 +43,8 @@ impl<P: NodePlace> Stage<P> {
 
     /// Has an event happen.
     fn happen(&mut self, event: Event, aim: Aim, said: &mut Vec<Said>) -> Result<(), EventFault>
-        ensures { (number : ℕ) → DoesLine number (λ (s : Shown). line_step s number (ScriptLine.Event event aim)) result (stands P.shows self.old) (stands P.shows self.new) said.old.items said.new.items }
+        ensures { (number : ℕ) → DoesLine number (λ (s : Shown). line_step s number (ScriptLine.Event event aim))
+            result (stands P.shows self.old) (stands P.shows self.new) said.old.items said.new.items }
     {
         match self {
             Stage::Opening { .. } => Err(EventFault::NotThere),
@@ -52,7 +54,8 @@ impl<P: NodePlace> Stage<P> {
 
     /// Shows a node.
     fn show(&self, node: u32, said: &mut Vec<Said>) -> Result<(), EventFault>
-        ensures { (number : ℕ) → DoesLine number (λ (s : Shown). line_step s number (ScriptLine.Show node)) result (stands P.shows self.now) (stands P.shows self.now) said.old.items said.new.items }
+        ensures { (number : ℕ) → DoesLine number (λ (s : Shown). line_step s number (ScriptLine.Show node))
+            result (stands P.shows self.now) (stands P.shows self.now) said.old.items said.new.items }
     {
         let Stage::Within(cluster) = self else {
             return Err(EventFault::NotThere);
@@ -73,7 +76,8 @@ impl<P: NodePlace> Stage<P> {
         line: ScriptLine,
         said: &mut Vec<Said>,
     ) -> Result<(), EventFault>
-        ensures { (number : ℕ) → DoesLine number (λ (s : Shown). line_step s number (line)) result (stands P.shows self.old) (stands P.shows self.new) said.old.items said.new.items }
+        ensures { (number : ℕ) → DoesLine number (λ (s : Shown). line_step s number (line))
+            result (stands P.shows self.old) (stands P.shows self.new) said.old.items said.new.items }
     {
         match line {
             ScriptLine::Blank => Ok(()),
@@ -91,7 +95,8 @@ impl<P: NodePlace> Stage<P> {
         line: &[u8],
         said: &mut Vec<Said>,
     ) -> Result<(), EventFault>
-        ensures { (number : ℕ) → number ≤ line_count_limit → DoesLine number (λ (s : Shown). step s number line.now) result (stands P.shows self.old) (stands P.shows self.new) said.old.items said.new.items }
+        ensures { (number : ℕ) → number ≤ line_count_limit → DoesLine number (λ (s : Shown). step s number line.now)
+            result (stands P.shows self.old) (stands P.shows self.new) said.old.items said.new.items }
     {
         match line_in(alloc, line)? {
             Some(line) => self.take_line(alloc, line, said),
