@@ -24,6 +24,8 @@ use Rattle.client_sessions.specs.Clients.{Clients, with_sessions, Fits, Sound, O
 use Rattle.client_sessions.proofs.Requests.{Keeps, request_kept}
 use Rattle.client_sessions.proofs.Writable.{refusal_sent}
 use Rattle.client_sessions.proofs.Soundness.{session_sound}
+use Rattle.statement_runs.specs.Calls.{call_of}
+use Rattle.session_decisions.specs.Scenes.{scene}
 
 -- a request that is read holds no NUL in its texts
 pub reads_plain : (m : Message) (request : Request) → Reads m request → HasNoNul request
@@ -109,7 +111,7 @@ is_sends v g conn (Affects effect) now act is keeps = subst ActCanSend (sym is.1
 
 -- what a request comes to is kept
 turned_kept : (m : Meaning) (kind : EngineKind) (v : View) (machine : Machine) (g : Gateway) (conn : ℕ) (request : Request) (before now : Option Told) (after : Gateway) (act : Act)
-    → IsConfigured v → HasNoNul request → may_ask (g.session conn) ≡ true → (t : TurnedBy m kind v machine g conn request before now after act)
+    → IsConfigured v → HasNoNul request → may_ask (g.session conn) ≡ true → (t : TurnedBy (call_of m kind before now) (scene v machine g conn) request after act)
     → Keeps (g.session conn) (on_request v machine g conn request t.answers)
 turned_kept m kind v machine g conn request before now after act configured text ask t =
     let waits = asks_free (g.session conn) ask in
@@ -117,7 +119,7 @@ turned_kept m kind v machine g conn request before now after act configured text
 
 -- what comes of a request can be sent
 pub turned_sends : (m : Meaning) (kind : EngineKind) (v : View) (machine : Machine) (g : Gateway) (conn : ℕ) (request : Request) (before now : Option Told) (after : Gateway) (act : Act)
-    → IsConfigured v → HasNoNul request → may_ask (g.session conn) ≡ true → TurnedBy m kind v machine g conn request before now after act → ActCanSend act
+    → IsConfigured v → HasNoNul request → may_ask (g.session conn) ≡ true → TurnedBy (call_of m kind before now) (scene v machine g conn) request after act → ActCanSend act
 turned_sends m kind v machine g conn request before now after act configured text ask t =
     is_sends v g conn (on_request v machine g conn request t.answers) after act t.is (turned_kept m kind v machine g conn request before now after act configured text ask t)
 
@@ -152,11 +154,11 @@ is_sound v k conn stream (Affects effect) now act opens is keeps listed sound = 
 
 -- after a request all is as it has to be
 pub turned_sound : (m : Meaning) (kind : EngineKind) (v : View) (machine : Machine) (g : Gateway) (conn : ℕ) (request : Request) (before now : Option Told) (after : Gateway) (act : Act)
-    → IsConfigured v → HasNoNul request → may_ask (g.session conn) ≡ true → ListsAsBefore g after → TurnedBy m kind v machine g conn request before now after act
+    → IsConfigured v → HasNoNul request → may_ask (g.session conn) ≡ true → ListsAsBefore g after → TurnedBy (call_of m kind before now) (scene v machine g conn) request after act
     → (k : Clients) → k.sessions ≡ g → Sound k → Sound (with_sessions k after)
 turned_sound m kind v machine g conn request before now after act configured text ask lists t k same sound =
     let asks : may_ask (k.sessions.session conn) ≡ true = subst (λ (h : Gateway). may_ask (h.session conn) ≡ true) (sym same) ask in
-    let turned : TurnedBy m kind v machine k.sessions conn request before now after act = subst (λ (h : Gateway). TurnedBy m kind v machine h conn request before now after act) (sym same) t in
+    let turned : TurnedBy (call_of m kind before now) (scene v machine k.sessions conn) request after act = subst (λ (h : Gateway). TurnedBy (call_of m kind before now) (scene v machine h conn) request after act) (sym same) t in
     let opens = asks_open (k.streams conn) (k.sessions.session conn) asks (sound.fits conn) in
     is_sound v k conn opens.0 (on_request v machine k.sessions conn request turned.answers) after act opens.1 turned.is
     (turned_kept m kind v machine k.sessions conn request before now after act configured text asks turned)

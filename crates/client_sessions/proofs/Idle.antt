@@ -29,6 +29,8 @@ use Rattle.client_sessions.specs.Seen.{clients_of}
 use Rattle.client_sessions.specs.declared.joining.Joining.{Joining}
 use Rattle.client_sessions.specs.declared.joining.Joining.TheVariants.{Joined, Full, Taken}
 use Rattle.client_sessions.specs.Clients.{Clients, NoneIsOpen, HasNoTransactions, joining, joined_as, joined, without, hung_up, closing, closed, heard_on, heard}
+use Rattle.statement_runs.specs.Calls.{call_of}
+use Rattle.session_decisions.specs.Scenes.{scene}
 
 -- ---- what comes of a request, and of a query that is run later
 
@@ -89,25 +91,25 @@ is_closed v g conn (Affects (JoinsPeer id)) now act is stays none = same_closed 
 is_closed v g conn (Affects (Weighs weight)) now act is stays none = same_closed now _ is.0 none
 
 module _ (m : Meaning) (kind : EngineKind) (v : View) (machine : Machine) (g : Gateway) (conn : ℕ) (before now : Option Told) (after : Gateway) (idle : v.serving ≡ false) (none : NoneIsOpen g) where
-  turned_closed : (request : Request) (act : Act) → TurnedBy m kind v machine g conn request before now after act → NoneIsOpen after
+  turned_closed : (request : Request) (act : Act) → TurnedBy (call_of m kind before now) (scene v machine g conn) request after act → NoneIsOpen after
   turned_closed request act t = is_closed v g conn _ after act t.is (request_closed v machine g conn idle request t.answers none) none
 
-  pub answered_closed : (request : Request) (r : Result Act AllocError) → IfOk r (TurnedBy m kind v machine g conn request before now after) → OnErr r (after ≡ g) → NoneIsOpen after
+  pub answered_closed : (request : Request) (r : Result Act AllocError) → IfOk r (TurnedBy (call_of m kind before now) (scene v machine g conn) request after) → OnErr r (after ≡ g) → NoneIsOpen after
   answered_closed request (Ok act) t failed = turned_closed request act t
   answered_closed request (Err e) t failed = same_closed after g failed none
 
-  later_stays : (statement : Statement) (act : Act) → LaterBy m kind v machine (without_later g conn) conn statement before now after act → NoneIsOpen after
+  later_stays : (statement : Statement) (act : Act) → LaterBy (call_of m kind before now) (scene v machine (without_later g conn) conn) statement after act → NoneIsOpen after
   later_stays statement act r =
       is_closed v (without_later g conn) conn _ after act r.is (later_closed v machine (without_later g conn) conn idle statement r.answers)
       (set_closed g conn (with_later (g.session conn) None) none (none conn))
 
-  resumed_where : (query : Option Statement) (act : Option Act) → Resumed m kind v machine g conn query before now after act → NoneIsOpen after
+  resumed_where : (query : Option Statement) (act : Option Act) → Resumed (call_of m kind before now) (scene v machine g conn) query after act → NoneIsOpen after
   resumed_where None None r = same_closed after g r.0 none
   resumed_where None (Some act) r = absurd r
   resumed_where (Some statement) None r = absurd r
   resumed_where (Some statement) (Some act) r = later_stays statement act r
 
-  pub resumed_closed : (query : Option Statement) (r : Result (Option Act) AllocError) → IfOk r (Resumed m kind v machine g conn query before now after) → OnErr r (after ≡ g) → NoneIsOpen after
+  pub resumed_closed : (query : Option Statement) (r : Result (Option Act) AllocError) → IfOk r (Resumed (call_of m kind before now) (scene v machine g conn) query after) → OnErr r (after ≡ g) → NoneIsOpen after
   resumed_closed query (Ok act) r failed = resumed_where query act r
   resumed_closed query (Err e) r failed = same_closed after g failed none
 

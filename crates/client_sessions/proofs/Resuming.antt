@@ -16,10 +16,13 @@ use Rattle.gateway.specs.declared.act.Act.TheVariants as gateway
 use Rattle.gateway.specs.Later.{LaterBy, ReadDone, Resumed}
 use Rattle.gateway.specs.Seen.{ListsAsBefore}
 use Rattle.client_sessions.specs.Clients.{Clients, with_sessions, Fits, Awaits, Sound}
-use Rattle.client_sessions.specs.Sending.{ActCanSend, ToldCanSend}
+use Rattle.client_sessions.specs.Sending.{ActCanSend}
 use Rattle.client_sessions.proofs.Asking.{is_sends, is_sound, failed_sound}
 use Rattle.client_sessions.proofs.Requests.{Keeps, rests, later_kept}
 use Rattle.client_sessions.proofs.Soundness.{session_sound}
+use Rattle.client_sessions.proofs.Writable.{ToldCanSend}
+use Rattle.statement_runs.specs.Calls.{call_of}
+use Rattle.session_decisions.specs.Scenes.{scene}
 
 -- ---- a session that has yet to answer a query
 
@@ -74,7 +77,7 @@ has_later (Some l) statement is = (l, refl)
 
 module _ (m : Meaning) (kind : EngineKind) (v : View) (machine : Machine) (g : Gateway) (conn : ℕ) (before now : Option Told) (after : Gateway) where
   later_keeps : (statement : Statement) (later : Later) (act : GatewayAct) → (g.session conn).later ≡ Some later → Awaits (g.session conn).database (g.session conn).flight (g.session conn).later
-      → (r : LaterBy m kind v machine (without_later g conn) conn statement before now after act) → Keeps ((without_later g conn).session conn) (on_later v machine (without_later g conn) conn statement r.answers)
+      → (r : LaterBy (call_of m kind before now) (scene v machine (without_later g conn) conn) statement after act) → Keeps ((without_later g conn).session conn) (on_later v machine (without_later g conn) conn statement r.answers)
   later_keeps statement later act is awaits r =
       later_kept v machine (without_later g conn) conn statement r.answers
       (ap (λ (s : Session). s.flight) (here g conn) ∙ (later_alone (g.session conn) later is awaits).0)
@@ -82,7 +85,7 @@ module _ (m : Meaning) (kind : EngineKind) (v : View) (machine : Machine) (g : G
 
   -- what it comes to can be sent
   pub resumed_sends : (query : Option Statement) (given : Option GatewayAct) (act : GatewayAct) → given ≡ Some act → later_query (g.session conn).later ≡ query → Awaits (g.session conn).database (g.session conn).flight (g.session conn).later
-      → Resumed m kind v machine g conn query before now after given → ActCanSend act
+      → Resumed (call_of m kind before now) (scene v machine g conn) query after given → ActCanSend act
   resumed_sends None None act some is awaits r = absurd cc
   resumed_sends None (Some given) act some is awaits r = absurd r
   resumed_sends (Some statement) None act some is awaits r = absurd r
@@ -92,7 +95,7 @@ module _ (m : Meaning) (kind : EngineKind) (v : View) (machine : Machine) (g : G
       subst ActCanSend same (is_sends v (without_later g conn) conn _ after given r.is (later_keeps statement later.0 given later.1 awaits r))
 
   -- and all is as it has to be after it
-  pub resumed_sound : (query : Option Statement) (act : Option GatewayAct) → later_query (g.session conn).later ≡ query → ListsAsBefore g after → Resumed m kind v machine g conn query before now after act
+  pub resumed_sound : (query : Option Statement) (act : Option GatewayAct) → later_query (g.session conn).later ≡ query → ListsAsBefore g after → Resumed (call_of m kind before now) (scene v machine g conn) query after act
       → (k : Clients) → k.sessions ≡ g → Sound k → Sound (with_sessions k after)
   resumed_sound None None is lists r k same sound = failed_sound g after r.0 k same sound
   resumed_sound None (Some act) is lists r k same sound = absurd r

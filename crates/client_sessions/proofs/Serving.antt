@@ -29,6 +29,8 @@ use Rattle.client_sessions.proofs.Asking.{offered_asks}
 use Rattle.client_sessions.proofs.Offers.{next_is_first}
 use Rattle.client_sessions.proofs.Standing.{sound_as}
 use Rattle.client_sessions.proofs.Taking.{took_sound, idle_sound}
+use Rattle.statement_runs.specs.Calls.{call_of}
+use Rattle.session_decisions.specs.Scenes.{scene}
 
 -- ---- the message that was taken
 
@@ -58,23 +60,23 @@ took_agree known old mid databases same agree = subst (λ (g : Gate). gates.Agre
 
 -- what came of it
 turn_taken : (m : Meaning) (kind : EngineKind) (v : View) (machine : Machine) (k mid new : Clients) (took : ℕ × Message) (before now : Option Told) (refused_before refused_now : ℕ) (act : Act) → TookNext k mid (Some took)
-    → Comes m kind v machine mid.sessions took.0 (request_of took.1) before now refused_before refused_now new.sessions act → new ≡ with_sessions mid new.sessions → TookOffer m kind v machine k before now refused_before refused_now new act
+    → Comes (call_of m kind before now) (scene v machine mid.sessions took.0) (request_of took.1) refused_before refused_now new.sessions act → new ≡ with_sessions mid new.sessions → TookOffer (call_of m kind before now) v machine k refused_before refused_now new act
 turn_taken m kind v machine k mid new took before now refused_before refused_now act t came rest =
     let same : mid.sessions ≡ k.sessions = ap (λ (c : Clients). c.sessions) t.4 in
-    let at_sessions = subst (λ (g : Gateway). Comes m kind v machine g took.0 (request_of took.1) before now refused_before refused_now new.sessions act) same came in
-    let at_conn = subst (λ (conn : ℕ). Comes m kind v machine k.sessions conn (request_of took.1) before now refused_before refused_now new.sessions act) (sym t.2) at_sessions in
+    let at_sessions = subst (λ (g : Gateway). Comes (call_of m kind before now) (scene v machine g took.0) (request_of took.1) refused_before refused_now new.sessions act) same came in
+    let at_conn = subst (λ (conn : ℕ). Comes (call_of m kind before now) (scene v machine k.sessions conn) (request_of took.1) refused_before refused_now new.sessions act) (sym t.2) at_sessions in
     record {
       offer = t.0;
       next = t.1;
-      came = subst (λ (message : Message). Comes m kind v machine k.sessions t.0.conn (request_of message) before now refused_before refused_now new.sessions act) (sym t.3) at_conn;
+      came = subst (λ (message : Message). Comes (call_of m kind before now) (scene v machine k.sessions t.0.conn) (request_of message) refused_before refused_now new.sessions act) (sym t.3) at_conn;
       rest = rest ∙ ap (λ (c : Clients). with_sessions c new.sessions) t.4;
     }
 
 pub turn_answered : (m : Meaning) (kind : EngineKind) (v : View) (machine : Machine) (k mid new : Clients) (took : ℕ × Message) (asked : Result Request MsgFault) (before now : Option Told) (refused_before refused_now : ℕ) (act : Act) → TookNext k mid (Some took)
-    → asked ≡ request_of took.1 → Comes m kind v machine mid.sessions took.0 asked before now refused_before refused_now new.sessions act → new ≡ with_sessions mid new.sessions → TookOffer m kind v machine k before now refused_before refused_now new act
+    → asked ≡ request_of took.1 → Comes (call_of m kind before now) (scene v machine mid.sessions took.0) asked refused_before refused_now new.sessions act → new ≡ with_sessions mid new.sessions → TookOffer (call_of m kind before now) v machine k refused_before refused_now new act
 turn_answered m kind v machine k mid new took asked before now refused_before refused_now act t read came rest =
     turn_taken m kind v machine k mid new took before now refused_before refused_now act t
-    (subst (λ (r : Result Request MsgFault). Comes m kind v machine mid.sessions took.0 r before now refused_before refused_now new.sessions act) read came) rest
+    (subst (λ (r : Result Request MsgFault). Comes (call_of m kind before now) (scene v machine mid.sessions took.0) r refused_before refused_now new.sessions act) read came) rest
 
 -- ---- over what code holds
 
@@ -92,8 +94,8 @@ unfolding clients_of
 awaits_held held databases conn stand = stand.sound.awaits conn
 
 pub came_held : (m : Meaning) (kind : EngineKind) (v : View) (machine : Machine) (old new : Held) (before after : List Database) (conn : ℕ) (asked : Result Request MsgFault) (told_before told_now : Option Told) (refused_before refused_now : ℕ) (r : Result Act AllocError)
-    → IfOk r (Comes m kind v machine (seen old.gateway before) conn asked told_before told_now refused_before refused_now (seen new.gateway after))
-    → IfOk r (Comes m kind v machine (clients_of old before).sessions conn asked told_before told_now refused_before refused_now (clients_of new after).sessions)
+    → IfOk r (Comes (call_of m kind told_before told_now) (scene v machine (seen old.gateway before) conn) asked refused_before refused_now (seen new.gateway after))
+    → IfOk r (Comes (call_of m kind told_before told_now) (scene v machine (clients_of old before).sessions conn) asked refused_before refused_now (clients_of new after).sessions)
 unfolding clients_of
 came_held m kind v machine old new before after conn asked told_before told_now refused_before refused_now r came = came
 
@@ -104,11 +106,11 @@ unfolding clients_of
 due_held held databases r due = due
 
 pub resumes_held : (m : Meaning) (kind : EngineKind) (v : View) (machine : Machine) (old new : Held) (before after : List Database) (conn : ℕ) (told_before told_now : Option Told) (refused_before refused_now : ℕ) (given act : Option Act) → given ≡ act
-    → Resumes m kind v machine (seen old.gateway before) conn (later_query ((seen old.gateway before).session conn).later) told_before told_now refused_before refused_now (seen new.gateway after) given
-    → Resumes m kind v machine (clients_of old before).sessions conn (later_query ((clients_of old before).sessions.session conn).later) told_before told_now refused_before refused_now (clients_of new after).sessions act
+    → Resumes (call_of m kind told_before told_now) (scene v machine (seen old.gateway before) conn) (later_query ((seen old.gateway before).session conn).later) refused_before refused_now (seen new.gateway after) given
+    → Resumes (call_of m kind told_before told_now) (scene v machine (clients_of old before).sessions conn) (later_query ((clients_of old before).sessions.session conn).later) refused_before refused_now (clients_of new after).sessions act
 unfolding clients_of
 resumes_held m kind v machine old new before after conn told_before told_now refused_before refused_now given act is resumes =
-    subst (λ (a : Option Act). Resumes m kind v machine (seen old.gateway before) conn (later_query ((seen old.gateway before).session conn).later) told_before told_now refused_before refused_now (seen new.gateway after) a) is resumes
+    subst (λ (a : Option Act). Resumes (call_of m kind told_before told_now) (scene v machine (seen old.gateway before) conn) (later_query ((seen old.gateway before).session conn).later) refused_before refused_now (seen new.gateway after) a) is resumes
 
 pub finishes_held : (old new : Held) (databases : List Database) (conn : ℕ) (reply : Option Reply) (given act : Option Act) → given ≡ act
     → Finishes (seen old.gateway databases) conn (lent_query ((seen old.gateway databases).session conn).later) reply (seen new.gateway databases) given

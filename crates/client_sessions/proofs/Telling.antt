@@ -9,8 +9,8 @@ use Rattle.session_rules.specs.Sessions.{Reply, Refusal, responses_of, Kind, Ope
 use Rattle.session_rules.specs.Events.{landed_reply, told_to, told_by, told_applied, told_lost}
 use Rattle.session_table.specs.Sweeping.{told_in, all_told}
 use Rattle.client_sessions.specs.Clients.{Clients, Sound}
-use Rattle.client_sessions.specs.Sending.{CanSend, ToldCanSend, KindCanSend, FlightCanSend}
-use Rattle.client_sessions.proofs.Writable.{refusal_sent}
+use Rattle.client_sessions.specs.Sending.{CanSend, KindCanSend, FlightCanSend}
+use Rattle.client_sessions.proofs.Writable.{ToldCanSend, refusal_sent}
 
 all_append : {X : Type 0} (P : X → Type 0) (xs ys : List X) → AllByRecursion P xs → AllByRecursion P ys → AllByRecursion P (xs ++ ys)
 all_append P [] ys a b = b

@@ -21,15 +21,18 @@ use Rattle.raft_rules.specs.Node.{Server}
 use Rattle.raft_vote.specs.Servers.{IsServer}
 use Rattle.session_rules.specs.Causes as causes
 use Rattle.session_rules.specs.Causes.{Cause, failure, message, unread_cause}
-use Rattle.session_rules.specs.Engines.{Ending, Lacking, TooLarge, Stopped, Ended, no_pages}
 use Rattle.session_rules.specs.Machine.{Machine}
 use Rattle.session_rules.specs.Servers.{server_of}
-use Rattle.session_rules.specs.Sessions.{Reply, Refusal, Single, Rows, Prepared, Session, Gateway, View, Job}
+use Rattle.session_rules.specs.Sessions.{Reply, Refusal, Single, Rows, Prepared, Session, Gateway, View}
 use Rattle.session_rules.specs.Statements.{prepared_from}
-use Rattle.session_rules.specs.Requests.{reply_of, rows_cause, rows_or, job_reply}
+use Rattle.session_rules.specs.Requests.{reply_of}
 use Rattle.session_rules.specs.Asking.{Asked, Never, Tells, Sets, Opens, Creates, Prepares, Drops, Begins, Commits, RollsBack, Changes, Runs, Reads, asked_by, told_leader, leader_known, info_of, asks_cluster, files_of, asks_dump, asks_new, asks_open, asks_kind, asks_one, asks_several, asks_statements, asks_text, asks_query, not_one, asks_sole, asks_rows, asks_exec, asks_prepared_query, asks_finalize, with_room, asks_prepare_pieces, asks_prepare, at_leader, in_database, if_settled, of_other, asks_add, asks_role, asks_assign, asks_remove, asks_transfer}
 use Rattle.gateway.specs.Calls.{HasNoNul, IsConfigured}
-use Rattle.client_sessions.specs.Sending.{CanSend, ToldCanSend}
+use Rattle.session_table.specs.Named.{cause_named}
+use Rattle.session_decisions.specs.declared.job.Read.{Read}
+use Rattle.session_decisions.specs.declared.job.Read.TheVariants as reads
+use Rattle.session_decisions.specs.Reading.{read_named}
+use Rattle.client_sessions.specs.Sending.{CanSend}
 use Rattle.client_sessions.proofs.Whole.{parts_writable}
 
 -- ---- texts of refusals
@@ -93,21 +96,17 @@ reply_sent false answer = ((tt, (tt, tt)), tt)
 pub result_sent : (n : ℕ) → CanSend (Single (responses.Result 0 n))
 result_sent n = ((tt, (tt, tt)), tt)
 
--- what a reader makes of a job
-rows_or_sent : (cause : Option Cause) (answer : Ran) → CanSend (rows_or cause answer)
-rows_or_sent None answer = rows_sent answer
-rows_or_sent (Some cause) answer = refusal_sent cause
+-- ---- what is told, if anything
 
-told_or_none : (b : Bool) (reply : Reply) → CanSend reply → ToldCanSend (cond b (Some reply) None)
-told_or_none true reply can = can
-told_or_none false reply can = tt
+abbrev pub ToldCanSend : Option Reply → Type 0
+ToldCanSend None = Unit {0}
+ToldCanSend (Some reply) = CanSend reply
 
-pub job_sent : (job : Job) (ending : Ending) → ToldCanSend (job_reply job ending)
-unfolding job_reply
-job_sent job Lacking = tt
-job_sent job (TooLarge answer) = tt
-job_sent job (Stopped fault) = refusal_sent _
-job_sent job (Ended to answer) = told_or_none (no_pages _) _ (rows_or_sent (rows_cause _) answer)
+-- what a reader tells
+pub read_sent : (read : Read) → ToldCanSend (read_named read)
+read_sent (reads.Answers answer) = rows_sent answer
+read_sent (reads.Refused cause) = refusal_sent (cause_named cause)
+read_sent reads.GivenBack = tt
 
 pub optional_spelled : (tail : Option ℕ) → HaveSpellings (optional tail)
 optional_spelled None = tt

@@ -8,13 +8,14 @@ use Rattle.wire_msgs.specs.declared.response.Response.TheVariants.{Empty}
 use Rattle.wire_msgs.specs.declared.fault.MsgFault.{MsgFault}
 use Rattle.wire_msgs.specs.Responses.{response_bytes}
 use Rattle.wire_msgs.specs.Reading.{request_of}
-use Rattle.sql_engine.specs.declared.kind.EngineKind.{EngineKind}
-use Rattle.sql_engine.specs.Meanings.{Meaning, Told}
+use Rattle.sql_engine.specs.Meanings.{Told}
 use Rattle.session_rules.specs.Causes.{NotADatabase, unread_cause, failure}
 use Rattle.session_rules.specs.Events.{on_applied, told_applied, on_lost, told_lost}
 use Rattle.session_rules.specs.Machine.{Machine}
 use Rattle.session_rules.specs.Sessions.{Gateway, View}
+pub use Rattle.statement_runs.specs.Calls.{EngineCall, call_of}
 use Rattle.session_table.specs.Sweeping.{all_told}
+pub use Rattle.session_decisions.specs.Scenes.{Scene, scene}
 use Rattle.gateway.specs.declared.act.Act.{Act as GatewayAct}
 use Rattle.gateway.specs.declared.act.Act.TheVariants as gateway
 use Rattle.gateway.specs.Calls.{TurnedBy}
@@ -37,19 +38,22 @@ act_on conn (gateway.Peer id) = Peer conn id (response_bytes Empty)
 -- The first message was taken of a connection that is open and whose session isn't busy; or there is none.
 abbrev pub TookFrom : Clients → Clients → ℕ → List ℕ → Option Message → Type 0
 TookFrom old new conn turns None = (offered old conn turns ≡ None) × (new ≡ old)
-TookFrom old new conn turns (Some m) = (stream : Conn) × (offered old conn turns ≡ Some (record { conn = conn; message = m; stream = stream; turns = conn ∷ turns })) × (new ≡ record { sessions = old.sessions; streams = with_stream old.streams conn (Some stream); turns = old.turns })
+TookFrom old new conn turns (Some m) = (stream : Conn)
+    × (offered old conn turns ≡ Some (record { conn = conn; message = m; stream = stream; turns = conn ∷ turns }))
+    × (new ≡ record { sessions = old.sessions; streams = with_stream old.streams conn (Some stream); turns = old.turns })
 
 -- The message whose turn it was was taken, with its connection; or no message's turn was left.
 abbrev pub TookNext : Clients → Clients → Option (ℕ × Message) → Type 0
 TookNext old new None = (next_offer old ≡ None) × (new ≡ taken old None)
-TookNext old new (Some took) = (offer : Offer) × (next_offer old ≡ Some offer) × (offer.conn ≡ took.0) × (offer.message ≡ took.1) × (new ≡ taken old (Some offer))
+TookNext old new (Some took) = (offer : Offer) × (next_offer old ≡ Some offer) × (offer.conn ≡ took.0) × (offer.message ≡ took.1)
+    × (new ≡ taken old (Some offer))
 
 -- A request came to this act and these sessions by answers that the engine may give and told. It is refused as over no
 -- database only where one more opening was refused.
-pub record Asked (m : Meaning) (kind : EngineKind) (v : View) (machine : Machine) (g : Gateway) (conn : ℕ) (request : Request) (told_before told_now : Option Told) (refused_before refused_now : ℕ) (now : Gateway) (act : Act) : Type 0 where
+pub record Asked (c : EngineCall) (at : Scene) (request : Request) (refused_before refused_now : ℕ) (now : Gateway) (act : Act) : Type 0 where
   pub gateway_act : GatewayAct
-  pub turned : TurnedBy m kind v machine g conn request told_before told_now now gateway_act
-  pub act_is : act ≡ act_on conn gateway_act
+  pub turned : TurnedBy c at request now gateway_act
+  pub act_is : act ≡ act_on at.conn gateway_act
   pub unopened : gateway_act ≡ gateway.Reply (failure NotADatabase ∷ []) → refused_before < refused_now
 
 -- A message that doesn't read as a request is refused; nothing else changes.
@@ -59,15 +63,16 @@ pub record Unread (g : Gateway) (conn : ℕ) (fault : MsgFault) (told_before tol
   pub act_is : act ≡ Reply conn (bytes_of (failure (unread_cause fault) ∷ []))
 
 -- What a message came to, by what it reads as.
-abbrev pub Comes : Meaning → EngineKind → View → Machine → Gateway → ℕ → Result Request MsgFault → Option Told → Option Told → ℕ → ℕ → Gateway → Act → Type 0
-Comes m kind v machine g conn (Ok request) before now refused_before refused_now sessions act = Asked m kind v machine g conn request before now refused_before refused_now sessions act
-Comes m kind v machine g conn (Err fault) before now refused_before refused_now sessions act = Unread g conn fault before now sessions act
+abbrev pub Comes : EngineCall → Scene → Result Request MsgFault → ℕ → ℕ → Gateway → Act → Type 0
+Comes c at (Ok request) refused_before refused_now sessions act = Asked c at request refused_before refused_now sessions act
+Comes c at (Err fault) refused_before refused_now sessions act = Unread at.sessions at.conn fault c.told_before c.told_now sessions act
 
 -- The message whose turn it was was taken, and came to this act; all other messages, streams and turns are as they were.
-pub record TookOffer (m : Meaning) (kind : EngineKind) (v : View) (machine : Machine) (old : Clients) (told_before told_now : Option Told) (refused_before refused_now : ℕ) (new : Clients) (act : Act) : Type 0 where
+pub record TookOffer (c : EngineCall) (v : View) (machine : Machine) (old : Clients) (refused_before refused_now : ℕ) (new : Clients)
+    (act : Act) : Type 0 where
   pub offer : Offer
   pub next : next_offer old ≡ Some offer
-  pub came : Comes m kind v machine old.sessions offer.conn (request_of offer.message) told_before told_now refused_before refused_now new.sessions act
+  pub came : Comes c (scene v machine old.sessions offer.conn) (request_of offer.message) refused_before refused_now new.sessions act
   pub rest : new ≡ with_sessions (taken old (Some offer)) new.sessions
 
 -- no message's turn was left
@@ -76,9 +81,9 @@ pub record WasIdle (old : Clients) (told_before told_now : Option Told) (new : C
   pub untold : told_now ≡ told_before
   pub rest : new ≡ taken old None
 
-abbrev pub TookTurn : Meaning → EngineKind → View → Machine → Clients → Option Told → Option Told → ℕ → ℕ → Clients → Option Act → Type 0
-TookTurn m kind v machine old before now refused_before refused_now new None = WasIdle old before now new
-TookTurn m kind v machine old before now refused_before refused_now new (Some act) = TookOffer m kind v machine old before now refused_before refused_now new act
+abbrev pub TookTurn : EngineCall → View → Machine → Clients → ℕ → ℕ → Clients → Option Act → Type 0
+TookTurn c v machine old refused_before refused_now new None = WasIdle old c.told_before c.told_now new
+TookTurn c v machine old refused_before refused_now new (Some act) = TookOffer c v machine old refused_before refused_now new act
 
 -- a response to a connection, as it is sent
 abbrev pub sent_to : ℕ × Response → ℕ × List ℕ

@@ -4,7 +4,8 @@ use Rattle.std.specs.Option.{option_or}
 use Rattle.wire_words.specs.declared.message.Message.{Message}
 use Rattle.client_connection.specs.declared.connection.CloseReason.{CloseReason}
 use Rattle.client_connection.specs.Connection.{Conn, opened, received, reason_of}
-use Rattle.session_rules.specs.Sessions.{Kind, Opening, Configuring, Writing, Committing, Querying, Flight, Later, Session, Gateway, no_sessions, is_flying, is_busy}
+use Rattle.session_rules.specs.Sessions.{Kind, Opening, Configuring, Writing, Committing, Querying, Flight, Later}
+use Rattle.session_rules.specs.Sessions.{Session, Gateway, no_sessions, is_flying, is_busy}
 use Rattle.session_rules.specs.Events.{connects, connected, on_hangup}
 use Rattle.session_rules.specs.Touched.{IsListed}
 use Rattle.client_sessions.specs.Sending.{FlightCanSend}
@@ -63,7 +64,8 @@ closed k conn = if is_none (closing (k.streams conn)) then k else without k conn
 
 abbrev pub heard_on : Clients → ℕ → List ℕ → Option Conn → Clients
 heard_on k conn bytes None = k
-heard_on k conn bytes (Some stream) = record { sessions = k.sessions; streams = with_stream k.streams conn (Some (received stream bytes)); turns = k.turns ++ conn ∷ [] }
+heard_on k conn bytes (Some stream) =
+    record { sessions = k.sessions; streams = with_stream k.streams conn (Some (received stream bytes)); turns = k.turns ++ conn ∷ [] }
 
 -- the clients after bytes came on a connection; on one that isn't open they change nothing
 unfoldable pub heard : Clients → ℕ → List ℕ → Clients
@@ -78,7 +80,8 @@ pub record Offer : Type 0 where
 
 abbrev pub first_of : ℕ → List ℕ → Conn → List Message → Option Offer
 first_of conn turns stream [] = None
-first_of conn turns stream (m ∷ ms) = Some (record { conn = conn; message = m; stream = record { end = stream.end; waiting = ms; full = stream.full }; turns = conn ∷ turns })
+first_of conn turns stream (m ∷ ms) =
+    Some (record { conn = conn; message = m; stream = record { end = stream.end; waiting = ms; full = stream.full }; turns = conn ∷ turns })
 
 -- the first message that waits on a connection, where it is open and its session isn't busy
 abbrev pub offered_on : ℕ → List ℕ → Bool → Option Conn → Option Offer

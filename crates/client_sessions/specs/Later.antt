@@ -1,12 +1,11 @@
 -- What comes of queries that are answered later than they were asked, as code tells it.
 use Rattle.std.specs.Prelude.{◌≡◌, ◌<◌, ℕ, List, [], ◌∷◌, Option, Some, None}
-use Rattle.sql_engine.specs.declared.kind.EngineKind.{EngineKind}
-use Rattle.sql_engine.specs.Meanings.{Meaning, Told}
 use Rattle.sql_engine.specs.Replies.{Statement}
 use Rattle.session_rules.specs.Causes.{NotADatabase, failure}
-use Rattle.session_rules.specs.Machine.{Machine}
 use Rattle.session_rules.specs.Requests.{without_later}
-use Rattle.session_rules.specs.Sessions.{Reply as RuleReply, Gateway, View, responses_of}
+use Rattle.session_rules.specs.Sessions.{Reply as RuleReply, Gateway, responses_of}
+use Rattle.statement_runs.specs.Calls.{EngineCall}
+use Rattle.session_decisions.specs.Scenes.{Scene}
 use Rattle.gateway.specs.declared.act.Act.{Act as GatewayAct}
 use Rattle.gateway.specs.declared.act.Act.TheVariants as gateway
 use Rattle.gateway.specs.Later.{LaterBy}
@@ -16,19 +15,18 @@ use Rattle.client_sessions.specs.Calls.{act_on, bytes_of}
 
 -- A query came to this act and these sessions by answers that the engine may give and told, at its session without it. It is
 -- refused as over no database only where one more opening was refused.
-pub record RanLater (m : Meaning) (kind : EngineKind) (v : View) (machine : Machine) (g : Gateway) (conn : ℕ) (statement : Statement) (told_before told_now : Option Told) (refused_before refused_now : ℕ) (now : Gateway) (act : Act) : Type 0 where
+pub record RanLater (c : EngineCall) (at : Scene) (statement : Statement) (refused_before refused_now : ℕ) (now : Gateway) (act : Act) : Type 0 where
   pub gateway_act : GatewayAct
-  pub ran : LaterBy m kind v machine (without_later g conn) conn statement told_before told_now now gateway_act
-  pub act_is : act ≡ act_on conn gateway_act
+  pub ran : LaterBy c (record at { sessions = without_later at.sessions at.conn }) statement now gateway_act
+  pub act_is : act ≡ act_on at.conn gateway_act
   pub unopened : gateway_act ≡ gateway.Reply (failure NotADatabase ∷ []) → refused_before < refused_now
 
 -- The query that a connection has yet to answer was run; where there is none, nothing was done.
-abbrev pub Resumes : Meaning → EngineKind → View → Machine → Gateway → ℕ → Option Statement → Option Told → Option Told → ℕ → ℕ → Gateway → Option Act → Type 0
-Resumes m kind v machine g conn None told_before told_now refused_before refused_now now None = (now ≡ g) × (told_before ≡ told_now)
-Resumes m kind v machine g conn None told_before told_now refused_before refused_now now (Some act) = ⊥
-Resumes m kind v machine g conn (Some statement) told_before told_now refused_before refused_now now None = ⊥
-Resumes m kind v machine g conn (Some statement) told_before told_now refused_before refused_now now (Some act) =
-    RanLater m kind v machine g conn statement told_before told_now refused_before refused_now now act
+abbrev pub Resumes : EngineCall → Scene → Option Statement → ℕ → ℕ → Gateway → Option Act → Type 0
+Resumes c at None refused_before refused_now now None = (now ≡ at.sessions) × (c.told_before ≡ c.told_now)
+Resumes c at None refused_before refused_now now (Some act) = ⊥
+Resumes c at (Some statement) refused_before refused_now now None = ⊥
+Resumes c at (Some statement) refused_before refused_now now (Some act) = RanLater c at statement refused_before refused_now now act
 
 -- What a reader tells of the query that it has is told to the connection, which then waits for it no more. Where it has none of
 -- the connection, or gives it back, nothing is done.

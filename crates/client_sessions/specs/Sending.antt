@@ -10,11 +10,6 @@ use Rattle.session_rules.specs.Sessions.{Reply, responses_of, Kind, Opening, Con
 abbrev pub CanSend : Reply → Type 0
 CanSend reply = AllByRecursion IsWritable (responses_of reply)
 
--- so it is of what is told, if anything
-abbrev pub ToldCanSend : Option Reply → Type 0
-ToldCanSend None = Unit {0}
-ToldCanSend (Some reply) = CanSend reply
-
 abbrev pub KindCanSend : Kind → Type 0
 KindCanSend Opening = Unit {0}
 KindCanSend Configuring = Unit {0}

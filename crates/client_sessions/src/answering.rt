@@ -11,9 +11,11 @@ ghost use Rattle.session_rules.specs.Sessions.{may_ask, later_query, lent_query}
 ghost use Rattle.session_rules.specs.Machine.{machine_of};
 ghost use Rattle.session_rules.specs.Touched.{IsListed};
 ghost use Rattle.session_decisions.specs.Reading.{read_named};
+ghost use Rattle.statement_runs.specs.Calls.{call_on};
+ghost use Rattle.session_decisions.specs.Scenes.{scene};
 ghost use Rattle.gateway.specs.Calls.{HasNoNul, HasShortTerm, IsConfigured};
 ghost use Rattle.gateway.specs.Seen.{seen, pins_of, Agrees, PinsOf};
-ghost use Rattle.client_sessions.specs.Sending.{ActCanSend, ToldCanSend};
+ghost use Rattle.client_sessions.specs.Sending.{ActCanSend};
 ghost use Rattle.client_sessions.specs.Clients.{Clients, with_sessions, Awaits, NoneIsOpen, Sound};
 ghost use Rattle.client_sessions.specs.Calls.{act_on, Asked, Comes};
 ghost use Rattle.client_sessions.specs.Later.{Resumes, Finishes};
@@ -98,9 +100,9 @@ fn answer<E: Engine>(
     requires configured { IsConfigured view.now }
     requires agrees { Agrees (E.known engine.old) gateway.old machine.old }
     ensures agrees { Agrees (E.known engine.new) gateway.new machine.new }
-    ensures asked { IfOk result (Asked (E.meaning (E.kind engine.old)) (E.kind engine.old) view.now (machine_of machine.old)
-        (seen gateway.old machine.old) conn request (E.told engine.old) (E.told engine.new)
-        (E.refused_openings engine.old) (E.refused_openings engine.new) (seen gateway.new machine.new)) }
+    ensures asked { IfOk result (Asked (call_on E.meaning E.kind E.told engine.old engine.new)
+        (scene view.now (machine_of machine.old) (seen gateway.old machine.old) conn) request (E.refused_openings engine.old)
+        (E.refused_openings engine.new) (seen gateway.new machine.new)) }
     ensures sound { (k : Clients) → k.sessions ≡ seen gateway.old machine.old → Sound k → Sound (with_sessions k (seen gateway.new machine.new)) }
     ensures idle { view.now.serving ≡ false → NoneIsOpen (seen gateway.old machine.old) → NoneIsOpen (seen gateway.new machine.new) }
     ensures files { machine_of machine.new ≡ machine_of machine.old }
@@ -130,9 +132,9 @@ pub(crate) fn come<E: Engine>(
     requires configured { IsConfigured view.now }
     requires agrees { Agrees (E.known engine.old) gateway.old machine.old }
     ensures agrees { Agrees (E.known engine.new) gateway.new machine.new }
-    ensures came { IfOk result (Comes (E.meaning (E.kind engine.old)) (E.kind engine.old) view.now (machine_of machine.old)
-        (seen gateway.old machine.old) conn asked (E.told engine.old) (E.told engine.new)
-        (E.refused_openings engine.old) (E.refused_openings engine.new) (seen gateway.new machine.new)) }
+    ensures came { IfOk result (Comes (call_on E.meaning E.kind E.told engine.old engine.new)
+        (scene view.now (machine_of machine.old) (seen gateway.old machine.old) conn) asked (E.refused_openings engine.old) (E.refused_openings engine.new)
+        (seen gateway.new machine.new)) }
     ensures sound { (k : Clients) → k.sessions ≡ seen gateway.old machine.old → Sound k → Sound (with_sessions k (seen gateway.new machine.new)) }
     ensures idle { view.now.serving ≡ false → NoneIsOpen (seen gateway.old machine.old) → NoneIsOpen (seen gateway.new machine.new) }
     ensures files { machine_of machine.new ≡ machine_of machine.old }
@@ -164,9 +166,9 @@ pub(crate) fn resume<E: Engine>(
     requires term { HasShortTerm view.now }
     requires agrees { Agrees (E.known engine.old) gateway.old machine.old }
     ensures agrees { Agrees (E.known engine.new) gateway.new machine.new }
-    ensures resumed { IfOk result (Resumes (E.meaning (E.kind engine.old)) (E.kind engine.old) view.now (machine_of machine.old)
-        (seen gateway.old machine.old) conn (later_query ((seen gateway.old machine.old).session conn).later)
-        (E.told engine.old) (E.told engine.new) (E.refused_openings engine.old) (E.refused_openings engine.new) (seen gateway.new machine.new)) }
+    ensures resumed { IfOk result (Resumes (call_on E.meaning E.kind E.told engine.old engine.new)
+        (scene view.now (machine_of machine.old) (seen gateway.old machine.old) conn) (later_query ((seen gateway.old machine.old).session conn).later)
+        (E.refused_openings engine.old) (E.refused_openings engine.new) (seen gateway.new machine.new)) }
     ensures sound { (k : Clients) → k.sessions ≡ seen gateway.old machine.old → Sound k → Sound (with_sessions k (seen gateway.new machine.new)) }
     ensures idle { view.now.serving ≡ false → NoneIsOpen (seen gateway.old machine.old) → NoneIsOpen (seen gateway.new machine.new) }
     ensures files { machine_of machine.new ≡ machine_of machine.old }
@@ -187,7 +189,6 @@ pub(crate) fn finish(
     conn: u64,
     read: Read,
 ) -> Result<Option<Act>, AllocError>
-    requires sends { ToldCanSend (read_named read) }
     ensures finished { IfOk result (λ act. (databases : List Database) → Finishes (seen gateway.old databases) conn
         (lent_query ((seen gateway.old databases).session conn).later) (read_named read) (seen gateway.new databases) act) }
     ensures sound { (databases : List Database) (k : Clients) → k.sessions ≡ seen gateway.old databases → Sound k →

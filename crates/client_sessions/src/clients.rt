@@ -11,9 +11,10 @@ ghost use Rattle.session_rules.specs.Machine.{machine_of};
 ghost use Rattle.session_rules.specs.Sessions.{is_due, later_query, lent_query, may_ask};
 ghost use Rattle.session_rules.specs.Events as events;
 ghost use Rattle.session_decisions.specs.Reading.{read_named};
+ghost use Rattle.statement_runs.specs.Calls.{call_on};
+ghost use Rattle.session_decisions.specs.Scenes.{scene};
 ghost use Rattle.gateway.specs.Calls.{HasNoNul, HasShortTerm, IsConfigured};
 ghost use Rattle.gateway.specs.Seen.{pins_of};
-ghost use Rattle.client_sessions.specs.Sending.{ToldCanSend};
 ghost use Rattle.client_sessions.specs.Clients.{no_clients, joining, joined, joined_as, hung_up, closing, closed, heard, freed, with_sessions};
 ghost use Rattle.client_sessions.specs.Clients.{HasNoTransactions};
 ghost use Rattle.client_sessions.specs.Calls.{Comes, TookFrom, TookNext, TookTurn, told_conns, landed_at, told_at, lost_all, told_all_lost};
@@ -152,9 +153,9 @@ impl Clients {
         requires agrees { Agrees (E.known engine.old) self.old machine.old }
         ensures agrees { Agrees (E.known engine.new) self.new machine.new }
         // The definition's outcome, by answers that the engine may give and told.
-        ensures came { IfOk result (Comes (E.meaning (E.kind engine.old)) (E.kind engine.old) view.now (machine_of machine.old)
-            (clients_of self.old machine.old).sessions conn asked (E.told engine.old) (E.told engine.new)
-            (E.refused_openings engine.old) (E.refused_openings engine.new) (clients_of self.new machine.new).sessions) }
+        ensures came { IfOk result (Comes (call_on E.meaning E.kind E.told engine.old engine.new)
+            (scene view.now (machine_of machine.old) (clients_of self.old machine.old).sessions conn) asked (E.refused_openings engine.old)
+            (E.refused_openings engine.new) (clients_of self.new machine.new).sessions) }
         ensures rest { clients_of self.new machine.new ≡ with_sessions (clients_of self.old machine.old) (clients_of self.new machine.new).sessions }
         ensures stands { StandOver self.new machine.new }
         // Where the node doesn't serve, no transaction begins.
@@ -197,9 +198,8 @@ impl Clients {
         requires agrees { Agrees (E.known engine.old) self.old machine.old }
         ensures agrees { Agrees (E.known engine.new) self.new machine.new }
         // The definition's outcome, by answers that the engine may give and told.
-        ensures turn { IfOk result (TookTurn (E.meaning (E.kind engine.old)) (E.kind engine.old) view.now (machine_of machine.old)
-            (clients_of self.old machine.old) (E.told engine.old) (E.told engine.new)
-            (E.refused_openings engine.old) (E.refused_openings engine.new) (clients_of self.new machine.new)) }
+        ensures turn { IfOk result (TookTurn (call_on E.meaning E.kind E.told engine.old engine.new) view.now (machine_of machine.old)
+            (clients_of self.old machine.old) (E.refused_openings engine.old) (E.refused_openings engine.new) (clients_of self.new machine.new)) }
         ensures stands { StandOver self.new machine.new }
         // Where the node doesn't serve, no transaction begins.
         ensures idle { view.now.serving ≡ false → HasNoTransactions (clients_of self.old machine.old) →
@@ -246,9 +246,9 @@ impl Clients {
         requires agrees { Agrees (E.known engine.old) self.old machine.old }
         ensures agrees { Agrees (E.known engine.new) self.new machine.new }
         // The definition's outcome, by answers that the engine may give and told.
-        ensures resumed { IfOk result (Resumes (E.meaning (E.kind engine.old)) (E.kind engine.old) view.now (machine_of machine.old)
-            (clients_of self.old machine.old).sessions conn (later_query ((clients_of self.old machine.old).sessions.session conn).later)
-            (E.told engine.old) (E.told engine.new) (E.refused_openings engine.old) (E.refused_openings engine.new)
+        ensures resumed { IfOk result (Resumes (call_on E.meaning E.kind E.told engine.old engine.new)
+            (scene view.now (machine_of machine.old) (clients_of self.old machine.old).sessions conn)
+            (later_query ((clients_of self.old machine.old).sessions.session conn).later) (E.refused_openings engine.old) (E.refused_openings engine.new)
             (clients_of self.new machine.new).sessions) }
         ensures rest { IfOk result (λ act. clients_of self.new machine.new ≡
             freed (clients_of self.old machine.old) (clients_of self.new machine.new).sessions (turn_for conn act)) }
@@ -270,13 +270,11 @@ impl Clients {
     }
 
     /// A reader is done with the query of a connection, and tells this of it: what the node has to do for the connection, which gets
-    /// a turn behind the others. What it tells can be sent, as all is that a job comes to. `None` where no reader has a query of the
-    /// connection any more, since its client has gone; and where the reader gives the query back, which `on_later` then runs.
-    /// Nothing has changed at `None`.
+    /// a turn behind the others. `None` where no reader has a query of the connection any more, since its client has gone; and where
+    /// the reader gives the query back, which `on_later` then runs. Nothing has changed at `None`.
     ///
     /// `Err` is want of memory. The query may be done then and its reply be lost; the clients stand over the machine as ever.
     pub fn on_read_done(&mut self, conn: u64, read: Read) -> Result<Option<Act>, AllocError>
-        requires sends { ToldCanSend (read_named read) }
         ensures finished { IfOk result (λ act. (databases : List Database) → Finishes (clients_of self.old databases).sessions conn
             (lent_query ((clients_of self.old databases).sessions.session conn).later) (read_named read) (clients_of self.new databases).sessions act) }
         ensures rest { IfOk result (λ act. (databases : List Database) → clients_of self.new databases ≡

@@ -6,11 +6,7 @@ ghost use Rattle.page_apply.specs.declared.database.Database.{Database};
 ghost use Rattle.page_apply.specs.Databases.{act};
 ghost use Rattle.page_apply.specs.Machines.{IsMachine};
 ghost use Rattle.page_apply.specs.Pins.{Pinning, StillPinned};
-ghost use Rattle.session_rules.specs.Engines.{Ending};
 ghost use Rattle.session_rules.specs.Events as events;
-ghost use Rattle.session_rules.specs.Requests.{job_reply};
-ghost use Rattle.session_rules.specs.Sessions.{Job};
-ghost use Rattle.client_sessions.specs.Sending.{ToldCanSend};
 ghost use Rattle.client_sessions.specs.declared.clients.Clients.{Clients as Held};
 ghost use Rattle.client_sessions.specs.Calls.{landed_at, lost_all};
 ghost use Rattle.client_sessions.specs.Clients.{Clients, no_clients, joined, without, hung_up, closed};
@@ -62,9 +58,4 @@ pub fn no_transaction_begins()
     ensures closed { (k : Clients) (conn : ℕ) → HasNoTransactions k → HasNoTransactions (closed k conn) }
     ensures applied { (k : Clients) (index : ℕ) → HasNoTransactions k → HasNoTransactions (landed_at index k) }
     ensures lost { (k : Clients) → HasNoTransactions (lost_all k) }
-{}
-
-/// A law: what a reader makes of a job, by the engine's answers, can be sent.
-pub fn jobs_can_be_sent()
-    ensures { (job : Job) (ending : Ending) → ToldCanSend (job_reply job ending) }
 {}

@@ -14,6 +14,6 @@ pub use answering::read_message;
 pub use clients::Clients;
 pub use joining::Joining;
 pub use laws::{
-    clients_change_databases, clients_stay_sound, commands_keep_clients, jobs_can_be_sent,
-    no_transaction_begins, offers_are_first,
+    clients_change_databases, clients_stay_sound, commands_keep_clients, no_transaction_begins,
+    offers_are_first,
 };

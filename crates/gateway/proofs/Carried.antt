@@ -12,6 +12,8 @@ use Rattle.session_rules.specs.Sessions.{Gateway, View, Reply, responses_of, Tur
 use Rattle.session_decisions.specs.declared.decision.Decision.{Decision}
 use Rattle.session_decisions.specs.declared.decision.Decision.TheVariants as decisions
 use Rattle.session_decisions.specs.Turning.{ComesBy, ComesTo}
+use Rattle.statement_runs.specs.Calls.{call_of}
+use Rattle.session_decisions.specs.Scenes.{scene}
 use Rattle.gateway.specs.declared.act.Act.{Act}
 use Rattle.gateway.specs.declared.act.Act.TheVariants as acts
 use Rattle.gateway.specs.Calls.{Is, TurnedBy, act_for}
@@ -76,7 +78,7 @@ module _ (v : View) (m : Machine) (g : Gateway) (conn : ℕ) (now : Gateway) (ac
 
 module _ (m : Meaning) (kind : EngineKind) (v : View) (machine : Machine) (g : Gateway) (conn : ℕ) (before after : Option Told) (now : Gateway) (act : Act) (decision : Decision) (carries : Carries machine g conn decision now act) where
   -- of a request
-  pub turned_by : (request : Request) → ComesBy m kind v machine (g.session conn) (handed v machine g conn request) (on_request v machine g conn request) before after decision → TurnedBy m kind v machine g conn request before after now act
+  pub turned_by : (request : Request) → ComesBy (call_of m kind before after) v machine (g.session conn) (handed v machine g conn request) (on_request v machine g conn request) decision → TurnedBy (call_of m kind before after) (scene v machine g conn) request now act
   turned_by request ran = record {
     answers = ran.answers;
     allowed = ran.allowed;
@@ -86,7 +88,7 @@ module _ (m : Meaning) (kind : EngineKind) (v : View) (machine : Machine) (g : G
   }
 
   -- of a query that is run later
-  pub later_by : (statement : Statement) → ComesBy m kind v machine (g.session conn) (handed_later v machine g conn statement) (on_later v machine g conn statement) before after decision → LaterBy m kind v machine g conn statement before after now act
+  pub later_by : (statement : Statement) → ComesBy (call_of m kind before after) v machine (g.session conn) (handed_later v machine g conn statement) (on_later v machine g conn statement) decision → LaterBy (call_of m kind before after) (scene v machine g conn) statement now act
   later_by statement ran = record {
     answers = ran.answers;
     allowed = ran.allowed;

@@ -41,14 +41,16 @@ use Rattle.session_asking.specs.Meant.{meant, IsPlainCause, NameHasNoNul}
 use Rattle.session_decisions.specs.declared.decision.Decision.{Decision}
 use Rattle.session_decisions.specs.declared.decision.Decision.TheVariants as decisions
 use Rattle.session_decisions.specs.Turning.{ComesTo, ComesBy, TurnsTo}
+use Rattle.statement_runs.specs.Calls.{call_of}
+use Rattle.session_decisions.specs.Scenes.{scene}
 
 -- no answer of an engine is looked at
 pub nothing_handed : (m : Meaning) (kind : EngineKind) (v : View) (machine : Machine) (g : Gateway) (conn : ℕ) (s : Session) (params : List Value) (w known : Wanted) (told_now : Option Told) (decision : Decision) → w ≡ known
-    → handed_for machine s (meant params known) ≡ None → ComesTo v machine s (does v machine g conn s (meant params known) []) decision → TurnsTo m kind v machine g conn s (meant params w) told_now told_now decision
+    → handed_for machine s (meant params known) ≡ None → ComesTo v machine s (does v machine g conn s (meant params known) []) decision → TurnsTo (call_of m kind told_now told_now) (scene v machine g conn) s (meant params w) decision
 unfolding TellsAll
 nothing_handed m kind v machine g conn s params w known told_now decision is none comes =
-    subst (λ (x : Wanted). TurnsTo m kind v machine g conn s (meant params x) told_now told_now decision) (sym is)
-    (subst (λ (o : Option Handed). ComesBy m kind v machine s o (does v machine g conn s (meant params known)) told_now told_now decision) (sym none)
+    subst (λ (x : Wanted). TurnsTo (call_of m kind told_now told_now) (scene v machine g conn) s (meant params x) decision) (sym is)
+    (subst (λ (o : Option Handed). ComesBy (call_of m kind told_now told_now) v machine s o (does v machine g conn s (meant params known)) decision) (sym none)
     (record { answers = []; allowed = tt; told = refl; exact = refl; is = comes }))
 
 -- ---- files that an engine didn't open
@@ -125,13 +127,13 @@ module _ (v : View) (m : Machine) (g : Gateway) (conn : ℕ) (s : Session) (answ
 -- ---- what is wanted by a request
 
 pub decided : (m : Meaning) (kind : EngineKind) (v : View) (machine : Machine) (g : Gateway) (conn own : ℕ) (s : Session) (params : List Value) (w : Wanted) (request : Request) (told_before told_now : Option Told) (decision : Decision)
-    → s ≡ g.session conn → own ≡ conn → meant params w ≡ asked_by v machine g s request → TurnsTo m kind v machine g own s (meant params w) told_before told_now decision
-    → ComesBy m kind v machine (g.session conn) (handed v machine g conn request) (on_request v machine g conn request) told_before told_now decision
+    → s ≡ g.session conn → own ≡ conn → meant params w ≡ asked_by v machine g s request → TurnsTo (call_of m kind told_before told_now) (scene v machine g own) s (meant params w) decision
+    → ComesBy (call_of m kind told_before told_now) v machine (g.session conn) (handed v machine g conn request) (on_request v machine g conn request) decision
 unfolding handed on_request
 decided m kind v machine g conn own s params w request told_before told_now decision is at wants comes =
-    let first : TurnsTo m kind v machine g own s (asked_by v machine g s request) told_before told_now decision = subst (λ (a : Asked). TurnsTo m kind v machine g own s a told_before told_now decision) wants comes in
-    let second : TurnsTo m kind v machine g conn s (asked_by v machine g s request) told_before told_now decision = subst (λ (c : ℕ). TurnsTo m kind v machine g c s (asked_by v machine g s request) told_before told_now decision) at first in
-    let third : TurnsTo m kind v machine g conn (g.session conn) (asked_by v machine g (g.session conn) request) told_before told_now decision = subst (λ (t : Session). TurnsTo m kind v machine g conn t (asked_by v machine g t request) told_before told_now decision) is second in
+    let first : TurnsTo (call_of m kind told_before told_now) (scene v machine g own) s (asked_by v machine g s request) decision = subst (λ (a : Asked). TurnsTo (call_of m kind told_before told_now) (scene v machine g own) s a decision) wants comes in
+    let second : TurnsTo (call_of m kind told_before told_now) (scene v machine g conn) s (asked_by v machine g s request) decision = subst (λ (c : ℕ). TurnsTo (call_of m kind told_before told_now) (scene v machine g c) s (asked_by v machine g s request) decision) at first in
+    let third : TurnsTo (call_of m kind told_before told_now) (scene v machine g conn) (g.session conn) (asked_by v machine g (g.session conn) request) decision = subst (λ (t : Session). TurnsTo (call_of m kind told_before told_now) (scene v machine g conn) t (asked_by v machine g t request) decision) is second in
     record { answers = third.answers; allowed = third.allowed; told = third.told; exact = third.exact; is = third.is }
 
 -- ---- the session at a place of the table
@@ -191,17 +193,17 @@ is_found {X} None P Q h never = absurd (never h)
 is_found {X} (Some x) P Q h never = refl
 
 pub moved : (m : Meaning) (kind : EngineKind) (v : View) (databases : List Database) (sessions known : List CodeSession) (weight conn : ℕ) (request : Request) (told_before told_now : Option Told) (decision : Decision) → known ≡ sessions
-    → ComesBy m kind v (machine_of databases) ((table_of databases known weight).session conn) (handed v (machine_of databases) (table_of databases known weight) conn request) (on_request v (machine_of databases) (table_of databases known weight) conn request) told_before told_now decision
-    → ComesBy m kind v (machine_of databases) ((table_of databases sessions weight).session conn) (handed v (machine_of databases) (table_of databases sessions weight) conn request) (on_request v (machine_of databases) (table_of databases sessions weight) conn request) told_before told_now decision
+    → ComesBy (call_of m kind told_before told_now) v (machine_of databases) ((table_of databases known weight).session conn) (handed v (machine_of databases) (table_of databases known weight) conn request) (on_request v (machine_of databases) (table_of databases known weight) conn request) decision
+    → ComesBy (call_of m kind told_before told_now) v (machine_of databases) ((table_of databases sessions weight).session conn) (handed v (machine_of databases) (table_of databases sessions weight) conn request) (on_request v (machine_of databases) (table_of databases sessions weight) conn request) decision
 moved m kind v databases sessions known weight conn request told_before told_now decision same comes =
-    subst (λ (ss : List CodeSession). ComesBy m kind v (machine_of databases) ((table_of databases ss weight).session conn) (handed v (machine_of databases) (table_of databases ss weight) conn request) (on_request v (machine_of databases) (table_of databases ss weight) conn request) told_before told_now decision) same comes
+    subst (λ (ss : List CodeSession). ComesBy (call_of m kind told_before told_now) v (machine_of databases) ((table_of databases ss weight).session conn) (handed v (machine_of databases) (table_of databases ss weight) conn request) (on_request v (machine_of databases) (table_of databases ss weight) conn request) decision) same comes
 
 pub carry_at : (m : Meaning) (kind : EngineKind) (v : View) (databases : List Database) (sessions known : List CodeSession) (weight conn place : ℕ) (d : CodeSession) (request : Request) (told_before told_now : Option Told) (decision : Decision)
     → known ≡ sessions → AreApart sessions → StandsAt conn sessions place
-    → ComesBy m kind v (machine_of databases) ((table_of databases known weight).session conn) (handed v (machine_of databases) (table_of databases known weight) conn request) (on_request v (machine_of databases) (table_of databases known weight) conn request) told_before told_now decision
+    → ComesBy (call_of m kind told_before told_now) v (machine_of databases) ((table_of databases known weight).session conn) (handed v (machine_of databases) (table_of databases known weight) conn request) (on_request v (machine_of databases) (table_of databases known weight) conn request) decision
     → CanCarry (get_or sessions place d) decision
 carry_at m kind v databases sessions known weight conn place d request told_before told_now decision same apart at comes =
-    let here : ComesBy m kind v (machine_of databases) ((table_of databases sessions weight).session conn) (handed v (machine_of databases) (table_of databases sessions weight) conn request) (on_request v (machine_of databases) (table_of databases sessions weight) conn request) told_before told_now decision =
+    let here : ComesBy (call_of m kind told_before told_now) v (machine_of databases) ((table_of databases sessions weight).session conn) (handed v (machine_of databases) (table_of databases sessions weight) conn request) (on_request v (machine_of databases) (table_of databases sessions weight) conn request) decision =
     moved m kind v databases sessions known weight conn request told_before told_now decision same comes in
     can_carry v (machine_of databases) databases (get_or sessions place d) (on_request v (machine_of databases) (table_of databases sessions weight) conn request here.answers) decision
     (subst (λ (s : Session). ComesTo v (machine_of databases) s (on_request v (machine_of databases) (table_of databases sessions weight) conn request here.answers) decision) (sym (here_at databases sessions weight conn place d apart at)) here.is)
@@ -253,7 +255,7 @@ unfolding may_ask
 there_if s e = (and_parts s.there (not s.hung) (and_parts (s.there && not s.hung) (is_none s.flight) (and_parts (s.there && not s.hung && is_none s.flight) (is_none s.later) e).0).0).0
 
 pub turned_so : (m : Meaning) (kind : EngineKind) (v : View) (machine : Machine) (g known : Gateway) (conn : ℕ) (request : Request) (told_before told_now : Option Told) (now seen : Gateway) (act : Act) → g ≡ known → now ≡ seen
-    → TurnedBy m kind v machine g conn request told_before told_now now act → TurnedBy m kind v machine known conn request told_before told_now seen act
+    → TurnedBy (call_of m kind told_before told_now) (scene v machine g conn) request now act → TurnedBy (call_of m kind told_before told_now) (scene v machine known conn) request seen act
 turned_so m kind v machine g known conn request told_before told_now now seen act before after turned =
-    subst (λ (h : Gateway). TurnedBy m kind v machine known conn request told_before told_now h act) after
-    (subst (λ (h : Gateway). TurnedBy m kind v machine h conn request told_before told_now now act) before turned)
+    subst (λ (h : Gateway). TurnedBy (call_of m kind told_before told_now) (scene v machine known conn) request h act) after
+    (subst (λ (h : Gateway). TurnedBy (call_of m kind told_before told_now) (scene v machine h conn) request now act) before turned)

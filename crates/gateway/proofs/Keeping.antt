@@ -1,18 +1,15 @@
 -- Commands keep the sessions and their marks.
-use Rattle.std.proofs.Common.{◌≡◌, ℕ, Bool, true, false, cond, List, [], ◌∷◌, map, find, Option, Some, None, refl, ap}
+use Rattle.std.proofs.Common.{◌≡◌, ℕ, Bool, true, false, cond, List, [], ◌∷◌, map, find, Option, Some, refl, ap}
 use Rattle.std.specs.List.{AllByRecursion}
-use Rattle.dq_base.specs.declared.images.Image.{Image}
 use Rattle.frame_commands.specs.declared.command.Command.{Command}
 use Rattle.page_apply.specs.declared.database.Database.{Database}
 use Rattle.page_apply.specs.Databases.{act}
 use Rattle.page_apply.specs.Pins.{Pinning, IsPinned, StillPinned}
 use Rattle.session_rules.specs.Sessions.{Session as RuleSession}
 use Rattle.session_table.specs.declared.session.Session.{Session}
-use Rattle.session_table.specs.declared.session.Transaction.{Transaction}
-use Rattle.session_table.specs.Table as tables
-use Rattle.session_table.specs.Table.{image_pinned, session_found, session_at, has_conn, table_of, mark_of, pin_of}
+use Rattle.session_table.specs.Table.{session_found, session_at, has_conn, table_of}
 use Rattle.session_table.proofs.Following.{IsSame, same_session}
-use Rattle.session_table.proofs.Releasing.{all_front, all_back}
+use Rattle.session_table.proofs.Gaining.{still_pins}
 use Rattle.session_table.proofs.Unmarked.{none_made}
 use Rattle.gateway.specs.Seen.{Held, seen, pins_of, PinsOf}
 
@@ -27,21 +24,7 @@ marks_stay held databases command still marks = record {
   only = λ pin live. marks.only pin (none_made databases command pin live);
 }
 
--- ---- the images that transactions have pinned
-
-still_image : (old new : List Database) (pin : Option Pinning) → ((pin : Pinning) → StillPinned old new pin) → AllByRecursion (IsPinned old) (mark_of pin) → image_pinned new pin ≡ image_pinned old pin
-still_image old new None still live = refl
-still_image old new (Some pin) still live = (still pin).same_image live.0
-
-still_pin : (old new : List Database) (tx : Option Transaction) → ((pin : Pinning) → StillPinned old new pin) → AllByRecursion (IsPinned old) (pin_of tx) → IsSame old new tx
-still_pin old new None still live = refl
-still_pin old new (Some x) still live =
-    ap (λ (image : Image). Some (record { name = x.name; mark = x.mark; pinned = image; working = x.working; turn = x.turn; touched = x.touched.items })) (still_image old new x.pin still live)
-
-still_pins : (old new : List Database) (ss : List Session) → ((pin : Pinning) → StillPinned old new pin) → AllByRecursion (IsPinned old) (tables.pins_of ss) → AllByRecursion (λ (s : Session). IsSame old new s.transaction) ss
-still_pins old new [] still live = tt
-still_pins old new (s ∷ ss) still live =
-    (still_pin old new s.transaction still (all_front (IsPinned old) (pin_of s.transaction) (tables.pins_of ss) live), still_pins old new ss still (all_back (IsPinned old) (pin_of s.transaction) (tables.pins_of ss) live))
+-- ---- the sessions over the databases after a command
 
 found_here : (old new : List Database) (s : Session) (rest : Option Session) (b : Bool) → IsSame old new s.transaction → session_found new rest ≡ session_found old rest
     → session_found new (cond b (Some s) rest) ≡ session_found old (cond b (Some s) rest)

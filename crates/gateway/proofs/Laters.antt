@@ -32,6 +32,8 @@ use Rattle.session_decisions.specs.declared.decision.Decision.TheVariants as dec
 use Rattle.session_decisions.specs.Numbers.{work_in, works_in}
 use Rattle.session_decisions.specs.Runs.{RunsTo}
 use Rattle.session_decisions.specs.Turning.{ComesBy, ComesTo}
+use Rattle.statement_runs.specs.Calls.{call_of}
+use Rattle.session_decisions.specs.Scenes.{scene}
 use Rattle.gateway.specs.declared.act.Act.{Act}
 use Rattle.gateway.specs.declared.act.Act.TheVariants as acts
 use Rattle.gateway.specs.Carrying.{AgreesOn, CanCarry}
@@ -45,19 +47,19 @@ module _ (m : Meaning) (kind : EngineKind) (v : View) (machine : Machine) (g : G
   -- by whether the node serves, and the session of the connection
   abbrev By : Option Told → Option Told → Decision → Bool → Session → Type 0
   By before now decision serves t =
-      ComesBy m kind v machine s (cond serves (handed_over (ground machine t t.tx) (statement ∷ [])) None) (λ (answers : List Answer). cond serves (run_in v machine g conn t t.tx (statement ∷ []) true answers) (Refused NotLeader)) before now decision
+      ComesBy (call_of m kind before now) v machine s (cond serves (handed_over (ground machine t t.tx) (statement ∷ [])) None) (λ (answers : List Answer). cond serves (run_in v machine g conn t t.tx (statement ∷ []) true answers) (Refused NotLeader)) decision
 
   -- the node doesn't serve any more
-  pub not_leader : (told : Option Told) → v.serving ≡ false → ComesBy m kind v machine s (handed_later v machine g conn statement) (on_later v machine g conn statement) told told (decisions.Refused causes.NotLeader)
+  pub not_leader : (told : Option Told) → v.serving ≡ false → ComesBy (call_of m kind told told) v machine s (handed_later v machine g conn statement) (on_later v machine g conn statement) (decisions.Refused causes.NotLeader)
   unfolding handed_later on_later TellsAll
   not_leader told is = subst (λ (b : Bool). By told told (decisions.Refused causes.NotLeader) b (g.session conn)) (sym is) (record { answers = []; allowed = tt; told = refl; exact = refl; is = refl })
 
   -- it serves, and the query runs
-  pub leads : (these : Statement) (before now : Option Told) (decision : Decision) → these ≡ statement → v.serving ≡ true → g.session conn ≡ s → RunsTo m kind v machine g conn s (these ∷ []) true before now decision
-      → ComesBy m kind v machine s (handed_later v machine g conn statement) (on_later v machine g conn statement) before now decision
+  pub leads : (these : Statement) (before now : Option Told) (decision : Decision) → these ≡ statement → v.serving ≡ true → g.session conn ≡ s → RunsTo (call_of m kind before now) (scene v machine g conn) s (these ∷ []) true decision
+      → ComesBy (call_of m kind before now) v machine s (handed_later v machine g conn statement) (on_later v machine g conn statement) decision
   unfolding handed_later on_later
   leads these before now decision query is same ran =
-      let r : RunsTo m kind v machine g conn s (statement ∷ []) true before now decision = subst (λ (one : Statement). RunsTo m kind v machine g conn s (one ∷ []) true before now decision) query ran in
+      let r : RunsTo (call_of m kind before now) (scene v machine g conn) s (statement ∷ []) true decision = subst (λ (one : Statement). RunsTo (call_of m kind before now) (scene v machine g conn) s (one ∷ []) true decision) query ran in
       subst (λ (b : Bool). By before now decision b (g.session conn)) (sym is)
       (subst (By before now decision true) (sym same) (record { answers = r.answers; allowed = r.allowed; told = r.told; exact = r.exact; is = r.is }))
 
@@ -144,13 +146,13 @@ module _ (databases : List Database) (items known : List CodeSession) (conn plac
 
   -- what it comes to there is what it comes to at the connection's session
   pub came_later : (m : Meaning) (kind : EngineKind) (v : View) (weight : ℕ) (statement : Statement) (before now : Option Told) (decision : Decision)
-      → ((table_of databases known weight).session found.conn ≡ session_of databases found → ComesBy m kind v (machine_of databases) (session_of databases found) (handed_later v (machine_of databases) (table_of databases known weight) found.conn statement) (on_later v (machine_of databases) (table_of databases known weight) found.conn statement) before now decision)
-      → ComesBy m kind v (machine_of databases) ((table_of databases items weight).session conn) (handed_later v (machine_of databases) (table_of databases items weight) conn statement) (on_later v (machine_of databases) (table_of databases items weight) conn statement) before now decision
+      → ((table_of databases known weight).session found.conn ≡ session_of databases found → ComesBy (call_of m kind before now) v (machine_of databases) (session_of databases found) (handed_later v (machine_of databases) (table_of databases known weight) found.conn statement) (on_later v (machine_of databases) (table_of databases known weight) found.conn statement) decision)
+      → ComesBy (call_of m kind before now) v (machine_of databases) ((table_of databases items weight).session conn) (handed_later v (machine_of databases) (table_of databases items weight) conn statement) (on_later v (machine_of databases) (table_of databases items weight) conn statement) decision
   came_later m kind v weight statement before now decision comes =
       let here : (table_of databases known weight).session found.conn ≡ session_of databases found = ap (λ (ss : List CodeSession). (table_of databases ss weight).session found.conn) same ∙ ap (table_of databases items weight).session its_conn ∙ sym (there weight) in
-      subst (λ (s : Session). ComesBy m kind v (machine_of databases) s (handed_later v (machine_of databases) (table_of databases items weight) conn statement) (on_later v (machine_of databases) (table_of databases items weight) conn statement) before now decision) (there weight)
-      (subst (λ (c : ℕ). ComesBy m kind v (machine_of databases) (session_of databases found) (handed_later v (machine_of databases) (table_of databases items weight) c statement) (on_later v (machine_of databases) (table_of databases items weight) c statement) before now decision) its_conn
-      (subst (λ (ss : List CodeSession). ComesBy m kind v (machine_of databases) (session_of databases found) (handed_later v (machine_of databases) (table_of databases ss weight) found.conn statement) (on_later v (machine_of databases) (table_of databases ss weight) found.conn statement) before now decision) same (comes here)))
+      subst (λ (s : Session). ComesBy (call_of m kind before now) v (machine_of databases) s (handed_later v (machine_of databases) (table_of databases items weight) conn statement) (on_later v (machine_of databases) (table_of databases items weight) conn statement) decision) (there weight)
+      (subst (λ (c : ℕ). ComesBy (call_of m kind before now) v (machine_of databases) (session_of databases found) (handed_later v (machine_of databases) (table_of databases items weight) c statement) (on_later v (machine_of databases) (table_of databases items weight) c statement) decision) its_conn
+      (subst (λ (ss : List CodeSession). ComesBy (call_of m kind before now) v (machine_of databases) (session_of databases found) (handed_later v (machine_of databases) (table_of databases ss weight) found.conn statement) (on_later v (machine_of databases) (table_of databases ss weight) found.conn statement) decision) same (comes here)))
 
   -- and can be carried out there
   pub can_later : (v : View) (weight : ℕ) (turned : Turned) (decision : Decision) (d : CodeSession) → ComesTo v (machine_of databases) ((table_of databases items weight).session conn) turned decision → CanCarry (get_or items place d) decision
@@ -170,13 +172,13 @@ module _ (databases : List Database) (items known : List CodeSession) (conn plac
 
 -- what was reached from the same sessions
 pub resumed_from : (m : Meaning) (kind : EngineKind) (v : View) (machine : Machine) (g aside : Gateway) (conn : ℕ) (statement : Statement) (later : Later) (before now : Option Told) (after : Gateway) (act : Act) → Some later ≡ (g.session conn).later
-    → later_query (Some later) ≡ Some statement → aside ≡ without_later g conn → LaterBy m kind v machine aside conn statement before now after act → Resumed m kind v machine g conn (later_query (g.session conn).later) before now after (Some act)
+    → later_query (Some later) ≡ Some statement → aside ≡ without_later g conn → LaterBy (call_of m kind before now) (scene v machine aside conn) statement after act → Resumed (call_of m kind before now) (scene v machine g conn) (later_query (g.session conn).later) after (Some act)
 resumed_from m kind v machine g aside conn statement later before now after act has is same by =
-    subst (λ (q : Option Statement). Resumed m kind v machine g conn q before now after (Some act)) (sym is ∙ ap later_query has)
-    (subst (λ (h : Gateway). LaterBy m kind v machine h conn statement before now after act) same by)
+    subst (λ (q : Option Statement). Resumed (call_of m kind before now) (scene v machine g conn) q after (Some act)) (sym is ∙ ap later_query has)
+    (subst (λ (h : Gateway). LaterBy (call_of m kind before now) (scene v machine h conn) statement after act) same by)
 
-pub none_resumed : (m : Meaning) (kind : EngineKind) (v : View) (machine : Machine) (g : Gateway) (conn : ℕ) (told : Option Told) (after : Gateway) → (g.session conn).later ≡ None → after ≡ g → Resumed m kind v machine g conn (later_query (g.session conn).later) told told after None
-none_resumed m kind v machine g conn told after none is = subst (λ (later : Option Later). Resumed m kind v machine g conn (later_query later) told told after None) (sym none) (is, refl)
+pub none_resumed : (m : Meaning) (kind : EngineKind) (v : View) (machine : Machine) (g : Gateway) (conn : ℕ) (told : Option Told) (after : Gateway) → (g.session conn).later ≡ None → after ≡ g → Resumed (call_of m kind told told) (scene v machine g conn) (later_query (g.session conn).later) after None
+none_resumed m kind v machine g conn told after none is = subst (λ (later : Option Later). Resumed (call_of m kind told told) (scene v machine g conn) (later_query later) after None) (sym none) (is, refl)
 
 -- ---- what a reader told
 
@@ -224,8 +226,8 @@ none_due databases (s ∷ ss) weight conn none = by (has_conn conn s) (none_due 
 -- ---- over what code holds
 
 pub resumed_so : (m : Meaning) (kind : EngineKind) (v : View) (machine : Machine) (g known : Gateway) (conn : ℕ) (before after : Option Told) (now : Gateway) (act : Option Act) → g ≡ known
-    → Resumed m kind v machine g conn (later_query (g.session conn).later) before after now act → Resumed m kind v machine known conn (later_query (known.session conn).later) before after now act
-resumed_so m kind v machine g known conn before after now act is r = subst (λ (h : Gateway). Resumed m kind v machine h conn (later_query (h.session conn).later) before after now act) is r
+    → Resumed (call_of m kind before after) (scene v machine g conn) (later_query (g.session conn).later) now act → Resumed (call_of m kind before after) (scene v machine known conn) (later_query (known.session conn).later) now act
+resumed_so m kind v machine g known conn before after now act is r = subst (λ (h : Gateway). Resumed (call_of m kind before after) (scene v machine h conn) (later_query (h.session conn).later) now act) is r
 
 pub done_so : (g known : Gateway) (conn : ℕ) (reply : Option Reply) (now : Gateway) (act : Option Act) → g ≡ known → ReadDone g conn (lent_query (g.session conn).later) reply now act → ReadDone known conn (lent_query (known.session conn).later) reply now act
 done_so g known conn reply now act is r = subst (λ (h : Gateway). ReadDone h conn (lent_query (h.session conn).later) reply now act) is r

@@ -22,6 +22,8 @@ use Rattle.gateway.specs.declared.act.Act.{Act}
 use Rattle.gateway.specs.Calls.{Is, TurnedBy}
 use Rattle.gateway.specs.Later.{Resumed}
 use Rattle.gateway.specs.Seen.{ListsAsBefore}
+use Rattle.statement_runs.specs.Calls.{call_of}
+use Rattle.session_decisions.specs.Scenes.{scene}
 
 -- the session after it has a transaction that is listed
 abbrev StaysListed : Turned → Type 0
@@ -125,11 +127,11 @@ carried_listed v g now conn act (Affects effect) stays is = subst (ListsAsBefore
 
 module _ (m : Meaning) (kind : EngineKind) (v : View) (machine : Machine) (g : Gateway) (conn : ℕ) (before after : Option Told) (now : Gateway) where
   -- after a request
-  pub turned_listed : (request : Request) (r : Result Act AllocError) → IfOk r (TurnedBy m kind v machine g conn request before after now) → OnErr r (now ≡ g) → ListsAsBefore g now
+  pub turned_listed : (request : Request) (r : Result Act AllocError) → IfOk r (TurnedBy (call_of m kind before after) (scene v machine g conn) request now) → OnErr r (now ≡ g) → ListsAsBefore g now
   turned_listed request (Ok act) turned failed = carried_listed v g now conn act (on_request v machine g conn request turned.answers) (request_listed v machine g conn request turned.answers) turned.is
   turned_listed request (Err e) turned failed = same_listed g now failed
 
-  resumed : (query : Option Statement) (act : Option Act) → Resumed m kind v machine g conn query before after now act → ListsAsBefore g now
+  resumed : (query : Option Statement) (act : Option Act) → Resumed (call_of m kind before after) (scene v machine g conn) query now act → ListsAsBefore g now
   resumed None None is = same_listed g now is.0
   resumed None (Some act) is = absurd is
   resumed (Some statement) None is = absurd is
@@ -138,6 +140,6 @@ module _ (m : Meaning) (kind : EngineKind) (v : View) (machine : Machine) (g : G
       (put_listed g conn (with_later (g.session conn) None) (λ its. its) other h)
 
   -- after a query that was yet to be answered
-  pub resumed_listed : (query : Option Statement) (r : Result (Option Act) AllocError) → IfOk r (Resumed m kind v machine g conn query before after now) → OnErr r (now ≡ g) → ListsAsBefore g now
+  pub resumed_listed : (query : Option Statement) (r : Result (Option Act) AllocError) → IfOk r (Resumed (call_of m kind before after) (scene v machine g conn) query now) → OnErr r (now ≡ g) → ListsAsBefore g now
   resumed_listed query (Ok act) is failed = resumed query act is
   resumed_listed query (Err e) is failed = same_listed g now failed

@@ -27,6 +27,8 @@ use Rattle.session_decisions.specs.declared.decision.Decision.{Decision}
 use Rattle.session_decisions.specs.Numbers.{works_in}
 use Rattle.session_decisions.specs.Turning.{TurnsTo}
 use Rattle.session_decisions.proofs.Placed.{found_at}
+use Rattle.statement_runs.specs.Calls.{call_of}
+use Rattle.session_decisions.specs.Scenes.{scene}
 
 module _ (sessions : List Session) (place : ℕ) (found : Session) (within : place < length sessions) (is : found ≡ get_or sessions place found) where
   at_place : (own : Session) → get_or sessions place own ≡ found
@@ -62,15 +64,15 @@ module _ (sessions : List Session) (place : ℕ) (found : Session) (within : pla
       subst (λ (s : Session). CanBeDone v (session_of databases s) params wanted) (sym (at_place own)) (subst (λ (ps : List Value). CanBeDone v (session_of databases found) ps wanted) (sym same) can)
 
   module _ (m : Meaning) (kind : EngineKind) (v : View) (databases : List Database) (params : List Value) (wanted : Wanted) (before now : Option Told) (own : Session) (weight : ℕ) where
-    pub turned_there : (decision : Decision) → TurnsTo m kind v (machine_of databases) (table_of databases sessions weight) found.conn (session_of databases found) (meant params wanted) before now decision
-        → TurnsTo m kind v (machine_of databases) (table_of databases sessions weight) (get_or sessions place own).conn (session_of databases (get_or sessions place own)) (meant params wanted) before now decision
+    pub turned_there : (decision : Decision) → TurnsTo (call_of m kind before now) (scene v (machine_of databases) (table_of databases sessions weight) found.conn) (session_of databases found) (meant params wanted) decision
+        → TurnsTo (call_of m kind before now) (scene v (machine_of databases) (table_of databases sessions weight) (get_or sessions place own).conn) (session_of databases (get_or sessions place own)) (meant params wanted) decision
     turned_there decision turns =
-        subst (λ (s : Session). TurnsTo m kind v (machine_of databases) (table_of databases sessions weight) s.conn (session_of databases s) (meant params wanted) before now decision) (sym (at_place own)) turns
+        subst (λ (s : Session). TurnsTo (call_of m kind before now) (scene v (machine_of databases) (table_of databases sessions weight) s.conn) (session_of databases s) (meant params wanted) decision) (sym (at_place own)) turns
 
-    pub came_there : {E : Type 0} (result : Result Decision E) → IfOk result (TurnsTo m kind v (machine_of databases) (table_of databases sessions weight) found.conn (session_of databases found) (meant params wanted) before now)
-        → IfOk result (TurnsTo m kind v (machine_of databases) (table_of databases sessions weight) (get_or sessions place own).conn (session_of databases (get_or sessions place own)) (meant params wanted) before now)
+    pub came_there : {E : Type 0} (result : Result Decision E) → IfOk result (TurnsTo (call_of m kind before now) (scene v (machine_of databases) (table_of databases sessions weight) found.conn) (session_of databases found) (meant params wanted))
+        → IfOk result (TurnsTo (call_of m kind before now) (scene v (machine_of databases) (table_of databases sessions weight) (get_or sessions place own).conn) (session_of databases (get_or sessions place own)) (meant params wanted))
     came_there result turns =
-        subst (λ (s : Session). IfOk result (TurnsTo m kind v (machine_of databases) (table_of databases sessions weight) s.conn (session_of databases s) (meant params wanted) before now)) (sym (at_place own)) turns
+        subst (λ (s : Session). IfOk result (TurnsTo (call_of m kind before now) (scene v (machine_of databases) (table_of databases sessions weight) s.conn) (session_of databases s) (meant params wanted))) (sym (at_place own)) turns
 
 -- what is wanted of a session is wanted of it by another name
 pub wants_at : (v : View) (databases : List Database) (sessions : List Session) (weight : ℕ) (found there : Session) (params known : List Value) (wanted : Wanted) (request : Request) → params ≡ known → found ≡ there

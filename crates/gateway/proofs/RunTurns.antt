@@ -13,17 +13,19 @@ use Rattle.session_asking.specs.Meant.{meant}
 use Rattle.session_decisions.specs.declared.decision.Decision.{Decision}
 use Rattle.session_decisions.specs.Turning.{TurnsTo}
 use Rattle.session_decisions.specs.Runs.{RunsTo}
+use Rattle.statement_runs.specs.Calls.{call_of}
+use Rattle.session_decisions.specs.Scenes.{scene}
 
 module _ (m : Meaning) (kind : EngineKind) (v : View) (machine : Machine) (g : Gateway) (conn : ℕ) (s : Session) (before now : Option Told) (decision : Decision) where
   -- statements whose rows are dropped
-  dropped : (ss : List Statement) → RunsTo m kind v machine g conn s ss false before now decision → TurnsTo m kind v machine g conn s (Runs ss) before now decision
+  dropped : (ss : List Statement) → RunsTo (call_of m kind before now) (scene v machine g conn) s ss false decision → TurnsTo (call_of m kind before now) (scene v machine g conn) s (Runs ss) decision
   unfolding does
   dropped ss r = record { answers = r.answers; allowed = r.allowed; told = r.told; exact = r.exact; is = r.is }
 
   -- those of what is wanted
-  pub ran : (params : List Value) (w known : Wanted) (ss these : List Statement) → w ≡ known → meant params known ≡ Runs ss → these ≡ ss → RunsTo m kind v machine g conn s these false before now decision
-      → TurnsTo m kind v machine g conn s (meant params w) before now decision
+  pub ran : (params : List Value) (w known : Wanted) (ss these : List Statement) → w ≡ known → meant params known ≡ Runs ss → these ≡ ss → RunsTo (call_of m kind before now) (scene v machine g conn) s these false decision
+      → TurnsTo (call_of m kind before now) (scene v machine g conn) s (meant params w) decision
   ran params w known ss these is means same r =
-      subst (λ (x : Wanted). TurnsTo m kind v machine g conn s (meant params x) before now decision) (sym is)
-      (subst (λ a. TurnsTo m kind v machine g conn s a before now decision) (sym means)
-      (subst (λ (xs : List Statement). TurnsTo m kind v machine g conn s (Runs xs) before now decision) same (dropped these r)))
+      subst (λ (x : Wanted). TurnsTo (call_of m kind before now) (scene v machine g conn) s (meant params x) decision) (sym is)
+      (subst (λ a. TurnsTo (call_of m kind before now) (scene v machine g conn) s a decision) (sym means)
+      (subst (λ (xs : List Statement). TurnsTo (call_of m kind before now) (scene v machine g conn) s (Runs xs) decision) same (dropped these r)))

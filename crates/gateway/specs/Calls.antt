@@ -1,23 +1,23 @@
 -- What a call of the gateway did: the definitions' outcome, as code tells it.
-use Rattle.std.specs.Prelude.{◌≡◌, ℕ, ◌≤◌, true, false, List, [], ◌∷◌, length, Option}
+use Rattle.std.specs.Prelude.{◌≡◌, ℕ, ◌≤◌, true, false, List, [], ◌∷◌, length}
 use Rattle.std.specs.List.{AllByRecursion}
 use Rattle.dq_base.specs.Names.{has_nul}
 use Rattle.wire_msgs.specs.declared.request.Request.{Request}
 use Rattle.wire_msgs.specs.declared.request.Request.TheVariants as requests
 use Rattle.wire_msgs.specs.declared.response.Response.TheVariants as responses
-use Rattle.sql_engine.specs.declared.kind.EngineKind.{EngineKind}
-use Rattle.sql_engine.specs.Meanings.{Meaning, Told}
 use Rattle.session_rules.specs.Causes.{failure}
 use Rattle.session_rules.specs.Entries.{written}
-use Rattle.session_rules.specs.Machine.{Machine}
 use Rattle.session_rules.specs.Seen.{HasSpelling}
 use Rattle.session_rules.specs.Engines.{Answer, AllowsFor, used_for}
-use Rattle.session_rules.specs.Sessions.{responses_of, Gateway, View, Effect, HandsOver, JoinsPeer, Weighs, Turned, Refused, Lacks, Answers, Proposes, Lends, Affects}
+use Rattle.session_rules.specs.Sessions.{responses_of, Gateway, View, Effect, HandsOver, JoinsPeer, Weighs}
+use Rattle.session_rules.specs.Sessions.{Turned, Refused, Lacks, Answers, Proposes, Lends, Affects}
 use Rattle.session_rules.specs.Requests.{on_request, handed, with_session, affected_by}
 use Rattle.raft_vote.specs.Servers.{IsConfiguration}
 use Rattle.session_asking.specs.declared.wanted.Wanted.{Wanted}
 use Rattle.session_asking.specs.declared.wanted.Wanted.TheVariants as wanted
+use Rattle.statement_runs.specs.Calls.{EngineCall}
 use Rattle.statement_runs.specs.Running.{TellsAll}
+use Rattle.session_decisions.specs.Scenes.{Scene}
 use Rattle.gateway.specs.declared.act.Act.{Act}
 use Rattle.gateway.specs.declared.act.Act.TheVariants as acts
 
@@ -33,18 +33,19 @@ abbrev pub Is : View → Gateway → ℕ → Turned → Gateway → Act → Type
 Is v g conn (Refused cause) now act = (now ≡ g) × (act ≡ acts.Reply (failure cause ∷ []))
 Is v g conn Lacks now act = ⊥
 Is v g conn (Answers session reply note) now act = (now ≡ with_session g conn session) × (act ≡ acts.Reply (responses_of reply))
-Is v g conn (Proposes session contents note) now act = (now ≡ with_session g conn session) × (act ≡ acts.Propose (written v.term contents)) × AllByRecursion HasSpelling contents
+Is v g conn (Proposes session contents note) now act = (now ≡ with_session g conn session) × (act ≡ acts.Propose (written v.term contents))
+    × AllByRecursion HasSpelling contents
 Is v g conn (Lends session job) now act = (now ≡ with_session g conn session) × (act ≡ acts.Lend job)
 Is v g conn (Affects effect) now act = (now ≡ affected_by g effect) × (act ≡ act_for effect)
 
 -- There are answers that the engine may give to what the request hands it, and which it told one after the other. The
 -- request uses all of them, and by them it comes to this act and these sessions.
-pub record TurnedBy (m : Meaning) (kind : EngineKind) (v : View) (machine : Machine) (g : Gateway) (conn : ℕ) (request : Request) (told_before told_now : Option Told) (now : Gateway) (act : Act) : Type 0 where
+pub record TurnedBy (c : EngineCall) (at : Scene) (request : Request) (now : Gateway) (act : Act) : Type 0 where
   pub answers : List Answer
-  pub allowed : AllowsFor m kind (handed v machine g conn request) answers
-  pub told : TellsAll answers told_before told_now
-  pub exact : used_for (handed v machine g conn request) answers ≡ length answers
-  pub is : Is v g conn (on_request v machine g conn request answers) now act
+  pub allowed : AllowsFor c.meaning c.kind (handed at.view at.machine at.sessions at.conn request) answers
+  pub told : TellsAll answers c.told_before c.told_now
+  pub exact : used_for (handed at.view at.machine at.sessions at.conn request) answers ≡ length answers
+  pub is : Is at.view at.sessions at.conn (on_request at.view at.machine at.sessions at.conn request answers) now act
 
 -- no text of the request holds a NUL
 abbrev pub HasNoNul : Request → Type 0

@@ -21,17 +21,22 @@ use Rattle.gateway.specs.Calls.{act_for}
 
 abbrev pub Carries : Machine → Gateway → ℕ → Decision → Gateway → Act → Type 0
 Carries m g conn (decisions.Refused cause) now act = (now ≡ g) × (act ≡ acts.Reply (failure (cause_named cause) ∷ []))
-Carries m g conn (decisions.Answers change reply) now act = (now ≡ with_session g conn (changed_by (g.session conn) change)) × (act ≡ acts.Reply (responses_of (reply_named reply)))
-Carries m g conn (decisions.Begins at_once) now act = (now ≡ with_session g conn (begun m (g.session conn) at_once)) × (act ≡ acts.Reply (responses_of (result 0)))
+Carries m g conn (decisions.Answers change reply) now act = (now ≡ with_session g conn (changed_by (g.session conn) change))
+    × (act ≡ acts.Reply (responses_of (reply_named reply)))
+Carries m g conn (decisions.Begins at_once) now act = (now ≡ with_session g conn (begun m (g.session conn) at_once))
+    × (act ≡ acts.Reply (responses_of (result 0)))
 Carries m g conn decisions.Ends now act = (now ≡ with_session g conn (with_tx (g.session conn) None)) × (act ≡ acts.Reply (responses_of (result 0)))
-Carries m g conn (decisions.Proposes flight entries) now act = (now ≡ with_session g conn (with_flight (g.session conn) (Some flight))) × (act ≡ acts.Propose entries)
-Carries m g conn (decisions.Creates flight entries barriers) now act = (now ≡ with_session g conn (with_flight (with_barriers (g.session conn) barriers) (Some flight))) × (act ≡ acts.Propose entries)
+Carries m g conn (decisions.Proposes flight entries) now act = (now ≡ with_session g conn (with_flight (g.session conn) (Some flight)))
+    × (act ≡ acts.Propose entries)
+Carries m g conn (decisions.Creates flight entries barriers) now act =
+    (now ≡ with_session g conn (with_flight (with_barriers (g.session conn) barriers) (Some flight))) × (act ≡ acts.Propose entries)
 Carries m g conn (decisions.Lends query job) now act = (now ≡ with_session g conn (with_later (g.session conn) (Some (Lent query)))) × (act ≡ acts.Lend job)
 Carries m g conn (decisions.Affects effect) now act = (now ≡ affected_by g (effect_named effect)) × (act ≡ act_for (effect_named effect))
 
 -- Where no number stood for two images, also with these that are made, none does after it was carried out.
 abbrev pub AgreesOn : List Known → List Session → List Database → List Session → List Database → Type 0
-AgreesOn made before old after new = (known : List Known) (next : ℕ) → Agree known (made ++ works_of before) next (map numbered old) → Agree known (works_of after) next (map numbered new)
+AgreesOn made before old after new =
+    (known : List Known) (next : ℕ) → Agree known (made ++ works_of before) next (map numbered old) → Agree known (works_of after) next (map numbered new)
 
 -- it can be carried out at this session
 abbrev pub CanCarry : Session → Decision → Type 0

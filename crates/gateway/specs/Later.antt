@@ -1,32 +1,31 @@
 -- What comes of queries that are answered later than they were asked.
 use Rattle.std.specs.Prelude.{◌≡◌, ℕ, List, length, Option, Some, None}
-use Rattle.sql_engine.specs.declared.kind.EngineKind.{EngineKind}
-use Rattle.sql_engine.specs.Meanings.{Meaning, Told}
 use Rattle.sql_engine.specs.Replies.{Statement}
 use Rattle.session_rules.specs.Engines.{Answer, AllowsFor, used_for}
-use Rattle.session_rules.specs.Machine.{Machine}
 use Rattle.session_rules.specs.Requests.{handed_later, on_later, without_later}
-use Rattle.session_rules.specs.Sessions.{Reply, Gateway, View, responses_of}
+use Rattle.session_rules.specs.Sessions.{Reply, Gateway, responses_of}
+use Rattle.statement_runs.specs.Calls.{EngineCall}
 use Rattle.statement_runs.specs.Running.{TellsAll}
+use Rattle.session_decisions.specs.Scenes.{Scene}
 use Rattle.gateway.specs.declared.act.Act.{Act}
 use Rattle.gateway.specs.declared.act.Act.TheVariants as acts
 use Rattle.gateway.specs.Calls.{Is}
 
 -- There are answers that the engine may give to what the query hands it, and which it told one after the other. The query uses
 -- all of them, and by them it comes to this act and these sessions.
-pub record LaterBy (m : Meaning) (kind : EngineKind) (v : View) (machine : Machine) (g : Gateway) (conn : ℕ) (statement : Statement) (told_before told_now : Option Told) (now : Gateway) (act : Act) : Type 0 where
+pub record LaterBy (c : EngineCall) (at : Scene) (statement : Statement) (now : Gateway) (act : Act) : Type 0 where
   pub answers : List Answer
-  pub allowed : AllowsFor m kind (handed_later v machine g conn statement) answers
-  pub told : TellsAll answers told_before told_now
-  pub exact : used_for (handed_later v machine g conn statement) answers ≡ length answers
-  pub is : Is v g conn (on_later v machine g conn statement answers) now act
+  pub allowed : AllowsFor c.meaning c.kind (handed_later at.view at.machine at.sessions at.conn statement) answers
+  pub told : TellsAll answers c.told_before c.told_now
+  pub exact : used_for (handed_later at.view at.machine at.sessions at.conn statement) answers ≡ length answers
+  pub is : Is at.view at.sessions at.conn (on_later at.view at.machine at.sessions at.conn statement answers) now act
 
 -- The query that a connection has yet to answer is run at its session without it; where there is none, nothing is done.
-abbrev pub Resumed : Meaning → EngineKind → View → Machine → Gateway → ℕ → Option Statement → Option Told → Option Told → Gateway → Option Act → Type 0
-Resumed m kind v machine g conn None before told_now now None = (now ≡ g) × (before ≡ told_now)
-Resumed m kind v machine g conn None before told_now now (Some act) = ⊥
-Resumed m kind v machine g conn (Some statement) before told_now now None = ⊥
-Resumed m kind v machine g conn (Some statement) before told_now now (Some act) = LaterBy m kind v machine (without_later g conn) conn statement before told_now now act
+abbrev pub Resumed : EngineCall → Scene → Option Statement → Gateway → Option Act → Type 0
+Resumed c at None now None = (now ≡ at.sessions) × (c.told_before ≡ c.told_now)
+Resumed c at None now (Some act) = ⊥
+Resumed c at (Some statement) now None = ⊥
+Resumed c at (Some statement) now (Some act) = LaterBy c (record at { sessions = without_later at.sessions at.conn }) statement now act
 
 -- What a reader tells of the query that it has is told to the connection, which then waits for it no more. Where it has none of
 -- the connection, or gives it back, nothing is done.

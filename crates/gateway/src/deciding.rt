@@ -19,6 +19,8 @@ ghost use Rattle.session_asking.specs.Meant.{meant, CanBeDone, NameHasNoNul};
 ghost use Rattle.session_decisions.specs.declared.decision.Decision.TheVariants as decisions;
 ghost use Rattle.session_decisions.specs.Numbers.{works_in};
 ghost use Rattle.session_decisions.specs.Turning.{ComesBy, TurnsTo};
+ghost use Rattle.statement_runs.specs.Calls.{call_on};
+ghost use Rattle.session_decisions.specs.Scenes.{scene};
 ghost use Rattle.gateway.specs.Calls.{AddressHasNoNul, HasShortTerm, IsConfigured, MayConfigure};
 
 use crate::call::{Call, Seat};
@@ -61,9 +63,9 @@ fn decision_of<E: Engine>(
     ensures kept { sessions.new ≡ sessions.old }
     ensures stays { Stays (E.kind engine.old) (E.kind engine.new) (E.refused_openings engine.old) (E.refused_openings engine.new) }
     ensures unopened { IfOk result (λ decision. decision ≡ decisions.Refused NotADatabase → E.refused_openings engine.old < E.refused_openings engine.new) }
-    ensures ran { (own : SessionValue) (weight : ℕ) → IfOk result (TurnsTo (E.meaning (E.kind engine.old)) (E.kind engine.old) call.now.view.now
-        (machine_of machine.now) (table_of machine.now sessions.old weight) (get_or sessions.old place own).conn
-        (session_of machine.now (get_or sessions.old place own)) (meant params wanted) (E.told engine.old) (E.told engine.new)) }
+    ensures ran { (own : SessionValue) (weight : ℕ) → IfOk result (TurnsTo (call_on E.meaning E.kind E.told engine.old engine.new)
+        (scene call.now.view.now (machine_of machine.now) (table_of machine.now sessions.old weight) (get_or sessions.old place own).conn)
+        (session_of machine.now (get_or sessions.old place own)) (meant params wanted)) }
 {
     let Call {
         alloc,
@@ -134,11 +136,10 @@ pub(crate) fn decide<E: Engine>(
     ensures kept { sessions.new ≡ sessions.old }
     ensures stays { Stays (E.kind engine.old) (E.kind engine.new) (E.refused_openings engine.old) (E.refused_openings engine.new) }
     ensures unopened { IfOk result (λ decision. decision ≡ decisions.Refused NotADatabase → E.refused_openings engine.old < E.refused_openings engine.new) }
-    ensures ran { IfOk result (ComesBy (E.meaning (E.kind engine.old)) (E.kind engine.old) call.now.view.now (machine_of machine.now)
-        ((table_of machine.now sessions.old weight).session seat.conn)
-        (handed call.now.view.now (machine_of machine.now) (table_of machine.now sessions.old weight) seat.conn request)
-        (on_request call.now.view.now (machine_of machine.now) (table_of machine.now sessions.old weight) seat.conn request)
-        (E.told engine.old) (E.told engine.new)) }
+    ensures ran { IfOk result (ComesBy (call_on E.meaning E.kind E.told engine.old engine.new) call.now.view.now (machine_of machine.now)
+        ((table_of machine.now sessions.old weight).session seat.conn) (handed call.now.view.now (machine_of machine.now)
+        (table_of machine.now sessions.old weight) seat.conn request) (on_request call.now.view.now (machine_of machine.now)
+        (table_of machine.now sessions.old weight) seat.conn request)) }
 {
     let known = &*sessions;
     let session = &known[seat.place];

@@ -8,6 +8,8 @@ ghost use Rattle.session_rules.specs.Machine.{machine_of};
 ghost use Rattle.session_rules.specs.Touched.{IsListed};
 ghost use Rattle.session_table.specs.Marks.{AreMarks};
 ghost use Rattle.statement_runs.specs.Agreeing.{Agree};
+ghost use Rattle.statement_runs.specs.Calls.{call_on};
+ghost use Rattle.session_decisions.specs.Scenes.{scene};
 ghost use Rattle.session_table.specs.Table.{table_of, pins_of, IsTable};
 ghost use Rattle.session_table.specs.Working.{works_of};
 ghost use Rattle.session_asking.specs.Meant.{NameHasNoNul};
@@ -44,8 +46,8 @@ pub(crate) fn handle<E: Engine>(
     requires address { AddressHasNoNul request }
     requires agree { Agree (E.known engine.old) (works_of sessions.old.items) call.now.number (map numbered machine.old) }
     ensures agree { Agree (E.known engine.new) (works_of sessions.new.items) (call.now.number + 1) (map numbered machine.new) }
-    ensures turned { IfOk result (TurnedBy (E.meaning (E.kind engine.old)) (E.kind engine.old) call.now.view.now (machine_of machine.old)
-        (table_of machine.old sessions.old.items weight.old) conn request (E.told engine.old) (E.told engine.new)
+    ensures turned { IfOk result (TurnedBy (call_on E.meaning E.kind E.told engine.old engine.new)
+        (scene call.now.view.now (machine_of machine.old) (table_of machine.old sessions.old.items weight.old) conn) request
         (table_of machine.new sessions.new.items weight.new)) }
     ensures failed { OnErr result (table_of machine.new sessions.new.items weight.new ≡ table_of machine.old sessions.old.items weight.old) }
     ensures files { machine_of machine.new ≡ machine_of machine.old }

@@ -10,7 +10,7 @@ ghost use Rattle.session_rules.specs.Asking.{has_database};
 ghost use Rattle.session_rules.specs.Causes.{NotADatabase, failure};
 ghost use Rattle.session_rules.specs.Machine.{machine_of};
 ghost use Rattle.session_rules.specs.Requests.{handed_later, on_later, with_session, with_later, without_later};
-ghost use Rattle.session_rules.specs.Sessions.{Reply, is_due, later_query, lent_query, responses_of};
+ghost use Rattle.session_rules.specs.Sessions.{Reply as RuleReply, is_due, later_query, lent_query, responses_of};
 ghost use Rattle.session_table.specs.declared.cause.Cause.TheVariants as causes;
 ghost use Rattle.session_table.specs.Changing.{StandsAt};
 ghost use Rattle.session_table.specs.Marks.{AreMarks};
@@ -22,6 +22,8 @@ ghost use Rattle.session_decisions.specs.Numbers.{works_in};
 ghost use Rattle.session_decisions.specs.Reading.{read_named};
 ghost use Rattle.session_decisions.specs.Turning.{ComesBy};
 ghost use Rattle.statement_runs.specs.Agreeing.{Agree};
+ghost use Rattle.statement_runs.specs.Calls.{call_on};
+ghost use Rattle.session_decisions.specs.Scenes.{scene};
 ghost use Rattle.gateway.specs.declared.act.Act.TheVariants as acts;
 ghost use Rattle.gateway.specs.Calls.{HasShortTerm};
 ghost use Rattle.gateway.specs.Later.{LaterBy, ReadDone, Resumed};
@@ -31,7 +33,7 @@ use crate::call::{Call, Seat};
 use crate::carrying::{answered, carry_out, refused};
 use page_apply::Machine;
 use session_decisions::{Decision, Read, Setting, run_single};
-use session_table::{Cause, Later, Query, Session, find, take_later};
+use session_table::{Cause, Later, Query, Reply, Session, find, take_later};
 use sql_engine::Engine;
 use std::alloc::{AllocError, Global};
 
@@ -126,11 +128,10 @@ fn decide<E: Engine>(
     ensures unopened { IfOk result (λ decision. decision ≡ decisions.Refused causes.NotADatabase
         → E.refused_openings engine.old < E.refused_openings engine.new) }
     ensures ran { (weight : ℕ) → (table_of machine.now sessions.now weight).session session.now.conn ≡ session_of machine.now session.now
-        → IfOk result (ComesBy (E.meaning (E.kind engine.old)) (E.kind engine.old) call.now.view.now (machine_of machine.now)
-        (session_of machine.now session.now)
-        (handed_later call.now.view.now (machine_of machine.now) (table_of machine.now sessions.now weight) session.now.conn query.now)
-        (on_later call.now.view.now (machine_of machine.now) (table_of machine.now sessions.now weight) session.now.conn query.now)
-        (E.told engine.old) (E.told engine.new)) }
+        → IfOk result (ComesBy (call_on E.meaning E.kind E.told engine.old engine.new) call.now.view.now (machine_of machine.now)
+        (session_of machine.now session.now) (handed_later call.now.view.now (machine_of machine.now) (table_of machine.now sessions.now weight)
+        session.now.conn query.now) (on_later call.now.view.now (machine_of machine.now) (table_of machine.now sessions.now weight) session.now.conn
+        query.now)) }
 {
     let view = call.view;
     if !view.serving {
@@ -171,8 +172,8 @@ fn run<E: Engine>(
     requires term { HasShortTerm call.now.view.now }
     requires agree { Agree (E.known engine.old) (works_of sessions.old.items) call.now.number (map numbered machine.old) }
     ensures agree { Agree (E.known engine.new) (works_of sessions.new.items) (call.now.number + 1) (map numbered machine.new) }
-    ensures ran { IfOk result (LaterBy (E.meaning (E.kind engine.old)) (E.kind engine.old) call.now.view.now (machine_of machine.old)
-        (table_of machine.old sessions.old.items weight.old) seat.conn query.now (E.told engine.old) (E.told engine.new)
+    ensures ran { IfOk result (LaterBy (call_on E.meaning E.kind E.told engine.old engine.new)
+        (scene call.now.view.now (machine_of machine.old) (table_of machine.old sessions.old.items weight.old) seat.conn) query.now
         (table_of machine.new sessions.new.items weight.new)) }
     ensures failed { OnErr result (table_of machine.new sessions.new.items weight.new ≡ table_of machine.old sessions.old.items weight.old) }
     ensures files { machine_of machine.new ≡ machine_of machine.old }
@@ -206,9 +207,9 @@ pub(crate) fn resume<E: Engine>(
     requires term { HasShortTerm call.now.view.now }
     requires agree { Agree (E.known engine.old) (works_of sessions.old.items) call.now.number (map numbered machine.old) }
     ensures agree { Agree (E.known engine.new) (works_of sessions.new.items) (call.now.number + 1) (map numbered machine.new) }
-    ensures resumed { IfOk result (Resumed (E.meaning (E.kind engine.old)) (E.kind engine.old) call.now.view.now (machine_of machine.old)
-        (table_of machine.old sessions.old.items weight.old) conn (later_query ((table_of machine.old sessions.old.items weight.old).session conn).later)
-        (E.told engine.old) (E.told engine.new) (table_of machine.new sessions.new.items weight.new)) }
+    ensures resumed { IfOk result (Resumed (call_on E.meaning E.kind E.told engine.old engine.new)
+        (scene call.now.view.now (machine_of machine.old) (table_of machine.old sessions.old.items weight.old) conn)
+        (later_query ((table_of machine.old sessions.old.items weight.old).session conn).later) (table_of machine.new sessions.new.items weight.new)) }
     ensures failed { OnErr result (table_of machine.new sessions.new.items weight.new ≡ table_of machine.old sessions.old.items weight.old) }
     ensures files { machine_of machine.new ≡ machine_of machine.old }
     ensures marks_after { AreMarks (pins_of sessions.new.items) machine.new }
@@ -236,10 +237,10 @@ pub(crate) fn resume<E: Engine>(
 
 /// What a reader tells as what a node has to do; none where the query goes back to the node. `Err` is want of memory.
 fn told(alloc: Global, read: Read) -> Result<Option<Act>, AllocError>
-    ensures { IfOk result (λ act. act ≡ option_map (λ (reply : Reply). acts.Reply (responses_of reply)) (read_named read)) }
+    ensures { IfOk result (λ act. act ≡ option_map (λ (reply : RuleReply). acts.Reply (responses_of reply)) (read_named read)) }
 {
     match read {
-        Read::Answers(reply) => Ok(Some(answered(alloc, reply)?)),
+        Read::Answers(rows) => Ok(Some(answered(alloc, Reply::Rows(rows))?)),
         Read::Refused(cause) => Ok(Some(refused(alloc, cause)?)),
         Read::GivenBack => Ok(None),
     }

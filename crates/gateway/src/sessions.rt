@@ -16,6 +16,8 @@ ghost use Rattle.session_table.specs.Table.{session_of, IsTable};
 ghost use Rattle.session_rules.specs.Asking.{has_database};
 ghost use Rattle.session_rules.specs.Sessions.{is_due, later_query, lent_query};
 ghost use Rattle.session_decisions.specs.Reading.{read_named};
+ghost use Rattle.statement_runs.specs.Calls.{call_on};
+ghost use Rattle.session_decisions.specs.Scenes.{scene};
 ghost use Rattle.gateway.specs.Calls.{TurnedBy, HasNoNul, HasShortTerm, IsConfigured};
 ghost use Rattle.gateway.specs.Later.{ReadDone, Resumed};
 ghost use Rattle.gateway.specs.Seen.{seen, pins_of, Agrees, ListsAsBefore, PinsOf};
@@ -147,8 +149,8 @@ impl Gateway {
         requires agrees { Agrees (E.known engine.old) self.old machine.old }
         ensures agrees { Agrees (E.known engine.new) self.new machine.new }
         // The definition's outcome, by answers that the engine may give and told.
-        ensures turned { IfOk result (TurnedBy (E.meaning (E.kind engine.old)) (E.kind engine.old) view.now (machine_of machine.old)
-            (seen self.old machine.old) conn request (E.told engine.old) (E.told engine.new) (seen self.new machine.new)) }
+        ensures turned { IfOk result (TurnedBy (call_on E.meaning E.kind E.told engine.old engine.new)
+            (scene view.now (machine_of machine.old) (seen self.old machine.old) conn) request (seen self.new machine.new)) }
         ensures failed { OnErr result (seen self.new machine.new ≡ seen self.old machine.old) }
         // The databases stay; their live marks are those of the sessions.
         ensures files { machine_of machine.new ≡ machine_of machine.old }
@@ -222,8 +224,8 @@ impl Gateway {
         requires agrees { Agrees (E.known engine.old) self.old machine.old }
         ensures agrees { Agrees (E.known engine.new) self.new machine.new }
         // The definition's outcome, by answers that the engine may give and told.
-        ensures resumed { IfOk result (Resumed (E.meaning (E.kind engine.old)) (E.kind engine.old) view.now (machine_of machine.old)
-            (seen self.old machine.old) conn (later_query ((seen self.old machine.old).session conn).later) (E.told engine.old) (E.told engine.new)
+        ensures resumed { IfOk result (Resumed (call_on E.meaning E.kind E.told engine.old engine.new)
+            (scene view.now (machine_of machine.old) (seen self.old machine.old) conn) (later_query ((seen self.old machine.old).session conn).later)
             (seen self.new machine.new)) }
         ensures failed { OnErr result (seen self.new machine.new ≡ seen self.old machine.old) }
         // The databases stay; their live marks are those of the sessions.

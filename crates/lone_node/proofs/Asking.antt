@@ -28,7 +28,7 @@ use Rattle.gateway.specs.declared.act.Act.{Act as GatewayAct}
 use Rattle.gateway.specs.Calls.{Is, act_for}
 use Rattle.client_sessions.specs.declared.act.Act.{Act}
 use Rattle.client_sessions.specs.declared.act.Act.TheVariants as acts
-use Rattle.client_sessions.specs.Calls.{bytes_of, act_on, Asked, Unread}
+use Rattle.client_sessions.specs.Calls.{bytes_of, act_on, Asked, Unread, call_of, scene}
 use Rattle.client_sessions.specs.Clients.{with_stream}
 use Rattle.client_sessions.specs.Seen.{clients_of}
 use Rattle.lone_node.specs.declared.say.Say.{Say}
@@ -356,7 +356,7 @@ pub record Does (m : Meaning) (kind : EngineKind) (w : Lone) (conn : ℕ) (strea
 
 pub asked_does : (m : Meaning) (kind : EngineKind) (w : Lone) (conn : ℕ) (stream : Conn) (message : Message) (request : Request) (rest : List Message) (told_before told_now : Option Told) (sessions : Gateway) (refused_before refused_now : ℕ) (act : Act) (mid new : Voter) (before now : List Say)
     → request_of message ≡ Ok request → Allowed m kind w.turns → Rests (node_of w) → may_ask ((node_of w).gate.session conn) ≡ true → Taken mid w conn stream rest sessions
-    → Asked m kind (view (node_of w)) (databases (node_of w)) (node_of w).gate conn (taken_alone request) told_before told_now refused_before refused_now sessions act → Performs act mid new before now
+    → Asked (call_of m kind told_before told_now) (scene (view (node_of w)) (databases (node_of w)) (node_of w).gate conn) (taken_alone request) refused_before refused_now sessions act → Performs act mid new before now
     → Does m kind w conn stream message rest told_before told_now refused_before refused_now new before now
 asked_does m kind w conn stream message request rest told_before told_now sessions refused_before refused_now act mid new before now reads allowed rests may t a performs =
     let node = node_of w in

@@ -13,7 +13,7 @@ use Rattle.session_rules.specs.Machine.{Machine, machine_of}
 use Rattle.session_rules.specs.Sessions.{Gateway, View, may_ask}
 use Rattle.session_world.specs.Nodes.{Node, databases}
 use Rattle.client_sessions.specs.declared.act.Act.{Act}
-use Rattle.client_sessions.specs.Calls.{Comes, TookNext}
+use Rattle.client_sessions.specs.Calls.{Comes, TookNext, call_of, scene}
 use Rattle.client_sessions.specs.Clients.{Clients, with_stream, Offer, next_offer, taken, with_sessions}
 use Rattle.client_sessions.specs.Seen.{clients_of}
 use Rattle.lone_node.specs.declared.say.Say.{Say}
@@ -74,22 +74,22 @@ pub record TookOne (m : Meaning) (kind : EngineKind) (v : View) (machine : Machi
   pub offer : Offer
   pub next : next_offer old ≡ Some offer
   pub may : may_ask (old.sessions.session offer.conn) ≡ true
-  pub came : Comes m kind v machine old.sessions offer.conn (read_alone (request_of offer.message)) told_before told_now refused_before refused_now new.sessions act
+  pub came : Comes (call_of m kind told_before told_now) (scene v machine old.sessions offer.conn) (read_alone (request_of offer.message)) refused_before refused_now new.sessions act
   pub rest : new ≡ with_sessions (taken old (Some offer)) new.sessions
 
 pub took_one : (m : Meaning) (kind : EngineKind) (v : View) (machine : Machine) (old taken_one new : Clients) (conn : ℕ) (message : Message) (asked : Result Request MsgFault) (told_before told_now : Option Told) (refused_before refused_now : ℕ) (act : Act)
-    → TookNext old taken_one (Some (conn, message)) → may_ask (taken_one.sessions.session conn) ≡ true → asked ≡ read_alone (request_of message) → Comes m kind v machine taken_one.sessions conn asked told_before told_now refused_before refused_now new.sessions act → new ≡ with_sessions taken_one new.sessions
+    → TookNext old taken_one (Some (conn, message)) → may_ask (taken_one.sessions.session conn) ≡ true → asked ≡ read_alone (request_of message) → Comes (call_of m kind told_before told_now) (scene v machine taken_one.sessions conn) asked refused_before refused_now new.sessions act → new ≡ with_sessions taken_one new.sessions
     → TookOne m kind v machine old told_before told_now refused_before refused_now new act
 took_one m kind v machine old taken_one new conn message asked told_before told_now refused_before refused_now act t may reads came rest =
     let offer = t.0 in
     let is : taken_one ≡ taken old (Some offer) = t.4 in
-    let at = subst (λ (k : Clients). Comes m kind v machine k.sessions conn asked told_before told_now refused_before refused_now new.sessions act) is came in
-    let of = subst (λ (c : ℕ). Comes m kind v machine old.sessions c asked told_before told_now refused_before refused_now new.sessions act) (sym t.2) at in
+    let at = subst (λ (k : Clients). Comes (call_of m kind told_before told_now) (scene v machine k.sessions conn) asked refused_before refused_now new.sessions act) is came in
+    let of = subst (λ (c : ℕ). Comes (call_of m kind told_before told_now) (scene v machine old.sessions c) asked refused_before refused_now new.sessions act) (sym t.2) at in
     record {
       offer = offer;
       next = t.1;
       may = subst (λ (c : ℕ). may_ask (old.sessions.session c) ≡ true) (sym t.2) (subst (λ (k : Clients). may_ask (k.sessions.session conn) ≡ true) is may);
-      came = subst (λ (r : Result Request MsgFault). Comes m kind v machine old.sessions offer.conn r told_before told_now refused_before refused_now new.sessions act) (reads ∙ ap (λ (y : Message). read_alone (request_of y)) (sym t.3)) of;
+      came = subst (λ (r : Result Request MsgFault). Comes (call_of m kind told_before told_now) (scene v machine old.sessions offer.conn) r refused_before refused_now new.sessions act) (reads ∙ ap (λ (y : Message). read_alone (request_of y)) (sym t.3)) of;
       rest = rest ∙ ap (λ (k : Clients). with_sessions k new.sessions) is;
     }
 
@@ -121,7 +121,7 @@ clients_taken w conn stream left turns sessions new offer o rest =
 
 by_reading : (m : Meaning) (kind : EngineKind) (w : Lone) (conn : ℕ) (stream : Conn) (message : Message) (rest : List Message) (told_before told_now : Option Told) (refused_before refused_now : ℕ) (sessions : Gateway) (act : Act) (mid new : Voter) (before now : List Say)
     → (r : Result Request MsgFault) → request_of message ≡ r → Allowed m kind w.turns → Rests (node_of w) → may_ask ((node_of w).gate.session conn) ≡ true → Taken mid w conn stream rest sessions
-    → Comes m kind (view (node_of w)) (databases (node_of w)) (node_of w).gate conn (read_alone r) told_before told_now refused_before refused_now sessions act → Performs act mid new before now
+    → Comes (call_of m kind told_before told_now) (scene (view (node_of w)) (databases (node_of w)) (node_of w).gate conn) (read_alone r) refused_before refused_now sessions act → Performs act mid new before now
     → Does m kind w conn stream message rest told_before told_now refused_before refused_now new before now
 by_reading m kind w conn stream message rest told_before told_now refused_before refused_now sessions act mid new before now (Ok request) reads allowed rests may t came performs =
     asked_does m kind w conn stream message request rest told_before told_now sessions refused_before refused_now act mid new before now reads allowed rests may t came performs
@@ -147,9 +147,9 @@ takes_one m kind old mid new told_before told_now refused_before refused_now act
       quiet = x.quiet;
       turn = f.turn;
     } in
-    let came : Comes m kind (view node) (databases node) node.gate conn (read_alone (request_of f.message)) told_before told_now refused_before refused_now sessions act =
-    subst (λ (c : ℕ). Comes m kind (view node) (databases node) node.gate c (read_alone (request_of f.message)) told_before told_now refused_before refused_now sessions act) f.conn_is
-    (subst (λ (y : Message). Comes m kind (view node) (databases node) node.gate t.offer.conn (read_alone (request_of y)) told_before told_now refused_before refused_now sessions act) f.message_is t.came) in
+    let came : Comes (call_of m kind told_before told_now) (scene (view node) (databases node) node.gate conn) (read_alone (request_of f.message)) refused_before refused_now sessions act =
+    subst (λ (c : ℕ). Comes (call_of m kind told_before told_now) (scene (view node) (databases node) node.gate c) (read_alone (request_of f.message)) refused_before refused_now sessions act) f.conn_is
+    (subst (λ (y : Message). Comes (call_of m kind told_before told_now) (scene (view node) (databases node) node.gate t.offer.conn) (read_alone (request_of y)) refused_before refused_now sessions act) f.message_is t.came) in
     let d = by_reading m kind w conn stream f.message f.rest told_before told_now refused_before refused_now sessions act mid new before now (request_of f.message) refl allowed x.rests may there came performs in
     record {
       message = f.message;

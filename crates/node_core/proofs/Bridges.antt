@@ -29,7 +29,7 @@ use Rattle.gateway.specs.Calls.{Is}
 use Rattle.client_sessions.specs.declared.act.Act.{Act}
 use Rattle.client_sessions.specs.declared.act.Act.TheVariants as acts
 use Rattle.client_sessions.specs.declared.joining.Joining.TheVariants.{Joined, Full, Taken}
-use Rattle.client_sessions.specs.Calls.{bytes_of, act_on, Asked, Unread, Comes, TookOffer, sent_to}
+use Rattle.client_sessions.specs.Calls.{bytes_of, act_on, Asked, Unread, Comes, TookOffer, sent_to, call_of, scene}
 use Rattle.client_sessions.specs.Clients.{Clients, with_stream, joining, joined_as, joined, without, hung_up, closing, closed, heard_on, heard, Offer, IsOffered, Fits, Sound}
 use Rattle.client_sessions.specs.Later.{RanLater, Finishes}
 use Rattle.client_sessions.proofs.Asking.{offered_asks}
@@ -114,13 +114,13 @@ first_waits k l o is streams other = ⊎_elim
 module _ (m : Meaning) (kind : EngineKind) (a b : Moment) (k l : Clients) (v : View) (before now : Option Told) (refused refused_now : ℕ) (act : Act) where
   -- a message that reads as a request
   pub took_handles : Shows a k → Shows b l → KeepsRaft a b → Sees v a → Sound k → (v.serving ≡ true → is_leader a.node.raft.role ≡ true) → a.due ≡ [] → b.due ≡ proposals_by act →
-      (x : TookOffer m kind v (machine_of a.node.machine) k before now refused refused_now l act) (request : Request) → request_of x.offer.message ≡ Ok request →
+      (x : TookOffer (call_of m kind before now) v (machine_of a.node.machine) k refused refused_now l act) (request : Request) → request_of x.offer.message ≡ Ok request →
       (replies : List (ℕ × Reply)) × Handles m kind a b x.offer.conn request replies × (messages_by act ≡ as_sent replies)
   took_handles sa sb rest sees sound leads idle due x request reads =
       let conn = x.offer.conn in
       let g = k.sessions in
       let mach = machine_of a.node.machine in
-      let y : Asked m kind v mach g conn request before now refused refused_now l.sessions act = subst (λ (r : Result Request MsgFault). Comes m kind v mach g conn r before now refused refused_now l.sessions act) reads x.came in
+      let y : Asked (call_of m kind before now) (scene v mach g conn) request refused refused_now l.sessions act = subst (λ (r : Result Request MsgFault). Comes (call_of m kind before now) (scene v mach g conn) r refused refused_now l.sessions act) reads x.came in
       let t = on_request v mach g conn request y.turned.answers in
       let c = came v g conn t l.sessions y.gateway_act y.turned.is in
       let view = view_is v a sees in
@@ -148,11 +148,11 @@ module _ (m : Meaning) (kind : EngineKind) (a b : Moment) (k l : Clients) (v : V
 
   -- one that doesn't is refused
   pub took_stays : Shows a k → Shows b l → KeepsRaft a b → b.due ≡ a.due →
-      (x : TookOffer m kind v (machine_of a.node.machine) k before now refused refused_now l act) (fault : MsgFault) → request_of x.offer.message ≡ Err fault →
+      (x : TookOffer (call_of m kind before now) v (machine_of a.node.machine) k refused refused_now l act) (fault : MsgFault) → request_of x.offer.message ≡ Err fault →
       Stays a b × (act ≡ acts.Reply x.offer.conn (bytes_of (failure (unread_cause fault) ∷ [])))
   took_stays sa sb rest due x fault reads =
       let conn = x.offer.conn in
-      let y : Unread k.sessions conn fault before now l.sessions act = subst (λ (r : Result Request MsgFault). Comes m kind v (machine_of a.node.machine) k.sessions conn r before now refused refused_now l.sessions act) reads x.came in
+      let y : Unread k.sessions conn fault before now l.sessions act = subst (λ (r : Result Request MsgFault). Comes (call_of m kind before now) (scene v (machine_of a.node.machine) k.sessions conn) r refused refused_now l.sessions act) reads x.came in
       let o = next_is_first k x.offer x.next in
       let streams : (other : ℕ) → l.streams other ≡ with_stream k.streams conn (Some x.offer.stream) other = λ other. ap (λ (z : Clients). z.streams other) x.rest in (
         record {
@@ -172,7 +172,7 @@ module _ (m : Meaning) (kind : EngineKind) (a b : Moment) (k l : Clients) (v : V
 
   -- a query that the node runs later than it was asked
   pub ran_resumes : (conn : ℕ) (statement : Statement) → Shows a k → Shows b l → ((other : ℕ) → l.streams other ≡ k.streams other) → KeepsRaft a b → Sees v a → (v.serving ≡ true → is_leader a.node.raft.role ≡ true) → a.due ≡ [] → b.due ≡ proposals_by act →
-      later_query (k.sessions.session conn).later ≡ Some statement → RanLater m kind v (machine_of a.node.machine) k.sessions conn statement before now refused refused_now l.sessions act →
+      later_query (k.sessions.session conn).later ≡ Some statement → RanLater (call_of m kind before now) (scene v (machine_of a.node.machine) k.sessions conn) statement refused refused_now l.sessions act →
       (replies : List (ℕ × Reply)) × Resumes m kind a b conn replies × (messages_by act ≡ as_sent replies)
   ran_resumes conn statement sa sb streams rest sees leads idle due later x =
       let mach = machine_of a.node.machine in

@@ -18,7 +18,7 @@ use Rattle.raft_core.specs.declared.event.RaftEvent.{RaftEvent}
 use Rattle.raft_world.specs.Members.{Setup}
 use Rattle.client_sessions.specs.declared.act.Act.{Act}
 use Rattle.client_sessions.specs.declared.act.Act.TheVariants as acts
-use Rattle.client_sessions.specs.Calls.{TookOffer, WasIdle, TookTurn, sent_to, bytes_of}
+use Rattle.client_sessions.specs.Calls.{TookOffer, WasIdle, TookTurn, sent_to, bytes_of, call_of, scene}
 use Rattle.client_sessions.specs.Clients.{Clients, freed}
 use Rattle.client_sessions.specs.Later.{RanLater, turn_for, Resumes as ResumesBy, Finishes}
 use Rattle.node_replica.specs.Replicas.{ReplicaValue, kept_of}
@@ -157,9 +157,9 @@ module _ (m : Meaning) (kind : EngineKind) (on : GoesOn m kind) (staying : Stayi
       (record { mail = ap (λ (n : Running). n.mail) is; replies = ap (λ (n : Running). n.outs.replies.items) is })
 
   pub idle_turns_on : (old new : Running) (before now : Option Told) → Moved old new → IsMachine new.applied.machine → machine_of new.applied.machine ≡ machine_of old.applied.machine → (refused refused_now : ℕ) (result : Option Act)
-      → TookTurn m kind old.view (machine_of old.applied.machine) (clients_in old) before now refused refused_now (clients_in new) result → result ≡ None → Turns m kind setup bytes joins old new
+      → TookTurn (call_of m kind before now) old.view (machine_of old.applied.machine) (clients_in old) refused refused_now (clients_in new) result → result ≡ None → Turns m kind setup bytes joins old new
   idle_turns_on old new before now is machine files refused refused_now result t e =
-      let idle : WasIdle (clients_in old) before now (clients_in new) = subst (λ (r : Option Act). TookTurn m kind old.view (machine_of old.applied.machine) (clients_in old) before now refused refused_now (clients_in new) r) e t in
+      let idle : WasIdle (clients_in old) before now (clients_in new) = subst (λ (r : Option Act). TookTurn (call_of m kind before now) old.view (machine_of old.applied.machine) (clients_in old) refused refused_now (clients_in new) r) e t in
       same_turns old new is machine files (ap (λ (k : Clients). k.sessions) idle.rest) (λ conn. ap (λ (k : Clients). k.streams conn) idle.rest)
 
   -- ---- a client's message
@@ -179,7 +179,7 @@ module _ (m : Meaning) (kind : EngineKind) (on : GoesOn m kind) (staying : Stayi
     abbrev Decided : Type 0
     Decided = (replies : List (ℕ × Reply)) × Goes m kind setup old.replica.id bytes joins (moment_of old) (acting mid act) (record no_piece { replies = replies }) × Sends replies (messages_by act)
 
-    took_decided : (x : TookOffer m kind old.view (machine_of old.applied.machine) (clients_in old) before now refused refused_now (clients_in mid) act) (r : Result Request MsgFault) → request_of x.offer.message ≡ r → Decided
+    took_decided : (x : TookOffer (call_of m kind before now) old.view (machine_of old.applied.machine) (clients_in old) refused refused_now (clients_in mid) act) (r : Result Request MsgFault) → request_of x.offer.message ≡ r → Decided
     took_decided x (Ok request) reads =
         let h = took_handles m kind (moment_of old) (acting mid act) (clients_in old) (clients_in mid) old.view before now refused refused_now act (record { sessions = refl; waiting = λ conn. refl }) (record { sessions = refl; waiting = λ conn. refl })
         keeps (sees_itself old going) going.holds.clients.sound leads none_due refl x request reads in
@@ -195,46 +195,46 @@ module _ (m : Meaning) (kind : EngineKind) (on : GoesOn m kind) (staying : Stayi
     decided new d done =
         decided_turns old mid new act d.0 d.1 (ap (λ (n : Running). n.replica) is) (ap (λ (n : Running). n.due.items) is) (ap (λ (n : Running). n.outs) is) (ap (λ (n : Running). n.mail) is) none_due done d.2
 
-    took_given : (new : Running) → TookOffer m kind old.view (machine_of old.applied.machine) (clients_in old) before now refused refused_now (clients_in mid) act → Performed mid new act → Turns m kind setup bytes joins old new
+    took_given : (new : Running) → TookOffer (call_of m kind before now) old.view (machine_of old.applied.machine) (clients_in old) refused refused_now (clients_in mid) act → Performed mid new act → Turns m kind setup bytes joins old new
     took_given new x done = decided new (took_decided x (request_of x.offer.message) refl) done
 
-    pub took_turns_on : (new : Running) (result : Option Act) → TookTurn m kind old.view (machine_of old.applied.machine) (clients_in old) before now refused refused_now (clients_in mid) result → result ≡ Some act → Performed mid new act
+    pub took_turns_on : (new : Running) (result : Option Act) → TookTurn (call_of m kind before now) old.view (machine_of old.applied.machine) (clients_in old) refused refused_now (clients_in mid) result → result ≡ Some act → Performed mid new act
         → Turns m kind setup bytes joins old new
     took_turns_on new result t e done =
-        took_given new (subst (λ (r : Option Act). TookTurn m kind old.view (machine_of old.applied.machine) (clients_in old) before now refused refused_now (clients_in mid) r) e t) done
+        took_given new (subst (λ (r : Option Act). TookTurn (call_of m kind before now) old.view (machine_of old.applied.machine) (clients_in old) refused refused_now (clients_in mid) r) e t) done
 
     -- ---- a query that is answered later than it was asked
 
     ran_decided : (conn : ℕ) (statement : Statement) → ((other : ℕ) → (clients_in mid).streams other ≡ (clients_in old).streams other) → later_query ((clients_in old).sessions.session conn).later ≡ Some statement
-        → RanLater m kind old.view (machine_of old.applied.machine) (clients_in old).sessions conn statement before now refused refused_now (clients_in mid).sessions act → Decided
+        → RanLater (call_of m kind before now) (scene old.view (machine_of old.applied.machine) (clients_in old).sessions conn) statement refused refused_now (clients_in mid).sessions act → Decided
     ran_decided conn statement streams later x =
         let h = ran_resumes m kind (moment_of old) (acting mid act) (clients_in old) (clients_in mid) old.view before now refused refused_now act conn statement (record { sessions = refl; waiting = λ other. refl }) (record { sessions = refl; waiting = λ other. refl })
         streams keeps (sees_itself old going) leads none_due refl later x in
         (h.0, resuming setup old.replica.id bytes joins (moment_of old) (acting mid act) conn h.0 h.1, sends_so h.0 (messages_by act) h.2)
 
     by_query : (new : Running) (conn : ℕ) (query : Option Statement) → later_query ((clients_in old).sessions.session conn).later ≡ query → ((other : ℕ) → (clients_in mid).streams other ≡ (clients_in old).streams other)
-        → ResumesBy m kind old.view (machine_of old.applied.machine) (clients_in old).sessions conn query before now refused refused_now (clients_in mid).sessions (Some act) → Performed mid new act → Turns m kind setup bytes joins old new
+        → ResumesBy (call_of m kind before now) (scene old.view (machine_of old.applied.machine) (clients_in old).sessions conn) query refused refused_now (clients_in mid).sessions (Some act) → Performed mid new act → Turns m kind setup bytes joins old new
     by_query new conn None later streams r done = absurd r
     by_query new conn (Some statement) later streams r done = decided new (ran_decided conn statement streams later r) done
 
-    pub ran_turns_on : (new : Running) (conn : ℕ) (result : Option Act) → ResumesBy m kind old.view (machine_of old.applied.machine) (clients_in old).sessions conn (later_query ((clients_in old).sessions.session conn).later) before now refused refused_now (clients_in mid).sessions result
+    pub ran_turns_on : (new : Running) (conn : ℕ) (result : Option Act) → ResumesBy (call_of m kind before now) (scene old.view (machine_of old.applied.machine) (clients_in old).sessions conn) (later_query ((clients_in old).sessions.session conn).later) refused refused_now (clients_in mid).sessions result
         → clients_in mid ≡ freed (clients_in old) (clients_in mid).sessions (turn_for conn result) → result ≡ Some act → Performed mid new act → Turns m kind setup bytes joins old new
     ran_turns_on new conn result r rest e done =
         by_query new conn (later_query ((clients_in old).sessions.session conn).later) refl (λ other. ap (λ (k : Clients). k.streams other) rest)
-        (subst (λ (x : Option Act). ResumesBy m kind old.view (machine_of old.applied.machine) (clients_in old).sessions conn (later_query ((clients_in old).sessions.session conn).later) before now refused refused_now (clients_in mid).sessions x) e r) done
+        (subst (λ (x : Option Act). ResumesBy (call_of m kind before now) (scene old.view (machine_of old.applied.machine) (clients_in old).sessions conn) (later_query ((clients_in old).sessions.session conn).later) refused refused_now (clients_in mid).sessions x) e r) done
 
   none_by : (old new : Running) (conn : ℕ) (query : Option Statement) (before now : Option Told) (refused refused_now : ℕ) → Moved old new → IsMachine new.applied.machine → machine_of new.applied.machine ≡ machine_of old.applied.machine
-      → ResumesBy m kind old.view (machine_of old.applied.machine) (clients_in old).sessions conn query before now refused refused_now (clients_in new).sessions None
+      → ResumesBy (call_of m kind before now) (scene old.view (machine_of old.applied.machine) (clients_in old).sessions conn) query refused refused_now (clients_in new).sessions None
       → clients_in new ≡ freed (clients_in old) (clients_in new).sessions (turn_for conn None) → Turns m kind setup bytes joins old new
   none_by old new conn None before now refused refused_now is machine files r rest = same_turns old new is machine files r.0 (λ other. ap (λ (k : Clients). k.streams other) rest)
   none_by old new conn (Some statement) before now refused refused_now is machine files r rest = absurd r
 
   pub none_turns_on : (old new : Running) (conn : ℕ) (before now : Option Told) (refused refused_now : ℕ) → Moved old new → IsMachine new.applied.machine → machine_of new.applied.machine ≡ machine_of old.applied.machine
-      → (result : Option Act) → ResumesBy m kind old.view (machine_of old.applied.machine) (clients_in old).sessions conn (later_query ((clients_in old).sessions.session conn).later) before now refused refused_now (clients_in new).sessions result
+      → (result : Option Act) → ResumesBy (call_of m kind before now) (scene old.view (machine_of old.applied.machine) (clients_in old).sessions conn) (later_query ((clients_in old).sessions.session conn).later) refused refused_now (clients_in new).sessions result
       → clients_in new ≡ freed (clients_in old) (clients_in new).sessions (turn_for conn result) → result ≡ None → Turns m kind setup bytes joins old new
   none_turns_on old new conn before now refused refused_now is machine files result r rest e =
       none_by old new conn (later_query ((clients_in old).sessions.session conn).later) before now refused refused_now is machine files
-      (subst (λ (x : Option Act). ResumesBy m kind old.view (machine_of old.applied.machine) (clients_in old).sessions conn (later_query ((clients_in old).sessions.session conn).later) before now refused refused_now (clients_in new).sessions x) e r)
+      (subst (λ (x : Option Act). ResumesBy (call_of m kind before now) (scene old.view (machine_of old.applied.machine) (clients_in old).sessions conn) (later_query ((clients_in old).sessions.session conn).later) refused refused_now (clients_in new).sessions x) e r)
       (subst (λ (x : Option Act). clients_in new ≡ freed (clients_in old) (clients_in new).sessions (turn_for conn x)) e rest)
 
 -- ---- what a reader tells

@@ -31,7 +31,7 @@ use Rattle.client_sessions.specs.declared.act.Act.{Act}
 use Rattle.client_sessions.specs.declared.clients.Clients.{Clients as Held}
 use Rattle.client_sessions.specs.declared.joining.Joining.{Joining}
 use Rattle.client_sessions.specs.declared.joining.Joining.TheVariants.{Joined, Full, Taken}
-use Rattle.client_sessions.specs.Calls.{Comes, TookTurn, told_conns, landed_at, lost_all}
+use Rattle.client_sessions.specs.Calls.{Comes, TookTurn, told_conns, landed_at, lost_all, call_of, scene}
 use Rattle.client_sessions.specs.Clients.{Clients, no_clients, joining, joined, joined_as, without, hung_up, closing, closed, heard, heard_on, Offer, first_of, offered_on, offered, offer_of, next_offer, taken, freed, Fits, Sound}
 use Rattle.client_sessions.specs.Later.{Resumes, Finishes, turn_for}
 use Rattle.client_sessions.specs.Seen.{clients_of}
@@ -223,7 +223,7 @@ others_stay v g conn (Lends s job) now act is other away = ap (λ (x : Gateway).
 others_stay v g conn (Affects effect) now act is other away = ap (λ (x : Gateway). x.session other) is.0 ∙ unaffected g effect other
 
 came_stay : (m : Meaning) (kind : EngineKind) (v : View) (machine : Machine) (g : Gateway) (conn : ℕ) (asked : Result Request MsgFault) (told_before told_now : Option Told) (refused_before refused_now : ℕ) (now : Gateway) (act : Act)
-    → Comes m kind v machine g conn asked told_before told_now refused_before refused_now now act → (other : ℕ) → (other == conn) ≡ false → now.session other ≡ g.session other
+    → Comes (call_of m kind told_before told_now) (scene v machine g conn) asked refused_before refused_now now act → (other : ℕ) → (other == conn) ≡ false → now.session other ≡ g.session other
 came_stay m kind v machine g conn (Ok request) told_before told_now refused_before refused_now now act c other away = others_stay v g conn _ now c.gateway_act c.turned.is other away
 came_stay m kind v machine g conn (Err fault) told_before told_now refused_before refused_now now act c other away = ap (λ (x : Gateway). x.session other) c.sessions_stay
 
@@ -233,7 +233,7 @@ pub freed_turns : (k : Clients) (g : Gateway) (turns : List ℕ) → HasTurns k 
 freed_turns k g turns h stays = λ other free. let s = stays other free in ap (λ (x : Session). offered_on other [] (is_busy x) (k.streams other)) s.1 ∙ h other s.0
 
 pub took_turns : (m : Meaning) (kind : EngineKind) (v : View) (machine : Machine) (old : Clients) (told_before told_now : Option Told) (refused_before refused_now : ℕ) (new : Clients) (act : Option Act)
-    → TookTurn m kind v machine old told_before told_now refused_before refused_now new act → HasTurns old → HasTurns new
+    → TookTurn (call_of m kind told_before told_now) v machine old refused_before refused_now new act → HasTurns old → HasTurns new
 took_turns m kind v machine old told_before told_now refused_before refused_now new None t h = subst HasTurns (sym t.rest) (idle_turns old t.none h)
 took_turns m kind v machine old told_before told_now refused_before refused_now new (Some act) t h =
     subst HasTurns (sym t.rest)
@@ -242,7 +242,7 @@ took_turns m kind v machine old told_before told_now refused_before refused_now 
 
 -- where no message was left none has a turn
 pub none_turn : (m : Meaning) (kind : EngineKind) (v : View) (machine : Machine) (old : Clients) (told_before told_now : Option Told) (refused_before refused_now : ℕ) (new : Clients)
-    → TookTurn m kind v machine old told_before told_now refused_before refused_now new None → new.turns ≡ []
+    → TookTurn (call_of m kind told_before told_now) v machine old refused_before refused_now new None → new.turns ≡ []
 none_turn m kind v machine old told_before told_now refused_before refused_now new t = ap (λ (k : Clients). k.turns) t.rest
 
 -- ---- queries that are answered later
@@ -252,7 +252,7 @@ unfolding with_session
 without_stays g conn other away = session_where (other == conn) _ (g.session other) away
 
 resumed_stay : (m : Meaning) (kind : EngineKind) (v : View) (machine : Machine) (g : Gateway) (conn : ℕ) (query : Option Statement) (told_before told_now : Option Told) (refused_before refused_now : ℕ) (now : Gateway) (act : Option Act)
-    → Resumes m kind v machine g conn query told_before told_now refused_before refused_now now act → (other : ℕ) → is_among other (turn_for conn act) ≡ false → now.session other ≡ g.session other
+    → Resumes (call_of m kind told_before told_now) (scene v machine g conn) query refused_before refused_now now act → (other : ℕ) → is_among other (turn_for conn act) ≡ false → now.session other ≡ g.session other
 resumed_stay m kind v machine g conn None told_before told_now refused_before refused_now now None r other free = ap (λ (x : Gateway). x.session other) r.0
 resumed_stay m kind v machine g conn None told_before told_now refused_before refused_now now (Some act) r other free = absurd r
 resumed_stay m kind v machine g conn (Some statement) told_before told_now refused_before refused_now now None r other free = absurd r
@@ -261,7 +261,7 @@ resumed_stay m kind v machine g conn (Some statement) told_before told_now refus
     others_stay v (without_later g conn) conn _ now r.gateway_act r.ran.is other away ∙ without_stays g conn other away
 
 pub resumed_turns : (m : Meaning) (kind : EngineKind) (v : View) (machine : Machine) (old : Clients) (conn : ℕ) (query : Option Statement) (told_before told_now : Option Told) (refused_before refused_now : ℕ) (new : Clients) (act : Option Act)
-    → Resumes m kind v machine old.sessions conn query told_before told_now refused_before refused_now new.sessions act → new ≡ freed old new.sessions (turn_for conn act) → HasTurns old → HasTurns new
+    → Resumes (call_of m kind told_before told_now) (scene v machine old.sessions conn) query refused_before refused_now new.sessions act → new ≡ freed old new.sessions (turn_for conn act) → HasTurns old → HasTurns new
 resumed_turns m kind v machine old conn query told_before told_now refused_before refused_now new act r is h =
     subst HasTurns (sym is) (freed_turns old new.sessions (old.turns ++ turn_for conn act) h (λ other free.
     let both = among_both other old.turns (turn_for conn act) free in

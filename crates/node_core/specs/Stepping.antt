@@ -11,13 +11,9 @@ use Rattle.client_sessions.specs.Seen as clients
 use Rattle.raft_member.specs.Members.{AllStand}
 use Rattle.node_replica.specs.Looking.{puts_snapshot}
 use Rattle.node_replica.specs.Replicas.{ReplicaValue, IsKept, IsWhole, HasMoved, stepped, snap_after}
-use Rattle.session_decisions.specs.Reading.{read_named}
-use Rattle.client_sessions.specs.Sending.{ToldCanSend}
 use Rattle.node_state.specs.declared.applied.Applied.{Applied}
 use Rattle.node_state.specs.Applied.{HasNoPins}
 use Rattle.node_state.specs.Snapshot.{IsRestored}
-use Rattle.node_core.specs.declared.event.Event.{Event}
-use Rattle.node_core.specs.declared.event.Event.TheVariants as happens
 use Rattle.node_core.specs.declared.raft_turn.Offer.{Offer}
 use Rattle.node_core.specs.declared.raft_turn.Offer.TheVariants as offers
 use Rattle.raft_vote.specs.declared.message.RaftMessage.{RaftMessage}
@@ -38,11 +34,6 @@ StaysStored tells before after was now result = IsKept tells before was → OnOk
 -- whatever numbers an engine knows, where none stood for two images none does
 abbrev pub StaysAgreed : Running → Running → Type 0
 StaysAgreed old new = (known : List Known) → clients.Agrees known old.clients old.applied.machine → clients.Agrees known new.clients new.applied.machine
-
--- what a reader tells can be sent, as all is that a job comes to
-abbrev pub CanBeTold : Event → Type 0
-CanBeTold (happens.ReadDone conn read) = ToldCanSend (read_named read)
-CanBeTold event = Unit {0}
 
 -- a step of this event puts no snapshot in the place of entries
 abbrev pub PutsNone : ReplicaValue → RaftEvent → Type 0

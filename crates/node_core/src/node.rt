@@ -9,7 +9,7 @@ ghost use Rattle.node_core.specs.Faults.{StartCause, StepCause};
 ghost use Rattle.raft_member.specs.Members.{read_setup};
 ghost use Rattle.node_rules.specs.Steps.{StartsSo};
 ghost use Rattle.node_core.specs.Starting.{StartsOver};
-ghost use Rattle.node_core.specs.Stepping.{CanBeTold, IsDown, IsUp, StaysDown, StaysStored};
+ghost use Rattle.node_core.specs.Stepping.{IsDown, IsUp, StaysDown, StaysStored};
 ghost use Rattle.node_core.specs.Values.{applied_of, databases_of, keeps_of, kept_by, node_of, raft_of, replica_of, servers_told};
 ghost use Rattle.node_core.specs.Whole.{Agrees, IsSound};
 
@@ -70,8 +70,6 @@ impl Node {
         engine: &mut E,
     ) -> Result<Outs, NodeFault>
         requires sound { IsSound self.old }
-        // What a reader tells is what a job comes to, which can be sent.
-        requires told { CanBeTold event }
         // No number stands for two images, for the engine, the transactions and the databases; and so it is afterwards.
         requires agrees { IsUp self.old → Agrees (E.known engine.old) self.old }
         ensures agrees { OnOk result (Agrees (E.known engine.new) self.new) }

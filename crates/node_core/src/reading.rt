@@ -6,7 +6,6 @@ ghost use Rattle.node_core.specs.declared.event.Event.TheVariants as happens;
 ghost use Rattle.node_core.specs.Account.{Turns, SoFar, Happens};
 ghost use Rattle.node_core.specs.Performing.{ReadsSo};
 ghost use Rattle.sql_engine.specs.Meanings.{Stays};
-ghost use Rattle.client_sessions.specs.Sending.{ToldCanSend};
 ghost use Rattle.session_decisions.specs.Reading.{read_named};
 ghost use Rattle.client_sessions.specs.Seen.{Agrees};
 ghost use Rattle.node_core.specs.declared.fault.NodeFault.TheVariants as fault;
@@ -96,7 +95,6 @@ impl Running {
         read: Read,
         engine: &mut E,
     ) -> Result<(), NodeFault>
-        requires sends { ToldCanSend (read_named read) }
         requires going { IsGoing self.old }
         requires idle { self.old.due.items ≡ [] }
         requires agrees { Agrees (E.known engine.old) self.old.clients self.old.applied.machine }
@@ -122,7 +120,6 @@ impl Running {
 
     /// The client of a query is told what its reader tells.
     fn tell_read(&mut self, conn: u64, read: Read) -> Result<(), NodeFault>
-        requires sends { ToldCanSend (read_named read) }
         requires going { IsGoing self.old }
         ensures going { OnOk result (IsGoing self.new) }
         ensures replica { self.new.replica ≡ self.old.replica }

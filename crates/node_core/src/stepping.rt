@@ -8,7 +8,7 @@ ghost use Rattle.client_sessions.specs.Seen.{Agrees};
 ghost use Rattle.node_replica.specs.Mails.{sent};
 ghost use Rattle.node_core.specs.declared.fault.NodeFault.TheVariants as fault;
 ghost use Rattle.node_core.specs.Faults.{StepCause};
-ghost use Rattle.node_core.specs.Stepping.{CanBeTold, StaysAgreed, StaysStored};
+ghost use Rattle.node_core.specs.Stepping.{StaysAgreed, StaysStored};
 ghost use Rattle.node_core.specs.Values.{clients_in};
 ghost use Rattle.node_core.specs.Whole.{IsGoing, IsIdle, IsQuiet, Rests};
 
@@ -31,7 +31,6 @@ impl Running {
         disk: &mut D,
         engine: &mut E,
     ) -> Result<Outs, NodeFault>
-        requires told { CanBeTold event }
         requires rests { Rests self.old }
         requires agrees { Agrees (E.known engine.old) self.old.clients self.old.applied.machine }
         ensures rests { OnOk result (Rests self.new) }
@@ -49,7 +48,6 @@ impl Running {
 
     /// The event is given to clients, or is due at Raft.
     fn begin<E: Engine>(&mut self, event: Event, engine: &mut E) -> Result<(), NodeFault>
-        requires told { CanBeTold event }
         requires going { IsGoing self.old }
         requires idle { self.old.due.items ≡ [] }
         requires agrees { Agrees (E.known engine.old) self.old.clients self.old.applied.machine }

@@ -87,9 +87,9 @@ abbrev pub IsPlainCause : RuleCause → Type 0
 IsPlainCause rule_causes.NotADatabase = ⊥
 IsPlainCause cause = Unit {0}
 
--- What the rules ask for is asked only where this holds: of a refusal, that it needs no engine; of a new database, that the log has room; of other servers, that the node serves and that they differ in one; of what is done in the
--- session's database, that it is served; and of a transaction, that none is open where it begins, and one where it ends with
--- its changes.
+-- What the rules ask for is asked only where this holds: of a refusal, that it needs no engine; of a new database, that the log has
+-- room; of other servers, that the node serves and that they differ in one; of what is done in the session's database, that it is
+-- served; and of a transaction, that none is open where it begins, and one where it ends with its changes.
 abbrev pub IsAllowed : View → Session → Asked → Type 0
 IsAllowed v s (rules.Never cause) = IsPlainCause cause
 IsAllowed v s (rules.Creates name barriers) = log_full v ≡ false

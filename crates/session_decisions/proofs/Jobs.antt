@@ -1,5 +1,5 @@
 -- What a reader tells of its job, by how the query ended.
-use Rattle.std.proofs.Common.{◌≡◌, ℕ, Bool, true, false, cond, List, [], ◌∷◌, Option, Some, None, refl, sym, ap, subst, ◌∙◌}
+use Rattle.std.proofs.Common.{◌≡◌, ℕ, Bool, true, false, cond, List, [], ◌∷◌, Option, Some, None, Ok, Err, refl, sym, ap, subst, ◌∙◌}
 use Rattle.wire_rows.specs.Answering.{parts_of}
 use Rattle.dq_base.specs.declared.images.Image.{Image}
 use Rattle.dq_base.specs.declared.pages.NumberedPage.{NumberedPage}
@@ -10,36 +10,29 @@ use Rattle.sql_engine.specs.declared.fault.EngineFault.{EngineFault}
 use Rattle.sql_engine.specs.declared.kind.EngineKind.{EngineKind}
 use Rattle.sql_engine.specs.Meanings.{Meaning, Told}
 use Rattle.sql_engine.specs.Replies.{Statement}
-use Rattle.session_rules.specs.Causes.{Cause, engine_cause}
+use Rattle.session_rules.specs.Causes.{Cause as RuleCause, engine_cause}
 use Rattle.session_rules.specs.Engines.{no_pages, Ending, Lacking, TooLarge, Stopped, Ended}
-use Rattle.session_rules.specs.Requests.{rows_cause, or_cause, row_cause, rows_or, job_reply}
+use Rattle.session_rules.specs.Requests.{rows_cause, rows_or, job_reply}
 use Rattle.session_rules.specs.Sessions.{Reply, Refusal, Rows, Job}
+use Rattle.session_table.specs.declared.cause.Cause.{Cause}
+use Rattle.session_table.specs.Named.{cause_named, TellsRows}
 use Rattle.statement_runs.specs.declared.ending.AllRan.{AllRan}
 use Rattle.statement_runs.specs.declared.ending.Ending.{Ending as CodeEnding}
 use Rattle.statement_runs.specs.declared.ending.Ending.TheVariants as endings
 use Rattle.statement_runs.specs.Running.{RanTo, Shows, change_in}
 use Rattle.session_decisions.specs.Reading.{IsAnswered}
 use Rattle.session_decisions.proofs.Shown.{ran_of}
+use Rattle.statement_runs.specs.Calls.{call_of}
 
 -- ---- rows
 
-rows_none : (o : Option Cause) (answer : Ran) (reply : Reply) → or_cause o None ≡ None → reply ≡ Rows answer → Some reply ≡ Some (rows_or o answer)
-rows_none None answer reply free is = ap Some is
-rows_none (Some cause) answer reply free is = absurd cc
-
-rows_some : (o : Option Cause) (answer : Ran) (cause : Cause) → or_cause o None ≡ Some cause → Some (Refusal cause) ≡ Some (rows_or o answer)
-rows_some None answer cause is = absurd cc
-rows_some (Some own) answer cause is = let same : own ≡ cause = cc in ap (λ (c : Cause). Some (Refusal c)) (sym same)
-
 -- rows that can be told
-pub told_rows : (answer : Ran) (reply : Reply) → reply ≡ Rows answer → row_cause true answer None ≡ None → Some reply ≡ Some (rows_or (rows_cause (parts_of answer.columns answer.rows)) answer)
-unfolding row_cause
-told_rows answer reply is free = rows_none (rows_cause (parts_of answer.columns answer.rows)) answer reply free is
+pub told_rows : (answer told : Ran) → TellsRows answer (Ok told) → Some (Rows told) ≡ Some (rows_or (rows_cause (parts_of answer.columns answer.rows)) answer)
+told_rows answer told tells = ap (λ (r : Ran). Some (Rows r)) tells.0 ∙ ap (λ (o : Option RuleCause). Some (rows_or o answer)) (sym tells.1)
 
 -- rows that can't
-pub told_why : (answer : Ran) (cause : Cause) → row_cause true answer None ≡ Some cause → Some (Refusal cause) ≡ Some (rows_or (rows_cause (parts_of answer.columns answer.rows)) answer)
-unfolding row_cause
-told_why answer cause is = rows_some (rows_cause (parts_of answer.columns answer.rows)) answer cause is
+pub told_why : (answer : Ran) (cause : Cause) → TellsRows answer (Err cause) → Some (Refusal (cause_named cause)) ≡ Some (rows_or (rows_cause (parts_of answer.columns answer.rows)) answer)
+told_why answer cause tells = ap (λ (o : Option RuleCause). Some (rows_or o answer)) (sym tells)
 
 -- ---- endings
 
@@ -66,10 +59,10 @@ shows_answered tx from (Stopped fault) ending shows = tt
 shows_answered tx from (Ended to answer) ending shows = tt
 
 -- what ran over the image of a job, with its query
-pub of_job : (job : Job) (m : Meaning) (kind : EngineKind) (before now : Option Told) (ending : CodeEnding) (image : Image) (statement : Statement) → image ≡ job.image → statement ≡ job.statement → RanTo m kind 0 image (statement ∷ []) before now ending
-    → RanTo m kind 0 job.image (job.statement ∷ []) before now ending
+pub of_job : (job : Job) (m : Meaning) (kind : EngineKind) (before now : Option Told) (ending : CodeEnding) (image : Image) (statement : Statement) → image ≡ job.image → statement ≡ job.statement → RanTo (call_of m kind before now) 0 image (statement ∷ []) ending
+    → RanTo (call_of m kind before now) 0 job.image (job.statement ∷ []) ending
 of_job job m kind before now ending image statement over asks ran =
-    subst (λ (i : Image). RanTo m kind 0 i (job.statement ∷ []) before now ending) over (ran_of m kind 0 image before now ending statement job.statement asks ran)
+    subst (λ (i : Image). RanTo (call_of m kind before now) 0 i (job.statement ∷ []) ending) over (ran_of m kind 0 image before now ending statement job.statement asks ran)
 
 module _ (job : Job) (tx : ℕ) (ending : CodeEnding) where
   -- the engine refused the query

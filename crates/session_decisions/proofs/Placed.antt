@@ -22,6 +22,8 @@ use Rattle.statement_runs.specs.Running.{RanTo}
 use Rattle.session_decisions.specs.declared.decision.Decision.{Decision}
 use Rattle.session_decisions.specs.Numbers.{works_in}
 use Rattle.session_decisions.specs.Runs.{RunsTo}
+use Rattle.statement_runs.specs.Calls.{call_of}
+use Rattle.session_decisions.specs.Scenes.{scene}
 
 module _ (old known : List Session) (place : ℕ) (found : Session) (same : known ≡ old) (within : place < length old) (is : found ≡ get_or known place found) where
   -- which it is does not depend on a default
@@ -37,14 +39,14 @@ module _ (old known : List Session) (place : ℕ) (found : Session) (same : know
 
   -- what ran at the place ran at it
   pub found_ran : (m : Meaning) (kind : EngineKind) (tx : ℕ) (databases : List Database) (ss : List Statement) (before now : Option Told) (ending : Ending)
-      → ((own : Session) → RanTo m kind tx (ground (machine_of databases) (session_of databases (get_or old place own)) (session_of databases (get_or old place own)).tx) ss before now ending)
-      → RanTo m kind tx (ground (machine_of databases) (session_of databases found) (session_of databases found).tx) ss before now ending
-  found_ran m kind tx databases ss before now ending ran = subst (λ (s : Session). RanTo m kind tx (ground (machine_of databases) (session_of databases s) (session_of databases s).tx) ss before now ending) (found_at found) (ran found)
+      → ((own : Session) → RanTo (call_of m kind before now) tx (ground (machine_of databases) (session_of databases (get_or old place own)) (session_of databases (get_or old place own)).tx) ss ending)
+      → RanTo (call_of m kind before now) tx (ground (machine_of databases) (session_of databases found) (session_of databases found).tx) ss ending
+  found_ran m kind tx databases ss before now ending ran = subst (λ (s : Session). RanTo (call_of m kind before now) tx (ground (machine_of databases) (session_of databases s) (session_of databases s).tx) ss ending) (found_at found) (ran found)
 
   -- and what it came to, it came to at the place
   pub found_runs : {E : Type 0} (m : Meaning) (kind : EngineKind) (v : View) (databases : List Database) (weight : ℕ) (ss : List Statement) (rows : Bool) (before now : Option Told) (result : Result Decision E) (own : Session)
-      → IfOk result (RunsTo m kind v (machine_of databases) (table_of databases known weight) found.conn (session_of databases found) ss rows before now)
-      → IfOk result (RunsTo m kind v (machine_of databases) (table_of databases old weight) (get_or old place own).conn (session_of databases (get_or old place own)) ss rows before now)
+      → IfOk result (RunsTo (call_of m kind before now) (scene v (machine_of databases) (table_of databases known weight) found.conn) (session_of databases found) ss rows)
+      → IfOk result (RunsTo (call_of m kind before now) (scene v (machine_of databases) (table_of databases old weight) (get_or old place own).conn) (session_of databases (get_or old place own)) ss rows)
   found_runs m kind v databases weight ss rows before now result own runs =
-      subst (λ (sessions : List Session). IfOk result (RunsTo m kind v (machine_of databases) (table_of databases sessions weight) (get_or old place own).conn (session_of databases (get_or old place own)) ss rows before now)) same
-      (subst (λ (s : Session). IfOk result (RunsTo m kind v (machine_of databases) (table_of databases known weight) s.conn (session_of databases s) ss rows before now)) (sym (found_at own)) runs)
+      subst (λ (sessions : List Session). IfOk result (RunsTo (call_of m kind before now) (scene v (machine_of databases) (table_of databases sessions weight) (get_or old place own).conn) (session_of databases (get_or old place own)) ss rows)) same
+      (subst (λ (s : Session). IfOk result (RunsTo (call_of m kind before now) (scene v (machine_of databases) (table_of databases known weight) s.conn) (session_of databases s) ss rows)) (sym (found_at own)) runs)

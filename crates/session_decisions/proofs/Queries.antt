@@ -21,6 +21,8 @@ use Rattle.session_decisions.specs.declared.decision.Decision.TheVariants as dec
 use Rattle.session_decisions.specs.Reading.{cut_off, query_in}
 use Rattle.session_decisions.specs.Runs.{ran_in}
 use Rattle.session_decisions.specs.Turning.{ComesBy, ComesTo, TurnsTo}
+use Rattle.statement_runs.specs.Calls.{call_of}
+use Rattle.session_decisions.specs.Scenes.{scene}
 
 -- ---- where the engine cut a query off
 
@@ -76,16 +78,16 @@ lent_so v m s query asked job same is = (ap (λ (statement : Statement). with_la
 module _ (meaning : Meaning) (kind : EngineKind) (v : View) (m : Machine) (g : Gateway) (conn : ℕ) (s : RuleSession) (statement : Statement) where
   -- what a query comes to, by whether it waits
   abbrev By : Option Told → Option Told → Decision → Bool → Type 0
-  By before now decision b = ComesBy meaning kind v m s (cond b None (handed_over (ground m s s.tx) (statement ∷ []))) (λ (answers : List Answer). cond b (barrier_first v s statement) (read_in v m g conn s s.tx statement answers)) before now decision
+  By before now decision b = ComesBy (call_of meaning kind before now) v m s (cond b None (handed_over (ground m s s.tx) (statement ∷ []))) (λ (answers : List Answer). cond b (barrier_first v s statement) (read_in v m g conn s s.tx statement answers)) decision
 
   -- it waits for the barrier, and the engine is handed nothing
-  pub waits : (told : Option Told) (decision : Decision) → waits_first s ≡ true → ComesTo v m s (barrier_first v s statement) decision → TurnsTo meaning kind v m g conn s (Reads statement) told told decision
+  pub waits : (told : Option Told) (decision : Decision) → waits_first s ≡ true → ComesTo v m s (barrier_first v s statement) decision → TurnsTo (call_of meaning kind told told) (scene v m g conn) s (Reads statement) decision
   unfolding does TellsAll
   waits told decision is comes = subst (By told told decision) (sym is) (record { answers = []; allowed = tt; told = refl; exact = refl; is = comes })
 
   -- it runs now
   pub runs_now : (before now : Option Told) (decision : Decision) → waits_first s ≡ false
-      → ComesBy meaning kind v m s (handed_over (ground m s s.tx) (statement ∷ [])) (λ (answers : List Answer). read_in v m g conn s s.tx statement answers) before now decision
-      → TurnsTo meaning kind v m g conn s (Reads statement) before now decision
+      → ComesBy (call_of meaning kind before now) v m s (handed_over (ground m s s.tx) (statement ∷ [])) (λ (answers : List Answer). read_in v m g conn s s.tx statement answers) decision
+      → TurnsTo (call_of meaning kind before now) (scene v m g conn) s (Reads statement) decision
   unfolding does
   runs_now before now decision is comes = subst (By before now decision) (sym is) comes

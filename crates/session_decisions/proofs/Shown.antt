@@ -21,6 +21,7 @@ use Rattle.statement_runs.specs.declared.ending.Ending.{Ending as CodeEnding}
 use Rattle.statement_runs.specs.declared.ending.Ending.TheVariants as codes
 use Rattle.statement_runs.specs.Running.{RanTo, Shows, change_in}
 use Rattle.session_decisions.specs.Hindered.{LeadsTo}
+use Rattle.statement_runs.specs.Calls.{call_of}
 use Rattle.session_table.proofs.Releasing.{all_both}
 
 pub shows_stopped : (tx : ℕ) (from : Image) (e : Ending) (fault : EngineFault) → Shows tx from e (codes.Stopped fault) → e ≡ Stopped fault
@@ -56,8 +57,8 @@ shows_ended tx from (Ended to answer) ran shows =
     }
 
 -- what ran, by another name of its statement
-pub ran_of : (m : Meaning) (kind : EngineKind) (tx : ℕ) (image : Image) (before now : Option Told) (ending : CodeEnding) (statement asked : Statement) → statement ≡ asked → RanTo m kind tx image (statement ∷ []) before now ending → RanTo m kind tx image (asked ∷ []) before now ending
-ran_of m kind tx image before now ending statement asked is ran = subst (λ (s : Statement). RanTo m kind tx image (s ∷ []) before now ending) is ran
+pub ran_of : (m : Meaning) (kind : EngineKind) (tx : ℕ) (image : Image) (before now : Option Told) (ending : CodeEnding) (statement asked : Statement) → statement ≡ asked → RanTo (call_of m kind before now) tx image (statement ∷ []) ending → RanTo (call_of m kind before now) tx image (asked ∷ []) ending
+ran_of m kind tx image before now ending statement asked is ran = subst (λ (s : Statement). RanTo (call_of m kind before now) tx image (s ∷ []) ending) is ran
 
 -- ---- the pages of a change have their bytes
 

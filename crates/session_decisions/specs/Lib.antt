@@ -5,3 +5,4 @@ pub mod Numbers
 pub mod Reading
 pub mod Told
 pub mod Turning
+pub mod Scenes

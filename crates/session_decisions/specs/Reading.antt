@@ -8,8 +8,8 @@ use Rattle.sql_engine.specs.Meanings.{Meaning, Told}
 use Rattle.session_rules.specs.Engines.{Answer, Ending, Lacking, is_cut, no_answer, runs, used, AllowsAll}
 use Rattle.session_rules.specs.Machine.{Machine}
 use Rattle.session_rules.specs.Requests.{rows_cause, rows_or, inside, read_outside, job_reply}
-use Rattle.session_rules.specs.Sessions.{Reply as RuleReply, Refusal, Session, Gateway, View, Transaction, Job, Turned}
-use Rattle.session_table.specs.Named.{cause_named, reply_named}
+use Rattle.session_rules.specs.Sessions.{Reply as RuleReply, Refusal, Rows, Session, Gateway, View, Transaction, Job, Turned}
+use Rattle.session_table.specs.Named.{cause_named}
 use Rattle.statement_runs.specs.declared.ending.Ending.{Ending as CodeEnding}
 use Rattle.statement_runs.specs.declared.ending.Ending.TheVariants as endings
 use Rattle.statement_runs.specs.Running.{TellsAll}
@@ -29,7 +29,7 @@ query_in v m g conn s (Some x) statement ended = inside m g conn s x (statement 
 
 -- what is told, in the rules' words; nothing of a query that goes back to the node
 abbrev pub read_named : Read → Option RuleReply
-read_named (reads.Answers reply) = Some (reply_named reply)
+read_named (reads.Answers answer) = Some (Rows answer)
 read_named (reads.Refused cause) = Some (Refusal (cause_named cause))
 read_named reads.GivenBack = None
 

@@ -6,8 +6,6 @@ use Rattle.dq_base.specs.Images.{page_count}
 use Rattle.dq_base.specs.Applying.{page_fault}
 use Rattle.sql_engine.specs.declared.answer.Ran.{Ran}
 use Rattle.sql_engine.specs.Replies.{IsTable, Statement}
-use Rattle.sql_engine.specs.declared.kind.EngineKind.{EngineKind}
-use Rattle.sql_engine.specs.Meanings.{Meaning, Told}
 use Rattle.session_rules.specs.Causes.{LogFull}
 use Rattle.session_rules.specs.Machine.{Machine}
 use Rattle.session_rules.specs.Engines.{Answer, Ending as RuleEnding, takes, used, AllowsAll}
@@ -17,8 +15,10 @@ use Rattle.session_rules.specs.Requests.{unless, row_cause, reply_of, change_of,
 use Rattle.session_table.specs.declared.cause.Cause.{Cause}
 use Rattle.statement_runs.specs.declared.ending.Ending.{Ending}
 use Rattle.statement_runs.specs.declared.ending.Ending.TheVariants as endings
+use Rattle.statement_runs.specs.Calls.{EngineCall}
 use Rattle.statement_runs.specs.Running.{TellsAll}
 use Rattle.session_decisions.specs.declared.decision.Decision.{Decision}
+use Rattle.session_decisions.specs.Scenes.{Scene}
 use Rattle.session_decisions.specs.Turning.{ComesTo}
 
 -- the rows of an answer are a table, and pages that can't be applied can't
@@ -45,10 +45,9 @@ ran_in v m g conn s (Some x) ss rows ended = inside m g conn s x ss rows ended
 
 -- There are answers that the engine may give to the statements over the session's image, and which it told one after the
 -- other. Running uses all of them, and by them the request comes to this.
-pub record RunsTo (meaning : Meaning) (kind : EngineKind) (v : View) (machine : Machine) (g : Gateway) (conn : ℕ) (s : Session) (ss : List Statement)
-    (rows : Bool) (told_before told_now : Option Told) (decision : Decision) : Type 0 where
+pub record RunsTo (c : EngineCall) (at : Scene) (s : Session) (ss : List Statement) (rows : Bool) (decision : Decision) : Type 0 where
   pub answers : List Answer
-  pub allowed : AllowsAll meaning kind (ground machine s s.tx) ss answers
-  pub told : TellsAll answers told_before told_now
-  pub exact : used (ground machine s s.tx) ss answers ≡ length answers
-  pub is : ComesTo v machine s (run_in v machine g conn s s.tx ss rows answers) decision
+  pub allowed : AllowsAll c.meaning c.kind (ground at.machine s s.tx) ss answers
+  pub told : TellsAll answers c.told_before c.told_now
+  pub exact : used (ground at.machine s s.tx) ss answers ≡ length answers
+  pub is : ComesTo at.view at.machine s (run_in at.view at.machine at.sessions at.conn s s.tx ss rows answers) decision

@@ -1,24 +1,25 @@
 -- What comes of a request, as code tells it before anything has changed.
-use Rattle.std.specs.Prelude.{◌≡◌, ℕ, true, List, length, Option, Some, None}
+use Rattle.std.specs.Prelude.{◌≡◌, true, List, length, Option, Some, None}
 use Rattle.std.specs.List.{AllByRecursion}
-use Rattle.sql_engine.specs.declared.kind.EngineKind.{EngineKind}
-use Rattle.sql_engine.specs.Meanings.{Meaning, Told}
 use Rattle.session_rules.specs.Asking.{Asked, has_database}
 use Rattle.session_rules.specs.Engines.{Answer, Handed, AllowsFor, used_for}
 use Rattle.session_rules.specs.Entries.{written}
 use Rattle.session_rules.specs.Machine.{Machine}
 use Rattle.session_rules.specs.Requests.{with_tx, with_flight, with_barriers, with_later, begun, does, handed_for}
 use Rattle.session_rules.specs.Seen.{HasSpelling}
-use Rattle.session_rules.specs.Sessions.{Session, Gateway, View, Lent, result, Turned, Refused, Answers, Proposes, Lends, Affects}
+use Rattle.session_rules.specs.Sessions.{Session, View, Lent, result, Turned, Refused, Answers, Proposes, Lends, Affects}
+use Rattle.statement_runs.specs.Calls.{EngineCall}
 use Rattle.statement_runs.specs.Running.{TellsAll}
 use Rattle.session_table.specs.Changing.{changed_by, CanChange}
 use Rattle.session_table.specs.Named.{cause_named, reply_named}
 use Rattle.session_asking.specs.Meant.{effect_named}
+use Rattle.session_decisions.specs.Scenes.{Scene}
 use Rattle.session_decisions.specs.declared.decision.Decision.{Decision}
 use Rattle.session_decisions.specs.declared.decision.Decision.TheVariants as decisions
 
 -- The outcome of the rules, at a session, is what code tells: the refusal; the change of the session, which can be made, and
--- the reply; the transaction that begins or ends; the proposal, whose entries read back; the query that is lent, with its job; or what is beside the sessions.
+-- the reply; the transaction that begins or ends; the proposal, whose entries read back; the query that is lent, with its job; or
+-- what is beside the sessions.
 abbrev pub ComesTo : View → Machine → Session → Turned → Decision → Type 0
 ComesTo v m s (Refused cause) (decisions.Refused told) = cause ≡ cause_named told
 ComesTo v m s (Answers to reply note) (decisions.Answers change told) = (to ≡ changed_by s change) × (reply ≡ reply_named told) × CanChange s.statements change
@@ -34,15 +35,15 @@ ComesTo v m s turned decision = ⊥
 
 -- There are answers that the engine may give to what it is handed, and which it told one after the other. All of them are
 -- used, and by them the rules' outcome at a session is what code tells.
-pub record ComesBy (m : Meaning) (kind : EngineKind) (v : View) (machine : Machine) (s : Session) (given : Option Handed) (outcome : List Answer → Turned)
-    (told_before told_now : Option Told) (decision : Decision) : Type 0 where
+pub record ComesBy (c : EngineCall) (v : View) (machine : Machine) (s : Session) (given : Option Handed) (outcome : List Answer → Turned)
+    (decision : Decision) : Type 0 where
   pub answers : List Answer
-  pub allowed : AllowsFor m kind given answers
-  pub told : TellsAll answers told_before told_now
+  pub allowed : AllowsFor c.meaning c.kind given answers
+  pub told : TellsAll answers c.told_before c.told_now
   pub exact : used_for given answers ≡ length answers
   pub is : ComesTo v machine s (outcome answers) decision
 
 -- the same of what is asked of a connection's session
-abbrev pub TurnsTo : Meaning → EngineKind → View → Machine → Gateway → ℕ → Session → Asked → Option Told → Option Told → Decision → Type 0
-TurnsTo m kind v machine g conn s asked told_before told_now decision = ComesBy m kind v machine s (handed_for machine s asked)
-    (does v machine g conn s asked) told_before told_now decision
+abbrev pub TurnsTo : EngineCall → Scene → Session → Asked → Decision → Type 0
+TurnsTo c at s asked decision =
+    ComesBy c at.view at.machine s (handed_for at.machine s asked) (does at.view at.machine at.sessions at.conn s asked) decision

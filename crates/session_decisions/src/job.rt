@@ -9,11 +9,11 @@ ghost use Rattle.session_rules.specs.Sessions.{Job};
 ghost use Rattle.statement_runs.specs.Running.{RanTo, Shows};
 ghost use Rattle.session_decisions.specs.Reading.{read_named, RowsTold, TellsJob};
 ghost use Rattle.session_decisions.specs.Runs.{IsWellFormed};
+ghost use Rattle.statement_runs.specs.Calls.{call_on};
 
 use crate::ran_changes::is_unchanged;
-use crate::rows::told;
 use dq_base::{Image, Name};
-use session_table::{Cause, Query, Reply};
+use session_table::{Cause, Query, ToldRows};
 use sql_engine::{Engine, Ran};
 use statement_runs::{Ending, RunOptions, run_unnumbered};
 use std::alloc::{AllocError, Global};
@@ -46,9 +46,9 @@ impl Model for ReadJob {
 /// What a reader tells of its job.
 #[derive(Debug, Drop)]
 pub enum Read {
-    /// The reply to the query.
-    Answers(Reply),
-    /// Why there is none.
+    /// The rows that answer the query.
+    Answers(ToldRows),
+    /// Why there are none.
     Refused(Cause),
     /// Nothing: the query would change pages, and goes back to the node.
     GivenBack,
@@ -59,8 +59,8 @@ fn rows_told(alloc: Global, answer: Ran) -> Result<Read, AllocError>
     requires { IsTable answer.columns answer.rows }
     ensures { IfOk result (RowsTold answer) }
 {
-    match told(alloc, true, answer)? {
-        Ok(reply) => Ok(Read::Answers(reply)),
+    match ToldRows::cut(alloc, answer)? {
+        Ok(rows) => Ok(Read::Answers(rows)),
         Err(cause) => Ok(Read::Refused(cause)),
     }
 }
@@ -68,7 +68,7 @@ fn rows_told(alloc: Global, answer: Ran) -> Result<Read, AllocError>
 /// Runs a query over an image, by an engine that forgets all numbers of images. Takes no memory beside the engine's.
 fn run_query<E: Engine>(engine: &mut E, image: &Image, query: &Query, limit: Option<u64>) -> Ending
     ensures stays { Stays (E.kind engine.old) (E.kind engine.new) (E.refused_openings engine.old) (E.refused_openings engine.new) }
-    ensures ran { RanTo (E.meaning (E.kind engine.old)) (E.kind engine.old) 0 image.now (query.now ∷ []) (E.told engine.old) (E.told engine.new) result }
+    ensures ran { RanTo (call_on E.meaning E.kind E.told engine.old engine.new) 0 image.now (query.now ∷ []) result }
 {
     let options = RunOptions { tx: 0, limit };
     run_unnumbered(engine, image, query.text(), query.params(), options)

@@ -25,6 +25,8 @@ ghost use Rattle.session_decisions.specs.Numbers.{work_in, works_in, work_left};
 ghost use Rattle.session_decisions.specs.Reading.{cut_off, query_in};
 ghost use Rattle.session_decisions.specs.Runs.{IsWellFormed};
 ghost use Rattle.session_decisions.specs.Turning.{ComesBy, ComesTo, TurnsTo};
+ghost use Rattle.statement_runs.specs.Calls.{call_on};
+ghost use Rattle.session_decisions.specs.Scenes.{scene};
 
 use crate::decision::Decision;
 use crate::job::ReadJob;
@@ -198,16 +200,14 @@ fn read_now<E: Engine>(
     ensures stays { Stays (E.kind engine.old) (E.kind engine.new) (E.refused_openings engine.old) (E.refused_openings engine.new) }
     ensures unopened { IfOk result (λ decision. decision ≡ decisions.Refused causes.NotADatabase
         → E.refused_openings engine.old < E.refused_openings engine.new) }
-    ensures ran { (weight : ℕ) → IfOk result (ComesBy (E.meaning (E.kind engine.old)) (E.kind engine.old) setting.now.view.now
-        (machine_of setting.now.machine.now)
-        (session_of setting.now.machine.now session.now) (handed_over (ground (machine_of setting.now.machine.now)
+    ensures ran { (weight : ℕ) → IfOk result (ComesBy (call_on E.meaning E.kind E.told engine.old engine.new) setting.now.view.now
+        (machine_of setting.now.machine.now) (session_of setting.now.machine.now session.now) (handed_over (ground (machine_of setting.now.machine.now)
         (session_of setting.now.machine.now session.now)
         (session_of setting.now.machine.now session.now).tx) (record { text = text; params = params } ∷ []))
         (λ answers. requests.read_in setting.now.view.now (machine_of setting.now.machine.now)
         (table_of setting.now.machine.now sessions.now weight) session.now.conn
         (session_of setting.now.machine.now session.now) (session_of setting.now.machine.now session.now).tx
-        (record { text = text; params = params }) answers) (E.told engine.old)
-        (E.told engine.new)) }
+        (record { text = text; params = params }) answers)) }
 {
     let view = setting.view;
     let options = next_run(view, query_limit(view, session));
@@ -246,10 +246,9 @@ pub fn read_statement<E: Engine>(
     ensures stays { Stays (E.kind engine.old) (E.kind engine.new) (E.refused_openings engine.old) (E.refused_openings engine.new) }
     ensures unopened { IfOk result (λ decision. decision ≡ decisions.Refused causes.NotADatabase
         → E.refused_openings engine.old < E.refused_openings engine.new) }
-    ensures ran { (weight : ℕ) → IfOk result (TurnsTo (E.meaning (E.kind engine.old)) (E.kind engine.old) setting.now.view.now
-        (machine_of setting.now.machine.now)
-        (table_of setting.now.machine.now sessions.now weight) session.now.conn (session_of setting.now.machine.now session.now)
-        (asking.Reads (record { text = text; params = params })) (E.told engine.old) (E.told engine.new)) }
+    ensures ran { (weight : ℕ) → IfOk result (TurnsTo (call_on E.meaning E.kind E.told engine.old engine.new)
+        (scene setting.now.view.now (machine_of setting.now.machine.now) (table_of setting.now.machine.now sessions.now weight) session.now.conn)
+        (session_of setting.now.machine.now session.now) (asking.Reads (record { text = text; params = params }))) }
 {
     if waits_first(session) {
         let query = Query::new(setting.alloc, text, params)?;

@@ -26,6 +26,8 @@ ghost use Rattle.session_table.specs.Working.{with_number, work_of, works_of, Ar
 ghost use Rattle.session_decisions.specs.Numbers.{work_in, works_in, work_left, MayRunOver};
 ghost use Rattle.session_decisions.specs.Turning.{ComesTo};
 ghost use Rattle.session_decisions.specs.Runs.{IsWellFormed, RunsTo, ran_in};
+ghost use Rattle.statement_runs.specs.Calls.{call_on};
+ghost use Rattle.session_decisions.specs.Scenes.{scene};
 
 use crate::decision::Decision;
 use crate::inside::decision_inside;
@@ -66,8 +68,8 @@ fn run_on<E: Engine>(
     ensures stays { Stays (E.kind engine.old) (E.kind engine.new) (E.refused_openings engine.old) (E.refused_openings engine.new) }
     ensures unopened { ends_unopened result ≡ true → E.refused_openings engine.old < E.refused_openings engine.new }
     ensures learnt { All (IsLearnt (E.known engine.old) before image.now number (left_by image.now result)) (E.known engine.new) }
-    ensures ran { RanTo (E.meaning (E.kind engine.old)) (E.kind engine.old) options.tx image.now (record { text = text.now; params = params.now } ∷ [])
-        (E.told engine.old) (E.told engine.new) result }
+    ensures ran { RanTo (call_on E.meaning E.kind E.told engine.old engine.new) options.tx image.now (record { text = text.now; params = params.now } ∷ [])
+        result }
 {
     match before {
         Some(before) => {
@@ -94,8 +96,8 @@ fn run_lent<E: Engine>(
     requires may { MayRunOver (E.known engine.old) [] (map numbered setting.now.machine.now) setting.now.number }
     ensures stays { Stays (E.kind engine.old) (E.kind engine.new) (E.refused_openings engine.old) (E.refused_openings engine.new) }
     ensures unopened { IfOk result (λ ending. ends_unopened ending ≡ true → E.refused_openings engine.old < E.refused_openings engine.new) }
-    ensures ran { IfOk result (RanTo (E.meaning (E.kind engine.old)) (E.kind engine.old) options.tx ((machine_of setting.now.machine.now).base name.now).image
-        (record { text = text.now; params = params.now } ∷ []) (E.told engine.old) (E.told engine.new)) }
+    ensures ran { IfOk result (RanTo (call_on E.meaning E.kind E.told engine.old engine.new) options.tx
+        ((machine_of setting.now.machine.now).base name.now).image (record { text = text.now; params = params.now } ∷ [])) }
     ensures agree { IfOk result (λ ending. (works : List Known) → Agree (E.known engine.old) works setting.now.number (map numbered setting.now.machine.now)
         → Agree (E.known engine.new) (work_left ((machine_of setting.now.machine.now).base name.now).image setting.now.number ending ++ works)
         (setting.now.number + 1)
@@ -126,9 +128,9 @@ pub(crate) fn run_statement<E: Engine>(
     requires may { MayRunOver (E.known engine.old) (work_of session.now.transaction) (map numbered setting.now.machine.now) setting.now.number }
     ensures stays { Stays (E.kind engine.old) (E.kind engine.new) (E.refused_openings engine.old) (E.refused_openings engine.new) }
     ensures unopened { IfOk result (λ ending. ends_unopened ending ≡ true → E.refused_openings engine.old < E.refused_openings engine.new) }
-    ensures ran { IfOk result (RanTo (E.meaning (E.kind engine.old)) (E.kind engine.old) options.tx
+    ensures ran { IfOk result (RanTo (call_on E.meaning E.kind E.told engine.old engine.new) options.tx
         (ground (machine_of setting.now.machine.now) (session_of setting.now.machine.now session.now) (session_of setting.now.machine.now session.now).tx)
-        (record { text = text.now; params = params.now } ∷ []) (E.told engine.old) (E.told engine.new)) }
+        (record { text = text.now; params = params.now } ∷ [])) }
     ensures agree { IfOk result (λ ending. (works : List Known) → AreAmong works (work_of session.now.transaction)
         → Agree (E.known engine.old) works setting.now.number (map numbered setting.now.machine.now)
         → Agree (E.known engine.new) (work_left (ground (machine_of setting.now.machine.now) (session_of setting.now.machine.now session.now)
@@ -165,8 +167,8 @@ fn run_newest<E: Engine>(
     ensures stays { Stays (E.kind engine.old) (E.kind engine.new) (E.refused_openings engine.old) (E.refused_openings engine.new) }
     ensures unopened { IfOk result (λ ending. ends_unopened ending ≡ true → E.refused_openings engine.old < E.refused_openings engine.new) }
     ensures known { All (Contains (E.known engine.old)) (E.known engine.new) }
-    ensures ran { IfOk result (RanTo (E.meaning (E.kind engine.old)) (E.kind engine.old) options.tx ((machine_of setting.now.machine.now).base name.now).image
-        (assigned script.now.text script.now.pieces params.now) (E.told engine.old) (E.told engine.new)) }
+    ensures ran { IfOk result (RanTo (call_on E.meaning E.kind E.told engine.old engine.new) options.tx
+        ((machine_of setting.now.machine.now).base name.now).image (assigned script.now.text script.now.pieces params.now)) }
 {
     let Setting { alloc, machine, .. } = *setting;
     let text = script.text.as_str();
@@ -190,9 +192,9 @@ fn run_statements<E: Engine>(
     ensures stays { Stays (E.kind engine.old) (E.kind engine.new) (E.refused_openings engine.old) (E.refused_openings engine.new) }
     ensures unopened { IfOk result (λ ending. ends_unopened ending ≡ true → E.refused_openings engine.old < E.refused_openings engine.new) }
     ensures known { All (Contains (E.known engine.old)) (E.known engine.new) }
-    ensures ran { IfOk result (RanTo (E.meaning (E.kind engine.old)) (E.kind engine.old) options.tx
+    ensures ran { IfOk result (RanTo (call_on E.meaning E.kind E.told engine.old engine.new) options.tx
         (ground (machine_of setting.now.machine.now) (session_of setting.now.machine.now session.old) (session_of setting.now.machine.now session.old).tx)
-        (assigned script.now.text script.now.pieces params.now) (E.told engine.old) (E.told engine.new)) }
+        (assigned script.now.text script.now.pieces params.now)) }
 {
     match &mut session.transaction {
         Some(transaction) => {
@@ -227,10 +229,9 @@ fn run_at<E: Engine>(
     ensures stays { Stays (E.kind engine.old) (E.kind engine.new) (E.refused_openings engine.old) (E.refused_openings engine.new) }
     ensures unopened { IfOk result (λ ending. ends_unopened ending ≡ true → E.refused_openings engine.old < E.refused_openings engine.new) }
     ensures known { All (Contains (E.known engine.old)) (E.known engine.new) }
-    ensures ran { (own : SessionValue) → IfOk result (RanTo (E.meaning (E.kind engine.old)) (E.kind engine.old) options.tx
+    ensures ran { (own : SessionValue) → IfOk result (RanTo (call_on E.meaning E.kind E.told engine.old engine.new) options.tx
         (ground (machine_of setting.now.machine.now) (session_of setting.now.machine.now (get_or sessions.old place own))
-        (session_of setting.now.machine.now (get_or sessions.old place own)).tx)
-        (assigned script.now.text script.now.pieces params.now) (E.told engine.old) (E.told engine.new)) }
+        (session_of setting.now.machine.now (get_or sessions.old place own)).tx) (assigned script.now.text script.now.pieces params.now)) }
 {
     let session = &mut sessions[place];
     run_statements(setting, session, script, params, options, engine)
@@ -293,10 +294,9 @@ pub fn run_single<E: Engine>(
     ensures stays { Stays (E.kind engine.old) (E.kind engine.new) (E.refused_openings engine.old) (E.refused_openings engine.new) }
     ensures unopened { IfOk result (λ decision. decision ≡ decisions.Refused causes.NotADatabase
         → E.refused_openings engine.old < E.refused_openings engine.new) }
-    ensures ran { (weight : ℕ) → IfOk result (RunsTo (E.meaning (E.kind engine.old)) (E.kind engine.old) setting.now.view.now
-        (machine_of setting.now.machine.now)
-        (table_of setting.now.machine.now sessions.now weight) session.now.conn (session_of setting.now.machine.now session.now)
-        (record { text = text.now; params = params.now } ∷ []) rows (E.told engine.old) (E.told engine.new)) }
+    ensures ran { (weight : ℕ) → IfOk result (RunsTo (call_on E.meaning E.kind E.told engine.old engine.new)
+        (scene setting.now.view.now (machine_of setting.now.machine.now) (table_of setting.now.machine.now sessions.now weight) session.now.conn)
+        (session_of setting.now.machine.now session.now) (record { text = text.now; params = params.now } ∷ []) rows) }
 {
     let view = setting.view;
     let options = next_run(view, view.steps.statement);
@@ -330,10 +330,9 @@ pub fn run_script<E: Engine>(
     ensures unopened { IfOk result (λ decision. decision ≡ decisions.Refused causes.NotADatabase
         → E.refused_openings engine.old < E.refused_openings engine.new) }
     ensures ran { (own : SessionValue) (weight : ℕ) → IfOk result
-        (RunsTo (E.meaning (E.kind engine.old)) (E.kind engine.old) setting.now.view.now (machine_of setting.now.machine.now)
-        (table_of setting.now.machine.now sessions.old weight)
-        (get_or sessions.old place own).conn (session_of setting.now.machine.now (get_or sessions.old place own))
-        (assigned script.now.text script.now.pieces params.now) false (E.told engine.old) (E.told engine.new)) }
+        (RunsTo (call_on E.meaning E.kind E.told engine.old engine.new) (scene setting.now.view.now (machine_of setting.now.machine.now)
+        (table_of setting.now.machine.now sessions.old weight) (get_or sessions.old place own).conn)
+        (session_of setting.now.machine.now (get_or sessions.old place own)) (assigned script.now.text script.now.pieces params.now) false) }
 {
     let view = setting.view;
     let options = next_run(view, view.steps.statement);

@@ -1,6 +1,6 @@
 -- No number stands for two images after a command either.
-use Rattle.std.proofs.Common.{◌≡◌, ℕ, zero, suc, ◌+◌, ◌<◌, ◌≤◌, Bool, true, false, cond, List, [], ◌∷◌, length, map, get_or, All, Contains, Option, Some, None, IfSome, refl, sym, ap, subst, ◌∙◌, arith, inl, inr}
-use Rattle.std.specs.Prelude.{◌==◌, find}
+use Rattle.std.proofs.Common.{◌≡◌, ℕ, zero, suc, ◌<◌, ◌≤◌, Bool, false, cond, List, [], ◌∷◌, length, map, get_or, Contains, Option, Some, None, IfSome, refl, sym, ap, subst, ◌∙◌, arith, inl, inr}
+use Rattle.std.specs.Prelude.{◌==◌}
 use Rattle.std.specs.List.{AllByRecursion}
 use Rattle.std.proofs.lemmas.Bool.{cases_Bool, cond-true, cond-false, eq-eqb, eqb-true}
 use Rattle.std.proofs.lemmas.List.{length-map}
@@ -14,7 +14,7 @@ use Rattle.page_apply.specs.declared.database.Database.{Database}
 use Rattle.page_apply.specs.ImageNumbers.{Numbered, numbered, Follows, ComesFrom, NumbersGoOn}
 use Rattle.page_apply.specs.Machines.{IsMachine, AreApart}
 use Rattle.page_apply.proofs.ImageNumbers.{one_at_place, place_below}
-use Rattle.statement_runs.specs.Agreeing.{image_by, is_at, base_at, IsReached, IsGiven, IsNamed, Agree}
+use Rattle.statement_runs.specs.Agreeing.{image_by, base_at, IsReached, IsGiven, IsNamed, Agree}
 
 -- ---- databases by their places
 

@@ -25,6 +25,7 @@ use Rattle.statement_runs.specs.declared.running.Came.{Came}
 use Rattle.statement_runs.specs.declared.running.Came.TheVariants as came
 use Rattle.page_changes.specs.Reached.{reached_at, change_to}
 use Rattle.page_changes.proofs.Arriving.{arrives}
+use Rattle.statement_runs.specs.Calls.{call_of}
 use Rattle.statement_runs.specs.Running.{AdvancedTo, CameTo, ended, TellsAll, change_in, Shows, RanTo, ending_of, Led, Went, WentTooFar, Failed}
 
 -- The answers so far lead from the first image to the one that was reached, with these statements still to run.
@@ -91,7 +92,7 @@ reached_short m tx cur to s ran a image =
     subst IsShort (sym e) a.short
 
 pub reached_more : (m : Meaning) (kind : EngineKind) (tx : ℕ) (base : Image) (statements : List Statement) (s : Statement) (rest : List Statement) (before now next : Option Told) (cur to : Image) (last ran : Ran)
-    → Reached m kind base statements (s ∷ rest) before now cur last → Went m tx cur s now next to ran → Reached m kind base statements rest before next to ran
+    → Reached m kind base statements (s ∷ rest) before now cur last → Went (call_of m kind now next) tx cur s to ran → Reached m kind base statements rest before next to ran
 reached_more m kind tx base statements s rest before now next cur to last ran r w = record {
   answers = r.answers ++ Ok ran ∷ [];
   told = tells_more r.answers (Ok ran) before now next r.told w.told;
@@ -104,7 +105,7 @@ reached_more m kind tx base statements s rest before now next cur to last ran r 
 -- Where what is reached ends with these answers more, all of it does.
 ran_to : (m : Meaning) (kind : EngineKind) (tx : ℕ) (base : Image) (statements rest : List Statement) (before now next : Option Told) (cur : Image) (last : Ran) (more : List Answer) (ending : CodeEnding)
     → (r : Reached m kind base statements rest before now cur last) → TellsAll (r.answers ++ more) before next → AllowsAll m kind cur rest more → used cur rest more ≡ length more → Shows tx base (runs cur last rest more) ending
-    → RanTo m kind tx base statements before next ending
+    → RanTo (call_of m kind before next) tx base statements ending
 ran_to m kind tx base statements rest before now next cur last more ending r told allowed exact shows = record {
   answers = r.answers ++ more;
   allowed = r.allows_on more allowed;
@@ -125,7 +126,7 @@ change_shown base cur short =
     ]
 
 pub reached_end : (m : Meaning) (kind : EngineKind) (tx : ℕ) (base : Image) (statements : List Statement) (before now : Option Told) (cur : Image) (last : Ran) (ran : AllRan)
-    → Reached m kind base statements [] before now cur last → ran.answer ≡ last → change_in ran ≡ record { tx = tx; pages = changed base cur } → RanTo m kind tx base statements before now (codes.Ended ran)
+    → Reached m kind base statements [] before now cur last → ran.answer ≡ last → change_in ran ≡ record { tx = tx; pages = changed base cur } → RanTo (call_of m kind before now) tx base statements (codes.Ended ran)
 unfolding runs used
 reached_end m kind tx base statements before now cur last ran r answer change =
     ran_to m kind tx base statements [] before now now cur last [] (codes.Ended ran) r
@@ -134,7 +135,7 @@ reached_end m kind tx base statements before now cur last ran r answer change =
     refl
     (ran, refl, answer, change, change_shown base cur r.short)
 
-pub reached_led : (m : Meaning) (kind : EngineKind) (base : Image) (statements : List Statement) (before now : Option Told) (cur : Image) (last : Ran) → Reached m kind base statements [] before now cur last → Led m kind base statements before now cur last
+pub reached_led : (m : Meaning) (kind : EngineKind) (base : Image) (statements : List Statement) (before now : Option Told) (cur : Image) (last : Ran) → Reached m kind base statements [] before now cur last → Led (call_of m kind before now) base statements cur last
 unfolding runs used
 reached_led m kind base statements before now cur last r = record {
   answers = r.answers ++ [];
@@ -146,8 +147,8 @@ reached_led m kind base statements before now cur last r = record {
 }
 
 -- statements that all ran, with the change from the first image to the one that they led to
-pub led_ran : (m : Meaning) (kind : EngineKind) (tx : ℕ) (image : Image) (statements : List Statement) (before now : Option Told) (to : Image) (answer : Ran) → Led m kind image statements before now to answer
-    → RanTo m kind tx image statements before now (codes.Ended (record { together = Some (record { tx = tx; pages = changed image to }); answer = answer }))
+pub led_ran : (m : Meaning) (kind : EngineKind) (tx : ℕ) (image : Image) (statements : List Statement) (before now : Option Told) (to : Image) (answer : Ran) → Led (call_of m kind before now) image statements to answer
+    → RanTo (call_of m kind before now) tx image statements (codes.Ended (record { together = Some (record { tx = tx; pages = changed image to }); answer = answer }))
 led_ran m kind tx image statements before now to answer led = record {
   answers = led.answers;
   allowed = led.allowed;
@@ -158,23 +159,23 @@ led_ran m kind tx image statements before now to answer led = record {
 
 -- where they all led, told by the pages that they touched
 pub came_through : (m : Meaning) (kind : EngineKind) (tx : ℕ) (image : Image) (ss : List Statement) (before now : Option Told) (to : Image) (answer : Ran) (o : Option CodeEnding) (touched known : List ℕ) (reached : There) → o ≡ None
-    → AdvancedTo m kind tx image ss before now to answer o → (o ≡ None → ListsAll touched image to) → IsShort to → known ≡ touched → reached ≡ reached_at (put_in_order [] known) to → CameTo m kind tx image ss before now answer (came.Through reached)
+    → AdvancedTo (call_of m kind before now) tx image ss to answer o → (o ≡ None → ListsAll touched image to) → IsShort to → known ≡ touched → reached ≡ reached_at (put_in_order [] known) to → CameTo (call_of m kind before now) tx image ss answer (came.Through reached)
 came_through m kind tx image ss before now to answer o touched known reached none ran touches short same is = (
   to,
-  subst (AdvancedTo m kind tx image ss before now to answer) none ran,
+  subst (AdvancedTo (call_of m kind before now) tx image ss to answer) none ran,
   ap (change_to image) (is ∙ ap (λ (ns : List ℕ). reached_at (put_in_order [] ns) to) same) ∙ arrives touched image to (touches none) short.main short.side,
 )
 
 -- how running ends that came to this
-pub came_ran : (m : Meaning) (kind : EngineKind) (tx : ℕ) (image back : Image) (ss : List Statement) (before now : Option Told) (answer : Ran) (c : Came) (ending : CodeEnding) → CameTo m kind tx image ss before now answer c → back ≡ image → ending ≡ ended tx back answer c → RanTo m kind tx image ss before now ending
+pub came_ran : (m : Meaning) (kind : EngineKind) (tx : ℕ) (image back : Image) (ss : List Statement) (before now : Option Told) (answer : Ran) (c : Came) (ending : CodeEnding) → CameTo (call_of m kind before now) tx image ss answer c → back ≡ image → ending ≡ ended tx back answer c → RanTo (call_of m kind before now) tx image ss ending
 came_ran m kind tx image back ss before now answer (came.Through reached) ending (to, led, change) same is =
-    subst (RanTo m kind tx image ss before now)
+    subst (RanTo (call_of m kind before now) tx image ss)
     (sym (is ∙ ap (λ (pages : List NumberedPage). codes.Ended (record { together = Some (record { tx = tx; pages = pages }); answer = answer })) (ap (λ (i : Image). change_to i reached) same ∙ change)))
     (led_ran m kind tx image ss before now to answer led)
-came_ran m kind tx image back ss before now answer (came.Short ended) ending ran same is = subst (RanTo m kind tx image ss before now) (sym is) ran
+came_ran m kind tx image back ss before now answer (came.Short ended) ending ran same is = subst (RanTo (call_of m kind before now) tx image ss) (sym is) ran
 
 pub reached_fault : (m : Meaning) (kind : EngineKind) (tx : ℕ) (base : Image) (statements : List Statement) (s : Statement) (rest : List Statement) (before now next : Option Told) (cur : Image) (last : Ran) (fault : EngineFault)
-    → Reached m kind base statements (s ∷ rest) before now cur last → Failed m kind cur s now next fault → RanTo m kind tx base statements before next (codes.Stopped fault)
+    → Reached m kind base statements (s ∷ rest) before now cur last → Failed (call_of m kind now next) cur s fault → RanTo (call_of m kind before next) tx base statements (codes.Stopped fault)
 unfolding runs used
 reached_fault m kind tx base statements s rest before now next cur last fault r f =
     ran_to m kind tx base statements (s ∷ rest) before now next cur last (Err fault ∷ []) (codes.Stopped fault) r
@@ -197,7 +198,7 @@ unfolding used
 uses_last cur s rest ran refused = ap suc (cond-false (takes ran.after.pages) (used (image_after cur ran.after.pages) rest []) 0 refused)
 
 pub reached_too_far : (m : Meaning) (kind : EngineKind) (tx : ℕ) (base : Image) (statements : List Statement) (s : Statement) (rest : List Statement) (before now next : Option Told) (cur : Image) (last ran : Ran)
-    → Reached m kind base statements (s ∷ rest) before now cur last → WentTooFar m tx cur s now next ran → RanTo m kind tx base statements before next (codes.TooLarge ran)
+    → Reached m kind base statements (s ∷ rest) before now cur last → WentTooFar (call_of m kind now next) tx cur s ran → RanTo (call_of m kind before next) tx base statements (codes.TooLarge ran)
 reached_too_far m kind tx base statements s rest before now next cur last ran r w =
     ran_to m kind tx base statements (s ∷ rest) before now next cur last (Ok ran ∷ []) (codes.TooLarge ran) r
     (tells_more r.answers (Ok ran) before now next r.told w.told)
@@ -212,23 +213,23 @@ abbrev alone : Ran → AllRan
 alone ran = record { together = None; answer = ran }
 
 -- what comes of an answer to the only statement
-pub ran_alone : (m : Meaning) (kind : EngineKind) (tx : ℕ) (base : Image) (s : Statement) (before now : Option Told) (ran : Ran) → Answers m base s tx ran → Tells (Ok ran) before now → RanTo m kind tx base (s ∷ []) before now (ending_of ran)
+pub ran_alone : (m : Meaning) (kind : EngineKind) (tx : ℕ) (base : Image) (s : Statement) (before now : Option Told) (ran : Ran) → Answers m base s tx ran → Tells (Ok ran) before now → RanTo (call_of m kind before now) tx base (s ∷ []) (ending_of ran)
 ran_alone m kind tx base s before now ran a told =
     elim (cases_Bool (takes ran.after.pages)) [
       | inl taken ↦
           let to : Image = applied base ran.after.pages in
           let is : to ≡ a.after = leads_on m base s tx ran a in
           let change : ran.after ≡ record { tx = tx; pages = changed base to } = a.pages ∙ ap (λ (i : Image). the_set tx (changed base i)) (sym is) in
-          let w : Went m tx base s before now to ran = record { answers = a; told = told; taken = taken; image = refl } in
+          let w : Went (call_of m kind before now) tx base s to ran = record { answers = a; told = told; taken = taken; image = refl } in
           let all : Reached m kind base (s ∷ []) [] before now to ran = reached_more m kind tx base (s ∷ []) s [] before before now base to no_answer ran (reached_start m kind base (s ∷ []) before) w in
           let e : ending_of ran ≡ codes.Ended (alone ran) = cond-true (takes ran.after.pages) (codes.Ended (alone ran)) (codes.TooLarge ran) taken in
-          subst (λ (c : CodeEnding). RanTo m kind tx base (s ∷ []) before now c) (sym e) (reached_end m kind tx base (s ∷ []) before now to ran (alone ran) all refl change)
+          subst (λ (c : CodeEnding). RanTo (call_of m kind before now) tx base (s ∷ []) c) (sym e) (reached_end m kind tx base (s ∷ []) before now to ran (alone ran) all refl change)
       | inr refused ↦
-          let w : WentTooFar m tx base s before now ran = record { answers = a; told = told; refused = refused } in
+          let w : WentTooFar (call_of m kind before now) tx base s ran = record { answers = a; told = told; refused = refused } in
           let e : ending_of ran ≡ codes.TooLarge ran = cond-false (takes ran.after.pages) (codes.Ended (alone ran)) (codes.TooLarge ran) refused in
-          subst (λ (c : CodeEnding). RanTo m kind tx base (s ∷ []) before now c) (sym e) (reached_too_far m kind tx base (s ∷ []) s [] before before now base no_answer ran (reached_start m kind base (s ∷ []) before) w)
+          subst (λ (c : CodeEnding). RanTo (call_of m kind before now) tx base (s ∷ []) c) (sym e) (reached_too_far m kind tx base (s ∷ []) s [] before before now base no_answer ran (reached_start m kind base (s ∷ []) before) w)
     ]
 
-pub failed_alone : (m : Meaning) (kind : EngineKind) (tx : ℕ) (base : Image) (s : Statement) (before now : Option Told) (fault : EngineFault) → Faults m kind base s fault → Tells (Err fault) before now → RanTo m kind tx base (s ∷ []) before now (codes.Stopped fault)
+pub failed_alone : (m : Meaning) (kind : EngineKind) (tx : ℕ) (base : Image) (s : Statement) (before now : Option Told) (fault : EngineFault) → Faults m kind base s fault → Tells (Err fault) before now → RanTo (call_of m kind before now) tx base (s ∷ []) (codes.Stopped fault)
 failed_alone m kind tx base s before now fault faults told =
     reached_fault m kind tx base (s ∷ []) s [] before before now base no_answer fault (reached_start m kind base (s ∷ []) before) (record { faults = faults; told = told })

@@ -14,6 +14,7 @@ use Rattle.statement_runs.specs.declared.ending.Ending.TheVariants as codes
 use Rattle.session_rules.specs.Touched.{numbers_of, ListsAll}
 use Rattle.sql_engine.specs.declared.answer.Ran.{Ran}
 use Rattle.statement_runs.specs.Texts.{wants, assigned}
+use Rattle.statement_runs.specs.Calls.{call_of}
 use Rattle.statement_runs.specs.Running.{Led, Went, Stepped, RanTo}
 use Rattle.statement_runs.proofs.Touching.{touches_more}
 use Rattle.statement_runs.proofs.Reaching.{Reached, reached_more, reached_led, reached_fault, reached_too_far}
@@ -34,7 +35,7 @@ fits_next pieces others p rest next fit = sym (sum_by-cons (λ (q : Piece). q.pa
 
 module _ (meaning : EngineKind → Meaning) (kind now next : EngineKind) (tx : ℕ) (image : Image) (text : List ℕ) (pieces : List Piece) (params : List Value) (i : ℕ) (rest own later : List Value) (told_before told_now told_next : Option Told) (from to : Image) (before after : Ran) (p : Piece) (one : List ℕ) (o : Option CodeEnding)
     (s : Standing (meaning kind) kind now image text pieces params i rest told_before told_now from before)
-    (step : Stepped (meaning now) now tx from (record { text = one; params = own }) told_now told_next to after o)
+    (step : Stepped (call_of (meaning now) now told_now told_next) tx from (record { text = one; params = own }) to after o)
     (is : one ≡ (prepared_from text p).text) (cut : drop i pieces ≡ p ∷ drop (i + 1) pieces) (front : own ≡ take p.params rest) (back : later ≡ drop p.params rest) where
   statement : Statement
   statement = record { text = one; params = own }
@@ -43,9 +44,9 @@ module _ (meaning : EngineKind → Meaning) (kind now next : EngineKind) (tx : �
   unfolding statement
   there = subst (λ (ss : List Statement). Reached (meaning kind) kind image (assigned text pieces params) ss told_before told_now from before) (assigned_from text (drop i pieces) (drop (i + 1) pieces) p one rest own later cut is front back) s.reached
 
-  stepped : (e : Option CodeEnding) → o ≡ e → Stepped (meaning kind) kind tx from statement told_now told_next to after e
+  stepped : (e : Option CodeEnding) → o ≡ e → Stepped (call_of (meaning kind) kind told_now told_next) tx from statement to after e
   unfolding statement
-  stepped e same = subst (λ (x : Option CodeEnding). Stepped (meaning kind) kind tx from statement told_now told_next to after x) same (subst (λ (k : EngineKind). Stepped (meaning k) k tx from statement told_now told_next to after o) s.same_kind step)
+  stepped e same = subst (λ (x : Option CodeEnding). Stepped (call_of (meaning kind) kind told_now told_next) tx from statement to after x) same (subst (λ (k : EngineKind). Stepped (call_of (meaning k) k told_now told_next) tx from statement to after o) s.same_kind step)
 
   pub standing_more : next ≡ now → length later + p.params ≡ length rest → o ≡ None → Standing (meaning kind) kind next image text pieces params (i + 1) later told_before told_next to after
   standing_more kept back_length none = record {
@@ -57,20 +58,20 @@ module _ (meaning : EngineKind → Meaning) (kind now next : EngineKind) (tx : �
   -- the pages that it changed are touched too
   pub touches_step : (ns ms : List ℕ) → o ≡ None → (o ≡ None → ms ≡ ns ++ numbers_of after.after.pages) → ListsAll ns image from → ListsAll ms image to
   touches_step ns ms none more lists =
-      let w : Went (meaning kind) tx from statement told_now told_next to after = stepped None none in
+      let w : Went (call_of (meaning kind) kind told_now told_next) tx from statement to after = stepped None none in
       touches_more (meaning kind) statement tx after ns ms image from to w.answers w.image (more none) lists
 
-  stops : (e : CodeEnding) → Stepped (meaning kind) kind tx from statement told_now told_next to after (Some e) → RanTo (meaning kind) kind tx image (assigned text pieces params) told_before told_next e
+  stops : (e : CodeEnding) → Stepped (call_of (meaning kind) kind told_now told_next) tx from statement to after (Some e) → RanTo (call_of (meaning kind) kind told_before told_next) tx image (assigned text pieces params) e
   stops (codes.Ended all) step = absurd step
   stops (codes.TooLarge answer) step = reached_too_far (meaning kind) kind tx image (assigned text pieces params) statement (assigned text (drop (i + 1) pieces) later) told_before told_now told_next from before answer there step
   stops (codes.Stopped fault) step = reached_fault (meaning kind) kind tx image (assigned text pieces params) statement (assigned text (drop (i + 1) pieces) later) told_before told_now told_next from before fault there step
 
-  pub standing_stops : (e : CodeEnding) → o ≡ Some e → RanTo (meaning kind) kind tx image (assigned text pieces params) told_before told_next e
+  pub standing_stops : (e : CodeEnding) → o ≡ Some e → RanTo (call_of (meaning kind) kind told_before told_next) tx image (assigned text pieces params) e
   standing_stops e same = stops e (stepped (Some e) same)
 
 pub standing_ends : (m : Meaning) (kind now : EngineKind) (image : Image) (text : List ℕ) (pieces : List Piece) (params : List Value) (i : ℕ) (rest : List Value) (told_before told_now : Option Told) (cur : Image) (answer : Ran)
     → Standing m kind now image text pieces params i rest told_before told_now cur answer → length pieces ≤ i
-    → Led m kind image (assigned text pieces params) told_before told_now cur answer
+    → Led (call_of m kind told_before told_now) image (assigned text pieces params) cur answer
 standing_ends m kind now image text pieces params i rest told_before told_now cur answer s past =
     reached_led m kind image (assigned text pieces params) told_before told_now cur answer
     (subst (λ (ps : List Piece). Reached m kind image (assigned text pieces params) (assigned text ps rest) told_before told_now cur answer) (drop_all i pieces past) s.reached)

@@ -1,5 +1,5 @@
 -- That no number stands for two images: neither for an engine, nor for the open transactions, nor for the databases.
-use Rattle.std.specs.Prelude.{◌≡◌, ℕ, ◌+◌, ◌<◌, ◌≤◌, ◌==◌, Bool, false, List, [], ◌∷◌, length, find, All, Contains, Option, Some, None, IfSome}
+use Rattle.std.specs.Prelude.{◌≡◌, ℕ, ◌<◌, ◌≤◌, ◌==◌, Bool, false, List, length, find, All, Contains, Option, IfSome}
 use Rattle.dq_base.specs.declared.images.Image.{Image}
 use Rattle.dq_base.specs.declared.image_number.ImageNumber.{ImageNumber}
 use Rattle.dq_base.specs.declared.image_number.ImageNumber.TheVariants.{Newest, Working}

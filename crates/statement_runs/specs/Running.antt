@@ -5,12 +5,12 @@ use Rattle.dq_base.specs.declared.pages.PageSet.{PageSet}
 use Rattle.dq_base.specs.Applying.{applied}
 use Rattle.dq_base.specs.Changes.{changed}
 use Rattle.sql_engine.specs.declared.answer.Ran.{Ran}
-use Rattle.sql_engine.specs.declared.kind.EngineKind.{EngineKind}
 use Rattle.sql_engine.specs.declared.fault.EngineFault.{EngineFault}
 use Rattle.sql_engine.specs.declared.fault.EngineFault.TheVariants as faults
 use Rattle.sql_engine.specs.Replies.{Statement}
-use Rattle.sql_engine.specs.Meanings.{Meaning, Answers, Faults, Told, Tells}
+use Rattle.sql_engine.specs.Meanings.{Answers, Faults, Told, Tells}
 use Rattle.session_rules.specs.Engines.{Answer, Ending, Lacking, TooLarge, Stopped, Ended, is_cut, takes, no_answer, runs, used, AllowsAll}
+use Rattle.statement_runs.specs.Calls.{EngineCall}
 use Rattle.statement_runs.specs.declared.ending.AllRan.{AllRan}
 use Rattle.statement_runs.specs.declared.ending.Ending.{Ending as CodeEnding}
 use Rattle.statement_runs.specs.declared.ending.Ending.TheVariants as codes
@@ -32,35 +32,36 @@ abbrev pub Shows : ℕ → Image → Ending → CodeEnding → Type 0
 Shows tx from Lacking ending = ⊥
 Shows tx from (TooLarge answer) ending = ending ≡ codes.TooLarge answer
 Shows tx from (Stopped fault) ending = ending ≡ codes.Stopped fault
-Shows tx from (Ended to answer) ending = (ran : AllRan) × (ending ≡ codes.Ended ran) × (ran.answer ≡ answer) × (change_in ran ≡ record { tx = tx; pages = changed from to }) × (applied from (changed from to) ≡ to)
+Shows tx from (Ended to answer) ending = (ran : AllRan) × (ending ≡ codes.Ended ran) × (ran.answer ≡ answer)
+    × (change_in ran ≡ record { tx = tx; pages = changed from to }) × (applied from (changed from to) ≡ to)
 
 -- What running came to: there are answers that the engine may give and told, all of them are used, and by them it ends so.
-pub record RanTo (m : Meaning) (kind : EngineKind) (tx : ℕ) (image : Image) (statements : List Statement) (told_before told_now : Option Told) (ending : CodeEnding) : Type 0 where
+pub record RanTo (c : EngineCall) (tx : ℕ) (image : Image) (statements : List Statement) (ending : CodeEnding) : Type 0 where
   pub answers : List Answer
-  pub allowed : AllowsAll m kind image statements answers
-  pub told : TellsAll answers told_before told_now
+  pub allowed : AllowsAll c.meaning c.kind image statements answers
+  pub told : TellsAll answers c.told_before c.told_now
   pub exact : used image statements answers ≡ length answers
   pub ends : Shows tx image (runs image no_answer statements answers) ending
 
 -- All ran: there are answers that the engine may give and told, all of them are used, and by them the statements lead to this
 -- image and this last answer.
-pub record Led (m : Meaning) (kind : EngineKind) (image : Image) (statements : List Statement) (told_before told_now : Option Told) (to : Image) (answer : Ran) : Type 0 where
+pub record Led (c : EngineCall) (image : Image) (statements : List Statement) (to : Image) (answer : Ran) : Type 0 where
   pub answers : List Answer
-  pub allowed : AllowsAll m kind image statements answers
-  pub told : TellsAll answers told_before told_now
+  pub allowed : AllowsAll c.meaning c.kind image statements answers
+  pub told : TellsAll answers c.told_before c.told_now
   pub exact : used image statements answers ≡ length answers
   pub ends : runs image no_answer statements answers ≡ Ended to answer
   pub leads : applied image (changed image to) ≡ to
 
 -- what it came to where it ended so, or else led to this image and this last answer
-abbrev pub AdvancedTo : Meaning → EngineKind → ℕ → Image → List Statement → Option Told → Option Told → Image → Ran → Option CodeEnding → Type 0
-AdvancedTo m kind tx image ss before now to answer None = Led m kind image ss before now to answer
-AdvancedTo m kind tx image ss before now to answer (Some ending) = RanTo m kind tx image ss before now ending
+abbrev pub AdvancedTo : EngineCall → ℕ → Image → List Statement → Image → Ran → Option CodeEnding → Type 0
+AdvancedTo c tx image ss to answer None = Led c image ss to answer
+AdvancedTo c tx image ss to answer (Some ending) = RanTo c tx image ss ending
 
 -- what it came to where it ended so, or else led to where this is told of, with this last answer
-abbrev pub CameTo : Meaning → EngineKind → ℕ → Image → List Statement → Option Told → Option Told → Ran → Came → Type 0
-CameTo m kind tx image ss before now answer (came.Through reached) = (to : Image) × Led m kind image ss before now to answer × (change_to image reached ≡ changed image to)
-CameTo m kind tx image ss before now answer (came.Short ending) = RanTo m kind tx image ss before now ending
+abbrev pub CameTo : EngineCall → ℕ → Image → List Statement → Ran → Came → Type 0
+CameTo c tx image ss answer (came.Through reached) = (to : Image) × Led c image ss to answer × (change_to image reached ≡ changed image to)
+CameTo c tx image ss answer (came.Short ending) = RanTo c tx image ss ending
 
 abbrev pub is_unopened : EngineFault → Bool
 is_unopened faults.Constraint = false
@@ -105,32 +106,33 @@ ending_of ran = if takes ran.after.pages then codes.Ended (record { together = N
 
 -- how running ended that came to this over an image, with this last answer
 abbrev pub ended : ℕ → Image → Ran → Came → CodeEnding
-ended tx image answer (came.Through reached) = codes.Ended (record { together = Some (record { tx = tx; pages = change_to image reached }); answer = answer })
+ended tx image answer (came.Through reached) =
+    codes.Ended (record { together = Some (record { tx = tx; pages = change_to image reached }); answer = answer })
 ended tx image answer (came.Short ending) = ending
 
 -- one more statement ran: its answer, and the image after its pages
-pub record Went (m : Meaning) (tx : ℕ) (from : Image) (s : Statement) (told_before told_now : Option Told) (to : Image) (ran : Ran) : Type 0 where
-  pub answers : Answers m from s tx ran
-  pub told : Tells (Ok ran) told_before told_now
+pub record Went (c : EngineCall) (tx : ℕ) (from : Image) (s : Statement) (to : Image) (ran : Ran) : Type 0 where
+  pub answers : Answers c.meaning from s tx ran
+  pub told : Tells (Ok ran) c.told_before c.told_now
   pub taken : takes ran.after.pages ≡ true
   pub image : to ≡ applied from ran.after.pages
 
 -- it was the last, since its pages can't be applied
-pub record WentTooFar (m : Meaning) (tx : ℕ) (from : Image) (s : Statement) (told_before told_now : Option Told) (ran : Ran) : Type 0 where
-  pub answers : Answers m from s tx ran
-  pub told : Tells (Ok ran) told_before told_now
+pub record WentTooFar (c : EngineCall) (tx : ℕ) (from : Image) (s : Statement) (ran : Ran) : Type 0 where
+  pub answers : Answers c.meaning from s tx ran
+  pub told : Tells (Ok ran) c.told_before c.told_now
   pub refused : takes ran.after.pages ≡ false
 
 -- it was the last, since the engine refuses it
-pub record Failed (m : Meaning) (kind : EngineKind) (from : Image) (s : Statement) (told_before told_now : Option Told) (fault : EngineFault) : Type 0 where
-  pub faults : Faults m kind from s fault
-  pub told : Tells (Err fault) told_before told_now
+pub record Failed (c : EngineCall) (from : Image) (s : Statement) (fault : EngineFault) : Type 0 where
+  pub faults : Faults c.meaning c.kind from s fault
+  pub told : Tells (Err fault) c.told_before c.told_now
 
-abbrev pub Stepped : Meaning → EngineKind → ℕ → Image → Statement → Option Told → Option Told → Image → Ran → Option CodeEnding → Type 0
-Stepped m kind tx from s before now to ran None = Went m tx from s before now to ran
-Stepped m kind tx from s before now to ran (Some (codes.TooLarge answer)) = WentTooFar m tx from s before now answer
-Stepped m kind tx from s before now to ran (Some (codes.Stopped fault)) = Failed m kind from s before now fault
-Stepped m kind tx from s before now to ran (Some (codes.Ended all)) = ⊥
+abbrev pub Stepped : EngineCall → ℕ → Image → Statement → Image → Ran → Option CodeEnding → Type 0
+Stepped c tx from s to ran None = Went c tx from s to ran
+Stepped c tx from s to ran (Some (codes.TooLarge answer)) = WentTooFar c tx from s answer
+Stepped c tx from s to ran (Some (codes.Stopped fault)) = Failed c from s fault
+Stepped c tx from s to ran (Some (codes.Ended all)) = ⊥
 
 -- an answer was taken in, or it ends running
 abbrev pub TookIn : Image → Ran → Image → Ran → Option CodeEnding → Type 0

@@ -10,6 +10,7 @@ ghost use Rattle.statement_runs.specs.declared.ending.Ending.TheVariants as endi
 ghost use Rattle.session_rules.specs.Statements.{prepared_from};
 ghost use Rattle.statement_runs.specs.Texts.{assigned, wants};
 ghost use Rattle.session_rules.specs.Touched.{ListsAll, numbers_of};
+ghost use Rattle.statement_runs.specs.Calls.{call_on};
 ghost use Rattle.statement_runs.specs.Running as running;
 ghost use Rattle.statement_runs.specs.Running.{AdvancedTo, CameTo, RanTo, Stepped};
 ghost use Rattle.statement_runs.specs.Learning.{IsLearnt, left_by};
@@ -72,7 +73,8 @@ pub fn run_one<E: Engine>(
     // Nothing is cut off without a limit.
     ensures cut { running.ends_cut result ≡ true → IsSome options.limit }
     ensures learnt { All (IsLearnt (E.known engine.old) (Some numbers.before) image.now numbers.after (left_by image.now result)) (E.known engine.new) }
-    ensures ran { RanTo (E.meaning (E.kind engine.old)) (E.kind engine.old) options.tx image.now (record { text = text.now; params = params.now } ∷ []) (E.told engine.old) (E.told engine.new) result }
+    ensures ran { RanTo (call_on E.meaning E.kind E.told engine.old engine.new) options.tx image.now
+        (record { text = text.now; params = params.now } ∷ []) result }
 {
     match engine.run(image, numbers, text, params, options.tx, options.limit) {
         Ok(ran) => ending_of(ran),
@@ -93,7 +95,8 @@ pub fn run_unnumbered<E: Engine>(
     // Nothing is cut off without a limit.
     ensures cut { running.ends_cut result ≡ true → IsSome options.limit }
     ensures known { E.known engine.new ≡ [] }
-    ensures ran { RanTo (E.meaning (E.kind engine.old)) (E.kind engine.old) options.tx image.now (record { text = text.now; params = params.now } ∷ []) (E.told engine.old) (E.told engine.new) result }
+    ensures ran { RanTo (call_on E.meaning E.kind E.told engine.old engine.new) options.tx image.now
+        (record { text = text.now; params = params.now } ∷ []) result }
 {
     match run_forgetting(engine, image, text, params, options) {
         Ok(ran) => ending_of(ran),
@@ -130,6 +133,8 @@ fn run_forgetting<E: Engine>(
 /// Where running several statements stands, which work on an image in place.
 #[derive(Drop)]
 struct Progress {
+    /// Where it takes memory from.
+    alloc: Global,
     /// What puts the image back, the last statement's last.
     undoes: Vec<Undo>,
     /// The numbers above 1 of the pages that they changed.
@@ -155,6 +160,7 @@ impl Progress {
         ensures answer { result.answer ≡ rules.no_answer }
     {
         Progress {
+            alloc,
             undoes: Vec::new(alloc),
             touched: Vec::new(alloc),
             answer: no_answer(alloc),
@@ -163,12 +169,7 @@ impl Progress {
 
     /// Applies pages to the image, and notes what they touch and what puts it back; false where they can't be applied. `Err`
     /// is want of memory.
-    fn apply(
-        &mut self,
-        alloc: Global,
-        image: &mut Image,
-        pages: &[NumberedPage],
-    ) -> Result<bool, AllocError>
+    fn apply(&mut self, image: &mut Image, pages: &[NumberedPage]) -> Result<bool, AllocError>
         requires change { IsChange image.old pages.now }
         ensures taken { IfOk result (λ taken. taken ≡ rules.takes pages.now) }
         ensures done { IfOk result (λ taken. taken ≡ true → image.new ≡ applied image.old pages.now) }
@@ -182,19 +183,14 @@ impl Progress {
             Err(_) => Ok(false),
             Ok(lengths) => {
                 add_numbers(&mut self.touched, pages)?;
-                apply_noted(alloc, &mut self.undoes, image, pages, lengths)?;
+                apply_noted(self.alloc, &mut self.undoes, image, pages, lengths)?;
                 Ok(true)
             }
         }
     }
 
     /// Takes an answer in, or says how running ends with it. `Err` is want of memory.
-    fn take(
-        &mut self,
-        alloc: Global,
-        image: &mut Image,
-        ran: Ran,
-    ) -> Result<Option<Ending>, AllocError>
+    fn take(&mut self, image: &mut Image, ran: Ran) -> Result<Option<Ending>, AllocError>
         requires change { IsChange image.old ran.after.pages }
         ensures took { IfOk result (running.TookIn image.old ran image.new self.new.answer) }
         ensures opened { IfOk result (λ ending. running.stops_unopened ending ≡ false) }
@@ -202,7 +198,7 @@ impl Progress {
         ensures touched { IfOk result (λ ending. ending ≡ None → self.new.touched.items ≡ self.old.touched.items ++ numbers_of ran.after.pages) }
         ensures kept { all_undone self.new.undoes.items image.new ≡ all_undone self.old.undoes.items image.old }
     {
-        if !self.apply(alloc, image, ran.after.pages.as_slice())? {
+        if !self.apply(image, ran.after.pages.as_slice())? {
             return Ok(Some(Ending::TooLarge(ran)));
         }
         self.answer = ran;
@@ -225,9 +221,9 @@ fn no_answer(alloc: Global) -> Ran
     }
 }
 
-/// Runs one more statement over the image, by an engine that forgets all numbers. How running ends, where this is the last for another reason than that all ran.
+/// Runs one more statement over the image, by an engine that forgets all numbers. How running ends, where this is the last for
+/// another reason than that all ran.
 fn step<E: Engine>(
-    alloc: Global,
     engine: &mut E,
     image: &mut Image,
     progress: &mut Progress,
@@ -239,13 +235,15 @@ fn step<E: Engine>(
     ensures unopened { IfOk result (λ ending. running.stops_unopened ending ≡ true → E.refused_openings engine.old < E.refused_openings engine.new) }
     ensures cut { IfOk result (λ ending. running.stops_cut ending ≡ true → IsSome options.limit) }
     ensures known { E.known engine.new ≡ [] }
-    ensures step { IfOk result (Stepped (E.meaning (E.kind engine.old)) (E.kind engine.old) options.tx image.old (record { text = text.now; params = params.now }) (E.told engine.old) (E.told engine.new) image.new progress.new.answer) }
-    ensures touched { IfOk result (λ ending. ending ≡ None → progress.new.touched.items ≡ progress.old.touched.items ++ numbers_of progress.new.answer.after.pages) }
+    ensures step { IfOk result (Stepped (call_on E.meaning E.kind E.told engine.old engine.new) options.tx image.old
+        (record { text = text.now; params = params.now }) image.new progress.new.answer) }
+    ensures touched { IfOk result (λ ending. ending ≡ None →
+        progress.new.touched.items ≡ progress.old.touched.items ++ numbers_of progress.new.answer.after.pages) }
     ensures kept { all_undone progress.new.undoes.items image.new ≡ all_undone progress.old.undoes.items image.old }
 {
     match run_forgetting(engine, image, text, params, options) {
         Ok(ran) => {
-            let ending = progress.take(alloc, image, ran)?;
+            let ending = progress.take(image, ran)?;
             Ok(ending)
         }
         Err(fault) => Ok(Some(Ending::Stopped(fault))),
@@ -255,7 +253,6 @@ fn step<E: Engine>(
 /// Runs the statements of a text one after another, from where nothing ran yet. How running ends, where that is for another
 /// reason than that all ran.
 fn advance<E: Engine>(
-    alloc: Global,
     engine: &mut E,
     image: &mut Image,
     progress: &mut Progress,
@@ -272,7 +269,8 @@ fn advance<E: Engine>(
     ensures unopened { IfOk result (λ ending. running.stops_unopened ending ≡ true → E.refused_openings engine.old < E.refused_openings engine.new) }
     ensures cut { IfOk result (λ ending. running.stops_cut ending ≡ true → IsSome options.limit) }
     ensures known { All (Contains (E.known engine.old)) (E.known engine.new) }
-    ensures ran { IfOk result (AdvancedTo (E.meaning (E.kind engine.old)) (E.kind engine.old) options.tx image.old (assigned text.now pieces.now params.now) (E.told engine.old) (E.told engine.new) image.new progress.new.answer) }
+    ensures ran { IfOk result (AdvancedTo (call_on E.meaning E.kind E.told engine.old engine.new) options.tx image.old
+        (assigned text.now pieces.now params.now) image.new progress.new.answer) }
     ensures touched { IfOk result (λ ending. ending ≡ None → ListsAll progress.new.touched.items image.old image.new) }
     ensures kept { all_undone progress.new.undoes.items image.new ≡ all_undone progress.old.undoes.items image.old }
 {
@@ -280,7 +278,7 @@ fn advance<E: Engine>(
     for piece in pieces {
         let (own, later) = rest.split_at(piece.params as usize);
         let one = piece_text(text, piece);
-        match step(alloc, engine, image, progress, one, own, options)? {
+        match step(engine, image, progress, one, own, options)? {
             Some(ending) => return Ok(Some(ending)),
             None => rest = later,
         }
@@ -291,7 +289,6 @@ fn advance<E: Engine>(
 /// Runs the statements of a text one after another, and tells where they led, or how they ended before. The image isn't put
 /// back.
 fn lead<E: Engine>(
-    alloc: Global,
     engine: &mut E,
     image: &mut Image,
     progress: &mut Progress,
@@ -308,15 +305,14 @@ fn lead<E: Engine>(
     ensures unopened { IfOk result (λ came. running.came_unopened came ≡ true → E.refused_openings engine.old < E.refused_openings engine.new) }
     ensures cut { IfOk result (λ came. running.came_cut came ≡ true → IsSome options.limit) }
     ensures known { All (Contains (E.known engine.old)) (E.known engine.new) }
-    ensures ran { IfOk result (CameTo (E.meaning (E.kind engine.old)) (E.kind engine.old) options.tx image.old (assigned text.now pieces.now params.now) (E.told engine.old) (E.told engine.new) progress.new.answer) }
+    ensures ran { IfOk result (CameTo (call_on E.meaning E.kind E.told engine.old engine.new) options.tx image.old (assigned text.now pieces.now params.now)
+        progress.new.answer) }
     ensures kept { all_undone progress.new.undoes.items image.new ≡ all_undone progress.old.undoes.items image.old }
 {
-    match advance(
-        alloc, engine, image, progress, text, pieces, params, options,
-    )? {
+    match advance(engine, image, progress, text, pieces, params, options)? {
         Some(ending) => Ok(Came::Short(ending)),
         None => {
-            let reached = Reached::of(alloc, image, progress.touched.as_slice())?;
+            let reached = Reached::of(progress.alloc, image, progress.touched.as_slice())?;
             Ok(Came::Through(reached))
         }
     }
@@ -367,19 +363,10 @@ pub fn run_all<E: Engine>(
     // Nothing is cut off without a limit.
     ensures cut { IfOk result (λ ending. running.ends_cut ending ≡ true → IsSome options.limit) }
     ensures known { All (Contains (E.known engine.old)) (E.known engine.new) }
-    ensures ran { IfOk result (RanTo (E.meaning (E.kind engine.old)) (E.kind engine.old) options.tx image.old (assigned text.now pieces.now params.now) (E.told engine.old) (E.told engine.new)) }
+    ensures ran { IfOk result (RanTo (call_on E.meaning E.kind E.told engine.old engine.new) options.tx image.old (assigned text.now pieces.now params.now)) }
 {
     let mut progress = Progress::new(alloc);
-    let came = lead(
-        alloc,
-        engine,
-        image,
-        &mut progress,
-        text,
-        pieces,
-        params,
-        options,
-    );
+    let came = lead(engine, image, &mut progress, text, pieces, params, options);
     put_back_all(alloc, &mut progress.undoes, image);
     ended(alloc, image, came?, progress.answer, options.tx)
 }

@@ -3,10 +3,11 @@ use Rattle.gateway.specs.Seen.{seen}
 use Rattle.client_sessions.proofs.Resuming.{done_sends, done_sound}
 use Rattle.session_rules.specs.Sessions.{lent_query}
 use Rattle.client_sessions.proofs.Idle.{done_closed}
+use Rattle.client_sessions.proofs.Writable.{read_sent}
 use Rattle.client_sessions.proofs.answering.finish.Goals as goal
 
 pub act_of-requires : goal.act_of-requires
-act_of-requires c = done_sends (seen c.args.gateway.now []) c.args.conn (seen c.on_read_done.new.self []) _ _ c.in_ok-act.field-0 c.in-Some.act c.in-Some.is c.requires.sends (c.in_ok-act.ensures.done [])
+act_of-requires c = done_sends (seen c.args.gateway.now []) c.args.conn (seen c.on_read_done.new.self []) _ _ c.in_ok-act.field-0 c.in-Some.act c.in-Some.is (read_sent c.args.read) (c.in_ok-act.ensures.done [])
 
 pub returns-in_err-act_of-in-Some-clause-sound : goal.returns-in_err-act_of-in-Some-clause-sound
 returns-in_err-act_of-in-Some-clause-sound c = λ databases.

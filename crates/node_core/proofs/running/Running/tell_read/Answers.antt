@@ -23,3 +23,9 @@ returns-in_ok-perform-in-Some-clause-reads c =
     let mid : Running = record c.args.self.now { clients = c.on_read_done.new.self } in
     reads_reply c.args.self.now mid c.perform.new.self c.args.conn refl c.databases_stand.ensures (read_named c.args.read) c.in_ok-act.field-0 c.in-Some.act
     (c.in_ok-act.ensures.finished databases) (c.in_ok-act.ensures.rest databases) c.in-Some.is c.in_ok-perform-in-Some.ensures.performed
+
+pub returns-in_err-perform-in-Some-clause-agrees : goal.returns-in_err-perform-in-Some-clause-agrees
+returns-in_err-perform-in-Some-clause-agrees c = λ known agree. c.perform.ensures.agrees known (c.on_read_done.ensures.agrees known c.args.self.now.applied.machine agree)
+
+pub returns-in_ok-perform-in-Some-clause-agrees : goal.returns-in_ok-perform-in-Some-clause-agrees
+returns-in_ok-perform-in-Some-clause-agrees c = λ known agree. c.perform.ensures.agrees known (c.on_read_done.ensures.agrees known c.args.self.now.applied.machine agree)

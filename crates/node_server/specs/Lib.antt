@@ -1,0 +1,4 @@
+pub mod Counts
+pub mod Hearing
+pub mod Lasting
+pub mod Waiting

@@ -1,0 +1,35 @@
+//! What serves a node: threads that read and write links, dial peers, tick, and answer queries beside it; the bounded queues between
+//! them and the node; and what a host of links and threads is.
+#![tactic(auto)]
+
+mod channel;
+mod client_queue;
+mod credit;
+mod done;
+mod heard;
+mod host;
+mod keeper;
+mod outbox;
+mod peer;
+mod peer_mail;
+mod peer_queue;
+mod reader;
+mod spawning;
+mod ticker;
+mod worker;
+mod writer;
+
+pub use channel::{ChannelInbox, ChannelPost, event_channel};
+pub use client_queue::{ClientQueue, ClientWrites, write_queue};
+pub use done::Done;
+pub use heard::Heard;
+pub use host::Host;
+pub use keeper::{KEEPERS, Keeper};
+pub use outbox::Queues;
+pub use peer::Peer;
+pub use peer_queue::PeerQueue;
+pub use reader::{Lent, Moves, Reader, ReaderWorker};
+pub use spawning::beside;
+pub use ticker::Ticker;
+pub use worker::Worker;
+pub use writer::Writer;

@@ -1,0 +1,122 @@
+//! What is sent of what waits for a peer.
+
+use crate::taps::{Deeds, TapDoor};
+use dq_base::{Calls, Items};
+use node_server::{Peer, PeerQueue};
+use raft_vote::{LogEnd, RaftMessage, What};
+use std::alloc::Global;
+use std::sync::Wait;
+use std::test::*;
+use wire_words::WireText;
+
+/// Where the low byte of the term stands in a message's bytes.
+const TERM_AT: usize = 16;
+
+/// A message of node 1 to node 2 in this term: an Append, or else a TimeoutNow.
+fn message(alloc: Global, term: u64, is_bulk: bool) -> RaftMessage {
+    let what = if is_bulk {
+        What::Append {
+            prev: LogEnd { term: 0, index: 0 },
+            commit: 0,
+            entries: Items::new(Vec::new(alloc)),
+        }
+    } else {
+        What::TimeoutNow
+    };
+    RaftMessage {
+        from: 1,
+        to: 2,
+        term,
+        what,
+    }
+}
+
+/// The terms of Appends and of other messages that are put, the dials and the writes over the first link that fail; and a byte for each
+/// deed: `>` for a dial, the greeting's `g`, the term of a message that is written, `!` for a write that fails.
+const ROWS: &[(&[(u8, bool)], &[u64], &[u64], &[u8])] = &[
+    (&[], &[], &[], b""),
+    (&[(1, false), (2, false)], &[], &[], b">g\x01\x02"),
+    (
+        &[(1, true), (2, false), (3, true), (4, false)],
+        &[],
+        &[],
+        b">g\x02\x04\x03",
+    ),
+    (
+        &[(1, false), (2, false), (3, false)],
+        &[1],
+        &[],
+        b">g\x02\x03",
+    ),
+    (
+        &[(1, false), (2, false), (3, false)],
+        &[],
+        &[1],
+        b">!>g\x02\x03",
+    ),
+    (
+        &[(1, false), (2, false), (3, false)],
+        &[],
+        &[3],
+        b">g\x01!>g\x03",
+    ),
+];
+
+/// Whether these are the deeds of a peer's thread that works once all was put.
+fn sends<R: Wait + Copy + Drop>(
+    rt: R,
+    alloc: Global,
+    put: &[(u8, bool)],
+    dials: &[u64],
+    writes: &[u64],
+    wanted: &[u8],
+) -> Option<bool> {
+    let deeds = Deeds::new(alloc).ok()?;
+    let queue = PeerQueue::new(alloc).ok()?;
+    let peer = Peer {
+        alloc,
+        rt,
+        door: TapDoor {
+            alloc,
+            deeds: deeds.again().ok()?,
+            at: TERM_AT,
+            fails: Some(Vec::from_slice(alloc, writes).ok()?),
+            calls: Calls::new(Vec::from_slice(alloc, dials).ok()?),
+        },
+        address: WireText::new(String::new(alloc)),
+        greeting: Items::new(Vec::from_slice(alloc, b"0123456789abcdefg").ok()?),
+        queue: queue.again().ok()?,
+    };
+    for &(term, is_bulk) in put {
+        queue.put(&rt, message(alloc, term as u64, is_bulk));
+    }
+    queue.close(&rt);
+    peer.run();
+    Some(deeds.are(wanted))
+}
+
+/// How many of so many messages that aren't Appends wait.
+fn waiting<R: Wait>(rt: &R, alloc: Global, count: u64) -> Option<u64> {
+    let queue = PeerQueue::new(alloc).ok()?;
+    for term in 0..count {
+        queue.put(rt, message(alloc, term, false));
+    }
+    queue.close(rt);
+    let mut taken: u64 = 0;
+    for _ in 0..count {
+        if queue.take(rt).is_some() {
+            taken = taken.saturating_add(1);
+        }
+    }
+    Some(taken)
+}
+
+#[test]
+fn a_peer_is_dialled_and_sent_what_waits(rt: HostRuntime) -> Result<(), Fail> {
+    for (row, &(put, dials, writes, wanted)) in ROWS.iter().enumerate() {
+        let came = sends(rt, rt.alloc(), put, dials, writes, wanted);
+        assert!(rt; came == Some(true), "row {row}");
+    }
+    assert_eq!(rt; waiting(&rt, rt.alloc(), 26_216), Some(26_214));
+    Ok(())
+}

@@ -1,0 +1,42 @@
+use crate::addresses::free_address;
+use node_edge::{Door, Link};
+use node_server::Host;
+use server_hosts::TcpHost;
+use std::test::*;
+
+/// The version and the header of a message of one word: the first 16 bytes of a link.
+const FRONT: &[u8; 16] = b"\x01\0\0\0\0\0\0\0\x01\0\0\0\x03\0\0\0";
+
+/// What comes of calls over two ends of a link: the bytes that the far end reads first, those that come behind them, those that its twin
+/// answers, and whether the near end finds the end once the twin is shut.
+fn talk<L: Link>(mut near: L, mut far: L) -> Option<([u8; 16], [u8; 5], [u8; 4], bool)> {
+    let mut front = [0; 16];
+    far.read(&mut front).ok()?;
+    near.write_all(b"asked").ok()?;
+    let mut asked = [0; 5];
+    far.read(&mut asked).ok()?;
+    let mut twin = far.twin().ok()?;
+    twin.write_all(b"told").ok()?;
+    let mut told = [0; 4];
+    near.read(&mut told).ok()?;
+    twin.shut();
+    let is_over = near.read(&mut [0; 4]) == Ok(0);
+    Some((front, asked, told, is_over))
+}
+
+/// A talk over a host's door, which gives the far end once the first 16 bytes came.
+fn talked<H: Host<u8>>(host: &mut H, address: &str) -> Option<([u8; 16], [u8; 5], [u8; 4], bool)> {
+    let mut door = host.listen(address).ok()?;
+    let mut near = host.dial(address).ok()?;
+    near.write_all(FRONT).ok()?;
+    talk(near, door.accept().ok()?)
+}
+
+#[test]
+fn a_host_talks_over_sockets(rt: HostRuntime) -> Result<(), Fail> {
+    let address = free_address(rt)?;
+    let mut host: TcpHost<_, u8> = TcpHost::new(rt, rt, rt.alloc())?;
+    let came = talked(&mut host, address.as_str());
+    assert_eq!(rt; came, Some((*FRONT, *b"asked", *b"told", true)));
+    Ok(())
+}

@@ -1,0 +1,147 @@
+//! Links and doors that note what is done to them, a byte for each deed.
+
+ghost use Rattle.std.specs.Prelude.{◌≡◌, None};
+
+use dq_base::{Calls, Failed};
+use node_edge::{Door, Link};
+use std::alloc::{AllocError, Global};
+use std::sync::Arc;
+use std::sync::atomic::{AtomicU64, Ordering};
+
+/// A link was dialled.
+const DIALLED: u8 = b'>';
+
+/// A write failed.
+const UNWRITTEN: u8 = b'!';
+
+/// A link was shut.
+const SHUT: u8 = b'.';
+
+/// The last eight deeds, the last one in the lowest byte. One thread at a time adds to them.
+#[derive(Drop)]
+pub(crate) struct Deeds {
+    word: Arc<AtomicU64, Global>,
+}
+
+impl Deeds {
+    /// Nothing was done.
+    pub(crate) fn new(alloc: Global) -> Result<Deeds, AllocError> {
+        Ok(Deeds {
+            word: Arc::new(alloc, AtomicU64::new(0))?,
+        })
+    }
+
+    /// Another end.
+    pub(crate) fn again(&self) -> Result<Deeds, AllocError> {
+        Ok(Deeds {
+            word: Arc::try_clone(&self.word)?,
+        })
+    }
+
+    fn note(&self, deed: u8) {
+        let so_far = self.word.load(Ordering::SeqCst);
+        let now = so_far.wrapping_mul(256).wrapping_add(deed as u64);
+        self.word.store(now, Ordering::SeqCst);
+    }
+
+    /// Whether these deeds were done, at most eight.
+    pub(crate) fn are(&self, wanted: &[u8]) -> bool {
+        let mut word: u64 = 0;
+        for deed in wanted {
+            word = word.wrapping_mul(256).wrapping_add(*deed as u64);
+        }
+        self.word.load(Ordering::SeqCst) == word
+    }
+}
+
+/// A link that notes for each write one byte of it. Its end comes at once.
+#[derive(Drop)]
+pub(crate) struct Tap {
+    deeds: Deeds,
+    at: usize,
+    calls: Calls,
+}
+
+impl Tap {
+    /// A link that notes the byte at this place of each write. `fails` lists the numbers, from 1, of the writes that are to fail.
+    pub(crate) fn new(deeds: Deeds, at: usize, fails: Vec<u64>) -> Tap {
+        Tap {
+            deeds,
+            at,
+            calls: Calls::new(fails),
+        }
+    }
+}
+
+impl Link for Tap {
+    ghost left = { λ _. None };
+
+    ghost written = { λ _. None };
+
+    ghost faults = { λ link. link.calls.faults };
+
+    fn read(&mut self, _into: &mut [u8]) -> Result<usize, Failed> {
+        Err(self.calls.fail())
+    }
+
+    fn write_all(&mut self, bytes: &[u8]) -> Result<(), Failed> {
+        if self.calls.start().is_err() {
+            self.deeds.note(UNWRITTEN);
+            return Err(Failed);
+        }
+        if let Some(byte) = bytes.get(self.at) {
+            self.deeds.note(*byte);
+        }
+        Ok(())
+    }
+
+    fn twin(&mut self) -> Result<Tap, Failed> {
+        Err(self.calls.fail())
+    }
+
+    fn shut(&mut self) {
+        self.deeds.note(SHUT);
+    }
+}
+
+/// A door that dials links which note the byte at one place of each write. The first of them fails at some writes.
+#[derive(Drop)]
+pub(crate) struct TapDoor {
+    pub(crate) alloc: Global,
+    pub(crate) deeds: Deeds,
+    pub(crate) at: usize,
+    pub(crate) fails: Option<Vec<u64>>,
+    pub(crate) calls: Calls,
+}
+
+impl TapDoor {
+    fn link(&mut self) -> Option<Tap>
+        ensures { self.new.calls ≡ self.old.calls }
+    {
+        let fails = match self.fails.take() {
+            Some(fails) => fails,
+            None => Vec::new(self.alloc),
+        };
+        let deeds = self.deeds.again().ok()?;
+        deeds.note(DIALLED);
+        Some(Tap::new(deeds, self.at, fails))
+    }
+}
+
+impl Door for TapDoor {
+    type Link = Tap;
+
+    ghost faults = { λ door. door.calls.faults };
+
+    fn accept(&mut self) -> Result<Tap, Failed> {
+        Err(self.calls.fail())
+    }
+
+    fn dial(&mut self, _address: &str) -> Result<Tap, Failed> {
+        self.calls.start()?;
+        match self.link() {
+            Some(link) => Ok(link),
+            None => Err(self.calls.fail()),
+        }
+    }
+}

@@ -1,0 +1,108 @@
+//! Threads that send to a peer, that tick, and that answer queries.
+use crate::addresses::free_address;
+use crate::echo::Next;
+use crossbeam_channel::unbounded;
+use dq_base::Items;
+use node_edge::{Door, Event, Inbox, Link};
+use node_server::{Heard, Host, Lent, Peer, PeerQueue, ReaderWorker, Ticker, Worker, beside};
+use raft_vote::{RaftMessage, What};
+use server_hosts::{MemHost, TcpHost};
+use std::alloc::Global;
+use std::test::*;
+use wire_words::WireText;
+
+/// What a link begins with here.
+const GREETING: &[u8; 16] = b"\x01\0\0\0\0\0\0\0\x02\0\0\0\x0b\0\0\0";
+
+/// The bytes of node 1's TimeoutNow in term 3: a header of two words and type 6, the sender, the term.
+const MESSAGE: &[u8; 24] = b"\x02\0\0\0\x06\0\0\0\x01\0\0\0\0\0\0\0\x03\0\0\0\0\0\0\0";
+
+/// Whether a reader's thread tells what comes of a query that is lent.
+fn reads<H: Host<u8>>(host: &mut H, alloc: Global) -> Option<bool> {
+    let rt = host.rt();
+    let (jobs, lent) = unbounded(alloc).ok()?;
+    let worker = ReaderWorker {
+        rt,
+        reader: Next,
+        jobs: lent,
+        post: host.post().ok()?,
+    };
+    beside::<Next, H>(host, Worker::Reader(worker)).ok()?;
+    jobs.send(&rt, Lent { conn: 4, job: 6 }).ok()?;
+    let told = host.take().ok()?;
+    Some(matches!(told, Event::ReadDone(4, 7)))
+}
+
+/// How many Beats come before a Timeout.
+fn beats<H: Host<u8>>(host: &mut H, alloc: Global) -> Option<usize> {
+    let rt = host.rt();
+    let ticker = Ticker {
+        rt,
+        post: host.post().ok()?.metered(alloc, 1).ok()?,
+        heard: Heard::new(alloc).ok()?,
+        word: 5,
+    };
+    beside::<Next, H>(host, Worker::Ticker(ticker)).ok()?;
+    for count in 0..100 {
+        let event = host.take().ok()?;
+        if matches!(event, Event::Timeout) {
+            return Some(count);
+        }
+    }
+    None
+}
+
+/// The first 40 bytes of a link.
+fn heard_of<L: Link>(mut link: L) -> Option<[u8; 40]> {
+    let mut held = [0; 40];
+    let mut count = 0;
+    for _ in 0..40 {
+        if count < 40 {
+            count += link.read(&mut held[count..]).ok()?;
+        }
+    }
+    Some(held)
+}
+
+/// Whether a peer's thread dials, greets, and sends a message.
+fn sends<H: Host<u8>>(host: &mut H, alloc: Global, address: String) -> Option<bool> {
+    let rt = host.rt();
+    let mut door = host.listen(address.as_str()).ok()?;
+    let queue = PeerQueue::new(alloc).ok()?;
+    let peer = Peer {
+        alloc,
+        rt,
+        door: host.twin(&door).ok()?,
+        address: WireText::new(address),
+        greeting: Items::new(Vec::from_slice(alloc, GREETING).ok()?),
+        queue: queue.again().ok()?,
+    };
+    beside::<Next, H>(host, Worker::Peer(peer)).ok()?;
+    let message = RaftMessage {
+        from: 1,
+        to: 2,
+        term: 3,
+        what: What::TimeoutNow,
+    };
+    queue.put(&rt, message);
+    let held = heard_of(door.accept().ok()?)?;
+    Some(&held[..16] == GREETING.as_slice() && &held[16..] == MESSAGE.as_slice())
+}
+
+#[test]
+fn workers_work_in_threads_of_their_own(rt: HostRuntime) -> Result<(), Fail> {
+    let alloc = rt.alloc();
+    let none = Vec::new(alloc);
+    let mut quiet: MemHost<_, u8> = MemHost::new(
+        rt,
+        alloc,
+        Vec::new(alloc),
+        Vec::new(alloc),
+        none,
+    )?;
+    assert_eq!(rt; reads(&mut quiet, alloc), Some(true));
+    assert!(rt; matches!(beats(&mut quiet, alloc), Some(10..=20)));
+    let mut host: TcpHost<_, u8> = TcpHost::new(rt, rt, alloc)?;
+    assert_eq!(rt; sends(&mut host, alloc, free_address(rt)?), Some(true));
+    Ok(())
+}
