@@ -1,6 +1,10 @@
 pub mod Kinds
 pub mod Outcomes
 pub mod World
+pub mod Seen
+pub mod Places
+pub mod Holding
+pub mod Clusters
 pub mod Printed
 pub mod Run
 pub mod Examples

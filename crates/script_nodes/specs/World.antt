@@ -1,13 +1,15 @@
 -- The nodes of a script with their clients and messages, and what the events of a script do to them.
-use Rattle.std.specs.Prelude.{◌==◌, ◌-◌, ◌+◌, ◌&&◌, ℕ, zero, suc, Bool, true, false, not, nat_le, List, [], ◌∷◌, ◌++◌, length, map, set, get_or, slice_get}
+use Rattle.std.specs.Prelude.{◌==◌, ◌-◌, ◌+◌, ◌&&◌, ℕ, zero, suc, Bool, true, false, not}
+use Rattle.std.specs.Prelude.{nat_le, List, [], ◌∷◌, ◌++◌, length, map, set, get_or, slice_get, slice_index, drop}
 use Rattle.std.specs.Prelude.{is_some, Option, Some, None, Result, Ok, Err, if◌then◌else◌}
 use Rattle.std.specs.List.{filter, sum_by}
 use Rattle.std.specs.Option.{option_map}
 use Rattle.client_connection.specs.declared.connection.CloseReason.{CloseReason}
 use Rattle.client_connection.specs.Connection.{reason_number}
+use Rattle.wire_words.specs.declared.message.Message.{Message}
 use Rattle.raft_vote.specs.declared.message.RaftMessage.{RaftMessage}
 use Rattle.raft_vote.specs.declared.fault.PeerFault.{PeerFault}
-use Rattle.raft_vote.specs.Messages.{what_number, body_bytes, message_bytes}
+use Rattle.raft_vote.specs.Messages.{message_bytes}
 use Rattle.raft_vote.specs.Reading.{peer_message_of}
 use Rattle.file_digest.specs.Digest.{digest}
 use Rattle.script_lines.specs.declared.events.Event.{Event}
@@ -37,9 +39,10 @@ pub record Link : Type 0 where
   pub node : ℕ
   pub open_now : Bool
 
--- a message that was made, and whether it has ever arrived
+-- a message that was made: whom it is for, its bytes, and whether it has ever arrived
 pub record Letter : Type 0 where
-  pub message : RaftMessage
+  pub to : ℕ
+  pub bytes : List ℕ
   pub arrived : Bool
 
 pub record World : Type 0 where
@@ -133,13 +136,22 @@ without links c = map (λ (link : Link). if link.conn == c then shut link else l
 abbrev pub is_open_at : ℕ → Link → Bool
 is_open_at n link = (link.node == n) && link.open_now
 
+-- the numbers of a node's open connections, ascending
+abbrev pub open_at : List Link → ℕ → List ℕ
+open_at links n = map (λ (link : Link). link.conn) (filter (is_open_at n) links)
+
+-- these connections are closed
+abbrev pub without_each : List Link → List ℕ → List Link
+without_each links [] = links
+without_each links (c ∷ conns) = without_each (without links c) conns
+
 -- the open connections of a node are closed
 abbrev pub without_node : List Link → ℕ → List Link
-without_node links n = map (λ (link : Link). if is_open_at n link then shut link else link) links
+without_node links n = without_each links (open_at links n)
 
 -- what is said of them: their node is down, which is the reason 4
 abbrev pub closings : List Link → ℕ → List Said
-closings links n = map (λ (link : Link). says.Closed link.conn 4) (filter (is_open_at n) links)
+closings links n = map (λ (c : ℕ). says.Closed c 4) (open_at links n)
 
 -- ---- messages
 
@@ -154,13 +166,20 @@ arrived_at [] place = []
 arrived_at (letter ∷ mail) zero = record letter { arrived = true } ∷ mail
 arrived_at (letter ∷ mail) (suc place) = letter ∷ arrived_at mail place
 
--- the message as it arrives: read from the bytes that it was written as
-abbrev pub arriving : RaftMessage → Result RaftMessage PeerFault
-arriving m = peer_message_of m.to (record { kind = what_number m.what; schema = 0; body = body_bytes m })
+-- bytes as a message of the wire: the number of its type, its schema, and what stands behind the header
+abbrev pub wire_message : List ℕ → Message
+wire_message bytes = record { kind = slice_index bytes 4; schema = slice_index bytes 5; body = drop 8 bytes }
 
--- new messages, none of which has arrived
+-- the message as it arrives: read from the bytes that it was written as
+abbrev pub arriving : Letter → Result RaftMessage PeerFault
+arriving letter = peer_message_of letter.to (wire_message letter.bytes)
+
+-- a new message, which has not arrived
+abbrev pub letter_of : RaftMessage → Letter
+letter_of m = record { to = m.to; bytes = message_bytes m; arrived = false }
+
 abbrev pub letters_of : List RaftMessage → List Letter
-letters_of messages = map (λ (m : RaftMessage). record { message = m; arrived = false }) messages
+letters_of messages = map letter_of messages
 
 -- how many bytes messages have, with their headers
 abbrev pub bytes_in : List RaftMessage → ℕ
@@ -266,7 +285,7 @@ arrives aim w (Ok m) = if is_node w m.to then at_node m.to (Receive m) aim w els
 
 abbrev pub delivered : Aim → World → ℕ → Option Letter → Went
 delivered aim w place None = quiet w
-delivered aim w place (Some letter) = arrives aim (record w { mail = arrived_at w.mail place }) (arriving letter.message)
+delivered aim w place (Some letter) = arrives aim (record w { mail = arrived_at w.mail place }) (arriving letter)
 
 abbrev pub delivers : ℕ → Aim → World → Went
 delivers place aim w = delivered aim w place (slice_get w.mail place)

@@ -78,6 +78,10 @@ impl DownCause {
     }
 }
 
+/// The number of the reason for which a connection closes whose node is down; those of a node that runs are told by
+/// `CloseReason`.
+pub(crate) const NODE_DOWN: u64 = 4;
+
 /// Something that a cluster says.
 #[derive(Debug, Drop)]
 pub enum Said {

@@ -1,0 +1,103 @@
+-- Places as the code has them.
+use Rattle.std.proofs.Common.{◌≡◌, ℕ, ◌+◌, ◌-◌, ◌<◌, ◌≤◌, zero, suc, Bool, true, false, leb, ◌&&◌, List, [], ◌∷◌, ◌++◌, map, drop, set, get_or, length, is_some, Result, Ok, Err, IfOk, OnOk, refl, sym, ap, subst, ◌∙◌, add-one, arith}
+use Rattle.std.proofs.lemmas.List.{map-append, length-map, append-nil, append_assoc, at_drop_more, at_drop_all}
+use Rattle.std.proofs.lemmas.Bool.{leb-true, and_parts}
+use Rattle.script_nodes.specs.declared.outside.Outside.{Outside}
+use Rattle.script_nodes.specs.declared.place.Came.{Came}
+use Rattle.script_nodes.specs.declared.said.Said.{Said}
+use Rattle.script_nodes.specs.World.{Place, empty_place, empty_places, shown_so, all_shown_from}
+use Rattle.script_nodes.specs.Places.{Comes}
+use Rattle.script_nodes.specs.Holding.{IsNothing, beside}
+use Rattle.script_nodes.specs.Clusters.{ComesAt, empty_held}
+
+empties_suc : (n : ℕ) → empty_places n ++ empty_place ∷ [] ≡ empty_places (suc n)
+empties_suc zero = refl
+empties_suc (suc n) = ap (λ (places : List Place). empty_place ∷ places) (empties_suc n)
+
+empties_more : (n : ℕ) → empty_places n ++ empty_place ∷ [] ≡ empty_places (n + 1)
+empties_more n = rw add-one (empties_suc n)
+
+pub made_more : {P : Type 0} (shows : P → Place) (places new : List P) (p : P) (n : ℕ) → new ≡ places ++ p ∷ [] → shows p ≡ empty_place → map shows places ≡ empty_places n → map shows new ≡ empty_places (n + 1)
+made_more shows places new p n push is before =
+    ap (map shows) push
+    ∙ map-append shows places (p ∷ [])
+    ∙ ap (λ (all : List Place). all ++ shows p ∷ []) before
+    ∙ ap (λ (place : Place). empty_places n ++ place ∷ []) is
+    ∙ empties_more n
+
+pub none_held : (voters spare : ℕ) (places : List Place) (o : Outside) → IsNothing o → places ≡ empty_places (voters + spare) → beside voters places o ≡ empty_held voters spare
+none_held voters spare places o none are = λ i. record { voters = voters; places = are i; links = none.links i; mail = none.mail i; usage = none.usage i; journal = none.journal i }
+
+-- ---- one place
+
+pub shown_at : {P : Type 0} (shows : P → Place) (places : List P) (i : ℕ) (at : P) → i < length places → at ≡ get_or places i at → get_or (map shows places) i empty_place ≡ shows at
+shown_at shows [] i at within is = absurd (omega (arith, within))
+shown_at shows (place ∷ places) zero at within is = ap shows (sym is)
+shown_at shows (place ∷ places) (suc i) at within is = shown_at shows places i at (omega (arith, within)) is
+
+past_end : {P : Type 0} (shows : P → Place) (places : List P) (i : ℕ) → length places ≤ i → get_or (map shows places) i empty_place ≡ empty_place
+past_end shows [] i past = refl
+past_end shows (place ∷ places) zero past = absurd (omega (arith, past))
+past_end shows (place ∷ places) (suc i) past = past_end shows places i (omega (arith, past))
+
+pub down_past : {P : Type 0} (shows : P → Place) (places : List P) (i : ℕ) → length places ≤ i → false ≡ is_some (get_or (map shows places) i empty_place).standing
+down_past shows places i past = ap (λ (place : Place). is_some place.standing) (sym (past_end shows places i past))
+
+pub up_is : {P : Type 0} (shows : P → Place) (places : List P) (i : ℕ) (at : P) (b : Bool) → i < length places → at ≡ get_or places i at → b ≡ is_some (shows at).standing
+    → b ≡ is_some (get_or (map shows places) i empty_place).standing
+up_is shows places i at b within is up = up ∙ ap (λ (place : Place). is_some place.standing) (sym (shown_at shows places i at within is))
+
+pub up_at : {P : Type 0} (shows : P → Place) (places : List P) (i : ℕ) (at : P) (b : Bool) → i < length places → at ≡ get_or places i at → is_some (get_or (map shows places) i empty_place).standing ≡ b
+    → is_some (shows at).standing ≡ b
+up_at shows places i at b within is up = ap (λ (place : Place). is_some place.standing) (sym (shown_at shows places i at within is)) ∙ up
+
+map_set : {P : Type 0} (shows : P → Place) (places : List P) (i : ℕ) (p : P) → map shows (set places i p) ≡ set (map shows places) i (shows p)
+map_set shows [] i p = refl
+map_set shows (place ∷ places) zero p = refl
+map_set shows (place ∷ places) (suc i) p = ap (λ (all : List Place). shows place ∷ all) (map_set shows places i p)
+
+pub comes_at : {P E : Type 0} (shows : P → Place) (places : List P) (i : ℕ) (at now : P) (r : Result Came E) → i < length places → at ≡ get_or places i at → IfOk r (λ came. Comes (shows at) (shows now) came.ended)
+    → IfOk r (λ came. ComesAt (map shows places) (map shows (set places i now)) i came.ended)
+comes_at shows places i at now (Ok came) within is comes = (shows now, subst (λ (place : Place). Comes place (shows now) came.ended) (sym (shown_at shows places i at within is)) comes, map_set shows places i now)
+comes_at shows places i at now (Err e) within is comes = tt
+
+pub crashes_at : {P T E : Type 0} (shows : P → Place) (after : Place → Place) (places : List P) (i : ℕ) (at now : P) (r : Result T E) → i < length places → at ≡ get_or places i at → OnOk r (shows now ≡ after (shows at))
+    → OnOk r (map shows (set places i now) ≡ set (map shows places) i (after (get_or (map shows places) i empty_place)))
+crashes_at shows after places i at now (Ok x) within is crashed =
+    map_set shows places i now ∙ ap (set (map shows places) i) (crashed ∙ ap after (sym (shown_at shows places i at within is)))
+crashes_at shows after places i at now (Err e) within is crashed = tt
+
+-- ---- the number of a node
+
+pub node_within : {P : Type 0} (shows : P → Place) (places : List P) (n : ℕ) → (leb 1 n && leb n (length (map shows places))) ≡ true → n - 1 < length places
+node_within shows places n is =
+    let both = and_parts (leb 1 n) (leb n (length (map shows places))) is in
+    let low : 1 ≤ n = leb-true _ _ both.0 in
+    let high : n ≤ length places = subst (λ (m : ℕ). n ≤ m) (length-map places shows) (leb-true _ _ both.1) in
+    omega (arith, low, high)
+
+-- what a look at the place of a node tells
+pub at_rest : {P : Type 0} (shows : P → Place) (slice places : List P) (n index : ℕ) (b up : Bool) → b ≡ is_some (get_or (map shows slice) index empty_place).standing → slice ≡ places → index ≡ n - 1 → b ≡ up
+    → is_some (get_or (map shows places) (n - 1) empty_place).standing ≡ up
+at_rest {P} shows slice places n index b up known same at is =
+    ap (λ (i : ℕ). is_some (get_or (map shows places) i empty_place).standing) (sym at) ∙ ap (λ (all : List P). is_some (get_or (map shows all) index empty_place).standing) (sym same) ∙ sym known ∙ is
+
+-- ---- all nodes shown
+
+-- the next one is shown
+pub standing_more : {P : Type 0} (shows : P → Place) (places : List P) (i : ℕ) (at : P) (said new whole : List Said) (say : Said) → i < length places → at ≡ get_or places i at → say ≡ shown_so (i + 1) (shows at).standing → new ≡ said ++ say ∷ []
+    → said ++ all_shown_from (i + 1) (drop i (map shows places)) ≡ whole → new ++ all_shown_from ((i + 1) + 1) (drop (i + 1) (map shows places)) ≡ whole
+standing_more shows places i at said new whole say within is told push before =
+    let next : (i + 1) + 1 ≡ suc (i + 1) = omega arith in
+    let there : i < length (map shows places) = subst (λ (n : ℕ). i < n) (sym (length-map places shows)) within in
+    ap (λ (all : List Said). all ++ all_shown_from ((i + 1) + 1) (drop (i + 1) (map shows places))) push
+    ∙ append_assoc said (say ∷ []) (all_shown_from ((i + 1) + 1) (drop (i + 1) (map shows places)))
+    ∙ ap (λ (n : ℕ). said ++ say ∷ all_shown_from n (drop (i + 1) (map shows places))) next
+    ∙ ap (λ (x : Said). said ++ x ∷ all_shown_from (suc (i + 1)) (drop (i + 1) (map shows places))) (told ∙ ap (λ (place : Place). shown_so (i + 1) place.standing) (sym (shown_at shows places i at within is)))
+    ∙ sym (at_drop_more (λ (ps : List Place). said ++ all_shown_from (i + 1) ps) (map shows places) i empty_place there)
+    ∙ before
+
+pub standing_whole : {P : Type 0} (shows : P → Place) (places : List P) (i : ℕ) (said whole : List Said) → length places ≤ i → said ++ all_shown_from (i + 1) (drop i (map shows places)) ≡ whole → said ≡ whole
+standing_whole shows places i said whole past before =
+    let most : length (map shows places) ≤ i = subst (λ (n : ℕ). n ≤ i) (sym (length-map places shows)) past in
+    sym (append-nil said) ∙ sym (at_drop_all (λ (ps : List Place). said ++ all_shown_from (i + 1) ps) (map shows places) i most) ∙ before

@@ -1,0 +1,71 @@
+-- What a cluster's code holds.
+use Rattle.std.specs.Prelude.{◌≡◌, ◌+◌, ◌-◌, ℕ, Bool, true, false, List, [], map, set, get_or, Option, Some, None, Result}
+use Rattle.script_lines.specs.declared.faults.EventFault.{EventFault}
+use Rattle.script_lines.specs.declared.grammar.Aim.{Aim}
+use Rattle.script_lines.specs.Usage.{no_usage, with_event}
+use Rattle.script_nodes.specs.declared.cluster.Cluster.{Cluster}
+use Rattle.script_nodes.specs.declared.outside.Outside.{Outside}
+use Rattle.script_nodes.specs.declared.place.Came.{Came}
+use Rattle.script_nodes.specs.declared.place.Ended.{Ended}
+use Rattle.script_nodes.specs.declared.said.Said.{Said}
+use Rattle.script_lines.specs.declared.events.Event.{Event}
+use Rattle.script_lines.specs.declared.events.Event.TheVariants as event
+use Rattle.script_nodes.specs.Outcomes.{Ending, Timeout, Beat, Bytes}
+use Rattle.script_nodes.specs.World.{Place, World, Went, NotThere, halted, empty_place, empty_places}
+use Rattle.script_nodes.specs.World.{at_node, connects, on_link, node_of, hangs_up, delivers, crashes, starts}
+use Rattle.script_nodes.specs.Places.{Comes, TellsEnding}
+use Rattle.script_nodes.specs.Seen.{answers_in}
+use Rattle.script_nodes.specs.Holding.{Held, TellsAll, beside, world_of}
+
+abbrev pub held : {P : Type 0} → (P → Place) → Cluster P → Held
+held shows c = beside c.voters (map shows c.places.items) c.outside
+
+-- the world of these, where nothing is asked of turns or of what is to come
+abbrev pub world_now : Held → World
+world_now h = world_of h [] []
+
+-- so many voters and further nodes, none of which runs
+abbrev pub empty_held : ℕ → ℕ → Held
+empty_held voters spare = record { voters = voters; places = empty_places (voters + spare); links = []; mail = []; usage = no_usage; journal = [] }
+
+-- this came of an event at a place, and the others stay
+abbrev pub ComesAt : List Place → List Place → ℕ → Ended → Type 0
+ComesAt old new index came = (q : Place) × Comes (get_or old index empty_place) q came × (new ≡ set old index q)
+
+-- one event more was counted, or there may be none
+abbrev pub Counts : Bool → Held → Held → Type 0
+Counts true old new = (with_event old.usage ≡ Some new.usage) × (new ≡ record old { usage = new.usage })
+Counts false old new = (with_event old.usage ≡ None) × (new ≡ old)
+
+-- however the event ended of which this came, it is noted and said
+abbrev pub TellsIn : {T : Type 0} → Result T EventFault → ℕ → Aim → Came → Outside → Outside → List Said → List Said → Type 0
+TellsIn result node aim came old new before now = (failed : Bool) (ending : Ending) → TellsEnding failed came.ended ending
+    → TellsAll result node aim (answers_in came.answers) failed ending old new before now
+
+-- how many messages may arrive by an event, where it settles
+abbrev pub settle_count : Event → Option ℕ
+settle_count (event.Timeout n) = None
+settle_count (event.Beat n) = None
+settle_count (event.Connect n c) = None
+settle_count (event.Bytes c bytes) = None
+settle_count (event.Hangup c) = None
+settle_count (event.Deliver m) = None
+settle_count (event.Settle count) = Some count
+settle_count (event.Crash n pick) = None
+settle_count (event.Start n) = None
+settle_count (event.Put bytes) = None
+settle_count (event.Take machine) = None
+
+-- what an event does that is counted once
+abbrev pub once : Event → Aim → World → Went
+once (event.Timeout n) aim = at_node n Timeout aim
+once (event.Beat n) aim = at_node n Beat aim
+once (event.Connect n c) aim = connects n c
+once (event.Bytes c bytes) aim = λ (w : World). on_link (Bytes c bytes) aim w (node_of w.links c)
+once (event.Hangup c) aim = hangs_up c aim
+once (event.Deliver m) aim = delivers (m - 1) aim
+once (event.Settle count) aim = halted NotThere
+once (event.Crash n pick) aim = crashes n pick
+once (event.Start n) aim = starts n aim
+once (event.Put bytes) aim = halted NotThere
+once (event.Take machine) aim = halted NotThere

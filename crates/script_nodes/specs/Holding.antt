@@ -1,0 +1,155 @@
+-- What the code of a cluster holds of a world, and what its calls lead to.
+use Rattle.std.specs.Prelude.{◌≡◌, ◌-◌, ◌++◌, ℕ, suc, Bool, true, false, List, [], ◌∷◌, map, set, length, Option, Some, None, Result, Ok, Err}
+use Rattle.session_rules.specs.Engines.{Answer}
+use Rattle.script_lines.specs.declared.faults.EventFault.{EventFault}
+use Rattle.script_lines.specs.declared.faults.EventFault.TheVariants as faults
+use Rattle.script_lines.specs.declared.grammar.Aim.{Aim}
+use Rattle.script_lines.specs.declared.usage.Usage.{Usage}
+use Rattle.script_lines.specs.Usage.{no_usage, with_messages}
+use Rattle.script_nodes.specs.declared.outside.Outside.{Outside}
+use Rattle.script_nodes.specs.declared.said.Said.{Said}
+use Rattle.script_nodes.specs.Outcomes.{Outs, Ending, Steps, Starts, Stops, Fails, Unreadable, Outcome, Item, Answered, Turn, met_by, noted}
+use Rattle.script_nodes.specs.World.{Place, Link, Letter, World, Halt, NotThere, TooMany, Went, standing_so, after_ending}
+use Rattle.script_nodes.specs.World.{bytes_in, letters_of, replies_said, closed_said, messages_said, without_all, without_node, closings}
+use Rattle.script_nodes.specs.Places.{down_place}
+
+-- ---- what is held
+
+-- a world but for its turns and for what is to come of events
+pub record Held : Type 0 where
+  pub voters : ℕ
+  pub places : List Place
+  pub links : List Link
+  pub mail : List Letter
+  pub usage : Usage
+  pub journal : List Item
+
+-- the world of these after these turns, with this to come of the events
+abbrev pub world_of : Held → List Turn → List Outcome → World
+world_of h turns outcomes = record {
+  voters = h.voters;
+  places = h.places;
+  links = h.links;
+  mail = h.mail;
+  usage = h.usage;
+  turns = turns;
+  journal = h.journal;
+  outcomes = outcomes;
+}
+
+-- what there is beside nodes, with these places
+abbrev pub beside : ℕ → List Place → Outside → Held
+beside voters places o = record { voters = voters; places = places; links = o.connections; mail = o.mail; usage = o.usage; journal = o.journal }
+
+pub record IsNothing (o : Outside) : Type 0 where
+  pub links : o.connections ≡ []
+  pub mail : o.mail ≡ []
+  pub usage : o.usage ≡ no_usage
+  pub journal : o.journal ≡ []
+
+-- ---- what comes of an event at a node
+
+-- what is noted of an event with these answers whose line aims so, where its call was met or not
+abbrev pub note_of : List Answer → Aim → Option ℕ → List Item
+note_of answers aim met = map Answered answers ++ met_by aim met
+
+-- what a step says was said, as its messages are not too many
+pub record SaysAll (aim : Aim) (answers : List Answer) (outs : Outs) (old new : Outside) (before now : List Said) : Type 0 where
+  pub usage : with_messages old.usage (bytes_in outs.messages) ≡ Some new.usage
+  pub links : new.connections ≡ without_all old.connections outs.closed
+  pub mail : new.mail ≡ old.mail ++ letters_of outs.messages
+  pub journal : new.journal ≡ old.journal ++ note_of answers aim None
+  pub says : now ≡ before ++ (replies_said outs.replies ++ (closed_said outs.closed ++ messages_said (suc (length old.mail)) outs.messages))
+
+-- nothing of it was said, as its messages are too many
+pub record SaysNone (outs : Outs) (old new : Outside) (before now : List Said) : Type 0 where
+  pub usage : with_messages old.usage (bytes_in outs.messages) ≡ None
+  pub same : new ≡ old
+  pub silent : now ≡ before
+
+abbrev pub SaysOuts : Bool → Aim → List Answer → Outs → Outside → Outside → List Said → List Said → Type 0
+SaysOuts true aim answers outs old new before now = SaysAll aim answers outs old new before now
+SaysOuts false aim answers outs old new before now = SaysNone outs old new before now
+
+-- a node fell, behind so many things that were kept whole, and this is said behind the connections that close
+pub record Falls (node : ℕ) (aim : Aim) (answers : List Answer) (keeps : ℕ) (say : Said) (old new : Outside) (before now : List Said) : Type 0 where
+  pub usage : new.usage ≡ old.usage
+  pub links : new.connections ≡ without_node old.connections node
+  pub mail : new.mail ≡ old.mail
+  pub journal : new.journal ≡ old.journal ++ note_of answers aim (Some keeps)
+  pub says : now ≡ before ++ (closings old.connections node ++ say ∷ [])
+
+-- places after an event at this node that ended so
+abbrev pub places_after : ℕ → Ending → List Place → List Place
+places_after node (Steps outs standing) places = set places (node - 1) (standing_so standing)
+places_after node (Starts kept standing) places = set places (node - 1) (standing_so standing)
+places_after node (Stops keeps) places = set places (node - 1) (down_place true)
+places_after node (Fails keeps) places = set places (node - 1) (down_place true)
+places_after node Unreadable places = places
+
+abbrev pub with_note : Held → Aim → List Answer → Bool → Ending → Held
+with_note h aim answers failed ending = record h { journal = h.journal ++ noted aim failed (record { answers = answers; ending = ending }) }
+
+-- what came of an event at a node is noted and said: it leads here
+pub record Asks (node : ℕ) (aim : Aim) (answers : List Answer) (failed : Bool) (ending : Ending) (old new : Held) (before now : List Said) : Type 0 where
+  pub more : List Said
+  pub goes : (turns : List Turn) (later : List Outcome)
+      → after_ending node ending (world_of (with_note old aim answers failed ending) turns later)
+      ≡ record { world = world_of new turns later; said = more; halt = None }
+  pub says : now ≡ before ++ more
+
+-- it isn't in the run, as its messages are too many
+pub record Overruns (node : ℕ) (aim : Aim) (answers : List Answer) (failed : Bool) (ending : Ending) (old : Held) : Type 0 where
+  pub halts : (turns : List Turn) (later : List Outcome)
+      → (after_ending node ending (world_of (with_note old aim answers failed ending) turns later)).halt ≡ Some TooMany
+
+abbrev pub Tells : Bool → ℕ → Aim → List Answer → Bool → Ending → Outside → Outside → List Said → List Said → Type 0
+Tells true node aim answers failed ending old new before now =
+    (voters : ℕ) (places : List Place)
+    → Asks node aim answers failed ending (beside voters places old) (beside voters (places_after node ending places) new) before now
+Tells false node aim answers failed ending old new before now =
+    ((voters : ℕ) (places : List Place) → Overruns node aim answers failed ending (beside voters places old)) × (new ≡ old) × (now ≡ before)
+
+-- the same by an answer
+abbrev pub TellsAll : {T : Type 0} → Result T EventFault → ℕ → Aim → List Answer → Bool → Ending → Outside → Outside → List Said → List Said → Type 0
+TellsAll (Ok x) node aim answers failed ending old new before now = Tells true node aim answers failed ending old new before now
+TellsAll (Err faults.NotThere) node aim answers failed ending old new before now = ⊥
+TellsAll (Err faults.TooMany) node aim answers failed ending old new before now = Tells false node aim answers failed ending old new before now
+TellsAll (Err faults.NoMemory) node aim answers failed ending old new before now = Unit {0}
+
+-- ---- what a call leads to
+
+-- Something was done to a world: these outcomes came, one after another, of these turns. With them at the front of what is to come it
+-- leads here, and this was said.
+pub record Leads (go : World → Went) (old new : Held) (before now : List Said) : Type 0 where
+  pub outcomes : List Outcome
+  pub turns : List Turn
+  pub more : List Said
+  pub goes : (earlier : List Turn) (later : List Outcome)
+      → go (world_of old earlier (outcomes ++ later)) ≡ record { world = world_of new (earlier ++ turns) later; said = more; halt = None }
+  pub says : now ≡ before ++ more
+
+-- it ended so, when this was noted, and this said
+pub record HaltsAt (why : Halt) (journal : List Item) (said : List Said) (went : Went) : Type 0 where
+  pub halt : went.halt ≡ Some why
+  pub said_is : went.said ≡ said
+  pub journal_is : went.world.journal ≡ journal
+
+-- it ended before its end: with these outcomes at the front of what is to come
+pub record Halts (go : World → Went) (why : Halt) (old new : Held) (before now : List Said) : Type 0 where
+  pub outcomes : List Outcome
+  pub more : List Said
+  pub halts : (earlier : List Turn) (later : List Outcome) → HaltsAt why new.journal more (go (world_of old earlier (outcomes ++ later)))
+  pub says : now ≡ before ++ more
+
+-- what was done: it leads to its end, or halts before it
+abbrev pub DoesBy : (World → Went) → Option Halt → Held → Held → List Said → List Said → Type 0
+DoesBy go None old new before now = Leads go old new before now
+DoesBy go (Some why) old new before now = Halts go why old new before now
+
+-- the same by its answer; after want of memory nothing is told
+abbrev pub Does : {T : Type 0} → (World → Went) → Result T EventFault → Held → Held → List Said → List Said → Type 0
+Does go (Ok x) old new before now = DoesBy go None old new before now
+Does go (Err faults.NotThere) old new before now = DoesBy go (Some NotThere) old new before now
+Does go (Err faults.TooMany) old new before now = DoesBy go (Some TooMany) old new before now
+Does go (Err faults.NoMemory) old new before now = Unit {0}

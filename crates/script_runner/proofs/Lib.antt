@@ -1,0 +1,5 @@
+pub mod Lining
+pub mod Steps
+pub mod Running
+pub mod Printed
+pub mod Finishing
