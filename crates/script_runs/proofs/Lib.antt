@@ -1,0 +1,6 @@
+mod Answering
+mod Mailing
+mod Running
+mod Placing
+mod Worlds
+mod Scripts
