@@ -1,13 +1,11 @@
 -- An act of a step is an event of a run.
-use Rattle.std.proofs.Common.{◌≡◌, ◌≢◌, ◌⊎◌, inl, inr, ⊎_elim, ℕ, zero, suc, Bool, true, false, List, [], ◌∷◌, ◌++◌, map, refl, sym, ap, ◌∙◌, subst}
-use Rattle.std.specs.Prelude.{cond, ◌==◌, Option, Some, None, Ok, Err, slice_get}
+use Rattle.std.proofs.Common.{◌≡◌, ◌≢◌, ◌⊎◌, inl, inr, ⊎_elim, ℕ, List, [], ◌∷◌, ◌++◌, map, refl, sym, ap, ◌∙◌, subst}
+use Rattle.std.specs.Prelude.{◌==◌, Option, Some, None, slice_get}
 use Rattle.std.specs.List.{AllByRecursion}
 use Rattle.std.proofs.lemmas.Bool.{cond-true, cond_both, eq-eqb, eqb-true, eqb-false}
-use Rattle.std.proofs.lemmas.List.{append-nil}
 use Rattle.sql_engine.specs.declared.kind.EngineKind.{EngineKind}
 use Rattle.sql_engine.specs.Meanings.{Meaning}
-use Rattle.session_rules.specs.Engines.{Answer}
-use Rattle.session_rules.specs.Sessions.{Reply, Job}
+use Rattle.session_rules.specs.Sessions.{Reply}
 use Rattle.session_decisions.specs.Reading.{read_named}
 use Rattle.wire_msgs.specs.declared.request.Request.{Request}
 use Rattle.raft_rules.specs.Node as raft
@@ -17,14 +15,14 @@ use Rattle.raft_world.specs.Laws.{node_at}
 use Rattle.raft_world.specs.Members.{Setup}
 use Rattle.store_laws.specs.Store.{Kept}
 use Rattle.cluster_world.specs.Clusters.{Act as RuleAct, cluster}
-use Rattle.node_rules.specs.Accounts.{Moment, resting}
+use Rattle.node_rules.specs.Accounts.{Moment}
 use Rattle.node_rules.specs.Nodes.{Node}
 use Rattle.node_rules.specs.RaftTurns.{HasServers}
-use Rattle.node_rules.specs.Steps.{Letter, Taken, Made, StepsSo, StopsSo, TellsSo, CountsSo, StepHolds}
+use Rattle.node_rules.specs.Steps.{Letter, Taken, Made, StepsSo, StopsSo, TellsSo, CountsSo}
 use Rattle.node_rules.proofs.RaftSnapshots.{resting_servers_hold}
 use Rattle.node_core.specs.declared.event.Event.TheVariants as events
 use Rattle.node_core.specs.declared.running.Running.{Running}
-use Rattle.node_core.specs.Account.{moment_of, letter_of, bytes_in, told_of, IsOwn, Adds, Begin, Happens, Comes, Compacts, inputs_of, bytes_of, joins_of, read_of, IsLost, Brings, BytesAsk, NoneAsks, Takes, Act, Stopped, AtRest, KnowsServers}
+use Rattle.node_core.specs.Account.{letter_of, bytes_in, told_of, IsOwn, Adds, Begin, Happens, Comes, Compacts, inputs_of, joins_of, IsLost, NoneAsks, Takes, Act, Stopped, AtRest, KnowsServers}
 use Rattle.node_core.specs.Values.{seen}
 use Rattle.node_world.specs.Acts.{PlaceIs, RunIs}
 use Rattle.node_world.specs.Runs as runs

@@ -1,16 +1,13 @@
 -- A disk without files stands for nothing.
-use Rattle.std.proofs.Common.{◌≡◌, ℕ, zero, suc, Bool, true, false, List, [], ◌∷◌, ◌++◌, refl, sym, ap, ◌∙◌, subst}
+use Rattle.std.proofs.Common.{◌≡◌, ℕ, zero, suc, Bool, true, false, [], ◌∷◌, ◌++◌, refl, ap, ◌∙◌}
 use Rattle.std.specs.Prelude.{cond, ◌==◌}
 use Rattle.std.proofs.lemmas.Bool.{cond-true, cond-false, eq-eqb}
-use Rattle.disk_model.specs.Disk.{Standing, Sure, Absent, Found, Disk, no_files, LeavesFile, Leaves}
-use Rattle.disk_model.specs.Trait.{Text}
+use Rattle.disk_model.specs.Disk.{Sure, Absent}
 use Rattle.store_laws.specs.Chance.{Lawful}
 use Rattle.store_laws.specs.Names.{Name, First, Second, Segment, Snapshot, NodeFiles}
-use Rattle.store_laws.specs.Store.{Format, Meta, Snap, no_snap, Log, Outcome, Loaded, segments, newest_snap, snap_files, snap_in, newest, meta_of, sound, all_batches, log_of, behind, answer, kept}
+use Rattle.store_laws.specs.Store.{Format, Meta, no_snap, Loaded, segments, newest_snap, snap_files, snap_in, newest, meta_of, sound, all_batches, log_of, behind, answer, kept}
 use Rattle.store_format.specs.NodeFormat.{node_format}
 use Rattle.store_format.proofs.BatchesLawful.{is_lawful}
-use Rattle.segment_store.specs.Keeps.{folder}
-use Rattle.segment_store.specs.Loading.{kept_in}
 use Rattle.node_world.specs.Runs.{nothing_kept}
 use Rattle.node_runs.specs.Starts.{FirstDisk}
 

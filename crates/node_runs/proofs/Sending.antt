@@ -1,10 +1,9 @@
 -- What a mail sends is among what was posted.
-use Rattle.std.proofs.Common.{◌≡◌, ◌⊎◌, inl, inr, ⊎_elim, ℕ, zero, suc, Bool, true, false, List, [], ◌∷◌, ◌++◌, map, refl, sym, ap, ◌∙◌, subst}
-use Rattle.std.specs.Prelude.{not, if◌then◌else◌, ◌==◌, nat_le, Option, Some, None, slice_get}
+use Rattle.std.proofs.Common.{◌≡◌, ◌⊎◌, inl, inr, ⊎_elim, ℕ, zero, suc, Bool, true, false, List, [], ◌∷◌, ◌++◌, map, sym, ap}
+use Rattle.std.specs.Prelude.{not, if◌then◌else◌, ◌==◌, nat_le, Some, slice_get}
 use Rattle.std.specs.List.{filter}
 use Rattle.raft_vote.specs.declared.message.RaftMessage.{RaftMessage}
 use Rattle.node_replica.specs.Mails.{MailValue, sends_log, placed, not_to, posted, all_posted, no_mail, sent}
-use Rattle.node_rules.specs.Steps.{Letter}
 use Rattle.node_core.specs.Account.{letter_of}
 
 -- the message is one of these

@@ -1,5 +1,5 @@
 -- Starts and crashes are events of a run; and what a disk stands for between them.
-use Rattle.std.proofs.Common.{◌≡◌, ◌≢◌, ◌⊎◌, inl, inr, ⊎_elim, ℕ, List, [], ◌∷◌, ◌++◌, map, refl, sym, ap, ◌∙◌, subst, arith}
+use Rattle.std.proofs.Common.{◌≡◌, ◌⊎◌, inl, inr, ℕ, [], ◌∷◌, refl, sym, ap, ◌∙◌, subst, arith}
 use Rattle.std.specs.Prelude.{Ok, Err, min}
 use Rattle.sql_engine.specs.declared.kind.EngineKind.{EngineKind}
 use Rattle.sql_engine.specs.Meanings.{Meaning}
@@ -17,7 +17,7 @@ use Rattle.store_format.specs.NodeFormat.{node_format}
 use Rattle.segment_store.specs.declared.load_fault.LoadFault.TheVariants as fault
 use Rattle.segment_store.specs.FileNames.{file_name}
 use Rattle.segment_store.specs.Keeps.{folder, HasNew}
-use Rattle.segment_store.specs.Loading.{kept_in, IsSeen, StaysSeen, IsLoaded}
+use Rattle.segment_store.specs.Loading.{kept_in, IsSeen, StaysSeen}
 use Rattle.segment_store.specs.Open.{Open}
 use Rattle.segment_store.specs.Restarts.{StandsFor, Begins, MayHave}
 use Rattle.node_rules.specs.Nodes.{KeptIs}

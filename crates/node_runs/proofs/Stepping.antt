@@ -1,6 +1,6 @@
 -- The acts of a step are events of a run, one after another.
 use Rattle.std.proofs.Common.{◌≡◌, ◌≢◌, ℕ, zero, suc, List, [], ◌∷◌, ◌++◌, map, refl, sym, ap, ◌∙◌, subst}
-use Rattle.std.specs.Prelude.{cond, ◌==◌, Option, Some, None, slice_get}
+use Rattle.std.specs.Prelude.{◌==◌, Option, Some, slice_get}
 use Rattle.std.specs.List.{AllByRecursion}
 use Rattle.std.proofs.lemmas.Bool.{cond-true, cond-false, eq-eqb, ne_eqb}
 use Rattle.std.proofs.lemmas.List.{append-nil, append_assoc, map-append}
@@ -20,15 +20,15 @@ use Rattle.node_rules.specs.Steps.{Letter, Made, TellsSo}
 use Rattle.node_core.specs.declared.event.Event as core
 use Rattle.node_core.specs.declared.outs.Outs.{Outs}
 use Rattle.node_core.specs.declared.running.Running.{Running}
-use Rattle.node_core.specs.Account.{letter_of, Begin, Happens, Comes, Compacts, joins_of, Acts, Stopped, none_made, made_both, StepsBy, StopsBy}
+use Rattle.node_core.specs.Account.{letter_of, Begin, Happens, Comes, Compacts, Acts, Stopped, StepsBy, StopsBy}
 use Rattle.node_core.specs.Values.{seen}
-use Rattle.node_world.specs.Acts.{RunIs, NotStarted, NotJoined}
-use Rattle.node_world.specs.Runs.{Place, Up, Down, Run, spoken, Goes, Fails, Event, with_place, happens, run_from, run, AllHold}
+use Rattle.node_world.specs.Acts.{RunIs}
+use Rattle.node_world.specs.Runs.{Place, Up, Down, Run, spoken, Goes, Fails, Event, with_place, happens, run_from, run}
 use Rattle.node_world.proofs.Runs.{other_place, here_place, runs_go_on_hold, runs_make_acts_hold}
 use Rattle.node_runs.specs.Comings.{IsMade, Arrives, ArrivesLater, AllArrive}
-use Rattle.node_runs.specs.Steps.{Leads, used_in, NoneJoins, StaysUp, AllTellVoters, StopTellsVoters, StepRuns, StepsRun, StopRuns, StopsRun}
+use Rattle.node_runs.specs.Steps.{Leads, used_in, StaysUp, AllTellVoters, StopTellsVoters, StepRuns, StepsRun, StopRuns, StopsRun}
 use Rattle.node_runs.proofs.Sending.{sent_among}
-use Rattle.node_runs.proofs.Acting.{EventHolds, act_holds, StopHolds, stop_holds}
+use Rattle.node_runs.proofs.Acting.{EventHolds, act_holds, stop_holds}
 
 -- ---- letters stay
 

@@ -1,5 +1,5 @@
 -- What a node's clauses say of what it takes in, they say of what is alike.
-use Rattle.std.proofs.Common.{◌≡◌, ◌⊎◌, inl, inr, ⊎_elim, ℕ, List, [], ◌∷◌, ◌++◌, map, take, refl, sym, ap, ◌∙◌, subst}
+use Rattle.std.proofs.Common.{◌≡◌, ◌⊎◌, ⊎_elim, ℕ, List, [], ◌∷◌, ◌++◌, take, sym, ap, ◌∙◌, subst}
 use Rattle.sql_engine.specs.declared.kind.EngineKind.{EngineKind}
 use Rattle.sql_engine.specs.Meanings.{Meaning}
 use Rattle.session_rules.specs.Engines.{Answer}
@@ -10,13 +10,12 @@ use Rattle.raft_rules.specs.Node as raft
 use Rattle.raft_rules.specs.Account.{steps, said}
 use Rattle.raft_rules.specs.Compaction.{compacted_step}
 use Rattle.raft_rules.specs.NodeValues.{node_of}
-use Rattle.raft_world.specs.Cuts.{AlikeInput, AlikeInputs, Twin}
+use Rattle.raft_world.specs.Cuts.{AlikeInputs, Twin}
 use Rattle.raft_world.specs.Members.{Setup, member_step}
 use Rattle.store_laws.specs.Store.{Kept}
 use Rattle.node_rules.specs.Nodes.{Node}
 use Rattle.node_rules.specs.Steps.{Letter, Taken, BytesAre, TakesIn, ReadsIn, TellsSo, CountsSo, JoinsOnly, Handles, AllTaken, Completes, ArePartOf, calls, StepsSo, StopsSo}
 use Rattle.session_world.specs.Nodes.{Node as Life}
-use Rattle.session_world.specs.Answering.{IsOpen}
 
 -- no message is among what is taken in
 abbrev pub NoneReceived : List raft.Input → Type 0

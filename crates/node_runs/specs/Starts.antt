@@ -20,7 +20,7 @@ use Rattle.node_core.specs.declared.fault.StartFault.{StartFault}
 use Rattle.node_core.specs.declared.node.Node.{Node}
 use Rattle.node_core.specs.Starting.{StartLeaves}
 use Rattle.node_core.specs.Values.{kept_by, replica_of}
-use Rattle.node_world.specs.Runs.{Place, Up, Down, Run, Event, kept_at, nothing_kept, first_run, run, AllHold}
+use Rattle.node_world.specs.Runs.{Up, Down, Event, kept_at, nothing_kept, run}
 use Rattle.node_runs.specs.Steps.{Leads}
 
 -- ---- events of a run

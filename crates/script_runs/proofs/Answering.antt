@@ -1,5 +1,5 @@
 -- Which answers an engine told that keeps them.
-use Rattle.std.proofs.Common.{◌≡◌, Bool, true, false, List, [], ◌∷◌, ◌++◌, refl, sym, ap, ◌∙◌, subst, append-nil, append_assoc}
+use Rattle.std.proofs.Common.{◌≡◌, true, false, List, [], ◌∷◌, ◌++◌, refl, sym, ap, ◌∙◌, subst, append-nil, append_assoc}
 use Rattle.std.specs.Prelude.{Option, Some, None}
 use Rattle.sql_engine.specs.Meanings.{Told, Tells, untold, added, lost}
 use Rattle.session_rules.specs.Engines.{Answer}

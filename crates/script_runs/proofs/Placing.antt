@@ -1,6 +1,5 @@
 -- Each call at a place leads its turns on.
-use Rattle.std.proofs.Common.{◌≡◌, ◌⊎◌, inl, inr, ℕ, List, [], ◌∷◌, ◌++◌, refl, sym, ap, ◌∙◌, subst}
-use Rattle.std.specs.Prelude.{Option, Some, None, Ok, Err}
+use Rattle.std.proofs.Common.{inl, ℕ, List, [], ◌∷◌, ◌++◌, refl, sym, subst}
 use Rattle.sql_engine.specs.declared.kind.EngineKind.{EngineKind}
 use Rattle.sql_engine.specs.Meanings.{Meaning}
 use Rattle.disk_model.specs.Disk.{Disk}
@@ -11,12 +10,11 @@ use Rattle.store_laws.specs.Store.{Kept, Outcome as Found, Loaded, Damaged, NoMe
 use Rattle.segment_store.specs.Keeps.{folder}
 use Rattle.segment_store.specs.Restarts.{StandsFor, Begins}
 use Rattle.node_replica.specs.Replicas.{kept_of}
-use Rattle.node_rules.specs.Steps.{StartStopsSo}
 use Rattle.node_runs.proofs.FirstDisk.{first_disk_holds}
 use Rattle.node_runs.proofs.Starting.{starts_keep_hold, fails, finds, crashes, crash_leaves_kept_hold}
 use Rattle.script_nodes.specs.Outcomes.{Ending, Steps, Starts, Stops, Fails, Unreadable, Doing, Start, Turn}
 use Rattle.script_runs.specs.Seats.{Seat, Runs, Rests, EndsSo, StopDone, TurnSo, PathSo}
-use Rattle.script_runs.specs.Places.{IsLeft, IsPlaced, IsFair, PlacesBegin, StepsOn, FallsOn, IsFall, CrashesOn, DisksCrashOn, StartsOn, IsNoStart, StartsFail}
+use Rattle.script_runs.specs.Places.{IsLeft, IsFair, PlacesBegin, StepsOn, FallsOn, IsFall, CrashesOn, DisksCrashOn, StartsOn, IsNoStart, StartsFail}
 
 -- what is found has the weaker property too
 weaker : (P Q : Kept → Type 0) → ((kept : Kept) → P kept → Q kept) → (o : Found) → IsLeft P o → IsLeft Q o

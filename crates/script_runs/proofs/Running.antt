@@ -1,38 +1,34 @@
 -- What whole nodes do in a script is a run.
-use Rattle.std.proofs.Common.{◌≡◌, ◌≢◌, ℕ, Bool, true, false, List, [], ◌∷◌, ◌++◌, map, refl, sym, ap, ◌∙◌, subst}
-use Rattle.std.specs.Prelude.{cond, ◌==◌, Option, Some, None, slice_get}
+use Rattle.std.proofs.Common.{◌≡◌, ◌≢◌, ℕ, Bool, true, false, List, [], ◌∷◌, ◌++◌, refl, sym, ap, ◌∙◌, subst}
+use Rattle.std.specs.Prelude.{cond, ◌==◌}
 use Rattle.std.specs.List.{AllByRecursion}
-use Rattle.std.proofs.lemmas.Bool.{eq-eqb, eqb-true, eqb-false, cases_eq}
+use Rattle.std.proofs.lemmas.Bool.{eq-eqb, eqb-true, eqb-false}
 use Rattle.std.proofs.lemmas.List.{append-nil, append_assoc}
 use Rattle.sql_engine.specs.declared.kind.EngineKind.{EngineKind}
 use Rattle.sql_engine.specs.Meanings.{Meaning}
 use Rattle.session_rules.specs.Engines.{Answer}
 use Rattle.session_rules.specs.Sessions.{Reply}
-use Rattle.session_world.specs.Lending.{no_jobs}
 use Rattle.raft_vote.specs.declared.message.RaftMessage.{RaftMessage}
 use Rattle.raft_world.specs.Members.{Setup}
 use Rattle.store_laws.specs.Store.{Kept}
 use Rattle.cluster_world.specs.Clusters.{Act as RuleAct}
-use Rattle.node_replica.specs.Replicas.{kept_of}
-use Rattle.node_rules.specs.Nodes.{Node}
-use Rattle.node_rules.specs.Steps.{Letter, StartsSo, StartStopsSo}
+use Rattle.node_rules.specs.Steps.{Letter, StartStopsSo}
 use Rattle.node_core.specs.declared.event.Event as core
-use Rattle.node_core.specs.declared.event.Event.TheVariants as events
 use Rattle.node_core.specs.declared.running.Running.{Running}
-use Rattle.node_core.specs.Account.{letter_of, Sends, Begin, Happens, Comes, Compacts, IsMore, AreOf, StepsBy, StopsBy}
+use Rattle.node_core.specs.Account.{Sends, Begin, Happens, Comes, Compacts, IsMore, AreOf}
 use Rattle.node_core.specs.Values.{seen}
 use Rattle.node_world.specs.Acts.{RunIs}
-use Rattle.node_world.specs.Runs.{Place, Up, Down, Run, Event, Starts as Boots, StartFails, Crashes as Halts, kept_at, nothing_kept, happens, first_run, run, run_from, AllHold}
-use Rattle.node_world.proofs.Runs.{runs_go_on_hold, first_run_is, runs_make_acts_hold}
+use Rattle.node_world.specs.Runs.{Place, Up, Down, Run, Event, Starts as Boots, StartFails, Crashes as Halts, kept_at, nothing_kept, happens, first_run, run_from, AllHold}
+use Rattle.node_world.proofs.Runs.{runs_go_on_hold, first_run_is}
 use Rattle.node_world.proofs.Safes.{runs_are_safe_hold}
 use Rattle.node_world.proofs.Lasts.{runs_last_hold}
-use Rattle.node_runs.specs.Comings.{IsMade, Arrives, ArrivesLater, AllArrive}
-use Rattle.node_runs.specs.Steps.{Leads, used_in, AreAmong, StepRuns, StopRuns}
+use Rattle.node_runs.specs.Comings.{Arrives, ArrivesLater, AllArrive}
+use Rattle.node_runs.specs.Steps.{Leads, used_in, AreAmong, StopRuns}
 use Rattle.node_runs.proofs.Stepping.{step_at, stop_at}
 use Rattle.node_runs.proofs.Starting.{leads_by}
 use Rattle.script_nodes.specs.Outcomes.{Standing, Outs, Ending, Steps, Starts, Stops, Fails, Unreadable, Doing, Timeout, Beat, Connect, Bytes, Hangup, Receive, Start, Turn, Does, Crashes}
-use Rattle.script_runs.specs.Seats.{Seat, Runs, Rests, StandsSo, EventIs, IsAlone, outs_of, StepDone, StopDone, StartDone, EndsSo, CrashesSo, TurnSo, PathSo}
-use Rattle.script_runs.specs.Turns.{actor, turns_at, messages_of, messages_in, WasSent, SentTo, AllSentTo, NodesDo, StepShows, StartShows, IsDown, EndShows, TurnRuns, AreRun, events_of}
+use Rattle.script_runs.specs.Seats.{Seat, Runs, Rests, EventIs, IsAlone, StepDone, StopDone, StartDone, EndsSo, CrashesSo, TurnSo, PathSo}
+use Rattle.script_runs.specs.Turns.{actor, turns_at, messages_of, messages_in, WasSent, SentTo, AllSentTo, IsDown, EndShows, TurnRuns, AreRun, events_of}
 use Rattle.script_runs.specs.Laws.{TurnsAreRuns, RunsHold, NodesAreSafe, LatersAreSafe}
 use Rattle.script_runs.proofs.Answering.{told_are}
 use Rattle.script_runs.proofs.Mailing.{among_none, among_join}

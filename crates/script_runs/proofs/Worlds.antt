@@ -1,9 +1,8 @@
 -- In a script's world a message that arrives was sent.
 use Rattle.std.proofs.Common.{◌≡◌, ℕ, zero, suc, Bool, true, false, List, [], ◌∷◌, ◌++◌, map, refl, sym, ap, ◌∙◌, subst, append-nil, append_assoc}
-use Rattle.std.specs.Prelude.{cond, ◌-◌, ◌+◌, Option, Some, None, Result, Ok, Err, slice_get, nat_le, if◌then◌else◌}
+use Rattle.std.specs.Prelude.{◌-◌, ◌+◌, Option, Some, None, Result, Ok, Err, slice_get, nat_le, if◌then◌else◌}
 use Rattle.std.specs.List.{AllByRecursion}
 use Rattle.std.proofs.lemmas.List.{map-append}
-use Rattle.client_connection.specs.declared.connection.CloseReason.{CloseReason}
 use Rattle.raft_vote.specs.declared.message.RaftMessage.{RaftMessage}
 use Rattle.raft_vote.specs.declared.fault.PeerFault.{PeerFault}
 use Rattle.raft_vote.specs.declared.fault.PeerFault.TheVariants.{Range}
@@ -25,7 +24,7 @@ use Rattle.script_nodes.specs.declared.said.Said.{Said}
 use Rattle.script_nodes.specs.Outcomes.{Standing, Outs, Ending, Steps, Starts, Stops, Fails, Unreadable, Outcome, Doing, Timeout, Beat, Connect, Bytes, Hangup, Receive, Start, Turn, Does, Crashes}
 use Rattle.script_nodes.specs.Run as runs
 use Rattle.script_nodes.specs.Run.{Stage, Opening, Within, Fault, Next, line_step, said_step, step, run_from, run}
-use Rattle.script_nodes.specs.World.{Letter, World, Halt, Went, quiet, halted, said_before, onward, then_on, is_node, is_up, arrived_at, arriving, letter_of, letters_of, wire_message, after_step, after_ending, with_turn, unless_many, asked_so, asked, at_node, on_link, connects, hangs_up, arrives, delivered, delivers, crashes, starts, counted_so, counted, settled_so, settles, exists, happens, takes, empty_world, all_start, opened, node_of, first_waiting, bytes_in, shown}
+use Rattle.script_nodes.specs.World.{Letter, World, Halt, Went, quiet, onward, then_on, is_node, is_up, arrived_at, arriving, letter_of, letters_of, wire_message, after_step, after_ending, with_turn, unless_many, asked, at_node, on_link, connects, hangs_up, arrives, delivered, delivers, crashes, starts, counted_so, counted, settled_so, settles, exists, happens, takes, empty_world, all_start, opened, node_of, first_waiting, bytes_in, shown}
 use Rattle.script_runs.specs.Mails.{CanHold, AllCanHold, MailIsSent}
 use Rattle.script_runs.specs.Turns.{messages_of, messages_in, WasSent, SentTo, AllSentTo}
 
@@ -125,6 +124,7 @@ found (x ∷ mail) (m ∷ ms) zero l e is = (0, m, refl, head_is (strip x) (writ
   where
     some_is : (a b : Letter) → Some a ≡ Some b → a ≡ b
     some_is a b e = cc
+
     head_is : (a b : ℕ × List ℕ) (as_ bs : List (ℕ × List ℕ)) → a ∷ as_ ≡ b ∷ bs → b ≡ a
     head_is a b as_ bs e = cc
 found (x ∷ mail) (m ∷ ms) (suc place) l e is =

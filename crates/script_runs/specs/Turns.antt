@@ -10,7 +10,7 @@ use Rattle.store_laws.specs.Store.{Kept}
 use Rattle.node_rules.specs.Nodes.{Node}
 use Rattle.node_rules.specs.Steps.{Letter}
 use Rattle.node_core.specs.Account.{Sends}
-use Rattle.node_world.specs.Runs.{Place, Up, Down, Run, Event, nothing_kept, first_run, run_from}
+use Rattle.node_world.specs.Runs.{Place, Up, Down, Run, Event, nothing_kept, run_from}
 use Rattle.node_runs.specs.Steps.{Leads, used_in, AreAmong}
 use Rattle.script_nodes.specs.Outcomes.{Standing, Outs, Ending, Steps, Starts, Stops, Fails, Unreadable, Doing, Timeout, Beat, Connect, Bytes, Hangup, Receive, Start, Turn, Does, Crashes}
 use Rattle.script_runs.specs.Seats.{Seat, Rests, StandsSo, PathSo}
