@@ -4,3 +4,5 @@ mod Running
 mod Placing
 mod Worlds
 mod Scripts
+mod Contents
+mod Showing

@@ -261,7 +261,7 @@ module _ (m : Meaning) (kind : EngineKind) (setup : Setup) where
   front_of [] more r is = tt
   front_of (turn ∷ turns) more r is = (is.0, front_of turns more (run_from r is.0.leads.events) is.1)
 
-  run_on : (xs ys : List Event) (r : Run) → run_from r (xs ++ ys) ≡ run_from (run_from r xs) ys
+  pub run_on : (xs ys : List Event) (r : Run) → run_from r (xs ++ ys) ≡ run_from (run_from r xs) ys
   run_on [] ys r = refl
   run_on (x ∷ xs) ys r = run_on xs ys (happens r x)
 

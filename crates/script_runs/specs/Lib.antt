@@ -3,3 +3,4 @@ pub mod Turns
 pub mod Laws
 pub mod Places
 pub mod Mails
+pub mod Showing

@@ -5,6 +5,7 @@
 ghost use Rattle.script_runs.specs.Laws.{LatersAreSafe, NodesAreSafe, RunsHold, TurnsAreRuns};
 ghost use Rattle.script_runs.specs.Mails.{MailIsSent, ScriptsAreSafe};
 ghost use Rattle.script_runs.specs.Places.{CrashesOn, DisksCrashOn, FallsOn, PlacesBegin, StartsFail, StartsOn, StepsOn};
+ghost use Rattle.script_runs.specs.Showing.{ShownAlike};
 
 use sql_engine::Engine;
 
@@ -36,4 +37,10 @@ pub fn places_lead_on<E: Engine>()
 pub fn scripts_are_safe<E: Engine>()
     ensures mail { MailIsSent }
     ensures safe { (kind : _) → ScriptsAreSafe (E.meaning kind) kind }
+{}
+
+/// Two nodes of a script that stand, at one moment, with as many entries applied have the same files, so what is shown of them is the
+/// same.
+pub fn nodes_are_shown_alike<E: Engine>()
+    ensures { (kind : _) → ShownAlike (E.meaning kind) kind }
 {}
