@@ -35,4 +35,5 @@ pub record ByNodes (m : Meaning) (kind : EngineKind) (setup : Setup) (turns : Li
 -- So each script is safe.
 abbrev pub ScriptsAreSafe : Meaning → EngineKind → Type 0
 ScriptsAreSafe m kind =
-    (setup : Setup) (script : List ℕ) (outcomes : List Outcome) → ByNodes m kind setup (run script outcomes).turns → IsSafe m kind setup (run script outcomes).turns
+    (setup : Setup) (script : List ℕ) (outcomes : List Outcome) → ByNodes m kind setup (run script outcomes).turns →
+    IsSafe m kind setup (run script outcomes).turns
