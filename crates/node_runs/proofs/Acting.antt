@@ -22,12 +22,12 @@ use Rattle.node_rules.specs.Steps.{Letter, Taken, Made, StepsSo, StopsSo, TellsS
 use Rattle.node_rules.proofs.RaftSnapshots.{resting_servers_hold}
 use Rattle.node_core.specs.declared.event.Event.TheVariants as events
 use Rattle.node_core.specs.declared.running.Running.{Running}
-use Rattle.node_core.specs.Account.{letter_of, bytes_in, told_of, IsOwn, Adds, Begin, Happens, Comes, Compacts, inputs_of, joins_of, IsLost, NoneAsks, Takes, Act, Stopped, AtRest, KnowsServers}
+use Rattle.node_core.specs.Account.{letter_of, bytes_in, told_of, IsOwn, Adds, Begin, Happens, Comes, Compacts, inputs_of, joins_of, IsLost, NoneAsks, Takes, Act, Stopped, AtRest, KnowsServers, Brings}
 use Rattle.node_core.specs.Values.{seen}
 use Rattle.node_world.specs.Acts.{PlaceIs, RunIs}
 use Rattle.node_world.specs.Runs as runs
 use Rattle.node_world.specs.Runs.{Place, Up, Down, Run, Asks, Gets, Reads, taken, taken_letter, joins_in, read_in, asks_in, Goes, Fails, TellsOf, ReadsJob, Holds}
-use Rattle.node_runs.specs.Comings.{nothing, IsMade, ReadTells, Arrives}
+use Rattle.node_runs.specs.Comings.{nothing, IsMade, ReadTells, Arrives, asks_of}
 use Rattle.node_runs.specs.Steps.{TellsVoters}
 use Rattle.node_runs.proofs.Takens.{NoneReceived, AsTaken, tells_as, counts_as, steps_as, stops_as}
 
@@ -160,6 +160,18 @@ module _ (mean : Meaning) (kind : EngineKind) (r : Run) (n : ℕ) (old : Running
   comes_so (Compacts index) x here t =
       either old (Compacts index) x (λ a. came_local mean kind r n x (Compacts index) (raft.Snapped index) a t.joins t.read t.asks) (λ l a. absurd l) t.inputs
 
+-- nothing is asked on a connection of which no bytes come
+brings_none : (old : Running) (begin : Begin) (asks : ℕ → List Request) (conn : ℕ) → Brings old begin asks → asks_of begin ≢ Some conn → asks conn ≡ []
+brings_none old (Happens (events.Bytes other bytes)) asks conn h none = h.others conn (λ e. none (ap Some (sym e)))
+brings_none old (Happens (events.Peer m)) asks conn h none = h conn
+brings_none old (Happens events.Timeout) asks conn h none = h conn
+brings_none old (Happens events.Beat) asks conn h none = h conn
+brings_none old (Happens (events.Connect other)) asks conn h none = h conn
+brings_none old (Happens (events.Hangup other)) asks conn h none = h conn
+brings_none old (Happens (events.ReadDone other read)) asks conn h none = h conn
+brings_none old (Comes m) asks conn h none = h conn
+brings_none old (Compacts index) asks conn h none = h conn
+
 -- ---- one event
 
 module _ (m : Meaning) (kind : EngineKind) (setup : Setup) where
@@ -170,6 +182,7 @@ module _ (m : Meaning) (kind : EngineKind) (setup : Setup) where
     pub holds : Holds m kind setup r (Goes n came added new made.letters made.replies made.jobs)
     pub answers : holds.1 ≡ made.answers
     pub joins : joins_in came ≡ joins_of begin
+    pub asks : (conn : ℕ) → asks_of begin ≢ Some conn → asks_in came conn ≡ []
 
   knows : (r : Run) (acts : List RuleAct) (n : ℕ) (old : Running) → RunIs m kind setup r acts → r.places n ≡ Up (seen old) → AtRest old → KnowsServers setup old
   knows r acts n old was up rest =
@@ -202,6 +215,7 @@ module _ (m : Meaning) (kind : EngineKind) (setup : Setup) where
         );
         answers = refl;
         joins = sym c.like.joins ∙ a.takes.joins;
+        asks = λ conn none. sym (c.like.asks conn) ∙ brings_none old begin a.taken.asks conn a.takes.asks none;
       }
 
   pub record StopHolds (r : Run) (n : ℕ) (begin : Begin) (kept : Kept) : Type 0 where
@@ -209,6 +223,7 @@ module _ (m : Meaning) (kind : EngineKind) (setup : Setup) where
     pub added : List raft.LocalEvent
     pub holds : Holds m kind setup r (Fails n came added kept)
     pub joins : joins_in came ≡ joins_of begin
+    pub asks : (conn : ℕ) → asks_of begin ≢ Some conn → asks_in came conn ≡ []
 
   pub stop_holds : (r : Run) (acts : List RuleAct) (n : ℕ) (old : Running) (begin : Begin) (kept : Kept) → RunIs m kind setup r acts → r.places n ≡ Up (seen old) → (seen old).raft.id ≡ n →
       Arrives m kind r n begin → (a : Stopped m kind setup old begin kept) → TellsSo setup old.replica.id (seen old) a.taken → StopHolds r n begin kept
@@ -233,4 +248,5 @@ module _ (m : Meaning) (kind : EngineKind) (setup : Setup) where
           },
         );
         joins = sym c.like.joins ∙ a.takes.joins;
+        asks = λ conn none. sym (c.like.asks conn) ∙ brings_none old begin a.taken.asks conn a.takes.asks none;
       }

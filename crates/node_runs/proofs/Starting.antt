@@ -37,7 +37,7 @@ use Rattle.node_runs.specs.Starts.{StartsRun, StartStopsRun, StartsKeep, Crashes
 
 module _ (m : Meaning) (kind : EngineKind) (setup : Setup) (r : Run) (n : ℕ) (place : Place) (e : Event) where
   -- an event after which the place stands so, and that says nothing
-  pub leads_by : Holds m kind setup r e → happens r e ≡ with_place r n place no_jobs [] [] → Leads m kind setup r n place [] []
+  abbrev pub leads_by : Holds m kind setup r e → happens r e ≡ with_place r n place no_jobs [] [] → Leads m kind setup r n place [] []
   leads_by h is = record {
     events = e ∷ [];
     hold = (h, tt);

@@ -1,8 +1,8 @@
 -- The acts of a step are events of a run, one after another.
 use Rattle.std.proofs.Common.{◌≡◌, ◌≢◌, ℕ, zero, suc, List, [], ◌∷◌, ◌++◌, map, refl, sym, ap, ◌∙◌, subst}
-use Rattle.std.specs.Prelude.{◌==◌, Option, Some, slice_get}
+use Rattle.std.specs.Prelude.{cond, ◌==◌, Option, Some, slice_get}
 use Rattle.std.specs.List.{AllByRecursion}
-use Rattle.std.proofs.lemmas.Bool.{cond-true, cond-false, eq-eqb, ne_eqb}
+use Rattle.std.proofs.lemmas.Bool.{cond-true, cond-false, cond_both, eq-eqb, eqb-true, ne_eqb}
 use Rattle.std.proofs.lemmas.List.{append-nil, append_assoc, map-append}
 use Rattle.sql_engine.specs.declared.kind.EngineKind.{EngineKind}
 use Rattle.sql_engine.specs.Meanings.{Meaning, Told}
@@ -22,8 +22,9 @@ use Rattle.node_core.specs.declared.outs.Outs.{Outs}
 use Rattle.node_core.specs.declared.running.Running.{Running}
 use Rattle.node_core.specs.Account.{letter_of, Begin, Happens, Comes, Compacts, Acts, Stopped, StepsBy, StopsBy}
 use Rattle.node_core.specs.Values.{seen}
-use Rattle.node_world.specs.Acts.{RunIs}
-use Rattle.node_world.specs.Runs.{Place, Up, Down, Run, spoken, Goes, Fails, Event, with_place, happens, run_from, run}
+use Rattle.wire_msgs.specs.declared.request.Request.{Request}
+use Rattle.node_world.specs.Acts.{RunIs, asked}
+use Rattle.node_world.specs.Runs.{Place, Up, Down, Run, asks_in, spoken, Goes, Fails, Event, with_place, happens, run_from, run}
 use Rattle.node_world.proofs.Runs.{other_place, here_place, runs_go_on_hold, runs_make_acts_hold}
 use Rattle.node_runs.specs.Comings.{IsMade, Arrives, ArrivesLater, AllArrive}
 use Rattle.node_runs.specs.Steps.{Leads, used_in, StaysUp, AllTellVoters, StopTellsVoters, StepRuns, StepsRun, StopRuns, StopsRun}
@@ -72,6 +73,10 @@ here_jobs r n p js ls rs = cond-true (n == n) js (r.jobs n) (eq-eqb n n refl)
 joins_first : (n k conn : ℕ) (o p : Option ℕ) → o ≡ p → (k ≡ n → p ≢ Some conn) → k ≡ n → o ≢ Some conn
 joins_first n k conn o p e h at z = h at (sym e ∙ z)
 
+-- nothing is asked first, and nothing then
+asked_none : (k n : ℕ) (first rest : List Request) → (k ≡ n → first ≡ []) → rest ≡ [] → cond (k == n) first [] ++ rest ≡ []
+asked_none k n first rest none more = ap (λ l. cond (k == n) first [] ++ l) more ∙ append-nil (cond (k == n) first []) ∙ cond_both (k == n) first [] (λ l. l ≡ []) (λ e. none (eqb-true k n e)) (λ e. refl)
+
 module _ (m : Meaning) (kind : EngineKind) (setup : Setup) where
   -- what leads from a run to its place
   abbrev leads_none : (r : Run) (n : ℕ) (place : Place) (letters : List Letter) (replies : List (ℕ × Reply)) → r.places n ≡ place → letters ≡ [] → replies ≡ [] → Leads m kind setup r n place letters replies
@@ -105,6 +110,7 @@ module _ (m : Meaning) (kind : EngineKind) (setup : Setup) where
     stays_first begins es g = record {
       starts = λ k. g.starts k;
       joined = λ k conn none. (joins_first n k conn _ _ h.joins (λ at. (none at).0), g.joined k conn (λ at. (none at).1));
+      asks = λ k conn none. asked_none k n (asks_in h.came conn) (asked k conn es) (λ at. h.asks conn (none at).0) (g.asks k conn (λ at. (none at).1));
     }
 
   -- ---- the acts of a step
@@ -120,7 +126,7 @@ module _ (m : Meaning) (kind : EngineKind) (setup : Setup) where
       AllArrive m kind r n begins → (a : Acts m kind setup old new begins made) → AllTellVoters m kind setup old new begins made a → ActsRun r n new begins made
   acts_run r acts n old new [] made was up id here a voters = record {
     leads = leads_none r n (Up (seen new)) made.letters made.replies (up ∙ ap Up (sym a.0)) (ap (λ (z : Made). z.letters) a.1) (ap (λ (z : Made). z.replies) a.1);
-    stays = record { starts = λ k. tt; joined = λ k conn none. tt };
+    stays = record { starts = λ k. tt; joined = λ k conn none. tt; asks = λ k conn none. refl };
     reads = λ conn. ap (λ (z : Made). handed_on (r.jobs n) z.jobs conn) (sym a.1);
     used = ap (λ (z : Made). z.answers) (sym a.1);
     id = ap (λ (v : Node). v.raft.id) a.0 ∙ id;
@@ -163,7 +169,7 @@ module _ (m : Meaning) (kind : EngineKind) (setup : Setup) where
           letters_are = refl;
           said_is = refl;
         };
-        stays = record { starts = λ k. tt; joined = λ k conn none. (joins_first n k conn _ _ h.joins (λ at. (none at).0), tt) };
+        stays = record { starts = λ k. tt; joined = λ k conn none. (joins_first n k conn _ _ h.joins (λ at. (none at).0), tt); asks = λ k conn none. asked_none k n (asks_in h.came conn) [] (λ at. h.asks conn (none at).0) refl };
       }
 
   acts_stop : (r : Run) (acts : List RuleAct) (n : ℕ) (old mid : Running) (begins : List Begin) (last : Begin) (made : Made) (kept : Kept) → RunIs m kind setup r acts → r.places n ≡ Up (seen old) → (seen old).raft.id ≡ n →

@@ -48,3 +48,15 @@ ArrivesLater r n (Compacts index) = Unit {0}
 abbrev pub AllArrive : Meaning → EngineKind → Run → ℕ → List Begin → Type 0
 AllArrive m kind r n [] = Unit {0}
 AllArrive m kind r n (begin ∷ begins) = Arrives m kind r n begin × AllByRecursion (ArrivesLater r n) begins
+
+-- the connection on which bytes come where an act begins so
+abbrev pub asks_of : Begin → Option ℕ
+asks_of (Happens (events.Bytes conn bytes)) = Some conn
+asks_of (Happens (events.Peer message)) = None
+asks_of (Happens (events.ReadDone conn read)) = None
+asks_of (Happens events.Timeout) = None
+asks_of (Happens events.Beat) = None
+asks_of (Happens (events.Connect conn)) = None
+asks_of (Happens (events.Hangup conn)) = None
+asks_of (Comes message) = None
+asks_of (Compacts index) = None

@@ -16,9 +16,9 @@ use Rattle.node_core.specs.declared.outs.Outs.{Outs}
 use Rattle.node_core.specs.declared.running.Running.{Running}
 use Rattle.node_core.specs.Account.{letter_of, Sends, Begin, joins_of, Acts, StepsBy, StopsBy}
 use Rattle.node_core.specs.Values.{seen}
-use Rattle.node_world.specs.Acts.{NotStarted, NotJoined}
+use Rattle.node_world.specs.Acts.{NotStarted, NotJoined, asked}
 use Rattle.node_world.specs.Runs.{Place, Up, Down, Run, Event, Goes, Fails, Crashes, Starts, StartFails, spoken, happens, first_run, run, run_from, Holds, AllHold}
-use Rattle.node_runs.specs.Comings.{AllArrive}
+use Rattle.node_runs.specs.Comings.{AllArrive, asks_of}
 
 -- ---- a stretch of a run at one node
 
@@ -49,10 +49,15 @@ used_in m kind setup r (e ∷ events) h = used_by m kind setup r e h.0 ++ used_i
 abbrev pub NoneJoins : ℕ → List Begin → Type 0
 NoneJoins conn begins = AllByRecursion (λ begin. joins_of begin ≢ Some conn) begins
 
--- In these events no node starts, and no connection comes to a node but as one of these acts at the one of this number.
+-- nor bytes of it
+abbrev pub NoneAsk : ℕ → List Begin → Type 0
+NoneAsk conn begins = AllByRecursion (λ begin. asks_of begin ≢ Some conn) begins
+
+-- In these events no node starts; no connection comes, and none asks anything, but as one of these acts at the node of this number.
 pub record StaysUp (n : ℕ) (begins : List Begin) (events : List Event) : Type 0 where
   pub starts : (k : ℕ) → NotStarted k events
   pub joined : (k conn : ℕ) → (k ≡ n → NoneJoins conn begins) → NotJoined k conn events
+  pub asks : (k conn : ℕ) → (k ≡ n → NoneAsk conn begins) → asked k conn events ≡ []
 
 -- ---- what voters are told
 

@@ -6,3 +6,5 @@ mod Worlds
 mod Scripts
 mod Contents
 mod Showing
+mod Bringing
+mod Brought

@@ -30,6 +30,7 @@ use Rattle.script_nodes.specs.Outcomes.{Standing, Outs, Ending, Steps, Starts, S
 use Rattle.script_runs.specs.Seats.{Seat, Runs, Rests, EventIs, IsAlone, StepDone, StopDone, StartDone, EndsSo, CrashesSo, TurnSo, PathSo}
 use Rattle.script_runs.specs.Turns.{actor, turns_at, messages_of, messages_in, WasSent, SentTo, AllSentTo, IsDown, EndShows, TurnRuns, AreRun, events_of}
 use Rattle.script_runs.specs.Laws.{TurnsAreRuns, RunsHold, NodesAreSafe, LatersAreSafe}
+use Rattle.script_runs.proofs.Bringing.{Brought, true_false, brought, by_doing}
 use Rattle.script_runs.proofs.Answering.{told_are}
 use Rattle.script_runs.proofs.Mailing.{among_none, among_join}
 
@@ -69,7 +70,7 @@ module _ (m : Meaning) (kind : EngineKind) (setup : Setup) (r : Run) (n : ℕ) w
     -- ---- one turn
 
     module _ (acts : List RuleAct) (was : RunIs m kind setup r acts) where
-      record Done (answers : List Answer) (ending : Ending) (new : Seat) : Type 0 where
+      record Done (doing : Doing) (answers : List Answer) (ending : Ending) (new : Seat) : Type 0 where
         pub place : Place
         pub letters : List Letter
         pub replies : List (ℕ × Reply)
@@ -77,8 +78,9 @@ module _ (m : Meaning) (kind : EngineKind) (setup : Setup) (r : Run) (n : ℕ) w
         pub shows : EndShows answers ending place letters replies (used_in m kind setup r leads.events leads.hold)
         pub seat : SeatIs n new place
         pub says : AreAmong (messages_of ending) letters
+        pub brings : Brought n doing leads.events
 
-      steps_so : (old new : Running) (doing : Doing) (answers : List Answer) (outs : Outs) (standing : Standing) → r.places n ≡ Up (seen old) → (seen old).raft.id ≡ n → WasSent sent n doing → StepDone m kind setup old new doing answers outs standing → Done answers (Steps outs standing) (Runs new)
+      steps_so : (old new : Running) (doing : Doing) (answers : List Answer) (outs : Outs) (standing : Standing) → r.places n ≡ Up (seen old) → (seen old).raft.id ≡ n → WasSent sent n doing → StepDone m kind setup old new doing answers outs standing → Done doing answers (Steps outs standing) (Runs new)
       unfolding SeatIs
       steps_so old new doing answers outs standing up id sent_so d =
           let s = step_at m kind setup r acts was n old up id d.event new d.said _ _ d.steps d.voters (all_arrive doing d.event d.steps.begins d.is sent_so d.steps.are d.alone) in
@@ -98,6 +100,7 @@ module _ (m : Meaning) (kind : EngineKind) (setup : Setup) (r : Run) (n : ℕ) w
             };
             seat = (refl, s.id);
             says = among_them;
+            brings = brought n doing d.event d.steps.begins s.leads.events d.is d.steps.are s.stays;
           }
 
       stops_so : (old : Running) (doing : Doing) (kept : Kept) → r.places n ≡ Up (seen old) → (seen old).raft.id ≡ n → WasSent sent n doing → (d : StopDone m kind setup old doing kept) → StopRuns m kind setup r n (d.stops.begins ++ d.stops.last ∷ []) kept
@@ -105,10 +108,10 @@ module _ (m : Meaning) (kind : EngineKind) (setup : Setup) (r : Run) (n : ℕ) w
           stop_at m kind setup r acts was n old up id d.event kept d.stops d.voters (all_arrive doing d.event (d.stops.begins ++ d.stops.last ∷ []) d.is sent_so d.stops.are d.alone)
 
       -- an event after which the node is down
-      down_so : (answers : List Answer) (ending : Ending) (kept : Kept) (letters : List Letter) (replies : List (ℕ × Reply)) → Leads m kind setup r n (Down kept) letters replies →
-          ((place : Place) (used : List Answer) → IsDown place → EndShows answers ending place letters replies used) → messages_of ending ≡ [] → Done answers ending (Rests kept)
+      down_so : (doing : Doing) (answers : List Answer) (ending : Ending) (kept : Kept) (letters : List Letter) (replies : List (ℕ × Reply)) (l : Leads m kind setup r n (Down kept) letters replies) → Brought n doing l.events →
+          ((place : Place) (used : List Answer) → IsDown place → EndShows answers ending place letters replies used) → messages_of ending ≡ [] → Done doing answers ending (Rests kept)
       unfolding SeatIs
-      down_so answers ending kept letters replies l shows none = record {
+      down_so doing answers ending kept letters replies l brings shows none = record {
         place = Down kept;
         letters = letters;
         replies = replies;
@@ -116,11 +119,12 @@ module _ (m : Meaning) (kind : EngineKind) (setup : Setup) (r : Run) (n : ℕ) w
         shows = shows (Down kept) (used_in m kind setup r l.events l.hold) (record { kept = kept; down = refl });
         seat = refl;
         says = subst (λ (ms : List RaftMessage). AreAmong ms letters) (sym none) (among_none letters);
+        brings = brings;
       }
 
-      starts_so : (kept loaded : Kept) (new : Running) (answers : List Answer) (standing : Standing) → r.places n ≡ Down kept → StartDone setup n kept loaded new standing → Done answers (Starts loaded standing) (Runs new)
+      begins_so : (kept loaded : Kept) (new : Running) (answers : List Answer) (standing : Standing) → r.places n ≡ Down kept → StartDone setup n kept loaded new standing → Done Start answers (Starts loaded standing) (Runs new)
       unfolding SeatIs
-      starts_so kept loaded new answers standing down d = record {
+      begins_so kept loaded new answers standing down d = record {
         place = Up (seen new);
         letters = [];
         replies = [];
@@ -128,12 +132,20 @@ module _ (m : Meaning) (kind : EngineKind) (setup : Setup) (r : Run) (n : ℕ) w
         shows = record { node = seen new; up = refl; stands = d.stands };
         seat = (refl, d.id);
         says = among_none [];
+        brings = record { starts = λ k none. ((λ at. true_false (none at)), tt); joined = λ k conn none. tt; asks = λ k conn none. refl };
       }
 
-      fails_so : (kept left : Kept) → r.places n ≡ Down kept → StartStopsSo setup kept left → Leads m kind setup r n (Down left) [] []
+      abbrev fails_so : (kept left : Kept) → r.places n ≡ Down kept → StartStopsSo setup kept left → Leads m kind setup r n (Down left) [] []
       fails_so kept left down d = leads_by m kind setup r n (Down left) (StartFails n left) (kept, down, d) refl
 
-      stays_so : (kept left : Kept) → r.places n ≡ Down kept → left ≡ kept → Leads m kind setup r n (Down left) [] []
+      -- a start that failed brings nothing
+      fails_bring : (doing : Doing) (left : Kept) → Brought n doing (StartFails n left ∷ [])
+      fails_bring doing left = record { starts = λ k none. tt; joined = λ k conn none. tt; asks = λ k conn none. refl }
+
+      none_bring : (doing : Doing) → Brought n doing []
+      none_bring doing = record { starts = λ k none. tt; joined = λ k conn none. tt; asks = λ k conn none. refl }
+
+      abbrev stays_so : (kept left : Kept) → r.places n ≡ Down kept → left ≡ kept → Leads m kind setup r n (Down left) [] []
       stays_so kept left down same = record {
         events = [];
         hold = tt;
@@ -143,19 +155,19 @@ module _ (m : Meaning) (kind : EngineKind) (setup : Setup) (r : Run) (n : ℕ) w
         said_is = sym (append-nil r.said);
       }
 
-      ends_so : (old : Seat) (doing : Doing) (answers : List Answer) (ending : Ending) (new : Seat) → SeatIs n old (r.places n) → WasSent sent n doing → EndsSo m kind setup n old doing answers ending new → Done answers ending new
+      ends_so : (old : Seat) (doing : Doing) (answers : List Answer) (ending : Ending) (new : Seat) → SeatIs n old (r.places n) → WasSent sent n doing → EndsSo m kind setup n old doing answers ending new → Done doing answers ending new
       unfolding SeatIs
       ends_so (Runs old) doing answers (Steps outs standing) (Runs new) seat was_sent h = steps_so old new doing answers outs standing seat.0 seat.1 was_sent h
       ends_so (Runs old) doing answers (Stops keeps) (Rests kept) seat was_sent h =
           let s = stops_so old doing kept seat.0 seat.1 was_sent h in
-          down_so answers (Stops keeps) kept s.letters s.replies s.leads (λ place used d. d) refl
+          down_so doing answers (Stops keeps) kept s.letters s.replies s.leads (brought n doing h.event (h.stops.begins ++ h.stops.last ∷ []) s.leads.events h.is h.stops.are s.stays) (λ place used d. d) refl
       ends_so (Runs old) doing answers (Fails keeps) (Rests kept) seat was_sent h =
           let s = stops_so old doing kept seat.0 seat.1 was_sent h in
-          down_so answers (Fails keeps) kept s.letters s.replies s.leads (λ place used d. d) refl
-      ends_so (Rests kept) doing answers (Starts loaded standing) (Runs new) seat was_sent h = starts_so kept loaded new answers standing seat h.1
-      ends_so (Rests kept) doing answers (Stops keeps) (Rests left) seat was_sent h = down_so answers (Stops keeps) left [] [] (fails_so kept left seat h.1) (λ place used d. d) refl
-      ends_so (Rests kept) doing answers (Fails keeps) (Rests left) seat was_sent h = down_so answers (Fails keeps) left [] [] (fails_so kept left seat h.1) (λ place used d. d) refl
-      ends_so (Rests kept) doing answers Unreadable (Rests left) seat was_sent h = down_so answers Unreadable left [] [] (stays_so kept left seat h.1) (λ place used d. d) refl
+          down_so doing answers (Fails keeps) kept s.letters s.replies s.leads (brought n doing h.event (h.stops.begins ++ h.stops.last ∷ []) s.leads.events h.is h.stops.are s.stays) (λ place used d. d) refl
+      ends_so (Rests kept) doing answers (Starts loaded standing) (Runs new) seat was_sent h = subst (λ z. Done z answers (Starts loaded standing) (Runs new)) (sym h.0) (begins_so kept loaded new answers standing seat h.1)
+      ends_so (Rests kept) doing answers (Stops keeps) (Rests left) seat was_sent h = down_so doing answers (Stops keeps) left [] [] (fails_so kept left seat h.1) (fails_bring doing left) (λ place used d. d) refl
+      ends_so (Rests kept) doing answers (Fails keeps) (Rests left) seat was_sent h = down_so doing answers (Fails keeps) left [] [] (fails_so kept left seat h.1) (fails_bring doing left) (λ place used d. d) refl
+      ends_so (Rests kept) doing answers Unreadable (Rests left) seat was_sent h = down_so doing answers Unreadable left [] [] (stays_so kept left seat h.1) (none_bring doing) (λ place used d. d) refl
       ends_so (Runs old) doing answers (Steps outs standing) (Rests kept) seat was_sent h = absurd h
       ends_so (Runs old) doing answers (Starts loaded standing) new seat was_sent h = absurd h
       ends_so (Runs old) doing answers (Stops keeps) (Runs new) seat was_sent h = absurd h
@@ -186,12 +198,12 @@ module _ (m : Meaning) (kind : EngineKind) (setup : Setup) where
   unfolding SeatIs
   turn_so r sent among acts was (Does n doing aim outcome) old new seat was_sent h =
       let d = ends_so m kind setup r n sent among acts was old doing outcome.answers outcome.ending new seat was_sent h in
-      record { run = record { place = d.place; letters = d.letters; replies = d.replies; leads = d.leads; shows = d.shows }; seat = d.seat; among = d.says }
+      record { run = record { place = d.place; letters = d.letters; replies = d.replies; leads = d.leads; shows = d.shows; brings = by_doing n doing aim outcome d.leads.events d.brings }; seat = d.seat; among = d.says }
   turn_so r sent among acts was (Crashes n pick) old new seat was_sent h =
       let c = crashes_so m kind setup r n sent among acts was old new seat h in
       let place = Down (kept_at (r.places n)) in
       record {
-        run = record { place = place; letters = []; replies = []; leads = leads_by m kind setup r n place (Halts n) tt refl; shows = record { kept = kept_at (r.places n); down = refl } };
+        run = record { place = place; letters = []; replies = []; leads = leads_by m kind setup r n place (Halts n) tt refl; shows = record { kept = kept_at (r.places n); down = refl }; brings = record { starts = λ k none. tt; joined = λ k conn none. tt; asks = λ k conn none. refl } };
         seat = subst (λ z. SeatIs n z place) (sym c.1) (ap Down (sym c.2));
         among = among_none [];
       }

@@ -1,14 +1,16 @@
 -- That what whole nodes do in a script is a run, and what follows.
-use Rattle.std.specs.Prelude.{List, ◌++◌}
+use Rattle.std.specs.Prelude.{◌≡◌, ◌≢◌, ℕ, false, Some, [], List, ◌++◌}
+use Rattle.std.specs.List.{AllByRecursion}
 use Rattle.sql_engine.specs.declared.kind.EngineKind.{EngineKind}
 use Rattle.sql_engine.specs.Meanings.{Meaning}
 use Rattle.session_rules.specs.Entries.{Entry as Line}
 use Rattle.session_world.specs.Nodes.{Said}
 use Rattle.raft_world.specs.Members.{Setup}
+use Rattle.node_world.specs.Acts.{NotStarted, NotJoined, asked}
 use Rattle.node_world.specs.Laws.{SafeRun, SafeLater}
-use Rattle.node_world.specs.Runs.{first_run, run, run_from, AllHold}
+use Rattle.node_world.specs.Runs.{Run, first_run, run, run_from, AllHold}
 use Rattle.script_nodes.specs.Outcomes.{Turn}
-use Rattle.script_runs.specs.Turns.{NodesDo, AreRun, events_of}
+use Rattle.script_runs.specs.Turns.{actor, is_start, joins_of, asks_of, NodesDo, AreRun, events_of}
 
 -- What whole nodes do is a run, turn by turn.
 abbrev pub TurnsAreRuns : Meaning → EngineKind → Type 0
@@ -39,3 +41,22 @@ pub record IsSafeLater (m : Meaning) (kind : EngineKind) (setup : Setup) (turns 
 
 abbrev pub LatersAreSafe : Meaning → EngineKind → Type 0
 LatersAreSafe m kind = (setup : Setup) (turns more : List Turn) → AreRun m kind setup first_run (turns ++ more) → IsSafeLater m kind setup turns more
+
+-- ---- what turns bring
+
+-- the node isn't started in these turns; the connection doesn't come to it; no bytes come on it there
+abbrev pub NoneStarts : ℕ → List Turn → Type 0
+NoneStarts k turns = AllByRecursion (λ turn. k ≡ actor turn → is_start turn ≡ false) turns
+
+abbrev pub NoneJoins : ℕ → ℕ → List Turn → Type 0
+NoneJoins k conn turns = AllByRecursion (λ turn. k ≡ actor turn → joins_of turn ≢ Some conn) turns
+
+abbrev pub NoneAsk : ℕ → ℕ → List Turn → Type 0
+NoneAsk k conn turns = AllByRecursion (λ turn. k ≡ actor turn → asks_of turn ≢ Some conn) turns
+
+-- So it is in their run: what holds of a node that isn't started meanwhile, and of a connection that stays, holds of the script's.
+abbrev pub TurnsBring : Meaning → EngineKind → Type 0
+TurnsBring m kind =
+    (setup : Setup) (r : Run) (turns : List Turn) (is : AreRun m kind setup r turns) (k : ℕ) → (NoneStarts k turns → NotStarted k (events_of m kind setup r turns is))
+    × ((conn : ℕ) → NoneJoins k conn turns → NotJoined k conn (events_of m kind setup r turns is))
+    × ((conn : ℕ) → NoneAsk k conn turns → asked k conn (events_of m kind setup r turns is) ≡ [])

@@ -1,5 +1,5 @@
 -- The turns of a script as a run of whole nodes.
-use Rattle.std.specs.Prelude.{◌≡◌, ℕ, ◌==◌, cond, List, [], ◌∷◌, ◌++◌, Some, slice_get}
+use Rattle.std.specs.Prelude.{◌≢◌, Bool, true, false, Option, None, ◌≡◌, ℕ, ◌==◌, cond, List, [], ◌∷◌, ◌++◌, Some, slice_get}
 use Rattle.sql_engine.specs.declared.kind.EngineKind.{EngineKind}
 use Rattle.sql_engine.specs.Meanings.{Meaning}
 use Rattle.session_rules.specs.Engines.{Answer}
@@ -10,6 +10,7 @@ use Rattle.store_laws.specs.Store.{Kept}
 use Rattle.node_rules.specs.Nodes.{Node}
 use Rattle.node_rules.specs.Steps.{Letter}
 use Rattle.node_core.specs.Account.{Sends}
+use Rattle.node_world.specs.Acts.{NotStarted, NotJoined, asked}
 use Rattle.node_world.specs.Runs.{Place, Up, Down, Run, Event, nothing_kept, run_from}
 use Rattle.node_runs.specs.Steps.{Leads, used_in, AreAmong}
 use Rattle.script_nodes.specs.Outcomes.{Standing, Outs, Ending, Steps, Starts, Stops, Fails, Unreadable, Doing, Timeout, Beat, Connect, Bytes, Hangup, Receive, Start, Turn, Does, Crashes}
@@ -98,6 +99,49 @@ abbrev pub TurnShows : Turn → Place → List Letter → List (ℕ × Reply) �
 TurnShows (Does n doing aim outcome) place letters replies used = EndShows outcome.answers outcome.ending place letters replies used
 TurnShows (Crashes n pick) place letters replies used = IsDown place
 
+-- a start, the connection that comes, and the one on which bytes come
+abbrev pub is_start : Turn → Bool
+is_start (Does n Start aim outcome) = true
+is_start (Does n Timeout aim outcome) = false
+is_start (Does n Beat aim outcome) = false
+is_start (Does n (Connect conn) aim outcome) = false
+is_start (Does n (Bytes conn bytes) aim outcome) = false
+is_start (Does n (Hangup conn) aim outcome) = false
+is_start (Does n (Receive message) aim outcome) = false
+is_start (Crashes n pick) = false
+
+abbrev pub joins_by : Doing → Option ℕ
+joins_by (Connect conn) = Some conn
+joins_by Timeout = None
+joins_by Beat = None
+joins_by (Bytes conn bytes) = None
+joins_by (Hangup conn) = None
+joins_by (Receive message) = None
+joins_by Start = None
+
+abbrev pub asks_by : Doing → Option ℕ
+asks_by (Bytes conn bytes) = Some conn
+asks_by Timeout = None
+asks_by Beat = None
+asks_by (Connect conn) = None
+asks_by (Hangup conn) = None
+asks_by (Receive message) = None
+asks_by Start = None
+
+abbrev pub joins_of : Turn → Option ℕ
+joins_of (Does n doing aim outcome) = joins_by doing
+joins_of (Crashes n pick) = None
+
+abbrev pub asks_of : Turn → Option ℕ
+asks_of (Does n doing aim outcome) = asks_by doing
+asks_of (Crashes n pick) = None
+
+-- In these events a node starts, a connection comes, and one asks something, only as it does in the turn.
+pub record TurnBrings (turn : Turn) (events : List Event) : Type 0 where
+  pub starts : (k : ℕ) → (k ≡ actor turn → is_start turn ≡ false) → NotStarted k events
+  pub joined : (k conn : ℕ) → (k ≡ actor turn → joins_of turn ≢ Some conn) → NotJoined k conn events
+  pub asks : (k conn : ℕ) → (k ≡ actor turn → asks_of turn ≢ Some conn) → asked k conn events ≡ []
+
 -- A turn is events of the run, whose clauses hold, and shows what they show.
 pub record TurnRuns (m : Meaning) (kind : EngineKind) (setup : Setup) (r : Run) (turn : Turn) : Type 0 where
   pub place : Place
@@ -105,6 +149,7 @@ pub record TurnRuns (m : Meaning) (kind : EngineKind) (setup : Setup) (r : Run) 
   pub replies : List (ℕ × Reply)
   pub leads : Leads m kind setup r (actor turn) place letters replies
   pub shows : TurnShows turn place letters replies (used_in m kind setup r leads.events leads.hold)
+  pub brings : TurnBrings turn leads.events
 
 -- so of all turns, one after another
 abbrev pub AreRun : Meaning → EngineKind → Setup → Run → List Turn → Type 0

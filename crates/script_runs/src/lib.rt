@@ -2,7 +2,7 @@
 //! and it holds under every engine.
 #![tactic(auto)]
 
-ghost use Rattle.script_runs.specs.Laws.{LatersAreSafe, NodesAreSafe, RunsHold, TurnsAreRuns};
+ghost use Rattle.script_runs.specs.Laws.{LatersAreSafe, NodesAreSafe, RunsHold, TurnsAreRuns, TurnsBring};
 ghost use Rattle.script_runs.specs.Mails.{MailIsSent, ScriptsAreSafe};
 ghost use Rattle.script_runs.specs.Places.{CrashesOn, DisksCrashOn, FallsOn, PlacesBegin, StartsFail, StartsOn, StepsOn};
 ghost use Rattle.script_runs.specs.Showing.{ShownAlike};
@@ -11,12 +11,14 @@ use sql_engine::Engine;
 
 /// Where each node of a script does in its turns what whole nodes do, and receives only messages that were sent to it, the turns are a
 /// run: each is events of it whose clauses hold, at its node alone, and shows what the run's node then is and has said. So the run is
-/// safe, at each moment and at a later one, and whatever holds of every run holds of it.
+/// safe, at each moment and at a later one, and whatever holds of every run holds of it. In it a node starts, a connection comes, and one
+/// asks something only where it does in a turn.
 pub fn turns_are_runs<E: Engine>()
     ensures runs { (kind : _) → TurnsAreRuns (E.meaning kind) kind }
     ensures hold { (kind : _) → RunsHold (E.meaning kind) kind }
     ensures safe { (kind : _) → NodesAreSafe (E.meaning kind) kind }
     ensures later { (kind : _) → LatersAreSafe (E.meaning kind) kind }
+    ensures bring { (kind : _) → TurnsBring (E.meaning kind) kind }
 {}
 
 /// A place begins over a disk without files, and each call of a node leads its turns on, together with the disk: a step that ended well,
