@@ -82,7 +82,7 @@ sees_itself n g = record { serving = refl; term = g.in_term; last = g.last }
 
 -- ---- an act was done
 
-gone : (act : Act) (a b : Moment) (k l : Clients) → Shows a k → Shows b l → KeepsRaft a b → b.due ≡ a.due → l ≡ gone_by act k → Stays a b ⊎ ((conn : ℕ) × HangsUp a b conn)
+pub gone : (act : Act) (a b : Moment) (k l : Clients) → Shows a k → Shows b l → KeepsRaft a b → b.due ≡ a.due → l ≡ gone_by act k → Stays a b ⊎ ((conn : ℕ) × HangsUp a b conn)
 gone (acts.Reply conn messages) a b k l sa sb rest due is = inl (same_stays a b k l sa sb rest due (ap (λ (z : Clients). z.sessions) is) (λ other. ap (λ (z : Clients). z.streams other) is))
 gone (acts.Propose conn entries) a b k l sa sb rest due is = inl (same_stays a b k l sa sb rest due (ap (λ (z : Clients). z.sessions) is) (λ other. ap (λ (z : Clients). z.streams other) is))
 gone (acts.Lend conn job) a b k l sa sb rest due is = inl (same_stays a b k l sa sb rest due (ap (λ (z : Clients). z.sessions) is) (λ other. ap (λ (z : Clients). z.streams other) is))

@@ -57,7 +57,7 @@ compacts_at opening old r mail v bytes messages was past made whole snap tells p
         due = refl;
         rest = record { sessions = refl; waiting = λ conn. refl; machine = machine; files = refl; serving = serving; applied = refl };
       };
-      says = record { posted = q.posted; letters_are = refl; mail = q.mail; told = []; outs = sym (append-nil old.outs.replies.items); tells = sends_none };
+      says = record { posted = q.posted; letters_are = refl; mail = q.mail; told = []; outs = sym (append-nil old.outs.replies.items); tells = sends_none; reads = sym (append-nil old.outs.reads.items) };
       sent = q.sent;
       id = q.id;
     }

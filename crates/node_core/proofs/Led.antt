@@ -1,5 +1,5 @@
 -- What holds of the office between two turns, turn by turn.
-use Rattle.std.proofs.Common.{◌≡◌, ◌⊎◌, inl, inr, ⊎_elim, ℕ, Bool, true, false, true≢false, cond, List, [], Option, Some, None, Result, Ok, Err, refl, sym, ap, subst, ◌∙◌}
+use Rattle.std.proofs.Common.{◌≡◌, ◌⊎◌, inl, inr, ⊎_elim, ℕ, Bool, true, false, true≢false, cond, List, [], ◌++◌, Option, Some, None, Result, Ok, Err, refl, sym, ap, subst, ◌∙◌}
 use Rattle.std.specs.List.{filter}
 use Rattle.std.proofs.lemmas.Bool.{cond_both, cond-true, cond-false}
 use Rattle.wire_msgs.specs.declared.fault.MsgFault.{MsgFault}

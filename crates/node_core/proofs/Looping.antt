@@ -150,7 +150,7 @@ at_rest n going applied due = record {
 
 -- ---- a step under way
 
-module _ (m : Meaning) (kind : EngineKind) (setup : Setup) (start : Running) (event : Event) {told : Option Told} where
+module _ (m : Meaning) (kind : EngineKind) (setup : Setup) (start : Running) (event : Event) (told : Option Told) where
   abbrev So : Running → Option Told → Type 0
   So n now = Underway m kind setup start n event told now
 
@@ -183,18 +183,18 @@ module _ (m : Meaning) (kind : EngineKind) (setup : Setup) (start : Running) (ev
 
 -- ---- along an engine, whose kind stays
 
-module _ (M : EngineKind → Meaning) (setup : Setup) (start : Running) (event : Event) (k : EngineKind) {told : Option Told} where
+module _ (M : EngineKind → Meaning) (setup : Setup) (start : Running) (event : Event) (told : Option Told) (k : EngineKind) where
   abbrev On : EngineKind → Running → Option Told → Type 0
   On l n now = Underway (M l) l setup start n event told now
 
   pub further_at : {mid now : Option Told} (l : EngineKind) (a b : Running) → l ≡ k → On k a mid → ((bytes : List ℕ) (joins : Option ℕ) → TurnsOn (M l) l setup bytes joins a b mid now) → On k b now
-  further_at {mid} {now} l a b e u t = subst (λ z. On z b now) e (goes_further (M l) l setup start event a b (subst (λ z. On z a mid) (sym e) u) t)
+  further_at {mid} {now} l a b e u t = subst (λ z. On z b now) e (goes_further (M l) l setup start event told a b (subst (λ z. On z a mid) (sym e) u) t)
 
   pub letter_at : {mid now : Option Told} (l : EngineKind) (a b : Running) → l ≡ k → On k a mid → IsGoing a → MayEnd (moment_of a) → AtRest a → TookLetter (M l) l setup a b mid now → On k b now
-  letter_at {mid} {now} l a b e u going end rest t = subst (λ z. On z b now) e (letter_came (M l) l setup start event a b (subst (λ z. On z a mid) (sym e) u) going end rest t)
+  letter_at {mid} {now} l a b e u going end rest t = subst (λ z. On z b now) e (letter_came (M l) l setup start event told a b (subst (λ z. On z a mid) (sym e) u) going end rest t)
 
   pub closed_at : {F : Type 0} {now : Option Told} (r : Result Bool F) (a b : Running) → On k a now → b.replica ≡ a.replica → OnOk r (ClosesSo a b) → SaysNothing a b → OnOk r (On k b now)
-  closed_at (Ok more) a b u replica c quiet = goes_further (M k) k setup start event a b u (λ bytes joins. closes_turn (M k) k setup bytes joins a b replica c quiet)
+  closed_at (Ok more) a b u replica c quiet = goes_further (M k) k setup start event told a b u (λ bytes joins. closes_turn (M k) k setup bytes joins a b replica c quiet)
   closed_at (Err f) a b u replica c quiet = tt
 
 -- where nothing was left but to look at a connection

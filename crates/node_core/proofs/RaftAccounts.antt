@@ -122,7 +122,7 @@ module _ (m : Meaning) (kind : EngineKind) (setup : Setup) where
       let says = says_so b c l.posts.posted [] [] l.posts.mail (ap (λ (o : Outs). o.replies.items) l.outs ∙ sym (append-nil b.outs.replies.items)) (ap (λ (o : Outs). o.reads.items) l.outs) sends_none in
       let law = leaving_goes_holds m kind in
       let letters = map letter_of l.posts.posted in
-      subst (λ late. Since m kind setup x late a c told told) (early_leaves m kind setup b c l.posts.id x.bytes x.joins law i letters tt l.leaves says l.posts.sent)
+      subst (λ late. Since m kind setup x late a c told told) (early_leaves m kind setup b c l.posts.id x.bytes x.joins told law i letters tt l.leaves says l.posts.sent)
       (since_on m kind setup x false a b c s (turns_leaves m kind setup b c l.posts.id x.bytes x.joins law i letters tt l.leaves says l.posts.sent) (inl refl) (inr l.snap))
 
   pub began_following : {told : Option Told} (old new : Running) (event : RaftEvent) → FollowsOn old new event → BeganBy m kind setup old new event told told

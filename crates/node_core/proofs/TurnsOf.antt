@@ -85,10 +85,10 @@ module _ (m : Meaning) (kind : EngineKind) (setup : Setup) (a b : Running) (id :
     }
 
     -- no reply of it waited
-    pub early_leaves : {told : Option Told} (law : LeavingGoes m kind) (i : raft.Input) (letters : List Letter) (own : IsOwn i) (x : Leaves a.replica.id (moment_of a) (moment_of b) i letters) (says : Says a b letters [] []) (sent : AllSent (kept_of a.replica) (kept_of b.replica) letters) →
+    pub early_leaves : (told : Option Told) (law : LeavingGoes m kind) (i : raft.Input) (letters : List Letter) (own : IsOwn i) (x : Leaves a.replica.id (moment_of a) (moment_of b) i letters) (says : Says a b letters [] []) (sent : AllSent (kept_of a.replica) (kept_of b.replica) letters) →
         (turns_leaves {told = told} law i letters own x says sent).piece.late ≡ false
     unfolding turns_leaves
-    early_leaves law i letters own x says sent = refl
+    early_leaves told law i letters own x says sent = refl
 
   -- ---- what an event brings
 

@@ -180,6 +180,7 @@ impl Running {
         ensures engine { Stays (E.kind engine.old) (E.kind engine.new) (E.refused_openings engine.old) (E.refused_openings engine.new) }
         ensures none { IfOk result (λ more. more ≡ false → self.new ≡ self.old) }
         ensures run { IfOk result (λ more. more ≡ false → NoneIsDue (clients_in self.new)) }
+        ensures untold { IfOk result (λ more. more ≡ false → E.told engine.new ≡ E.told engine.old) }
         ensures goes { (setup : Setup) (bytes : List ℕ) (joins : Option ℕ) →
             OnOk result (TurnsOn (E.meaning (E.kind engine.old)) (E.kind engine.old) setup bytes joins self.old self.new (E.told engine.old) (E.told engine.new)) }
     {

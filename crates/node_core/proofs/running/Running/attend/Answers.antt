@@ -1,4 +1,5 @@
-use Rattle.std.proofs.Common.{sym, ap, subst, ◌∙◌}
+use Rattle.std.proofs.Common.{Option, sym, ap, subst, ◌∙◌}
+use Rattle.sql_engine.specs.Meanings.{Told}
 use Rattle.raft_member.specs.Members.{read_setup}
 use Rattle.node_replica.specs.Replicas.{ReplicaValue, IsKept}
 use Rattle.node_rules.specs.Accounts.{MayEnd}
@@ -15,7 +16,7 @@ returns-then-branch-clause-stored g c = λ has. subst (λ (r : ReplicaValue). Is
 pub returns-then-branch-clause-on : goal.returns-then-branch-clause-on
 returns-then-branch-clause-on g c = λ opening start event told u.
     let kind = g.E.Engine.kind c.args.engine.now in
-    further_at g.E.Engine.meaning (read_setup opening) start event kind kind c.args.self.now c.run_due.new.self (λ i. kind) u (λ bytes joins. c.in_ok-run_due.ensures.goes (read_setup opening) bytes joins)
+    further_at g.E.Engine.meaning (read_setup opening) start event told kind kind c.args.self.now c.run_due.new.self (λ i. kind) u (λ bytes joins. c.in_ok-run_due.ensures.goes (read_setup opening) bytes joins)
 
 pub returns-then-branch-2-clause-stored : goal.returns-then-branch-2-clause-stored
 returns-then-branch-2-clause-stored g c = λ has. subst (λ (r : ReplicaValue). IsKept g.D.Disk.tells (g.D.Disk.states c.args.disk.now) r) (sym (c.take_message.ensures.replica ∙ c.run_due.ensures.replica)) has
@@ -23,8 +24,9 @@ returns-then-branch-2-clause-stored g c = λ has. subst (λ (r : ReplicaValue). 
 pub returns-then-branch-2-clause-on : goal.returns-then-branch-2-clause-on
 returns-then-branch-2-clause-on g c = λ opening start event told u.
     let kind = g.E.Engine.kind c.args.engine.now in
-    further_at g.E.Engine.meaning (read_setup opening) start event kind (g.E.Engine.kind c.run_due.new.engine) c.run_due.new.self c.take_message.new.self c.run_due.ensures.engine.kind
-    (subst (λ (n : Running). Underway (g.E.Engine.meaning kind) kind (read_setup opening) start n event told (g.E.Engine.told c.args.engine.now)) (sym (c.in_ok-run_due.ensures.none c.if-branch.false)) u)
+    further_at g.E.Engine.meaning (read_setup opening) start event told kind (g.E.Engine.kind c.run_due.new.engine) c.run_due.new.self c.take_message.new.self c.run_due.ensures.engine.kind
+    (subst (λ (t : Option Told). Underway (g.E.Engine.meaning kind) kind (read_setup opening) start c.run_due.new.self event told t) (sym (c.in_ok-run_due.ensures.untold c.if-branch.false))
+        (subst (λ (n : Running). Underway (g.E.Engine.meaning kind) kind (read_setup opening) start n event told (g.E.Engine.told c.args.engine.now)) (sym (c.in_ok-run_due.ensures.none c.if-branch.false)) u))
     (λ bytes joins. c.in_ok-take_message.ensures.goes (read_setup opening) bytes joins)
 
 pub returns-then-branch-3-clause-stored : goal.returns-then-branch-3-clause-stored
@@ -35,13 +37,14 @@ pub returns-then-branch-3-clause-on : goal.returns-then-branch-3-clause-on
 returns-then-branch-3-clause-on g c = λ opening start event told u.
     let kind = g.E.Engine.kind c.args.engine.now in
     let same = c.in_ok-run_due.ensures.none c.if-branch.false in
-    let behind = further_at g.E.Engine.meaning (read_setup opening) start event kind (g.E.Engine.kind c.run_due.new.engine) c.run_due.new.self c.take_message.new.self c.run_due.ensures.engine.kind
-        (subst (λ (n : Running). Underway (g.E.Engine.meaning kind) kind (read_setup opening) start n event told (g.E.Engine.told c.args.engine.now)) (sym same) u)
+    let behind = further_at g.E.Engine.meaning (read_setup opening) start event told kind (g.E.Engine.kind c.run_due.new.engine) c.run_due.new.self c.take_message.new.self c.run_due.ensures.engine.kind
+        (subst (λ (t : Option Told). Underway (g.E.Engine.meaning kind) kind (read_setup opening) start c.run_due.new.self event told t) (sym (c.in_ok-run_due.ensures.untold c.if-branch.false))
+        (subst (λ (n : Running). Underway (g.E.Engine.meaning kind) kind (read_setup opening) start n event told (g.E.Engine.told c.args.engine.now)) (sym same) u))
         (λ bytes joins. c.in_ok-take_message.ensures.goes (read_setup opening) bytes joins) in
     let ends = ends_behind c.args.self.now c.run_due.new.self c.take_message.new.self (c.in_ok-run_due.ensures.none c.if-branch.false) c.in_ok-take_message.ensures.going c.requires.applied c.requires.due c.take_message.ensures.replica
         c.take_message.ensures.index (c.in_ok-take_message.ensures.none c.if-branch-2.false) (c.in_ok-take_message.ensures.turns c.if-branch-2.false) (c.in_ok-run_due.ensures.run c.if-branch.false)
         (c.in_ok-take_message.ensures.sessions c.if-branch-2.false) in
-    compacts (g.E.Engine.meaning kind) kind (read_setup opening) start event (c.raft_turns.ensures.snapshots kind) c.take_message.new.self c.compact.new.self behind c.in_ok-take_message.ensures.going ends.0 ends.1
+    compacts (g.E.Engine.meaning kind) kind (read_setup opening) start event told (c.raft_turns.ensures.snapshots kind) c.take_message.new.self c.compact.new.self behind c.in_ok-take_message.ensures.going ends.0 ends.1
     (c.in_ok-compact.ensures.takes opening c.if-branch-3.true)
 
 pub returns-then-branch-4-clause-stored : goal.returns-then-branch-4-clause-stored
@@ -52,14 +55,15 @@ pub returns-then-branch-4-clause-on : goal.returns-then-branch-4-clause-on
 returns-then-branch-4-clause-on g c = λ opening start event told u.
     let kind = g.E.Engine.kind c.args.engine.now in
     let same = c.in_ok-run_due.ensures.none c.if-branch.false in
-    let behind = further_at g.E.Engine.meaning (read_setup opening) start event kind (g.E.Engine.kind c.run_due.new.engine) c.run_due.new.self c.take_message.new.self c.run_due.ensures.engine.kind
-        (subst (λ (n : Running). Underway (g.E.Engine.meaning kind) kind (read_setup opening) start n event told (g.E.Engine.told c.args.engine.now)) (sym same) u)
+    let behind = further_at g.E.Engine.meaning (read_setup opening) start event told kind (g.E.Engine.kind c.run_due.new.engine) c.run_due.new.self c.take_message.new.self c.run_due.ensures.engine.kind
+        (subst (λ (t : Option Told). Underway (g.E.Engine.meaning kind) kind (read_setup opening) start c.run_due.new.self event told t) (sym (c.in_ok-run_due.ensures.untold c.if-branch.false))
+        (subst (λ (n : Running). Underway (g.E.Engine.meaning kind) kind (read_setup opening) start n event told (g.E.Engine.told c.args.engine.now)) (sym same) u))
         (λ bytes joins. c.in_ok-take_message.ensures.goes (read_setup opening) bytes joins) in
     let ends = ends_behind c.args.self.now c.run_due.new.self c.take_message.new.self (c.in_ok-run_due.ensures.none c.if-branch.false) c.in_ok-take_message.ensures.going c.requires.applied c.requires.due c.take_message.ensures.replica
         c.take_message.ensures.index (c.in_ok-take_message.ensures.none c.if-branch-2.false) (c.in_ok-take_message.ensures.turns c.if-branch-2.false) (c.in_ok-run_due.ensures.run c.if-branch.false)
         (c.in_ok-take_message.ensures.sessions c.if-branch-2.false) in
     let still = sym (c.in_ok-compact.ensures.none c.if-branch-3.false) in
-    let came = letter_at g.E.Engine.meaning (read_setup opening) start event kind (g.E.Engine.kind c.take_message.new.engine) c.compact.new.self c.take_letter.new.self (c.take_message.ensures.engine.kind ∙ c.run_due.ensures.engine.kind)
+    let came = letter_at g.E.Engine.meaning (read_setup opening) start event told kind (g.E.Engine.kind c.take_message.new.engine) c.compact.new.self c.take_letter.new.self (c.take_message.ensures.engine.kind ∙ c.run_due.ensures.engine.kind)
         (subst (λ (n : Running). Underway (g.E.Engine.meaning kind) kind (read_setup opening) start n event told (g.E.Engine.told c.take_message.new.engine)) still behind) c.in_ok-compact.ensures.going
         (subst (λ (n : Running). MayEnd (moment_of n)) still ends.0) (subst AtRest still ends.1) (c.in_ok-take_letter.ensures.letter opening) in
     came
@@ -73,17 +77,18 @@ pub returns-clause-on : goal.returns-clause-on
 returns-clause-on g c = λ opening start event told u.
     let kind = g.E.Engine.kind c.args.engine.now in
     let same = c.in_ok-run_due.ensures.none c.if-branch.false in
-    let behind = further_at g.E.Engine.meaning (read_setup opening) start event kind (g.E.Engine.kind c.run_due.new.engine) c.run_due.new.self c.take_message.new.self c.run_due.ensures.engine.kind
-        (subst (λ (n : Running). Underway (g.E.Engine.meaning kind) kind (read_setup opening) start n event told (g.E.Engine.told c.args.engine.now)) (sym same) u)
+    let behind = further_at g.E.Engine.meaning (read_setup opening) start event told kind (g.E.Engine.kind c.run_due.new.engine) c.run_due.new.self c.take_message.new.self c.run_due.ensures.engine.kind
+        (subst (λ (t : Option Told). Underway (g.E.Engine.meaning kind) kind (read_setup opening) start c.run_due.new.self event told t) (sym (c.in_ok-run_due.ensures.untold c.if-branch.false))
+        (subst (λ (n : Running). Underway (g.E.Engine.meaning kind) kind (read_setup opening) start n event told (g.E.Engine.told c.args.engine.now)) (sym same) u))
         (λ bytes joins. c.in_ok-take_message.ensures.goes (read_setup opening) bytes joins) in
     let ends = ends_behind c.args.self.now c.run_due.new.self c.take_message.new.self (c.in_ok-run_due.ensures.none c.if-branch.false) c.in_ok-take_message.ensures.going c.requires.applied c.requires.due c.take_message.ensures.replica
         c.take_message.ensures.index (c.in_ok-take_message.ensures.none c.if-branch-2.false) (c.in_ok-take_message.ensures.turns c.if-branch-2.false) (c.in_ok-run_due.ensures.run c.if-branch.false)
         (c.in_ok-take_message.ensures.sessions c.if-branch-2.false) in
     let still = sym (c.in_ok-compact.ensures.none c.if-branch-3.false) in
-    let came = letter_at g.E.Engine.meaning (read_setup opening) start event kind (g.E.Engine.kind c.take_message.new.engine) c.compact.new.self c.take_letter.new.self (c.take_message.ensures.engine.kind ∙ c.run_due.ensures.engine.kind)
+    let came = letter_at g.E.Engine.meaning (read_setup opening) start event told kind (g.E.Engine.kind c.take_message.new.engine) c.compact.new.self c.take_letter.new.self (c.take_message.ensures.engine.kind ∙ c.run_due.ensures.engine.kind)
         (subst (λ (n : Running). Underway (g.E.Engine.meaning kind) kind (read_setup opening) start n event told (g.E.Engine.told c.take_message.new.engine)) still behind) c.in_ok-compact.ensures.going
         (subst (λ (n : Running). MayEnd (moment_of n)) still ends.0) (subst AtRest still ends.1) (c.in_ok-take_letter.ensures.letter opening) in
-    closed_at g.E.Engine.meaning (read_setup opening) start event kind c.close_heard.result c.take_letter.new.self c.close_heard.new.self came c.close_heard.ensures.replica c.close_heard.ensures.goes c.close_heard.ensures.quiet
+    closed_at g.E.Engine.meaning (read_setup opening) start event told kind c.close_heard.result c.take_letter.new.self c.close_heard.new.self came c.close_heard.ensures.replica c.close_heard.ensures.goes c.close_heard.ensures.quiet
 
 pub returns-clause-led : goal.returns-clause-led
 returns-clause-led g c = on_ok_then c.close_heard.result (λ goes. led_closes c.take_letter.new.self c.close_heard.new.self c.in_ok-take_letter.ensures.led c.close_heard.ensures.office goes) c.close_heard.ensures.goes

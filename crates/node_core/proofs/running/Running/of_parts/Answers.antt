@@ -15,6 +15,6 @@ returns c = record {
     office = refl;
     idle = c.in_ok-due.ensures.items;
     heard = refl;
-    quiet = record { mail = c.new-5.ensures; replies = c.new-4.ensures.replies; closed = c.new-4.ensures.closed; messages = c.new-4.ensures.messages };
+    quiet = record { mail = c.new-5.ensures; replies = c.new-4.ensures.replies; closed = c.new-4.ensures.closed; messages = c.new-4.ensures.messages; reads = c.new-4.ensures.reads };
   };
 }

@@ -1,3 +1,4 @@
+use Rattle.std.proofs.Common.{refl}
 use Rattle.node_core.proofs.Performing.{performed_propose, performed_transfer}
 use Rattle.node_core.proofs.running.Running.perform.Goals as goal
 
@@ -11,4 +12,4 @@ pub returns-in_ok-give-in-Transfer-clause-performed :
     goal.returns-in_ok-give-in-Transfer-clause-performed
 returns-in_ok-give-in-Transfer-clause-performed c =
     performed_transfer c.args.self.now c.give-in-Transfer.new.self _ c.args.act c.in-Transfer.conn c.in-Transfer.to c.in-Transfer.reply c.in-Transfer.is c.databases_stand.ensures
-    c.in_ok-push-in-Transfer.ensures.items c.in_ok-give-in-Transfer.ensures.due c.in_ok-give-in-Transfer.ensures.is
+    c.in_ok-push-in-Transfer.ensures.items refl c.in_ok-give-in-Transfer.ensures.due c.in_ok-give-in-Transfer.ensures.is

@@ -8,7 +8,7 @@ use Rattle.node_core.proofs.running.Running.turn.Goals as goal
 pub returns-then-branch-clause-on : goal.returns-then-branch-clause-on
 returns-then-branch-clause-on g c = λ opening start event told u.
     let kind = g.E.Engine.kind c.args.engine.now in
-    goes_further (g.E.Engine.meaning kind) kind (read_setup opening) start event c.args.self.now c.take_due.new.self u
+    goes_further (g.E.Engine.meaning kind) kind (read_setup opening) start event told c.args.self.now c.take_due.new.self u
     (λ bytes joins. owns_turns (g.E.Engine.meaning kind) kind (read_setup opening) bytes joins c.args.self.now c.take_due.new.self (c.in_ok-take_due.ensures.goes c.if-branch.true))
 
 pub returns-then-self-view-clause-stored : goal.returns-then-self-view-clause-stored
@@ -18,15 +18,15 @@ returns-then-self-view-clause-stored g c = λ has.
 pub returns-then-self-view-clause-on : goal.returns-then-self-view-clause-on
 returns-then-self-view-clause-on g c = λ opening start event told u.
     let kind = g.E.Engine.kind c.args.engine.now in
-    goes_further (g.E.Engine.meaning kind) kind (read_setup opening) start event c.take_due.new.self c.apply_next.new.self
-    (had_none (g.E.Engine.meaning kind) kind (read_setup opening) start event c.args.self.now c.take_due.new.self u (c.in_ok-take_due.ensures.none c.if-branch.false))
+    goes_further (g.E.Engine.meaning kind) kind (read_setup opening) start event told c.take_due.new.self c.apply_next.new.self
+    (had_none (g.E.Engine.meaning kind) kind (read_setup opening) start event told c.args.self.now c.take_due.new.self u (c.in_ok-take_due.ensures.none c.if-branch.false))
     (λ bytes joins. c.in_ok-apply_next.ensures.goes (read_setup opening) bytes joins)
 
 pub returns-clause-on : goal.returns-clause-on
 returns-clause-on g c = λ opening start event told u.
     let kind = g.E.Engine.kind c.args.engine.now in
     c.attend.ensures.on opening start event told
-    (had_none (g.E.Engine.meaning kind) kind (read_setup opening) start event c.args.self.now c.take_due.new.self u (c.in_ok-take_due.ensures.none c.if-branch.false))
+    (had_none (g.E.Engine.meaning kind) kind (read_setup opening) start event told c.args.self.now c.take_due.new.self u (c.in_ok-take_due.ensures.none c.if-branch.false))
 
 pub returns-clause-stored : goal.returns-clause-stored
 returns-clause-stored g c = λ has. c.attend.ensures.stored (c.in_ok-take_due.ensures.stored has)
