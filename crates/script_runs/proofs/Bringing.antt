@@ -1,6 +1,6 @@
 -- What the events of a turn bring: starts, connections that come, and what is asked, only as in the turn.
-use Rattle.std.proofs.Common.{◌≡◌, ◌≢◌, ℕ, Bool, true, false, List, [], ◌∷◌, ◌++◌, refl, sym, ap, ◌∙◌}
-use Rattle.std.specs.Prelude.{Option, Some, None}
+use Rattle.std.proofs.Common.{◌≡◌, ◌≢◌, ℕ, Bool, true, false, List, [], ◌∷◌, refl, sym, ap, ◌∙◌}
+use Rattle.std.specs.Prelude.{Some, None}
 use Rattle.std.specs.List.{AllByRecursion}
 use Rattle.node_core.specs.declared.event.Event as core
 use Rattle.node_core.specs.Account.{Begin, Happens, Comes, Compacts, IsMore, AreOf, joins_of as joins_in}

@@ -1,13 +1,11 @@
 -- How nodes are shown is how those of the run stand.
-use Rattle.std.proofs.Common.{◌≡◌, ◌≢◌, ℕ, Bool, true, false, List, [], ◌∷◌, ◌++◌, refl, sym, ap, ◌∙◌, subst}
+use Rattle.std.proofs.Common.{◌≡◌, ℕ, Bool, true, false, List, [], ◌∷◌, refl, sym, ap, ◌∙◌, subst}
 use Rattle.std.specs.Prelude.{cond, ◌==◌, Option, Some, None}
 use Rattle.std.proofs.lemmas.Bool.{eqb-true, eqb-false}
 use Rattle.sql_engine.specs.declared.kind.EngineKind.{EngineKind}
 use Rattle.sql_engine.specs.Meanings.{Meaning}
 use Rattle.session_rules.specs.Engines.{Answer}
 use Rattle.session_rules.specs.Sessions.{Reply}
-use Rattle.page_apply.specs.Databases.{contents_of}
-use Rattle.page_apply.specs.Machines.{IsMachine}
 use Rattle.raft_world.specs.Laws.{node_at}
 use Rattle.raft_world.specs.Members.{Setup}
 use Rattle.cluster_world.specs.Clusters.{cluster}
