@@ -1,0 +1,3 @@
+pub mod Comings
+pub mod Steps
+pub mod Starts

@@ -1,0 +1,10 @@
+mod Answering
+mod Mailing
+mod Running
+mod Placing
+mod Worlds
+mod Scripts
+mod Contents
+mod Showing
+mod Bringing
+mod Brought

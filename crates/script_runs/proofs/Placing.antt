@@ -1,0 +1,81 @@
+-- Each call at a place leads its turns on.
+use Rattle.std.proofs.Common.{inl, ℕ, List, [], ◌∷◌, ◌++◌, refl, sym, subst}
+use Rattle.sql_engine.specs.declared.kind.EngineKind.{EngineKind}
+use Rattle.sql_engine.specs.Meanings.{Meaning}
+use Rattle.disk_model.specs.Disk.{Disk}
+use Rattle.disk_model.specs.Trait.{Text}
+use Rattle.raft_world.specs.Members.{Setup}
+use Rattle.store_laws.specs.Names.{NodeDisk}
+use Rattle.store_laws.specs.Store.{Kept, Outcome as Found, Loaded, Damaged, NoMeta, Gap}
+use Rattle.segment_store.specs.Keeps.{folder}
+use Rattle.segment_store.specs.Restarts.{StandsFor, Begins}
+use Rattle.node_replica.specs.Replicas.{kept_of}
+use Rattle.node_runs.proofs.FirstDisk.{first_disk_holds}
+use Rattle.node_runs.proofs.Starting.{starts_keep_hold, fails, finds, crashes, crash_leaves_kept_hold}
+use Rattle.script_nodes.specs.Outcomes.{Ending, Steps, Starts, Stops, Fails, Unreadable, Doing, Start, Turn}
+use Rattle.script_runs.specs.Seats.{Seat, Runs, Rests, EndsSo, StopDone, TurnSo, PathSo}
+use Rattle.script_runs.specs.Places.{IsLeft, IsFair, PlacesBegin, StepsOn, FallsOn, IsFall, CrashesOn, DisksCrashOn, StartsOn, IsNoStart, StartsFail}
+
+-- what is found has the weaker property too
+weaker : (P Q : Kept → Type 0) → ((kept : Kept) → P kept → Q kept) → (o : Found) → IsLeft P o → IsLeft Q o
+weaker P Q f (Loaded kept) h = f kept h
+weaker P Q f Damaged h = absurd h
+weaker P Q f NoMeta h = absurd h
+weaker P Q f (Gap first last) h = absurd h
+
+stands_weaker : (P Q : Kept → Type 0) (d : NodeDisk) → ((kept : Kept) → P kept → Q kept) → StandsFor (IsLeft P) d → StandsFor (IsLeft Q) d
+stands_weaker P Q d f s = record { crash = λ g left fair. weaker P Q f _ (s.crash g left fair); seen = s.seen }
+
+module _ (m : Meaning) (kind : EngineKind) (setup : Setup) (n : ℕ) where
+  -- a path goes on by one turn
+  path_on : (old mid new : Seat) (turns : List Turn) (turn : Turn) → PathSo m kind setup n old turns mid → TurnSo m kind setup n mid turn new → PathSo m kind setup n old (turns ++ turn ∷ []) new
+  path_on old mid new [] turn p t = (new, subst (λ z. TurnSo m kind setup n z turn new) (sym p) t, refl)
+  path_on old mid new (first ∷ turns) turn p t = (p.0, p.1, path_on p.0 mid new turns turn p.2 t)
+
+  falls : (ending : Ending) → IsFall ending → (old : _) (doing : Doing) (answers : _) (kept : Kept) → StopDone m kind setup old doing kept → EndsSo m kind setup n (Runs old) doing answers ending (Rests kept)
+  falls (Stops keeps) is old doing answers kept h = h
+  falls (Fails keeps) is old doing answers kept h = h
+  falls (Steps outs standing) is old doing answers kept h = absurd is
+  falls (Starts loaded standing) is old doing answers kept h = absurd is
+  falls Unreadable is old doing answers kept h = absurd is
+
+  no_start : (ending : Ending) → IsNoStart ending → (answers : _) (kept : Kept) → EndsSo m kind setup n (Rests kept) Start answers ending (Rests kept)
+  no_start (Stops keeps) is answers kept = (refl, starts_keep_hold setup kept)
+  no_start (Fails keeps) is answers kept = (refl, starts_keep_hold setup kept)
+  no_start Unreadable is answers kept = (refl, refl)
+  no_start (Steps outs standing) is answers kept = absurd is
+  no_start (Starts loaded standing) is answers kept = absurd is
+
+as_it_is : (d : Disk Text) → IsFair d → Begins d d
+as_it_is d fair = record { came = inl refl; fair = fair }
+
+module _ (m : Meaning) (kind : EngineKind) where
+  pub places_begin_hold : PlacesBegin m kind
+  places_begin_hold setup n = record { crash = λ g left fair. subst (IsLeft _) (sym (first_disk_holds.crash g left fair)) refl; seen = first_disk_holds.seen }
+
+  pub steps_on_hold : StepsOn m kind
+  steps_on_hold setup n turns d e old new doing aim answers outs standing p done keeps = (path_on m kind setup n _ (Runs old) (Runs new) turns _ p.0 done, keeps)
+
+  pub falls_on_hold : FallsOn m kind
+  falls_on_hold setup n turns d e old doing aim answers ending p is stands =
+      stands_weaker _ _ (folder e) (λ kept h. path_on m kind setup n _ (Runs old) (Rests kept) turns _ p.0 (falls m kind setup n ending is old doing answers kept h)) stands
+
+  pub crashes_on_hold : CrashesOn m kind
+  crashes_on_hold setup n pick turns d e old p crashed =
+      let s = crash_leaves_kept_hold old.replica.store (kept_of old.replica) d e p.1 crashed in
+      record {
+        crash = λ g left fair. subst (IsLeft _) (sym (s.crash g left fair)) (path_on m kind setup n _ (Runs old) (Rests (kept_of old.replica)) turns _ p.0 refl);
+        seen = s.seen;
+      }
+
+  pub disks_crash_on_hold : DisksCrashOn m kind
+  disks_crash_on_hold setup n turns d e p crashed fair = crashes (IsLeft _) d e p crashed fair
+
+  pub starts_on_hold : StartsOn m kind
+  starts_on_hold setup n turns d e node aim answers standing p fair leaves done =
+      let f = finds (IsLeft _) d d e node p (as_it_is d fair) leaves in
+      (path_on m kind setup n _ (Rests _) (Runs node.running) turns _ f.0 (refl, done), f.1)
+
+  pub starts_fail_hold : StartsFail m kind
+  starts_fail_hold setup n turns d e why aim answers ending p fair leaves is =
+      stands_weaker _ _ (folder e) (λ kept h. path_on m kind setup n _ (Rests kept) (Rests kept) turns _ h (no_start m kind setup n ending is answers kept)) (fails (IsLeft _) d d e why p (as_it_is d fair) leaves)

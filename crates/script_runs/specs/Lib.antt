@@ -1,0 +1,6 @@
+pub mod Seats
+pub mod Turns
+pub mod Laws
+pub mod Places
+pub mod Mails
+pub mod Showing

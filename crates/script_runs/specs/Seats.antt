@@ -1,0 +1,126 @@
+-- What whole nodes do in the turns of a script, each at its place.
+use Rattle.std.specs.Prelude.{◌≡◌, ℕ, zero, suc, false, List, [], ◌∷◌, ◌++◌, codes, Option, Some}
+use Rattle.std.specs.List.{AllByRecursion}
+use Rattle.std.specs.Fmt.{decimal}
+use Rattle.sql_engine.specs.declared.kind.EngineKind.{EngineKind}
+use Rattle.sql_engine.specs.Meanings.{Meaning, Told}
+use Rattle.session_rules.specs.Engines.{Answer}
+use Rattle.raft_rules.specs.Node.{Server}
+use Rattle.raft_world.specs.Members.{Setup}
+use Rattle.raft_member.specs.Members.{read_setup}
+use Rattle.store_laws.specs.Store.{Kept}
+use Rattle.page_apply.specs.Databases.{contents_of}
+use Rattle.node_replica.specs.Replicas.{kept_of}
+use Rattle.node_rules.specs.Nodes.{Node}
+use Rattle.node_rules.specs.Steps.{StartsSo, StartStopsSo}
+use Rattle.node_core.specs.declared.event.Event as core
+use Rattle.node_core.specs.declared.event.Event.TheVariants as events
+use Rattle.node_core.specs.declared.outs.Outs as core_outs
+use Rattle.node_core.specs.declared.running.Running.{Running}
+use Rattle.node_core.specs.Account.{Begin, Happens, Comes, Compacts, StepsBy, StopsBy}
+use Rattle.node_core.specs.Values.{seen}
+use Rattle.node_runs.specs.Steps.{AllTellVoters, StopTellsVoters}
+use Rattle.script_nodes.specs.Outcomes.{Standing, Outs, Ending, Steps, Starts, Stops, Fails, Unreadable, Doing, Timeout, Beat, Connect, Bytes, Hangup, Receive, Start, Turn, Does, Crashes}
+
+-- ---- the cluster of a script
+
+-- so many voters, the first of which has this number, each at the address of its number
+abbrev pub voters_from : ℕ → ℕ → List Server
+voters_from zero n = []
+voters_from (suc count) n = record { id = n; address = codes "n" ++ decimal n; role = 0 } ∷ voters_from count (suc n)
+
+abbrev pub setup_of : ℕ → Setup
+setup_of voters = read_setup (voters_from voters 1)
+
+-- ---- one place
+
+-- A node runs there, or none does, and this is kept.
+pub data Seat : Type 0 where
+  Runs : (node : Running) → Seat
+  Rests : (kept : Kept) → Seat
+
+-- the node stands so
+pub record StandsSo (v : Node) (standing : Standing) : Type 0 where
+  pub term : standing.term ≡ v.raft.term
+  pub role : standing.role ≡ v.raft.role
+  pub applied : standing.applied ≡ v.raft.commit
+  pub databases : standing.databases ≡ contents_of v.machine
+
+-- what a node is asked to do is this event of its code; a start is none
+abbrev pub EventIs : Doing → core.Event → Type 0
+EventIs Timeout event = event ≡ events.Timeout
+EventIs Beat event = event ≡ events.Beat
+EventIs (Connect conn) event = event ≡ events.Connect conn
+EventIs (Bytes conn bytes) event = event ≡ events.Bytes conn bytes
+EventIs (Hangup conn) event = event ≡ events.Hangup conn
+EventIs (Receive message) event = event ≡ events.Peer message
+EventIs Start event = ⊥
+
+-- no message of a peer came on a connection, as a script's connections are clients' alone
+abbrev pub IsAlone : Begin → Type 0
+IsAlone (Happens event) = Unit {0}
+IsAlone (Comes message) = ⊥
+IsAlone (Compacts index) = Unit {0}
+
+-- an engine that keeps its answers has kept these, and lost none
+abbrev pub has_told : List Answer → Option Told
+has_told answers = Some (record { answers = answers; cut = false })
+
+abbrev pub outs_of : core_outs.Outs → Outs
+outs_of outs = record { replies = outs.replies.items; closed = outs.closed.items; messages = outs.messages.items }
+
+-- A step ended well: it said this, its engine answered this, and the node stands so.
+pub record StepDone (m : Meaning) (kind : EngineKind) (setup : Setup) (old new : Running) (doing : Doing) (answers : List Answer) (outs : Outs)
+    (standing : Standing) : Type 0 where
+  pub event : core.Event
+  pub is : EventIs doing event
+  pub said : core_outs.Outs
+  pub before : List Answer
+  pub steps : StepsBy m kind setup old new event said (has_told before) (has_told (before ++ answers))
+  pub voters : AllTellVoters m kind setup old new steps.begins steps.made steps.acts
+  pub alone : AllByRecursion IsAlone steps.begins
+  pub outs_are : outs ≡ outs_of said
+  pub stands : StandsSo (seen new) standing
+
+-- It failed or was stopped, and left this.
+pub record StopDone (m : Meaning) (kind : EngineKind) (setup : Setup) (old : Running) (doing : Doing) (kept : Kept) : Type 0 where
+  pub event : core.Event
+  pub is : EventIs doing event
+  pub stops : StopsBy m kind setup old event kept
+  pub voters : StopTellsVoters m kind setup old event kept stops
+  pub alone : AllByRecursion IsAlone (stops.begins ++ stops.last ∷ [])
+
+-- A start ended well, over what was kept.
+pub record StartDone (setup : Setup) (n : ℕ) (kept loaded : Kept) (new : Running) (standing : Standing) : Type 0 where
+  pub loads : loaded ≡ kept
+  pub servers : List Server
+  pub starts : StartsSo setup kept (seen new) servers
+  pub id : (seen new).raft.id ≡ n
+  pub stands : StandsSo (seen new) standing
+
+-- What a node did at its place, and how that ended.
+abbrev pub EndsSo : Meaning → EngineKind → Setup → ℕ → Seat → Doing → List Answer → Ending → Seat → Type 0
+EndsSo m kind setup n (Runs old) doing answers (Steps outs standing) (Runs new) = StepDone m kind setup old new doing answers outs standing
+EndsSo m kind setup n (Runs old) doing answers (Stops keeps) (Rests kept) = StopDone m kind setup old doing kept
+EndsSo m kind setup n (Runs old) doing answers (Fails keeps) (Rests kept) = StopDone m kind setup old doing kept
+EndsSo m kind setup n (Rests kept) doing answers (Starts loaded standing) (Runs new) = (doing ≡ Start) × StartDone setup n kept loaded new standing
+EndsSo m kind setup n (Rests kept) doing answers (Stops keeps) (Rests left) = (doing ≡ Start) × StartStopsSo setup kept left
+EndsSo m kind setup n (Rests kept) doing answers (Fails keeps) (Rests left) = (doing ≡ Start) × StartStopsSo setup kept left
+EndsSo m kind setup n (Rests kept) doing answers Unreadable (Rests left) = (doing ≡ Start) × (left ≡ kept)
+EndsSo m kind setup n old doing answers ending new = ⊥
+
+-- A crash leaves what is kept.
+abbrev pub CrashesSo : Seat → Seat → Type 0
+CrashesSo (Runs old) (Rests kept) = kept ≡ kept_of old.replica
+CrashesSo (Rests old) (Rests kept) = kept ≡ old
+CrashesSo old (Runs new) = ⊥
+
+-- A turn at the node of this number.
+abbrev pub TurnSo : Meaning → EngineKind → Setup → ℕ → Seat → Turn → Seat → Type 0
+TurnSo m kind setup n old (Does k doing aim outcome) new = EndsSo m kind setup n old doing outcome.answers outcome.ending new
+TurnSo m kind setup n old (Crashes k pick) new = CrashesSo old new
+
+-- These turns of a node lead from one seat to another.
+abbrev pub PathSo : Meaning → EngineKind → Setup → ℕ → Seat → List Turn → Seat → Type 0
+PathSo m kind setup n old [] new = old ≡ new
+PathSo m kind setup n old (turn ∷ turns) new = (mid : Seat) × TurnSo m kind setup n old turn mid × PathSo m kind setup n mid turns new
