@@ -101,5 +101,5 @@ pub loop_lends : {S A B T O : Type 0} (see : S → Lent A B) (makes : S → Even
     → StaysLent (see was) (see now)
 loop_lends see makes breaks was now before after said said_after budget end loops each each_broken =
     lent_then (see was) (see loops.last) (see now)
-        (steps_keep makes (λ a b. StaysLent (see a) (see b)) (λ a. lent_same (see a)) (λ a b c. lent_then (see a) (see b) (see c)) each was loops.events loops.outs loops.last loops.steps)
-        (ends_keep breaks (λ a b. StaysLent (see a) (see b)) (λ a. lent_same (see a)) each_broken loops.last now before after loops.events budget end loops.ends)
+    (steps_keep makes (λ a b. StaysLent (see a) (see b)) (λ a. lent_same (see a)) (λ a b c. lent_then (see a) (see b) (see c)) each was loops.events loops.outs loops.last loops.steps)
+    (ends_keep breaks (λ a b. StaysLent (see a) (see b)) (λ a. lent_same (see a)) each_broken loops.last now before after loops.events budget end loops.ends)

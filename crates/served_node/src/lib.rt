@@ -3,9 +3,9 @@
 #![tactic(auto)]
 
 mod bridge;
-mod served;
 mod running;
 mod said;
+mod served;
 
-pub use said::Said;
 pub use running::run_node;
+pub use said::Said;

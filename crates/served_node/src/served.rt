@@ -29,14 +29,14 @@ impl<'n, 'd, 'e, D: Disk, E: Engine> Core for ServedNode<'n, 'd, 'e, D, E> {
     ghost stands = { λ s. CanStep (E.known s.engine.now) s.node.now };
 
     ghost makes = { λ old event said new.
-      StaysLent (record { disk = old.disk.ghost_name; engine = old.engine.ghost_name; faults = D.faults old.disk.now; kind = E.kind old.engine.now; refused = E.refused_openings old.engine.now })
-          (record { disk = new.disk.ghost_name; engine = new.engine.ghost_name; faults = D.faults new.disk.now; kind = E.kind new.engine.now; refused = E.refused_openings new.engine.now })
-      × StepsWell D.tells (D.states old.disk.now) (D.states new.disk.now) old.node.now new.node.now said.state };
+        StaysLent (record { disk = old.disk.ghost_name; engine = old.engine.ghost_name; faults = D.faults old.disk.now; kind = E.kind old.engine.now; refused = E.refused_openings old.engine.now })
+        (record { disk = new.disk.ghost_name; engine = new.engine.ghost_name; faults = D.faults new.disk.now; kind = E.kind new.engine.now; refused = E.refused_openings new.engine.now })
+        × StepsWell D.tells (D.states old.disk.now) (D.states new.disk.now) old.node.now new.node.now said.state };
 
     ghost breaks = { λ old event new.
-      StaysLent (record { disk = old.disk.ghost_name; engine = old.engine.ghost_name; faults = D.faults old.disk.now; kind = E.kind old.engine.now; refused = E.refused_openings old.engine.now })
-          (record { disk = new.disk.ghost_name; engine = new.engine.ghost_name; faults = D.faults new.disk.now; kind = E.kind new.engine.now; refused = E.refused_openings new.engine.now })
-      × IsDown new.node.now };
+        StaysLent (record { disk = old.disk.ghost_name; engine = old.engine.ghost_name; faults = D.faults old.disk.now; kind = E.kind old.engine.now; refused = E.refused_openings old.engine.now })
+        (record { disk = new.disk.ghost_name; engine = new.engine.ghost_name; faults = D.faults new.disk.now; kind = E.kind new.engine.now; refused = E.refused_openings new.engine.now })
+        × IsDown new.node.now };
 
     ghost faults = { λ s. D.faults s.disk.now };
 
@@ -46,11 +46,11 @@ impl<'n, 'd, 'e, D: Disk, E: Engine> Core for ServedNode<'n, 'd, 'e, D, E> {
         ensures makes { IfOk result (λ said. StaysLent
             (record { disk = self.old.disk.ghost_name; engine = self.old.engine.ghost_name; faults = D.faults self.old.disk.now; kind = E.kind self.old.engine.now; refused = E.refused_openings self.old.engine.now })
             (record { disk = self.new.disk.ghost_name; engine = self.new.engine.ghost_name; faults = D.faults self.new.disk.now; kind = E.kind self.new.engine.now; refused = E.refused_openings self.new.engine.now })
-          × StepsWell D.tells (D.states self.old.disk.now) (D.states self.new.disk.now) self.old.node.now self.new.node.now said.state) }
+            × StepsWell D.tells (D.states self.old.disk.now) (D.states self.new.disk.now) self.old.node.now self.new.node.now said.state) }
         ensures breaks { OnErr result (StaysLent
             (record { disk = self.old.disk.ghost_name; engine = self.old.engine.ghost_name; faults = D.faults self.old.disk.now; kind = E.kind self.old.engine.now; refused = E.refused_openings self.old.engine.now })
             (record { disk = self.new.disk.ghost_name; engine = self.new.engine.ghost_name; faults = D.faults self.new.disk.now; kind = E.kind self.new.engine.now; refused = E.refused_openings self.new.engine.now })
-          × IsDown self.new.node.now) }
+            × IsDown self.new.node.now) }
         ensures cause { StepCause (D.faults self.old.disk.now) (D.faults self.new.disk.now) result }
     {
         match self.node.step(event_of(event), self.disk, self.engine) {
