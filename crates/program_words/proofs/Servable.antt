@@ -102,9 +102,9 @@ peers_fit : (id count : ℕ) (before : List Peer) (words : List Text) → Fits i
 peers_fit id count before [] so_far = subst (λ n. Fits id n before) (omega arith) so_far
 peers_fit id count before (word ∷ words) so_far =
     word_more id count before (peer_of word) (λ (p : Peer). peers_behind id (before ++ p ∷ []) words) (count + length (word ∷ words)) (word_fits word)
-        (λ (p : Peer) (h : Fits id (count + 1) (before ++ p ∷ [])). subst (λ n. IfSome (peers_behind id (before ++ p ∷ []) words) (Fits id n)) (omega arith)
-            (peers_fit id (count + 1) (before ++ p ∷ []) words h))
-        so_far
+    (λ (p : Peer) (h : Fits id (count + 1) (before ++ p ∷ [])). subst (λ n. IfSome (peers_behind id (before ++ p ∷ []) words) (Fits id n)) (omega arith)
+    (peers_fit id (count + 1) (before ++ p ∷ []) words h))
+    so_far
 
 -- ---- a node
 
