@@ -202,8 +202,7 @@ module _ (m : Meaning) (kind : EngineKind) (on : GoesOn m kind) (staying : Stayi
         let s = took_stays m kind (moment_of old) (moment_of mid) (clients_in old) (clients_in mid) old.view before now refused refused_now act (record { sessions = refl; waiting = λ conn. refl }) (record { sessions = refl; waiting = λ conn. refl })
         (moved_keeps old mid is machine files) (ap (λ (n : Running). proposals_in n.due.items) is) x fault reads in
         let due : proposals_in mid.due.items ≡ proposals_by act = ap (λ (n : Running). proposals_in n.due.items) is ∙ none_due ∙ sym (ap proposals_by s.1) in
-        let same : moment_of mid ≡ acting mid act = λ i. record { node = (moment_of mid).node; applied = (moment_of mid).applied; due = due i } in
-        (
+        let same : moment_of mid ≡ acting mid act = λ i. record { node = (moment_of mid).node; applied = (moment_of mid).applied; due = due i } in (
           [],
           [],
           [],

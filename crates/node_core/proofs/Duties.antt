@@ -165,15 +165,18 @@ module _ (old new : Running) (keeps : KeepsMost old new) (stands : IsMachine old
 
   pub proposes : (contents : List Content) → is_leader old.replica.raft.role ≡ true → ArePlain old.view.serving contents → AllByRecursion HasSpelling contents → new.view.serving ≡ old.view.serving
       → proposals_in new.due.items ≡ proposals_in old.due.items ++ written old.replica.raft.term contents ∷ [] → DutySo old new
-  proposes contents leads plain spelled serving due = inr (inr (contents, record {
-    leads = leads;
-    plain = plain;
-    spelled = spelled;
-    due = due;
-    sessions = ap (λ (k : Clients). k.sessions) clients_stay;
-    waiting = λ conn. ap (λ (k : Clients). waiting_on (k.streams conn)) clients_stay;
-    rest = keeps_raft old new keeps.replica index_stays serving stands_on files_stay;
-  }))
+  proposes contents leads plain spelled serving due = inr (inr (
+    contents,
+    record {
+      leads = leads;
+      plain = plain;
+      spelled = spelled;
+      due = due;
+      sessions = ap (λ (k : Clients). k.sessions) clients_stay;
+      waiting = λ conn. ap (λ (k : Clients). waiting_on (k.streams conn)) clients_stay;
+      rest = keeps_raft old new keeps.replica index_stays serving stands_on files_stay;
+    },
+  ))
 
 -- ---- as the code has it
 

@@ -122,7 +122,7 @@ handled_free m kind a b conn request replies x off h =
 resumed_free : (m : Meaning) (kind : EngineKind) (a b : Moment) (conn : ℕ) (replies : List _) → Resumes m kind a b conn replies → a.node.serving ≡ false → HasEnded a.node.sessions → Free b
 resumed_free m kind a b conn replies x off h =
     let e = subst (Ends (without_later a.node.sessions conn) conn a.node.raft.term) x.is
-        (later_ends (view_at a x.standing) (machine_of a.node.machine) (without_later a.node.sessions conn) conn a.node.raft.term (ended_without a.node.sessions conn h) x.statement x.answers off) in
+    (later_ends (view_at a x.standing) (machine_of a.node.machine) (without_later a.node.sessions conn) conn a.node.raft.term (ended_without a.node.sessions conn h) x.statement x.answers off) in
     (subst HasEnded (sym x.sessions) e.0, x.due ∙ e.1)
 
 free_stays : (o : Option Office) (a b : Moment) → Stays a b → IsFree o a → IsFree o b
@@ -256,11 +256,11 @@ module _ (m : Meaning) (kind : EngineKind) (old mid : Running) (going : IsGoing 
     took_free : (x : TookOffer (call_of m kind before now) old.view (machine_of old.applied.machine) (clients_in old) refused refused_now (clients_in mid) act) (r : Result Request MsgFault) → request_of x.offer.message ≡ r → old.office ≡ None → Free (acting mid act)
     took_free x (Ok request) reads e =
         let h = took_handles m kind (moment_of old) (acting mid act) (clients_in old) (clients_in mid) old.view before now refused refused_now act (record { sessions = refl; waiting = λ conn. refl }) (record { sessions = refl; waiting = λ conn. refl })
-            (keeps (proposals_by act)) (sees_itself old going) going.holds.clients.sound leads none_due refl x request reads in
+        (keeps (proposals_by act)) (sees_itself old going) going.holds.clients.sound leads none_due refl x request reads in
         handled_free m kind (moment_of old) (acting mid act) x.offer.conn request h.0 h.1 (off e) (ended e)
     took_free x (Err fault) reads e =
         let s = took_stays m kind (moment_of old) (moment_of mid) (clients_in old) (clients_in mid) old.view before now refused refused_now act (record { sessions = refl; waiting = λ conn. refl }) (record { sessions = refl; waiting = λ conn. refl })
-            (keeps (proposals_in mid.due.items)) (ap (λ (n : Running). proposals_in n.due.items) is) x fault reads in
+        (keeps (proposals_in mid.due.items)) (ap (λ (n : Running). proposals_in n.due.items) is) x fault reads in
         (subst HasEnded (sym s.0.sessions) (ended e), ap proposals_by s.1)
 
     took_given : (new : Running) → TookOffer (call_of m kind before now) old.view (machine_of old.applied.machine) (clients_in old) refused refused_now (clients_in mid) act → Performed mid new act → IsLed new
@@ -275,7 +275,7 @@ module _ (m : Meaning) (kind : EngineKind) (old mid : Running) (going : IsGoing 
     by_query new conn None later streams r done = absurd r
     by_query new conn (Some statement) later streams r done = done_free new act done (by_office old.office (acting mid act) (λ e.
         let h = ran_resumes m kind (moment_of old) (acting mid act) (clients_in old) (clients_in mid) old.view before now refused refused_now act conn statement (record { sessions = refl; waiting = λ other. refl }) (record { sessions = refl; waiting = λ other. refl })
-            streams (keeps (proposals_by act)) (sees_itself old going) leads none_due refl later r in
+        streams (keeps (proposals_by act)) (sees_itself old going) leads none_due refl later r in
         resumed_free m kind (moment_of old) (acting mid act) conn h.0 h.1 (off e) (ended e)))
 
     pub ran_led : (new : Running) (conn : ℕ) (result : Option Act) → ResumesBy (call_of m kind before now) (scene old.view (machine_of old.applied.machine) (clients_in old).sessions conn) (later_query ((clients_in old).sessions.session conn).later) refused refused_now (clients_in mid).sessions result

@@ -84,7 +84,7 @@ keeps_snapshot_so a b r q event batch x y whole made moved snap =
     let low : r.raft.snapshot.index ≤ r.raft.commit = whole.coherent.applied in
     let index : (stepped r event).snapshot.index ≡ r.raft.snapshot.index = ap (λ (n : rules.Node). n.snapshot.index) (sym made) ∙ ap (λ (l : LogEnd). l.index) same in
     let stays : snap_after r event ≡ r.snap = cond_both (nat_lt r.raft.commit (stepped r event).snapshot.index) (snap_kept (offered event)) r.snap (λ (z : Snap). z ≡ r.snap)
-        (λ e. absurd (let l : r.raft.commit < (stepped r event).snapshot.index = ltb-true _ _ e in omega (arith, l, low, index))) (λ e. refl) in
+    (λ e. absurd (let l : r.raft.commit < (stepped r event).snapshot.index = ltb-true _ _ e in omega (arith, l, low, index))) (λ e. refl) in
     record {
       snapshot = ap (λ (h : NodeValue). h.snapshot) y.raft ∙ same ∙ sym (ap (λ (h : NodeValue). h.snapshot) x.raft);
       bytes = ap (λ (k : Kept). k.snap) y.kept ∙ (λ i. record { index = (same i).index; term = (same i).term; bytes = ((snap ∙ stays) i).bytes }) ∙ sym (ap (λ (k : Kept). k.snap) x.kept);

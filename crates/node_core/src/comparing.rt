@@ -8,9 +8,7 @@ use raft_vote::Server;
 fn is_same(one: &Server, other: &Server) -> bool
     ensures { result ≡ true → one.now ≡ other.now }
 {
-    one.id == other.id
-        && one.role == other.role
-        && one.address.as_str() == other.address.as_str()
+    one.id == other.id && one.role == other.role && one.address.as_str() == other.address.as_str()
 }
 
 /// Whether these are the same servers. Takes no memory.

@@ -87,7 +87,8 @@ impl Running {
         ensures agrees { OnOk result (Agrees (E.known engine.new) self.new.clients self.new.applied.machine) }
         ensures engine { Stays (E.kind engine.old) (E.kind engine.new) (E.refused_openings engine.old) (E.refused_openings engine.new) }
         ensures goes { (setup : Setup) (bytes : List ℕ) (joins : Option ℕ) →
-            OnOk result (TurnsOn (E.meaning (E.kind engine.old)) (E.kind engine.old) setup bytes joins self.old self.new (E.told engine.old) (E.told engine.new)) }
+            OnOk result (TurnsOn (E.meaning (E.kind engine.old)) (E.kind engine.old) setup bytes joins self.old self.new
+            (E.told engine.old) (E.told engine.new)) }
     {
         let effect = self.apply_one()?;
         self.run_due(engine)?;
@@ -182,7 +183,8 @@ impl Running {
         ensures run { IfOk result (λ more. more ≡ false → NoneIsDue (clients_in self.new)) }
         ensures untold { IfOk result (λ more. more ≡ false → E.told engine.new ≡ E.told engine.old) }
         ensures goes { (setup : Setup) (bytes : List ℕ) (joins : Option ℕ) →
-            OnOk result (TurnsOn (E.meaning (E.kind engine.old)) (E.kind engine.old) setup bytes joins self.old self.new (E.told engine.old) (E.told engine.new)) }
+            OnOk result (TurnsOn (E.meaning (E.kind engine.old)) (E.kind engine.old) setup bytes joins self.old self.new
+            (E.told engine.old) (E.told engine.new)) }
     {
         stretches_join::<E>();
         let Some(conn) = self.clients.next_due() else {

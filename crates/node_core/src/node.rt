@@ -87,7 +87,8 @@ impl Node {
         ensures applied { OnOk result (applied_of self.new ≡ (raft_of self.new).commit) }
         // It makes the acts of the rules, whatever the servers are with which the cluster was opened, and says what they say.
         ensures acts { (opening : List ServerValue) →
-            IfOk result (λ outs. StepsBy (E.meaning (E.kind engine.old)) (E.kind engine.old) (read_setup opening) self.old.running self.new.running event outs (E.told engine.old) (E.told engine.new)) }
+            IfOk result (λ outs. StepsBy (E.meaning (E.kind engine.old)) (E.kind engine.old) (read_setup opening) self.old.running self.new.running event outs
+            (E.told engine.old) (E.told engine.new)) }
         ensures cause { StepCause (D.faults disk.old) (D.faults disk.new) result }
         ensures engine { Stays (E.kind engine.old) (E.kind engine.new) (E.refused_openings engine.old) (E.refused_openings engine.new) }
     {

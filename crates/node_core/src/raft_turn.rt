@@ -88,7 +88,8 @@ impl Running {
         ensures led { OnOk result (IsLed self.new) }
         // An act of the rules has begun by it.
         ensures began { (opening : List ServerValue) →
-            OnOk result (BeganBy (E.meaning (E.kind engine.old)) (E.kind engine.old) (read_setup opening) self.old self.new event (E.told engine.old) (E.told engine.new)) }
+            OnOk result (BeganBy (E.meaning (E.kind engine.old)) (E.kind engine.old) (read_setup opening) self.old self.new event
+            (E.told engine.old) (E.told engine.new)) }
         ensures stored { StaysStored D.tells (D.states disk.old) (D.states disk.new) self.old.replica self.new.replica result }
         ensures cause { StepCause (D.faults disk.old) (D.faults disk.new) result }
         ensures agrees { OnOk result (Agrees (E.known engine.new) self.new.clients self.new.applied.machine) }

@@ -109,7 +109,8 @@ impl Running {
         ensures agrees { OnOk result (Agrees (E.known engine.new) self.new.clients self.new.applied.machine) }
         ensures engine { Stays (E.kind engine.old) (E.kind engine.new) (E.refused_openings engine.old) (E.refused_openings engine.new) }
         ensures begun { (setup : Setup) →
-            OnOk result (SoFar (E.meaning (E.kind engine.old)) (E.kind engine.old) setup self.old self.new (Happens (happens.ReadDone conn read)) (E.told engine.old) (E.told engine.new)) }
+            OnOk result (SoFar (E.meaning (E.kind engine.old)) (E.kind engine.old) setup self.old self.new (Happens (happens.ReadDone conn read))
+            (E.told engine.old) (E.told engine.new)) }
     {
         if !self.take_back(conn) {
             return Ok(());
@@ -162,7 +163,8 @@ impl Running {
         ensures agrees { OnOk result (Agrees (E.known engine.new) self.new.clients self.new.applied.machine) }
         ensures engine { Stays (E.kind engine.old) (E.kind engine.new) (E.refused_openings engine.old) (E.refused_openings engine.new) }
         ensures goes { (setup : Setup) (bytes : List ℕ) (joins : Option ℕ) →
-            OnOk result (TurnsOn (E.meaning (E.kind engine.old)) (E.kind engine.old) setup bytes joins self.old self.new (E.told engine.old) (E.told engine.new)) }
+            OnOk result (TurnsOn (E.meaning (E.kind engine.old)) (E.kind engine.old) setup bytes joins self.old self.new
+            (E.told engine.old) (E.told engine.new)) }
     {
         clients_turn::<E>();
         stretches_join::<E>();

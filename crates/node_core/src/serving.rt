@@ -128,7 +128,8 @@ impl Running {
         ensures engine { Stays (E.kind engine.old) (E.kind engine.new) (E.refused_openings engine.old) (E.refused_openings engine.new) }
         ensures none { IfOk result (λ more. more ≡ false → self.new ≡ record self.old { links = self.new.links }) }
         ensures letter { (opening : List ServerValue) →
-            OnOk result (TookLetter (E.meaning (E.kind engine.old)) (E.kind engine.old) (read_setup opening) self.old self.new (E.told engine.old) (E.told engine.new)) }
+            OnOk result (TookLetter (E.meaning (E.kind engine.old)) (E.kind engine.old) (read_setup opening) self.old self.new
+            (E.told engine.old) (E.told engine.new)) }
         ensures runs { result ≢ Err fault.Down }
     {
         let me = self.id();
@@ -163,7 +164,8 @@ impl Running {
         ensures none { IfOk result (λ more. more ≡ false → self.new.due.items ≡ self.old.due.items) }
         ensures turns { IfOk result (λ more. more ≡ false → (clients_in self.new).turns ≡ []) }
         ensures goes { (setup : Setup) (bytes : List ℕ) (joins : Option ℕ) →
-            OnOk result (TurnsOn (E.meaning (E.kind engine.old)) (E.kind engine.old) setup bytes joins self.old self.new (E.told engine.old) (E.told engine.new)) }
+            OnOk result (TurnsOn (E.meaning (E.kind engine.old)) (E.kind engine.old) setup bytes joins self.old self.new
+            (E.told engine.old) (E.told engine.new)) }
         ensures sessions { IfOk result (λ more. more ≡ false → (clients_in self.new).sessions ≡ (clients_in self.old).sessions) }
     {
         clients_turn::<E>();

@@ -48,7 +48,8 @@ impl Running {
         ensures engine { Stays (E.kind engine.old) (E.kind engine.new) (E.refused_openings engine.old) (E.refused_openings engine.new) }
         // It makes the acts of the rules, and says what they say.
         ensures acts { (opening : List ServerValue) →
-            IfOk result (λ outs. StepsBy (E.meaning (E.kind engine.old)) (E.kind engine.old) (read_setup opening) self.old self.new event outs (E.told engine.old) (E.told engine.new)) }
+            IfOk result (λ outs. StepsBy (E.meaning (E.kind engine.old)) (E.kind engine.old) (read_setup opening) self.old self.new event outs
+            (E.told engine.old) (E.told engine.new)) }
     {
         self.replica.count_keeps();
         self.begin(event, disk, engine)?;
@@ -74,7 +75,8 @@ impl Running {
         ensures agrees { OnOk result (Agrees (E.known engine.new) self.new.clients self.new.applied.machine) }
         ensures engine { Stays (E.kind engine.old) (E.kind engine.new) (E.refused_openings engine.old) (E.refused_openings engine.new) }
         ensures begun { (opening : List ServerValue) →
-            OnOk result (SoFar (E.meaning (E.kind engine.old)) (E.kind engine.old) (read_setup opening) self.old self.new (Happens event) (E.told engine.old) (E.told engine.new)) }
+            OnOk result (SoFar (E.meaning (E.kind engine.old)) (E.kind engine.old) (read_setup opening) self.old self.new (Happens event)
+            (E.told engine.old) (E.told engine.new)) }
         ensures runs { result ≢ Err fault.Down }
     {
         match event {

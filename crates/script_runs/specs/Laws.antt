@@ -57,6 +57,7 @@ NoneAsk k conn turns = AllByRecursion (λ turn. k ≡ actor turn → asks_of tur
 -- So it is in their run: what holds of a node that isn't started meanwhile, and of a connection that stays, holds of the script's.
 abbrev pub TurnsBring : Meaning → EngineKind → Type 0
 TurnsBring m kind =
-    (setup : Setup) (r : Run) (turns : List Turn) (is : AreRun m kind setup r turns) (k : ℕ) → (NoneStarts k turns → NotStarted k (events_of m kind setup r turns is))
+    (setup : Setup) (r : Run) (turns : List Turn) (is : AreRun m kind setup r turns) (k : ℕ) →
+    (NoneStarts k turns → NotStarted k (events_of m kind setup r turns is))
     × ((conn : ℕ) → NoneJoins k conn turns → NotJoined k conn (events_of m kind setup r turns is))
     × ((conn : ℕ) → NoneAsk k conn turns → asked k conn (events_of m kind setup r turns is) ≡ [])

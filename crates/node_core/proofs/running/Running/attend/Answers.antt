@@ -26,7 +26,7 @@ returns-then-branch-2-clause-on g c = λ opening start event told u.
     let kind = g.E.Engine.kind c.args.engine.now in
     further_at g.E.Engine.meaning (read_setup opening) start event told kind (g.E.Engine.kind c.run_due.new.engine) c.run_due.new.self c.take_message.new.self c.run_due.ensures.engine.kind
     (subst (λ (t : Option Told). Underway (g.E.Engine.meaning kind) kind (read_setup opening) start c.run_due.new.self event told t) (sym (c.in_ok-run_due.ensures.untold c.if-branch.false))
-        (subst (λ (n : Running). Underway (g.E.Engine.meaning kind) kind (read_setup opening) start n event told (g.E.Engine.told c.args.engine.now)) (sym (c.in_ok-run_due.ensures.none c.if-branch.false)) u))
+    (subst (λ (n : Running). Underway (g.E.Engine.meaning kind) kind (read_setup opening) start n event told (g.E.Engine.told c.args.engine.now)) (sym (c.in_ok-run_due.ensures.none c.if-branch.false)) u))
     (λ bytes joins. c.in_ok-take_message.ensures.goes (read_setup opening) bytes joins)
 
 pub returns-then-branch-3-clause-stored : goal.returns-then-branch-3-clause-stored
@@ -38,12 +38,12 @@ returns-then-branch-3-clause-on g c = λ opening start event told u.
     let kind = g.E.Engine.kind c.args.engine.now in
     let same = c.in_ok-run_due.ensures.none c.if-branch.false in
     let behind = further_at g.E.Engine.meaning (read_setup opening) start event told kind (g.E.Engine.kind c.run_due.new.engine) c.run_due.new.self c.take_message.new.self c.run_due.ensures.engine.kind
-        (subst (λ (t : Option Told). Underway (g.E.Engine.meaning kind) kind (read_setup opening) start c.run_due.new.self event told t) (sym (c.in_ok-run_due.ensures.untold c.if-branch.false))
-        (subst (λ (n : Running). Underway (g.E.Engine.meaning kind) kind (read_setup opening) start n event told (g.E.Engine.told c.args.engine.now)) (sym same) u))
-        (λ bytes joins. c.in_ok-take_message.ensures.goes (read_setup opening) bytes joins) in
+    (subst (λ (t : Option Told). Underway (g.E.Engine.meaning kind) kind (read_setup opening) start c.run_due.new.self event told t) (sym (c.in_ok-run_due.ensures.untold c.if-branch.false))
+    (subst (λ (n : Running). Underway (g.E.Engine.meaning kind) kind (read_setup opening) start n event told (g.E.Engine.told c.args.engine.now)) (sym same) u))
+    (λ bytes joins. c.in_ok-take_message.ensures.goes (read_setup opening) bytes joins) in
     let ends = ends_behind c.args.self.now c.run_due.new.self c.take_message.new.self (c.in_ok-run_due.ensures.none c.if-branch.false) c.in_ok-take_message.ensures.going c.requires.applied c.requires.due c.take_message.ensures.replica
-        c.take_message.ensures.index (c.in_ok-take_message.ensures.none c.if-branch-2.false) (c.in_ok-take_message.ensures.turns c.if-branch-2.false) (c.in_ok-run_due.ensures.run c.if-branch.false)
-        (c.in_ok-take_message.ensures.sessions c.if-branch-2.false) in
+    c.take_message.ensures.index (c.in_ok-take_message.ensures.none c.if-branch-2.false) (c.in_ok-take_message.ensures.turns c.if-branch-2.false) (c.in_ok-run_due.ensures.run c.if-branch.false)
+    (c.in_ok-take_message.ensures.sessions c.if-branch-2.false) in
     compacts (g.E.Engine.meaning kind) kind (read_setup opening) start event told (c.raft_turns.ensures.snapshots kind) c.take_message.new.self c.compact.new.self behind c.in_ok-take_message.ensures.going ends.0 ends.1
     (c.in_ok-compact.ensures.takes opening c.if-branch-3.true)
 
@@ -56,16 +56,16 @@ returns-then-branch-4-clause-on g c = λ opening start event told u.
     let kind = g.E.Engine.kind c.args.engine.now in
     let same = c.in_ok-run_due.ensures.none c.if-branch.false in
     let behind = further_at g.E.Engine.meaning (read_setup opening) start event told kind (g.E.Engine.kind c.run_due.new.engine) c.run_due.new.self c.take_message.new.self c.run_due.ensures.engine.kind
-        (subst (λ (t : Option Told). Underway (g.E.Engine.meaning kind) kind (read_setup opening) start c.run_due.new.self event told t) (sym (c.in_ok-run_due.ensures.untold c.if-branch.false))
-        (subst (λ (n : Running). Underway (g.E.Engine.meaning kind) kind (read_setup opening) start n event told (g.E.Engine.told c.args.engine.now)) (sym same) u))
-        (λ bytes joins. c.in_ok-take_message.ensures.goes (read_setup opening) bytes joins) in
+    (subst (λ (t : Option Told). Underway (g.E.Engine.meaning kind) kind (read_setup opening) start c.run_due.new.self event told t) (sym (c.in_ok-run_due.ensures.untold c.if-branch.false))
+    (subst (λ (n : Running). Underway (g.E.Engine.meaning kind) kind (read_setup opening) start n event told (g.E.Engine.told c.args.engine.now)) (sym same) u))
+    (λ bytes joins. c.in_ok-take_message.ensures.goes (read_setup opening) bytes joins) in
     let ends = ends_behind c.args.self.now c.run_due.new.self c.take_message.new.self (c.in_ok-run_due.ensures.none c.if-branch.false) c.in_ok-take_message.ensures.going c.requires.applied c.requires.due c.take_message.ensures.replica
-        c.take_message.ensures.index (c.in_ok-take_message.ensures.none c.if-branch-2.false) (c.in_ok-take_message.ensures.turns c.if-branch-2.false) (c.in_ok-run_due.ensures.run c.if-branch.false)
-        (c.in_ok-take_message.ensures.sessions c.if-branch-2.false) in
+    c.take_message.ensures.index (c.in_ok-take_message.ensures.none c.if-branch-2.false) (c.in_ok-take_message.ensures.turns c.if-branch-2.false) (c.in_ok-run_due.ensures.run c.if-branch.false)
+    (c.in_ok-take_message.ensures.sessions c.if-branch-2.false) in
     let still = sym (c.in_ok-compact.ensures.none c.if-branch-3.false) in
     let came = letter_at g.E.Engine.meaning (read_setup opening) start event told kind (g.E.Engine.kind c.take_message.new.engine) c.compact.new.self c.take_letter.new.self (c.take_message.ensures.engine.kind ∙ c.run_due.ensures.engine.kind)
-        (subst (λ (n : Running). Underway (g.E.Engine.meaning kind) kind (read_setup opening) start n event told (g.E.Engine.told c.take_message.new.engine)) still behind) c.in_ok-compact.ensures.going
-        (subst (λ (n : Running). MayEnd (moment_of n)) still ends.0) (subst AtRest still ends.1) (c.in_ok-take_letter.ensures.letter opening) in
+    (subst (λ (n : Running). Underway (g.E.Engine.meaning kind) kind (read_setup opening) start n event told (g.E.Engine.told c.take_message.new.engine)) still behind) c.in_ok-compact.ensures.going
+    (subst (λ (n : Running). MayEnd (moment_of n)) still ends.0) (subst AtRest still ends.1) (c.in_ok-take_letter.ensures.letter opening) in
     came
 
 pub returns-clause-stored : goal.returns-clause-stored
@@ -78,16 +78,16 @@ returns-clause-on g c = λ opening start event told u.
     let kind = g.E.Engine.kind c.args.engine.now in
     let same = c.in_ok-run_due.ensures.none c.if-branch.false in
     let behind = further_at g.E.Engine.meaning (read_setup opening) start event told kind (g.E.Engine.kind c.run_due.new.engine) c.run_due.new.self c.take_message.new.self c.run_due.ensures.engine.kind
-        (subst (λ (t : Option Told). Underway (g.E.Engine.meaning kind) kind (read_setup opening) start c.run_due.new.self event told t) (sym (c.in_ok-run_due.ensures.untold c.if-branch.false))
-        (subst (λ (n : Running). Underway (g.E.Engine.meaning kind) kind (read_setup opening) start n event told (g.E.Engine.told c.args.engine.now)) (sym same) u))
-        (λ bytes joins. c.in_ok-take_message.ensures.goes (read_setup opening) bytes joins) in
+    (subst (λ (t : Option Told). Underway (g.E.Engine.meaning kind) kind (read_setup opening) start c.run_due.new.self event told t) (sym (c.in_ok-run_due.ensures.untold c.if-branch.false))
+    (subst (λ (n : Running). Underway (g.E.Engine.meaning kind) kind (read_setup opening) start n event told (g.E.Engine.told c.args.engine.now)) (sym same) u))
+    (λ bytes joins. c.in_ok-take_message.ensures.goes (read_setup opening) bytes joins) in
     let ends = ends_behind c.args.self.now c.run_due.new.self c.take_message.new.self (c.in_ok-run_due.ensures.none c.if-branch.false) c.in_ok-take_message.ensures.going c.requires.applied c.requires.due c.take_message.ensures.replica
-        c.take_message.ensures.index (c.in_ok-take_message.ensures.none c.if-branch-2.false) (c.in_ok-take_message.ensures.turns c.if-branch-2.false) (c.in_ok-run_due.ensures.run c.if-branch.false)
-        (c.in_ok-take_message.ensures.sessions c.if-branch-2.false) in
+    c.take_message.ensures.index (c.in_ok-take_message.ensures.none c.if-branch-2.false) (c.in_ok-take_message.ensures.turns c.if-branch-2.false) (c.in_ok-run_due.ensures.run c.if-branch.false)
+    (c.in_ok-take_message.ensures.sessions c.if-branch-2.false) in
     let still = sym (c.in_ok-compact.ensures.none c.if-branch-3.false) in
     let came = letter_at g.E.Engine.meaning (read_setup opening) start event told kind (g.E.Engine.kind c.take_message.new.engine) c.compact.new.self c.take_letter.new.self (c.take_message.ensures.engine.kind ∙ c.run_due.ensures.engine.kind)
-        (subst (λ (n : Running). Underway (g.E.Engine.meaning kind) kind (read_setup opening) start n event told (g.E.Engine.told c.take_message.new.engine)) still behind) c.in_ok-compact.ensures.going
-        (subst (λ (n : Running). MayEnd (moment_of n)) still ends.0) (subst AtRest still ends.1) (c.in_ok-take_letter.ensures.letter opening) in
+    (subst (λ (n : Running). Underway (g.E.Engine.meaning kind) kind (read_setup opening) start n event told (g.E.Engine.told c.take_message.new.engine)) still behind) c.in_ok-compact.ensures.going
+    (subst (λ (n : Running). MayEnd (moment_of n)) still ends.0) (subst AtRest still ends.1) (c.in_ok-take_letter.ensures.letter opening) in
     closed_at g.E.Engine.meaning (read_setup opening) start event told kind c.close_heard.result c.take_letter.new.self c.close_heard.new.self came c.close_heard.ensures.replica c.close_heard.ensures.goes c.close_heard.ensures.quiet
 
 pub returns-clause-led : goal.returns-clause-led
@@ -96,8 +96,8 @@ returns-clause-led g c = on_ok_then c.close_heard.result (λ goes. led_closes c.
 pub returns-clause-ends : goal.returns-clause-ends
 returns-clause-ends g c =
     let ends = ends_behind c.args.self.now c.run_due.new.self c.take_message.new.self (c.in_ok-run_due.ensures.none c.if-branch.false) c.in_ok-take_message.ensures.going c.requires.applied c.requires.due c.take_message.ensures.replica
-        c.take_message.ensures.index (c.in_ok-take_message.ensures.none c.if-branch-2.false) (c.in_ok-take_message.ensures.turns c.if-branch-2.false) (c.in_ok-run_due.ensures.run c.if-branch.false)
-        (c.in_ok-take_message.ensures.sessions c.if-branch-2.false) in
+    c.take_message.ensures.index (c.in_ok-take_message.ensures.none c.if-branch-2.false) (c.in_ok-take_message.ensures.turns c.if-branch-2.false) (c.in_ok-run_due.ensures.run c.if-branch.false)
+    (c.in_ok-take_message.ensures.sessions c.if-branch-2.false) in
     let still = sym (c.in_ok-compact.ensures.none c.if-branch-3.false) in
     ends_closed c.close_heard.result c.take_letter.new.self c.close_heard.new.self
     (subst MayEnd (sym (ap moment_of (c.in_ok-take_letter.ensures.none c.if-branch-4.false))) (subst (λ (n : Running). MayEnd (moment_of n)) still ends.0)) c.close_heard.ensures.none
