@@ -1,7 +1,7 @@
 //! What a node is started with, what happens at it, and how it stands.
 
 use dq_base::Bytes;
-use gateway::Read;
+use gateway::{Read, StepLimits};
 use raft_core::RaftRole;
 use raft_vote::{RaftMessage, Servers};
 
@@ -16,6 +16,8 @@ pub struct NodeSpec {
     pub links: bool,
     /// Whether readers answer queries beside it.
     pub readers: bool,
+    /// How many steps statements may take. A statement that would take more is refused with the code for want of memory.
+    pub steps: StepLimits,
 }
 
 /// What happens at a node.
@@ -45,6 +47,10 @@ pub struct NodeState {
     pub term: u64,
     /// What it is in this term.
     pub role: RaftRole,
+    /// The leader of this term, where it knows one.
+    pub leader: Option<u64>,
+    /// The last index of its log.
+    pub last: u64,
     /// The index of the last entry that it has applied.
     pub applied: u64,
 }

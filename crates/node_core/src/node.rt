@@ -5,6 +5,8 @@ ghost use Rattle.sql_engine.specs.Meanings.{Stays};
 ghost use Rattle.raft_vote.specs.Servers.{IsConfiguration};
 ghost use Rattle.raft_rules.specs.Node.{Server as ServerValue};
 ghost use Rattle.raft_core.specs.Roles.{role_value};
+ghost use Rattle.raft_rules.specs.Log.{log_end};
+ghost use Rattle.raft_core.specs.Queries.{leader_at};
 ghost use Rattle.node_core.specs.declared.fault.NodeFault.TheVariants as fault;
 ghost use Rattle.node_core.specs.Faults.{StartCause, StepCause};
 ghost use Rattle.raft_member.specs.Members.{read_setup};
@@ -112,12 +114,16 @@ impl Node {
     pub fn state(&self) -> NodeState
         ensures term { result.term ≡ (raft_of self.now).term }
         ensures role { role_value result.role ≡ (raft_of self.now).role }
+        ensures leader { result.leader ≡ leader_at (replica_of self.now).raft.leader }
+        ensures last { result.last ≡ (log_end (raft_of self.now).log).index }
         ensures applied { result.applied ≡ applied_of self.now }
     {
         let view = self.running.replica.view();
         NodeState {
             term: view.term,
             role: view.role,
+            leader: view.leader,
+            last: view.last.index,
             applied: self.running.applied.index,
         }
     }

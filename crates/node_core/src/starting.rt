@@ -132,13 +132,14 @@ impl Running {
             servers,
             links,
             readers,
+            steps,
         } = spec;
         let mut applied = applied_at_start(alloc, servers, &kept.snapshot)?;
         applied.keep_whole()?;
         let members = members_at_start(alloc, &applied, &kept)?;
         let replica = Replica::start(alloc, id, members.current(), store, kept)?;
         let servers = copied(alloc, applied.servers.as_slice())?;
-        let view = starting_view(alloc, id, servers, links, readers, replica.view());
+        let view = starting_view(alloc, id, servers, links, readers, steps, replica.view());
         starts_stand();
         Ok(Running::of_parts(alloc, replica, members, applied, view)?)
     }

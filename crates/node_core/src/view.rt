@@ -23,13 +23,15 @@ pub(crate) fn copied(alloc: Global, servers: &[Server]) -> Result<Servers, Alloc
     Ok(Items::new(copies))
 }
 
-/// What a node is for its sessions that has started: a follower that knows no leader. Its servers are these.
+/// What a node is for its sessions that has started: a follower that knows no leader. Its servers are these, and
+/// its statements have these limits of steps.
 pub(crate) fn starting_view(
     alloc: Global,
     id: u64,
     servers: Servers,
     links: bool,
     readers: bool,
+    steps: StepLimits,
     raft: RaftView,
 ) -> View
     ensures serving { result.serving ≡ false }
@@ -47,7 +49,7 @@ pub(crate) fn starting_view(
         links,
         readers,
         even: Items::new(Vec::new(alloc)),
-        steps: StepLimits::none(),
+        steps,
     }
 }
 

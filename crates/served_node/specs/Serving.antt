@@ -1,0 +1,80 @@
+-- What a node that is served does, step after step.
+use Rattle.std.specs.Prelude.{◌≡◌, ◌≤◌, ℕ, Bool, List, Option}
+use Rattle.disk_model.specs.Disk.{Disk}
+use Rattle.disk_model.specs.Trait.{Text}
+use Rattle.sql_engine.specs.declared.kind.EngineKind.{EngineKind}
+use Rattle.sql_engine.specs.Known.{Known}
+use Rattle.sql_engine.specs.Meanings.{Stays}
+use Rattle.raft_core.specs.Roles.{role_value}
+use Rattle.node_replica.specs.Replicas.{IsKept}
+use Rattle.node_core.specs.declared.node.Node.{Node}
+use Rattle.node_core.specs.declared.event.NodeState.{NodeState}
+use Rattle.node_core.specs.Stepping.{IsUp, IsDown}
+use Rattle.node_core.specs.Values.{replica_of, raft_of, applied_of}
+use Rattle.node_core.specs.Whole.{Agrees, IsSound}
+use Rattle.session_decisions.specs.declared.job.Read.{Read}
+use Rattle.node_edge.specs.declared.event.Event.{Event}
+use Rattle.node_edge.specs.declared.looping.LoopEnd.{LoopEnd}
+use Rattle.node_edge.specs.Looping.{Taken, Loops}
+use Rattle.served_node.specs.declared.said.Said.{Said}
+
+-- a node with the disk and the engine that are its own
+pub record Seat (D E : Type 0) : Type 0 where
+  pub node : Node
+  pub disk : D
+  pub engine : E
+
+-- It may make a step: it is up and rests, and no number stands for two images.
+pub record CanStep (known : List Known) (n : Node) : Type 0 where
+  pub sound : IsSound n
+  pub up : IsUp n
+  pub agrees : Agrees known n
+
+-- this is how the node stands
+pub record IsStateOf (state : NodeState) (n : Node) : Type 0 where
+  pub term : state.term ≡ (raft_of n).term
+  pub role : role_value state.role ≡ (raft_of n).role
+  pub applied : state.applied ≡ applied_of n
+
+-- What is lent to a node at a moment: the references, by their names, the disk's count of faults, the engine's kind and its count of
+-- openings that were refused.
+pub record Lent (A B : Type 0) : Type 0 where
+  pub disk : A
+  pub engine : B
+  pub faults : ℕ
+  pub kind : EngineKind
+  pub refused : ℕ
+
+-- The references stay, so what is known of them is known of what was lent. No count falls, and the engine stays what it is.
+pub record StaysLent {A B : Type 0} (old new : Lent A B) : Type 0 where
+  pub disk : new.disk ≡ old.disk
+  pub engine : new.engine ≡ old.engine
+  pub faults : old.faults ≤ new.faults
+  pub stays : Stays old.kind new.kind old.refused new.refused
+
+-- What a step leaves that ended well: where the disk kept what Raft was it keeps what Raft is, all that is committed is applied, and how
+-- the node stands then is told.
+pub record StepsWell (tells : Bool) (before after : Disk Text → Type 0) (old new : Node) (state : NodeState) : Type 0 where
+  pub stored : IsKept tells before (replica_of old) → IsKept tells after (replica_of new)
+  pub applied : applied_of new ≡ (raft_of new).commit
+  pub told : IsStateOf state new
+
+-- ---- a node with its disk and its engine as values
+
+-- a step that ended well
+abbrev pub Makes : {D E : Type 0} → Bool → (D → Disk Text → Type 0) → (D → ℕ) → (E → EngineKind) → (E → ℕ) → Seat D E → Event Read → Said → Seat D E → Type 0
+Makes tells states faults kind refused old event said new =
+    (faults old.disk ≤ faults new.disk) × Stays (kind old.engine) (kind new.engine) (refused old.engine) (refused new.engine)
+    × StepsWell tells (states old.disk) (states new.disk) old.node new.node said.state
+
+-- a step that failed: the node is down
+abbrev pub Breaks : {D E : Type 0} → (D → ℕ) → (E → EngineKind) → (E → ℕ) → Seat D E → Event Read → Seat D E → Type 0
+Breaks faults kind refused old event new =
+    (faults old.disk ≤ faults new.disk) × Stays (kind old.engine) (kind new.engine) (refused old.engine) (refused new.engine) × IsDown new.node
+
+-- A node made one step for each event that was taken, in order, and what they say was put, in order; one that failed was the last.
+pub record Runs {D E : Type 0} (tells : Bool) (states : D → Disk Text → Type 0) (faults : D → ℕ) (kind : E → EngineKind) (refused : E → ℕ)
+    (node : Node) (disk disk_after : D) (engine engine_after : E) (before after : Taken Read) (said said_after : Option (List Said)) (budget : ℕ) (end : LoopEnd) : Type 0 where
+  pub last : Node
+  pub loops : Loops (Makes tells states faults kind refused) (Breaks faults kind refused) (record { node = node; disk = disk; engine = engine })
+      (record { node = last; disk = disk_after; engine = engine_after }) before after said said_after budget end

@@ -1,0 +1,64 @@
+//! A node with what is lent to it.
+
+ghost use Rattle.std.specs.Prelude.{◌≡◌, ◌≤◌, IfOk, OnOk, OnErr};
+ghost use Rattle.node_edge.specs.Stepping.{StepCause};
+ghost use Rattle.node_core.specs.Stepping.{IsDown};
+ghost use Rattle.served_node.specs.Serving.{CanStep, StaysLent, StepsWell};
+
+use crate::bridge::{event_of, fault_of};
+use crate::said::Said;
+use disk_model::Disk;
+use gateway::Read;
+use node_core::Node;
+use node_edge::{Core, Event, StepFault};
+use sql_engine::Engine;
+
+/// A node, and the disk and the engine that are lent to its steps.
+#[derive(Drop)]
+pub(crate) struct ServedNode<'n, 'd, 'e, D: Disk, E: Engine> {
+    pub(crate) node: &'n mut Node,
+    pub(crate) disk: &'d mut D,
+    pub(crate) engine: &'e mut E,
+}
+
+impl<'n, 'd, 'e, D: Disk, E: Engine> Core for ServedNode<'n, 'd, 'e, D, E> {
+    type Told = Read;
+
+    type Outs = Said;
+
+    ghost stands = { λ s. CanStep (E.known s.engine.now) s.node.now };
+
+    ghost makes = { λ old event said new.
+        StaysLent (record { disk = old.disk.ghost_name; engine = old.engine.ghost_name; faults = D.faults old.disk.now; kind = E.kind old.engine.now; refused = E.refused_openings old.engine.now })
+        (record { disk = new.disk.ghost_name; engine = new.engine.ghost_name; faults = D.faults new.disk.now; kind = E.kind new.engine.now; refused = E.refused_openings new.engine.now })
+        × StepsWell D.tells (D.states old.disk.now) (D.states new.disk.now) old.node.now new.node.now said.state };
+
+    ghost breaks = { λ old event new.
+        StaysLent (record { disk = old.disk.ghost_name; engine = old.engine.ghost_name; faults = D.faults old.disk.now; kind = E.kind old.engine.now; refused = E.refused_openings old.engine.now })
+        (record { disk = new.disk.ghost_name; engine = new.engine.ghost_name; faults = D.faults new.disk.now; kind = E.kind new.engine.now; refused = E.refused_openings new.engine.now })
+        × IsDown new.node.now };
+
+    ghost faults = { λ s. D.faults s.disk.now };
+
+    fn step(&mut self, event: Event<Read>) -> Result<Said, StepFault>
+        requires { CanStep (E.known self.old.engine.now) self.old.node.now }
+        ensures stands { OnOk result (CanStep (E.known self.new.engine.now) self.new.node.now) }
+        ensures makes { IfOk result (λ said. StaysLent
+            (record { disk = self.old.disk.ghost_name; engine = self.old.engine.ghost_name; faults = D.faults self.old.disk.now; kind = E.kind self.old.engine.now; refused = E.refused_openings self.old.engine.now })
+            (record { disk = self.new.disk.ghost_name; engine = self.new.engine.ghost_name; faults = D.faults self.new.disk.now; kind = E.kind self.new.engine.now; refused = E.refused_openings self.new.engine.now })
+            × StepsWell D.tells (D.states self.old.disk.now) (D.states self.new.disk.now) self.old.node.now self.new.node.now said.state) }
+        ensures breaks { OnErr result (StaysLent
+            (record { disk = self.old.disk.ghost_name; engine = self.old.engine.ghost_name; faults = D.faults self.old.disk.now; kind = E.kind self.old.engine.now; refused = E.refused_openings self.old.engine.now })
+            (record { disk = self.new.disk.ghost_name; engine = self.new.engine.ghost_name; faults = D.faults self.new.disk.now; kind = E.kind self.new.engine.now; refused = E.refused_openings self.new.engine.now })
+            × IsDown self.new.node.now) }
+        ensures cause { StepCause (D.faults self.old.disk.now) (D.faults self.new.disk.now) result }
+    {
+        match self.node.step(event_of(event), self.disk, self.engine) {
+            Ok(outs) => Ok(Said {
+                outs,
+                state: self.node.state(),
+            }),
+            Err(fault) => Err(fault_of(fault)),
+        }
+    }
+}
