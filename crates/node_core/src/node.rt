@@ -49,6 +49,7 @@ impl Node {
         requires opening { IsConfiguration spec.servers }
         ensures starts { StartsOver (D.states disk.old) (D.states disk.new) result }
         ensures stands { IfOk result (λ node. StartsSo (read_setup spec.servers) (kept_by node) (node_of node) (servers_told node)) }
+        ensures id { IfOk result (λ node. (replica_of node).raft.id ≡ spec.id) }
         ensures sound { IfOk result IsSound }
         ensures up { IfOk result IsUp }
         // No number stands for two images, for an engine that knows none.

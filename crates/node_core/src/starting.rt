@@ -121,6 +121,7 @@ impl Running {
         ensures stands { IfOk result (λ node. StartsSo (read_setup spec.servers) kept (seen node) node.replica.raft.servers) }
         ensures kept { IfOk result (λ node. kept_of node.replica ≡ kept) }
         ensures store { IfOk result (λ node. node.replica.store ≡ store) }
+        ensures id { IfOk result (λ node. node.replica.raft.id ≡ spec.id) }
         ensures rests { IfOk result Rests }
         ensures agrees { IfOk result (λ node. Agrees [] node.clients node.applied.machine) }
         ensures keeps { IfOk result (λ node. node.replica.keeps ≡ 0) }

@@ -11,9 +11,8 @@ use Rattle.clap.specs.declared.error.Error.{Error}
 use Rattle.clap.specs.declared.error.kind.ErrorKind.{ErrorKind}
 use Rattle.clap.specs.declared.error.kind.ErrorKind.TheVariants as kind
 use Rattle.clap.specs.declared.parser.matches.ArgMatches.{ArgMatches}
-use Rattle.program_words.specs.Commands.{script_app, statement_app, check_app, generate_app, serve_app, unless_refused, read_by}
-use Rattle.program_words.specs.Values.{engine_named, number_in}
-use Rattle.program_words.specs.Asking.{are_addresses, is_askable, statement_with, script_found, statement_found, check_found, generate_with, generate_found, asked_by, CanBeSent, IsAskable}
+use Rattle.program_words.specs.Commands.{script_app, statement_app, check_app, generate_app, unless_refused, read_by}
+use Rattle.program_words.specs.Asking.{engine_named, are_addresses, is_askable, statement_with, script_found, statement_found, check_found, number_in, generate_with, generate_found, asked_by, CanBeSent, IsAskable}
 use Rattle.program_words.specs.declared.asked.Asked.{Asked}
 use Rattle.program_words.specs.declared.asked.Asked.TheVariants as asks
 use Rattle.program_words.specs.declared.reading.Line.{Line}
@@ -29,9 +28,6 @@ statement_simple app e = subst (λ (a : App). is_simple_and_free a ≡ true) (sy
 
 pub check_simple : (app : App) → app ≡ check_app → is_simple_and_free app ≡ true
 check_simple app e = subst (λ (a : App). is_simple_and_free a ≡ true) (sym e) refl
-
-pub serve_simple : (app : App) → app ≡ serve_app → is_simple_and_free app ≡ true
-serve_simple app e = subst (λ (a : App). is_simple_and_free a ≡ true) (sym e) refl
 
 first_holds : (a b : Bool) → (a && b) ≡ true → a ≡ true
 first_holds true b e = refl

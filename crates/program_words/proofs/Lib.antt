@@ -1,2 +1,1 @@
-pub mod Servable
 pub mod Found

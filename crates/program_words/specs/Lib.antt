@@ -1,4 +1,2 @@
 pub mod Commands
-pub mod Values
-pub mod Serving
 pub mod Asking

@@ -27,27 +27,3 @@ pub struct Statement {
     /// The addresses at which the leader is asked for, 1 to 9 of them.
     pub addresses: Items<WireText>,
 }
-
-/// A node that is to be served. No two of the node and its peers have one id.
-#[derive(Drop)]
-pub struct Serve {
-    /// Its id, 1 to 9.
-    pub id: u64,
-    /// The address at which it listens, and at which others and clients reach it.
-    pub listen: WireText,
-    /// The other nodes of the cluster, at most six.
-    pub peers: Items<Peer>,
-    /// The kind of its engine.
-    pub engine: EngineKind,
-    /// How many events it takes before it ends, 1 to 4,294,967,295.
-    pub events: u64,
-}
-
-/// Another node of a cluster.
-#[derive(Drop)]
-pub struct Peer {
-    /// Its id, 1 to 9.
-    pub id: u64,
-    /// Where it is reached.
-    pub address: WireText,
-}

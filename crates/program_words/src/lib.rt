@@ -5,8 +5,6 @@ mod addresses;
 mod asked;
 mod commands;
 mod reading;
-mod serving;
 
-pub use asked::{Asked, Peer, Serve, Statement};
+pub use asked::{Asked, Statement};
 pub use reading::read_words;
-pub use serving::read_serve;

@@ -2,8 +2,7 @@ ghost use Rattle.std.specs.Prelude.{◌≡◌, Some, IfOk, map, string_bytes, co
 ghost use Rattle.std.specs.Option.{option_map};
 ghost use Rattle.clap.specs.Words.{found_of, rows_of};
 ghost use Rattle.program_words.specs.Commands.{script_app, statement_app, check_app, generate_app, read_by};
-ghost use Rattle.program_words.specs.Values.{engine_named, is_within, number_in};
-ghost use Rattle.program_words.specs.Asking.{script_in, statement_with, statement_in, script_found, statement_found, check_found, generate_in, generate_found, line_of, asked_by, asked_of, IsAskable};
+ghost use Rattle.program_words.specs.Asking.{engine_named, script_in, statement_with, statement_in, script_found, statement_found, check_found, is_within, number_in, generate_in, generate_found, line_of, asked_by, asked_of, IsAskable};
 
 use crate::addresses::{is_askable, text, texts};
 use crate::asked::{Asked, Statement};
@@ -47,7 +46,7 @@ fn line_of(word: &str) -> Option<Line>
 }
 
 /// The kind of engine of a name.
-pub(crate) fn engine_named(name: Option<&str>) -> Option<EngineKind>
+fn engine_named(name: Option<&str>) -> Option<EngineKind>
     ensures { result ≡ engine_named (option_map (λ word. word.now) name.entry) }
 {
     let Some(name) = name else {
@@ -158,7 +157,7 @@ fn is_within(least: u32, most: u32, number: u32) -> bool
 }
 
 /// The number that a word is in decimal, without sign or leading zeros, if it is not less than the one and not more than the other.
-pub(crate) fn number_in(least: u32, most: u32, word: Option<&str>) -> Option<u32>
+fn number_in(least: u32, most: u32, word: Option<&str>) -> Option<u32>
     ensures { result ≡ number_in least most (option_map (λ word. word.now) word.entry) }
 {
     let Some(word) = word else {

@@ -14,7 +14,7 @@ use Rattle.node_runs.proofs.FirstDisk.{first_disk_holds}
 use Rattle.node_runs.proofs.Starting.{starts_keep_hold, fails, finds, crashes, crash_leaves_kept_hold}
 use Rattle.script_nodes.specs.Outcomes.{Ending, Steps, Starts, Stops, Fails, Unreadable, Doing, Start, Turn}
 use Rattle.script_runs.specs.Seats.{Seat, Runs, Rests, EndsSo, StopDone, TurnSo, PathSo}
-use Rattle.script_runs.specs.Places.{IsLeft, IsFair, PlacesBegin, StepsOn, FallsOn, IsFall, CrashesOn, DisksCrashOn, StartsOn, IsNoStart, StartsFail}
+use Rattle.script_runs.specs.Places.{IsLeft, IsFair, PlacesBegin, StepsOn, FallsOn, IsFall, CrashesOn, DisksCrashOn, StartsOn, IsNoStart, StartsFail, FindsOn}
 
 -- what is found has the weaker property too
 weaker : (P Q : Kept → Type 0) → ((kept : Kept) → P kept → Q kept) → (o : Found) → IsLeft P o → IsLeft Q o
@@ -79,3 +79,13 @@ module _ (m : Meaning) (kind : EngineKind) where
   pub starts_fail_hold : StartsFail m kind
   starts_fail_hold setup n turns d e why aim answers ending p fair leaves is =
       stands_weaker _ _ (folder e) (λ kept h. path_on m kind setup n _ (Rests kept) (Rests kept) turns _ h (no_start m kind setup n ending is answers kept)) (fails (IsLeft _) d d e why p (as_it_is d fair) leaves)
+
+  pub finds_on_hold : FindsOn m kind
+  finds_on_hold setup n turns d e old doing event aim answers ending p fall is finds shows =
+      falls_on_hold setup n turns d e old doing aim answers ending p fall (record {
+        crash = λ g left fair.
+            let l = finds.crash g left fair in
+            let s = shows l.kept l.holds in
+            subst (IsLeft (StopDone m kind setup old doing)) (sym l.is) (record { event = event; is = is; stops = l.holds; voters = s.0; alone = s.1 });
+        seen = finds.seen;
+      })

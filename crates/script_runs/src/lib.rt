@@ -4,7 +4,7 @@
 
 ghost use Rattle.script_runs.specs.Laws.{LatersAreSafe, NodesAreSafe, RunsHold, TurnsAreRuns, TurnsBring};
 ghost use Rattle.script_runs.specs.Mails.{MailIsSent, ScriptsAreSafe};
-ghost use Rattle.script_runs.specs.Places.{CrashesOn, DisksCrashOn, FallsOn, PlacesBegin, StartsFail, StartsOn, StepsOn};
+ghost use Rattle.script_runs.specs.Places.{CrashesOn, DisksCrashOn, FallsOn, FindsOn, PlacesBegin, StartsFail, StartsOn, StepsOn};
 ghost use Rattle.script_runs.specs.Showing.{ShownAlike};
 
 use sql_engine::Engine;
@@ -28,6 +28,7 @@ pub fn places_lead_on<E: Engine>()
     ensures begins { (kind : _) → PlacesBegin (E.meaning kind) kind }
     ensures steps { (kind : _) → StepsOn (E.meaning kind) kind }
     ensures falls { (kind : _) → FallsOn (E.meaning kind) kind }
+    ensures finds { (kind : _) → FindsOn (E.meaning kind) kind }
     ensures crashes { (kind : _) → CrashesOn (E.meaning kind) kind }
     ensures disks { (kind : _) → DisksCrashOn (E.meaning kind) kind }
     ensures starts { (kind : _) → StartsOn (E.meaning kind) kind }

@@ -1,4 +1,4 @@
-use Rattle.script_runs.proofs.Placing.{places_begin_hold, steps_on_hold, falls_on_hold, crashes_on_hold, disks_crash_on_hold, starts_on_hold, starts_fail_hold}
+use Rattle.script_runs.proofs.Placing.{finds_on_hold, places_begin_hold, steps_on_hold, falls_on_hold, crashes_on_hold, disks_crash_on_hold, starts_on_hold, starts_fail_hold}
 use Rattle.script_runs.proofs.places_lead_on.Goals as goal
 
 pub returns-clause-steps : goal.returns-clause-steps
@@ -21,3 +21,6 @@ returns-clause-fails g c = λ kind. starts_fail_hold (g.E.Engine.meaning kind) k
 
 pub returns-clause-begins : goal.returns-clause-begins
 returns-clause-begins g c = λ kind. places_begin_hold (g.E.Engine.meaning kind) kind
+
+pub returns-clause-finds : goal.returns-clause-finds
+returns-clause-finds g c = λ kind. finds_on_hold (g.E.Engine.meaning kind) kind
