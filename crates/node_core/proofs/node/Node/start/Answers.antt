@@ -6,4 +6,4 @@ pub returns-in_err-running-clause-starts : goal.returns-in_err-running-clause-st
 returns-in_err-running-clause-starts g c =
     let p = err_from_is_err_and c.from_residual-in_err-running.result c.from_residual-in_err-running.ensures.1 in
     rw (p.1, p.2) (starts_over (g.D.Disk.states c.args.disk.now) (g.D.Disk.states c.load.new.disk) c.in_err-running.field-0.0 c.in_ok-store.store c.in_ok-store.kept
-        c.in_err-running.ensures.unread c.in_ok-store.ensures.loads)
+    c.in_err-running.ensures.unread c.in_ok-store.ensures.loads)
