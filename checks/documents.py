@@ -13,8 +13,8 @@ import subprocess
 import sys
 
 TOP = os.path.dirname(os.path.dirname(os.path.realpath(__file__)))
-# Names of the system.
-FOREIGN = {"TCP_NODELAY"}
+# Names of the system and of the kit.
+FOREIGN = {"TCP_NODELAY", "FailsBy"}
 # Paths that the kit makes, that the system has, or in which a word stands for others; and SQL's comments.
 ELSEWHERE = re.compile(r"/.*|out/.*|(.*[/.])?[A-Z]{2,}([/.].*)?")
 
