@@ -56,6 +56,10 @@ def main():
         pattern = re.compile("(?:.*/)?" + re.escape(path).replace(r"\*", "[^/]*") + r"(\.\w+)?")
         return any(pattern.fullmatch(it) for it in paths)
 
+    def defined_in(file):
+        """Returns the text of the file of which a crate's path names the end, or None."""
+        return text_of(f"crates/{file}") if os.path.isfile(f"{TOP}/crates/{file}") else None
+
     def tell(document, line, what):
         nonlocal missing
         missing += 1
@@ -69,6 +73,11 @@ def main():
             for link in re.findall(r"\]\(([^)#\s]+)(?:#[^)]*)?\)", line):
                 if "://" not in link and not os.path.exists(f"{TOP}/{os.path.dirname(document)}/{link}"):
                     tell(document, number, f"no file {link}")
+            for file, names in re.findall(r"`(\w+/(?:specs|src|proofs)/[\w/]+\.(?:antt|rt))`: (`[^;|]*)", line):
+                text = defined_in(file)
+                for name in re.findall(r"`(\w+)`", re.split(r", `[\w/]+\.(?:antt|rt)`", names)[0]) if text else []:
+                    if not re.search(rf"(?<![\w-]){name}(?![\w-])", text):
+                        tell(document, number, f"no {name} in {file}")
             for name in [] if is_code or tells_of_what_is_to_come else re.findall(r"`([^`]+)`", line):
                 if re.fullmatch(r"[\w./*-]+", name) and ("/" in name or re.search(r"\.(rt|antt|md|py|script|table|edit|output)$", name)):
                     if not ELSEWHERE.fullmatch(name) and not is_path(name, document):
