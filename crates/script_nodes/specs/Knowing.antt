@@ -4,7 +4,7 @@ use Rattle.std.specs.Prelude.{◌≡◌, ℕ, zero, suc, ◌==◌, cond, List, [
 use Rattle.script_lines.specs.declared.grammar.Aim.{Aim}
 use Rattle.raft_vote.specs.declared.message.RaftMessage.{RaftMessage}
 use Rattle.raft_vote.specs.Messages.{message_fields, AllHold}
-use Rattle.script_nodes.specs.Outcomes.{Outcome, Ending, Steps, Starts, Stops, Fails, Unreadable, Doing, Start, Turn, Does, Crashes}
+use Rattle.script_nodes.specs.Outcomes.{Outcome, Ending, Steps, Starts, Stops, Fails, Unreadable, Start, Turn, Does, Crashes}
 
 -- the node at which it happened
 abbrev pub actor : Turn → ℕ
