@@ -20,7 +20,7 @@ use Rattle.node_rules.specs.Changes.{are_near}
 use Rattle.node_rules.specs.Voting.{IsPlain, OwnsCommit, MayChange}
 use Rattle.node_rules.proofs.VoterTurns.{change_stops}
 use Rattle.node_core.specs.declared.running.Running.{Running}
-use Rattle.node_core.specs.Posting.{MayChangeTo, MayTake}
+use Rattle.node_core.specs.Posting.{MayChangeTo, MayTake, has_change, ProposesChange}
 use Rattle.node_core.specs.Values.{seen}
 use Rattle.node_core.specs.Voters.{MayBe}
 use Rattle.node_core.specs.Whole.{IsOwnDue}
@@ -50,6 +50,19 @@ none_of (e ∷ es) all = λ i. (all.0 i && reads (configuration_of e.bytes)) || 
 
 pub plain_all : (es : List Entry) (i : ℕ) → length es ≤ i → ArePlain (take i es) → any_change (read_setup []) es ≡ false
 plain_all es i long all = none_of es (subst ArePlain (all_taken i es long) all)
+
+-- one that is a change
+pub change_here : (es : List Entry) (i : ℕ) (e : Entry) → i < length es → e ≡ slice_index_or es i e → is_change e.kind ≡ true → has_change es ≡ true
+change_here [] i e lt is change = absurd (omega (arith, lt))
+change_here (x ∷ xs) zero e lt is change = ap (λ (y : Entry). is_change y.kind || has_change xs) (sym is) ∙ ap (λ b. b || has_change xs) change
+change_here (x ∷ xs) (suc i) e lt is change = or_later (is_change x.kind) (change_here xs i e (omega (arith, lt)) is change)
+  where
+    or_later : {a : Bool} (b : Bool) → a ≡ true → (b || a) ≡ true
+    or_later true q = refl
+    or_later false q = q
+
+pub proposed_change : (event : RaftEvent) (entries slice : List Entry) → event ≡ events.Propose entries → slice ≡ entries → has_change slice ≡ true → ProposesChange event
+proposed_change event entries slice is same change = subst ProposesChange (sym is) (subst (λ (es : List Entry). has_change es ≡ true) same change)
 
 -- ---- voters that are nearly the same
 

@@ -1,5 +1,5 @@
 -- A step of Raft within a turn: what it leaves is kept, what it says is posted, and sessions follow its office.
-use Rattle.std.specs.Prelude.{◌≡◌, ◌≢◌, ℕ, Bool, true, false, not, ◌&&◌, ◌==◌, List, [], ◌∷◌, ◌++◌, map, Option, Some, None}
+use Rattle.std.specs.Prelude.{◌≡◌, ◌≢◌, ℕ, Bool, true, false, not, ◌&&◌, ◌||◌, ◌==◌, List, [], ◌∷◌, ◌++◌, map, Option, Some, None}
 use Rattle.page_apply.specs.Machines.{IsMachine}
 use Rattle.session_rules.specs.Machine.{machine_of}
 use Rattle.session_rules.specs.Sessions.{Reply}
@@ -13,7 +13,7 @@ use Rattle.raft_core.specs.declared.event.RaftEvent.{RaftEvent}
 use Rattle.raft_core.specs.declared.event.RaftEvent.TheVariants as events
 use Rattle.raft_core.specs.Events.{input_of}
 use Rattle.raft_member.specs.Members.{last_index, last_servers}
-use Rattle.raft_world.specs.Members.{Setup}
+use Rattle.raft_world.specs.Members.{Setup, is_change}
 use Rattle.client_sessions.specs.Calls.{lost_all, told_all_lost}
 use Rattle.node_state.specs.declared.office.Office.{Office as Held}
 use Rattle.node_replica.specs.Mails.{all_posted}
@@ -76,6 +76,16 @@ pub record MayChangeTo (n : Running) (servers : List raft.Server) : Type 0 where
   pub none : last_index n.members ≡ n.members.at
   pub barrier : OwnsCommit n.replica.raft
   pub near : are_near (voters n.members.servers) (voters servers) ≡ true
+
+-- one of these entries is of the kind that changes servers
+abbrev pub has_change : List Entry → Bool
+has_change [] = false
+has_change (e ∷ es) = is_change e.kind || has_change es
+
+-- the event proposes such an entry
+abbrev pub ProposesChange : RaftEvent → Type 0
+ProposesChange (events.Propose entries) = has_change entries ≡ true
+ProposesChange event = ⊥
 
 -- Before an own step: it is none of a change, and nothing has changed; or a leader may propose its change, of which Raft was told the servers.
 pub data ToldChange (old new : Running) (event : RaftEvent) : Type 0 where

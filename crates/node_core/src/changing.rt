@@ -12,7 +12,7 @@ ghost use Rattle.node_rules.specs.Voting.{OwnsCommit};
 ghost use Rattle.node_core.specs.declared.fault.NodeFault.TheVariants as fault;
 ghost use Rattle.node_core.specs.Faults.{StepCause};
 ghost use Rattle.node_core.specs.Finding.{LeavesBy, StopsChanging};
-ghost use Rattle.node_core.specs.Posting.{MayChangeTo, MayTake, ToldChange};
+ghost use Rattle.node_core.specs.Posting.{MayChangeTo, MayTake, ProposesChange, ToldChange, has_change};
 ghost use Rattle.node_core.specs.Stepping.{HasTold, StaysStored};
 ghost use Rattle.node_core.specs.Whole.{IsOwnDue};
 
@@ -27,7 +27,8 @@ use std::alloc::{AllocError, Global};
 
 /// Whether none of these entries is of the kind that changes servers.
 fn are_plain(entries: &[Entry]) -> bool
-    ensures { result ≡ true → any_change (read_setup []) entries.now ≡ false }
+    ensures plain { result ≡ true → any_change (read_setup []) entries.now ≡ false }
+    ensures change { result ≡ false → has_change entries.now ≡ true }
 {
     for entry in entries {
         if is_change(entry) {
@@ -72,9 +73,9 @@ fn voters_of(alloc: Global, servers: &[Server]) -> Result<Vec<u64>, AllocError>
 impl Running {
     /// A leader that proposes a change tells Raft its servers first, so that its entry is counted by them.
     ///
-    /// `Unfit` comes only where the proposal has a change of servers, and it isn't one change that may be made now: it stands
-    /// among other entries, or its bytes are no servers, or the node has not applied each earlier change and an entry of the
-    /// leader's own term, or its voters differ from those before it in more than one.
+    /// `Unfit` comes only where the proposal has a change of servers. It comes where that stands among other entries, where its
+    /// bytes are no servers, where the node has not applied each earlier change and an entry of the leader's own term, and where
+    /// its voters differ from those before it in more than one. Nothing is told then.
     pub(crate) fn tell_change<D: Disk>(
         &mut self,
         event: &RaftEvent,
@@ -92,6 +93,7 @@ impl Running {
         ensures stops { (opening : List ServerValue) (came : List ℕ) → LeavesBy D.tells (D.states disk.old) (D.states disk.new) self.old.replica result
             (StopsChanging (read_setup opening) came self.old) }
         ensures cause { StepCause (D.faults disk.old) (D.faults disk.new) result }
+        ensures unfit { result ≡ Err fault.Unfit → ProposesChange event.now }
         ensures runs { result ≢ Err fault.Down }
     {
         let RaftEvent::Propose(entries) = event else {

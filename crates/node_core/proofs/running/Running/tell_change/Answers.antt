@@ -5,7 +5,7 @@ use Rattle.raft_rules.specs.Node.{Local, UseServers}
 use Rattle.node_core.specs.Finding.{StopsIn, StopsChanging, unchanged_yet, in_change}
 use Rattle.node_core.specs.Posting.{MayChangeTo, no_change, change_told}
 use Rattle.node_core.proofs.Finding.{failed, more, kept_finds}
-use Rattle.node_core.proofs.OneChange.{change_event, may_so, may_tell, other_plain}
+use Rattle.node_core.proofs.OneChange.{proposed_change, change_event, may_so, may_tell, other_plain}
 use Rattle.node_core.proofs.RaftTurns.{told_none}
 use Rattle.node_core.proofs.running.Running.tell_change.Goals as goal
 
@@ -15,6 +15,7 @@ returns-in_default g c = record {
   tells = no_change (other_plain c.args.event.now c.requires.own c.in_default.not-Propose) refl;
   stored = λ has. has;
   stops = λ opening came has. tt;
+  unfit = λ q. absurd cc;
   cause = record { never_falls = omega arith; failed = λ q. absurd cc };
   runs = λ q. absurd cc;
 }
@@ -56,3 +57,24 @@ returns-clause-stops g c = λ opening came has.
     on_err_weaker c.tell.result
     (more g.D.Disk.tells (g.D.Disk.states c.tell.new.disk) (StopsIn (read_setup opening) came c.args.self.now (Local (UseServers c.in-Some.servers))) (StopsChanging (read_setup opening) came c.args.self.now)
     (λ kept s. in_change c.in-Some.servers (may_tell opening came c.args.self.now c.entry-item.result c.in-Some.servers may) s)) (c.tell.ensures.stops opening came has)
+
+pub returns-in_default-as_slice-clause-unfit : goal.returns-in_default-as_slice-clause-unfit
+returns-in_default-as_slice-clause-unfit g c = λ q. proposed_change c.args.event.now c.in-Propose.entries c.as_slice.result.now c.in-Propose.is c.as_slice.ensures (c.are_plain.ensures.change c.if-are_plain.false)
+
+pub returns-in_default-as_slice-2-clause-unfit : goal.returns-in_default-as_slice-2-clause-unfit
+returns-in_default-as_slice-2-clause-unfit g c = λ q. proposed_change c.args.event.now c.in-Propose.entries c.as_slice.result.now c.in-Propose.is c.as_slice.ensures (c.are_plain.ensures.change c.if-are_plain.false)
+
+pub returns-in_err-servers-clause-unfit : goal.returns-in_err-servers-clause-unfit
+returns-in_err-servers-clause-unfit g c = λ q. proposed_change c.args.event.now c.in-Propose.entries c.as_slice.result.now c.in-Propose.is c.as_slice.ensures (c.are_plain.ensures.change c.if-are_plain.false)
+
+pub returns-in_default-2-clause-unfit : goal.returns-in_default-2-clause-unfit
+returns-in_default-2-clause-unfit g c = λ q. proposed_change c.args.event.now c.in-Propose.entries c.as_slice.result.now c.in-Propose.is c.as_slice.ensures (c.are_plain.ensures.change c.if-are_plain.false)
+
+pub returns-in_err-may_change_to-clause-unfit : goal.returns-in_err-may_change_to-clause-unfit
+returns-in_err-may_change_to-clause-unfit g c = λ q. proposed_change c.args.event.now c.in-Propose.entries c.as_slice.result.now c.in-Propose.is c.as_slice.ensures (c.are_plain.ensures.change c.if-are_plain.false)
+
+pub returns-then-not-branch-clause-unfit : goal.returns-then-not-branch-clause-unfit
+returns-then-not-branch-clause-unfit g c = λ q. proposed_change c.args.event.now c.in-Propose.entries c.as_slice.result.now c.in-Propose.is c.as_slice.ensures (c.are_plain.ensures.change c.if-are_plain.false)
+
+pub returns-clause-unfit : goal.returns-clause-unfit
+returns-clause-unfit g c = λ q. proposed_change c.args.event.now c.in-Propose.entries c.as_slice.result.now c.in-Propose.is c.as_slice.ensures (c.are_plain.ensures.change c.if-are_plain.false)
