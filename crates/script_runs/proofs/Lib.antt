@@ -1,7 +1,7 @@
 mod Answering
 mod Mailing
 mod Running
-mod Placing
+pub mod Placing
 mod Worlds
 mod Scripts
 mod Contents
