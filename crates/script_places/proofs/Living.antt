@@ -60,11 +60,11 @@ none_rests n = record { since = refl; bytes = refl; standing = refl; empty = λ 
 
 -- ---- fronts
 
-first_of : Turn → List Turn → Turn
+abbrev first_of : Turn → List Turn → Turn
 first_of d [] = d
 first_of d (x ∷ l) = x
 
-rest_of : List Turn → List Turn
+abbrev rest_of : List Turn → List Turn
 rest_of [] = []
 rest_of (x ∷ l) = l
 

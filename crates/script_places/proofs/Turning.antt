@@ -1,6 +1,6 @@
 -- What comes of an event at a place leads its turns on.
-use Rattle.std.proofs.Common.{◌≡◌, ◌⊎◌, ℕ, Bool, true, false, List, [], ◌∷◌, ◌++◌, inl, inr, Option, Some, None, Result, Ok, Err, refl, ap, sym, subst, ◌∙◌}
-use Rattle.std.specs.Prelude.{is_some, IfOk, OnErr, OnOk}
+use Rattle.std.proofs.Common.{◌≡◌, ◌⊎◌, ℕ, suc, Bool, true, false, cond, List, [], ◌∷◌, ◌++◌, inl, inr, Option, Some, None, Result, Ok, Err, refl, ap, sym, subst, ◌∙◌}
+use Rattle.std.specs.Prelude.{is_some, IfOk, OnOk}
 use Rattle.std.specs.declared.alloc.AllocError.{AllocError}
 use Rattle.std.proofs.lemmas.Bool.{true≢false}
 use Rattle.sql_engine.specs.declared.kind.EngineKind.{EngineKind}
@@ -29,7 +29,9 @@ use Rattle.node_core.specs.Account.{StepsBy, StopsBy}
 use Rattle.node_core.specs.Finding.{FindsIn, Finds}
 use Rattle.node_core.specs.Starting.{StartsOver}
 use Rattle.node_core.specs.Stepping.{IsUp}
-use Rattle.node_core.specs.Values.{applied_of, kept_by, raft_of, replica_of, servers_told}
+use Rattle.node_core.specs.Values.{applied_of, has_links, kept_by, node_of, raft_of, replica_of, servers_told}
+use Rattle.node_core.specs.Whole.{IsSound}
+use Rattle.node_rules.specs.Steps.{StartsSo}
 use Rattle.script_lines.specs.declared.grammar.Aim.{Aim}
 use Rattle.script_nodes.specs.declared.place.Came.{Came}
 use Rattle.script_nodes.specs.declared.place.Ended.{Ended}
@@ -104,7 +106,7 @@ module _ (kind : EngineKind) (voters n finds : ℕ) (turns : List Turn) (old new
       life_on (any_meaning kind) kind (setup_of voters) n finds old new turns _ (Some was) None
       (λ d is stands.
       let c = crashes.each d is in
-      (c.0, c.1, (crashes_on_hold (any_meaning kind) kind (setup_of voters) n pick turns d c.0 was stands c.2, rest_is_fair c.0 c.2.rest)))
+      (c.0, c.1.0, (crashes_on_hold (any_meaning kind) kind (setup_of voters) n pick turns d c.0 was stands c.1.1, rest_is_fair c.0 c.1.1.rest)))
       life
 
   none_on : (mid : Disk Text → Type 0) (why : StartFault) (aim : Aim) (answers : List Answer) (ending : Ending) → IsNoStart ending → StartsOver old mid (Err why)
@@ -114,12 +116,12 @@ module _ (kind : EngineKind) (voters n finds : ℕ) (turns : List Turn) (old new
       life_falls (any_meaning kind) kind (setup_of voters) n finds old new turns _ None
       (λ d told_is stands.
       let o = over.each d told_is stands.0.seen in
-      let f = found o.0 o.1 in
+      let f = found o.0 o.1.0 in
       record {
         before = o.0;
         found = f.0;
         told = f.1;
-        left = starts_fail_hold (any_meaning kind) kind (setup_of voters) n turns d o.0 why aim answers ending stands.0 stands.1 o.2 is;
+        left = starts_fail_hold (any_meaning kind) kind (setup_of voters) n turns d o.0 why aim answers ending stands.0 stands.1 o.1.1 is;
         came = f.2;
       })
       life
@@ -131,7 +133,7 @@ start_on kind voters n finds turns disk disk_now node aim answers started life =
     life_on (any_meaning kind) kind (setup_of voters) n finds (states_in disk) (states_in disk_now) turns _ None (Some node.running)
     (λ d is stands.
     let over = started.over.each d is stands.0.seen in
-    (over.0, over.1, starts_on_hold (any_meaning kind) kind (setup_of voters) n turns d over.0 node aim answers (standing_of node) stands.0 stands.1 over.2 (record {
+    (over.0, over.1.0, starts_on_hold (any_meaning kind) kind (setup_of voters) n turns d over.0 node aim answers (standing_of node) stands.0 stands.1 over.1.1 (record {
       loads = refl;
       servers = servers_told node;
       starts = started.starts;
@@ -313,20 +315,58 @@ crash_leads old new pick (Ok x) up none crashes = λ n voters turns known.
 
 pub found_crashed : {E : Type 0} (old new : Contents) (r : Result Unit E) → OnOk r (DiskCrashes (states_in old) (states_in new)) → OnOk r (IsFound old new)
 found_crashed old new (Err e) crashes = tt
-found_crashed old new (Ok x) crashes = λ d is. let c = crashes.each d is in (c.0, c.1, inr c.2)
+found_crashed old new (Ok x) crashes = λ d is. let c = crashes.each d is in (c.0, c.1.0, inr c.1.1)
 
 pub found_same : (old new : Contents) → new ≡ old → IsFound old new
 found_same old new same = λ d is. (d, subst (λ (c : Contents). states_in c d) (sym same) is, inl refl)
 
-pub keeps_up : {T : Type 0} (disk mid now_disk : Contents) (was now : Node) (r : Result T NodeFault) → now_disk ≡ mid → (IsKept true (states_in disk) (replica_of was) → OnOk r (IsKept true (states_in mid) (replica_of now)))
-    → OnOk r (applied_of now ≡ (raft_of now).commit) → OnOk r (KeepsUp disk now_disk was now)
-keeps_up disk mid now_disk was now (Err e) same stored applied = tt
-keeps_up disk mid now_disk was now (Ok x) same stored applied =
+pub keeps_up : (disk mid now_disk : Contents) (was now : Node) → now_disk ≡ mid → (IsKept true (states_in disk) (replica_of was) → IsKept true (states_in mid) (replica_of now)) → applied_of now ≡ (raft_of now).commit
+    → KeepsUp disk now_disk was now
+keeps_up disk mid now_disk was now same stored applied =
     record { stored = λ kept. subst (λ (c : Contents). IsKept true (states_in c) (replica_of now)) (sym same) (stored kept); applied = applied }
 
-pub leaves_short : {T : Type 0} (engine : Noting AnyEngine) (disk disk_now : Contents) (was : Node) (event : Event) (r : Result T NodeFault) (fault : NodeFault) → r ≡ Err fault → IsUp was
-    → ((opening : List Server) → IsUp was → IsKept true (states_in disk) (replica_of was)
-    → OnErr r (Finds true (states_in disk_now) (StopsBy (any_meaning (any_kind engine.engine)) (any_kind engine.engine) (read_setup opening) was.running event)))
-    → LeavesShort engine disk disk_now was event
-leaves_short {T} engine disk disk_now was event r fault is up stops = λ opening kept.
-    subst (λ (x : Result T NodeFault). OnErr x (Finds true (states_in disk_now) (StopsBy (any_meaning (any_kind engine.engine)) (any_kind engine.engine) (read_setup opening) was.running event))) is (stops opening up kept)
+pub has_acted : (old new : Seat) (was now : Node) (event taken : Event) (outs : CoreOuts) (disk : Contents) → old.node ≡ Some was → new.node ≡ Some now → taken ≡ event → disk ≡ old.disk.contents
+    → ActsSo old.engine new.engine was now taken outs → KeepsUp disk new.disk.contents was now → HasActed old new event outs
+has_acted old new was now event taken outs disk was_is now_is is same acts keeps = record {
+  was = was;
+  now = now;
+  was_is = was_is;
+  now_is = now_is;
+  acts = subst (λ (e : Event). ActsSo old.engine new.engine was now e outs) is acts;
+  keeps = subst (λ (d : Contents). KeepsUp d new.disk.contents was now) same keeps;
+}
+
+pub has_stopped : (old new : Seat) (was : Node) (event taken : Event) (disk : Contents) → old.node ≡ Some was → new.node ≡ None → taken ≡ event → disk ≡ old.disk.contents
+    → LeavesShort old.engine disk new.disk.contents was taken → HasStopped old new event
+has_stopped old new was event taken disk was_is none is same leaves = record {
+  was = was;
+  was_is = was_is;
+  none = none;
+  leaves = subst (λ (e : Event). LeavesShort old.engine old.disk.contents new.disk.contents was e) is (subst (λ (d : Contents). LeavesShort old.engine d new.disk.contents was taken) same leaves);
+}
+
+pub node_started : (number voters : ℕ) (disk mid now_disk : Contents) (node : Node) (servers : List Server) → StartsSo (read_setup servers) (kept_by node) (node_of node) (servers_told node) → servers ≡ voters_from voters 1
+    → (replica_of node).raft.id ≡ number → has_links node ≡ false → IsSound node → IsUp node → mid ≡ disk → StartsOver (states_in mid) (states_in now_disk) (Ok node) → NodeStarted number voters disk now_disk node
+node_started number voters disk mid now_disk node servers starts are id links sound up same over = record {
+  starts = subst (λ (all : List Server). StartsSo (read_setup all) (kept_by node) (node_of node) (servers_told node)) are starts;
+  id = id;
+  links = links;
+  applied = (sound up).applied;
+  over = subst (λ (d : Contents). StartsOver (states_in d) (states_in now_disk) (Ok node)) same over;
+}
+
+pub starts_by : (number voters : ℕ) (old mid new : Seat) (node : Node) (r : Result StartEnd AllocError) → mid.has_failed ≡ old.has_failed → NodeStarted number voters old.disk.contents mid.disk.contents node
+    → IfOk r (IsSeatedBy mid new node) → IfOk r (StartsBy number voters old new)
+starts_by number voters old mid new node (Err e) same started seated = tt
+starts_by number voters old mid new node (Ok end) same started seated =
+    subst (StartsBy number voters old new) (sym seated.ended_is) (record {
+      node = node;
+      runs = seated.runs;
+      fresh = seated.fresh;
+      told = subst (λ (b : Bool). seated.loaded ≡ cond b (Some (kept_by node)) None) same seated.told;
+      started = subst (λ (d : Contents). NodeStarted number voters old.disk.contents d node) (sym seated.disk) started;
+    })
+
+pub none_started : (old new : Seat) (why : StartFault) (mid : Contents) → new.node ≡ None → new.has_failed ≡ old.has_failed → mid ≡ old.disk.contents → StartsOver (states_in mid) (states_in new.disk.contents) (Err why) → NoneStarted old new
+none_started old new why mid none failed same over =
+    record { none = none; failed = failed; why = why; over = subst (λ (d : Contents). StartsOver (states_in d) (states_in new.disk.contents) (Err why)) same over }

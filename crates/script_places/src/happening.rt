@@ -74,7 +74,7 @@ fn take_aim(disk: &mut MemDisk, aim: Aim)
     }
 }
 
-#[tactic(auto, using(crate::proofs::Seating::runs_well, crate::proofs::Seating::not_down, crate::proofs::Turning::keeps_up, crate::proofs::Turning::leaves_short))]
+#[tactic(auto, using(crate::proofs::Seating::runs_well, crate::proofs::Seating::not_down))]
 /// A step of a node. Where it ends well nothing is aimed at any more.
 fn step_in(
     node: &mut Node,
@@ -95,8 +95,9 @@ fn step_in(
             Ok(outs)
         }
         Err(NodeFault::DiskFault) => Err(Fell::DiskFault(node.keeps())),
+        Err(NodeFault::NoMemory) => Err(Fell::NoMemory),
         // That a change of servers isn't fit never comes, as a node looks at it before it proposes it; nothing says so yet.
-        Err(NodeFault::NoMemory) | Err(NodeFault::Unfit) => Err(Fell::NoMemory),
+        Err(NodeFault::Unfit) => Err(Fell::NoMemory),
         Err(NodeFault::Down) => unreachable!(),
     }
 }
@@ -148,6 +149,7 @@ fn seat_node(seat: &mut Seat, node: Node) -> Result<StartEnd, AllocError>
     requires down { seat.old.node ≡ None }
     requires kind { any_kind seat.old.engine.engine ≡ seat.old.kind }
     ensures seated { IfOk result (IsSeatedBy seat.old seat.new node) }
+    ensures none { OnErr result (seat.new.node ≡ None) }
     ensures sits { Sits seat.new }
     ensures kind { any_kind seat.new.engine.engine ≡ seat.old.kind }
     ensures same { seat.new.kind ≡ seat.old.kind }
@@ -187,6 +189,7 @@ pub(crate) fn start_node(
     requires down { seat.old.node ≡ None }
     requires kind { any_kind seat.old.engine.engine ≡ seat.old.kind }
     ensures starts { IfOk result (StartsBy node voters seat.old seat.new) }
+    ensures none { OnErr result (seat.new.node ≡ None) }
     ensures sits { Sits seat.new }
     ensures kind { any_kind seat.new.engine.engine ≡ seat.old.kind }
     ensures same { seat.new.kind ≡ seat.old.kind }

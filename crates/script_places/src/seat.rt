@@ -165,7 +165,7 @@ fn fall(seat: &mut Seat, keeps: u64) -> Result<Ended, AllocError>
     }
 }
 
-#[tactic(auto, using(crate::proofs::Turning::step_leads, crate::proofs::Turning::stop_leads, crate::proofs::Seating::is_step, crate::proofs::Seating::is_step_fallen, crate::proofs::Seating::none_sits))]
+#[tactic(auto, using(crate::proofs::Turning::step_leads, crate::proofs::Turning::stop_leads, crate::proofs::Seating::is_step, crate::proofs::Seating::is_step_fallen, crate::proofs::Seating::none_seated))]
 /// An event happens at the node that runs, while a line aims at a call of its disk.
 pub(crate) fn step(seat: &mut Seat, event: NodeEvent, aim: Aim) -> Result<Came, AllocError>
     requires seated { IsSeated seat.old }
@@ -186,7 +186,7 @@ pub(crate) fn step(seat: &mut Seat, event: NodeEvent, aim: Aim) -> Result<Came, 
     }
 }
 
-#[tactic(auto, using(crate::proofs::Turning::start_leads, crate::proofs::Turning::none_leads, crate::proofs::Turning::unread_leads, crate::proofs::Seating::is_start_well, crate::proofs::Seating::is_start_fallen, crate::proofs::Seating::is_start_unread, crate::proofs::Seating::none_sits))]
+#[tactic(auto, using(crate::proofs::Turning::start_leads, crate::proofs::Turning::none_leads, crate::proofs::Turning::unread_leads, crate::proofs::Seating::is_start_well, crate::proofs::Seating::is_start_fallen, crate::proofs::Seating::is_start_unread, crate::proofs::Seating::none_seated))]
 /// A node starts over the disk, with an engine that knows nothing, where none runs.
 pub(crate) fn start(
     seat: &mut Seat,
