@@ -1,5 +1,5 @@
 -- A script over places of whole nodes is safe, up to where a checksum matches by chance.
-use Rattle.std.proofs.Common.{inl, inr, ◌≡◌, ◌⊎◌, ◌==◌, ℕ, Bool, true, false, cond, List, [], ◌∷◌, ◌++◌, length, Option, Some, None, refl, ap, sym, subst, ◌∙◌}
+use Rattle.std.proofs.Common.{◌≡◌, ◌==◌, ℕ, Bool, true, false, cond, List, [], ◌∷◌, ◌++◌, length, Option, Some, None, refl, ap, sym, subst, ◌∙◌}
 use Rattle.std.proofs.lemmas.Bool.{true≢false}
 use Rattle.sql_engine.specs.declared.kind.EngineKind.{EngineKind}
 use Rattle.sqlite_engine.specs.Any.{any_meaning}
@@ -10,7 +10,7 @@ use Rattle.script_runs.specs.Seats.{Seat as NodeSeat, Rests, PathSo, setup_of}
 use Rattle.script_runs.specs.Mails.{ScriptsAreSafe}
 use Rattle.script_places.specs.declared.seat.Seat.{Seat}
 use Rattle.script_places.specs.Lives.{Begins}
-use Rattle.script_places.specs.Safe.{NodeLife, AllLive, IsFairLife, PlacesTell, WholeScriptsAreSafe}
+use Rattle.script_places.specs.Safe.{LifeOf, idle, lived, AllLive, IsFairLife, PlacesTell, WholeScriptsAreSafe}
 use Rattle.script_places.specs.Turns.{Knows, running_in, states_in}
 use Rattle.script_places.proofs.Living.{life_leads}
 
@@ -44,18 +44,18 @@ held_front (turn ∷ front) rest all = (all.0, held_front front rest all.1)
 -- ---- the laws
 
 -- the life of a node at its place
-life_of : (kind : EngineKind) (voters n : ℕ) (turns : List Turn) (place : Option Seat) → KnowsAt (Knows kind) voters n turns place → (turns ≡ []) ⊎ NodeLife kind voters n turns
-life_of kind voters n turns None none = inl none
-life_of kind voters n turns (Some seat) known = inr (record { finds = known.0; disk = seat.disk.contents; node = running_in seat.node; life = known.1 })
+life_of : (kind : EngineKind) (voters n : ℕ) (turns : List Turn) (place : Option Seat) → KnowsAt (Knows kind) voters n turns place → LifeOf kind voters n turns
+life_of kind voters n turns None none = idle none
+life_of kind voters n turns (Some seat) known = lived (record { finds = known.0; disk = seat.disk.contents; node = running_in seat.node; life = known.1 })
 
 module _ (kind : EngineKind) (voters n : ℕ) (front turns : List Turn) (begins : Begins front turns) where
-  path_of : (life : (turns_at n turns ≡ []) ⊎ NodeLife kind voters n (turns_at n turns)) → IsFairLife kind voters n (turns_at n turns) (length (turns_at n front)) life
+  path_of : (life : LifeOf kind voters n (turns_at n turns)) → IsFairLife kind voters n (turns_at n turns) (length (turns_at n front)) life
       → (seat : NodeSeat) × PathSo (any_meaning kind) kind (setup_of voters) n (Rests nothing_kept) (turns_at n front) seat
-  path_of (inl none) fair = (
+  path_of (idle none) fair = (
     Rests nothing_kept,
     subst (λ (ts : List Turn). PathSo (any_meaning kind) kind (setup_of voters) n (Rests nothing_kept) ts (Rests nothing_kept)) (sym (none_begins (turns_at n front) (turns_at n turns) (begins_at n front turns begins) none)) refl,
   )
-  path_of (inr one) fair = life_leads (any_meaning kind) kind (setup_of voters) n one.finds (states_in one.disk) (turns_at n turns) one.node one.life (turns_at n front) (begins_at n front turns begins) fair
+  path_of (lived one) fair = life_leads (any_meaning kind) kind (setup_of voters) n one.finds (states_in one.disk) (turns_at n turns) one.node one.life (turns_at n front) (begins_at n front turns begins) fair
 
 pub places_tell : (kind : EngineKind) → PlacesTell kind
 places_tell kind turns told =

@@ -1,5 +1,5 @@
 -- A script over places of whole nodes is safe, up to where a checksum matches by chance in what a start finds.
-use Rattle.std.specs.Prelude.{◌≡◌, ◌⊎◌, inl, inr, ℕ, List, [], ◌++◌, length, Option}
+use Rattle.std.specs.Prelude.{◌≡◌, ℕ, List, [], ◌++◌, length, Option}
 use Rattle.sql_engine.specs.declared.kind.EngineKind.{EngineKind}
 use Rattle.sqlite_engine.specs.Any.{any_meaning}
 use Rattle.disk_model.specs.Stored.{Contents}
@@ -20,14 +20,18 @@ pub record NodeLife (kind : EngineKind) (voters n : ℕ) (turns : List Turn) : T
   pub node : Option Running
   pub life : Lives (any_meaning kind) kind (setup_of voters) n finds (states_in disk) turns node
 
--- of each node, but for those at which nothing happened
+-- so each node has one, but for those at which nothing happened
+pub data LifeOf (kind : EngineKind) (voters n : ℕ) (turns : List Turn) : Type 0 where
+  idle : turns ≡ [] → LifeOf kind voters n turns
+  lived : NodeLife kind voters n turns → LifeOf kind voters n turns
+
 abbrev pub AllLive : EngineKind → ℕ → List Turn → Type 0
-AllLive kind voters turns = (n : ℕ) → (turns_at n turns ≡ []) ⊎ NodeLife kind voters n (turns_at n turns)
+AllLive kind voters turns = (n : ℕ) → LifeOf kind voters n (turns_at n turns)
 
 -- no checksum matches by chance in what was found within so many turns of a node
-abbrev pub IsFairLife : (kind : EngineKind) (voters n : ℕ) (turns : List Turn) → ℕ → (turns ≡ []) ⊎ NodeLife kind voters n turns → Type 0
-IsFairLife kind voters n turns count (inl none) = Unit {0}
-IsFairLife kind voters n turns count (inr one) =
+abbrev pub IsFairLife : (kind : EngineKind) (voters n : ℕ) (turns : List Turn) → ℕ → LifeOf kind voters n turns → Type 0
+IsFairLife kind voters n turns count (idle none) = Unit {0}
+IsFairLife kind voters n turns count (lived one) =
     IsFairWithin (any_meaning kind) kind (setup_of voters) n one.finds (states_in one.disk) turns one.node count one.life
 
 -- so of all nodes, within these turns
