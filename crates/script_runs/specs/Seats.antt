@@ -17,11 +17,7 @@ use Rattle.node_core.specs.declared.outs.Outs as core_outs
 use Rattle.node_core.specs.declared.running.Running.{Running}
 use Rattle.node_core.specs.Account.{StepsBy, StopsBy}
 use Rattle.node_core.specs.Values.{seen}
-<<<<<<< HEAD
-use Rattle.node_runs.specs.Steps.{AllTellVoters, StopTellsVoters}
 use Rattle.script_nodes.specs.Voters.{voters_from}
-=======
->>>>>>> 18ed0a2efa5b47437871f0788b2f495b6b8e4c2a
 use Rattle.script_nodes.specs.Outcomes.{Standing, Outs, Ending, Steps, Starts, Stops, Fails, Unreadable, Doing, Timeout, Beat, Connect, Bytes, Hangup, Receive, Start, Turn, Does, Crashes}
 
 -- ---- the cluster of a script
