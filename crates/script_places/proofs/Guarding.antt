@@ -28,7 +28,7 @@ turns_join n (turn ∷ front) rest =
 begins_at : (n : ℕ) (front turns : List Turn) → Begins front turns → Begins (turns_at n front) (turns_at n turns)
 begins_at n front turns begins = (turns_at n begins.0, ap (turns_at n) begins.1 ∙ turns_join n front begins.0)
 
-is_some_turn : List Turn → Bool
+abbrev is_some_turn : List Turn → Bool
 is_some_turn [] = false
 is_some_turn (turn ∷ turns) = true
 

@@ -132,15 +132,18 @@ start_on : (kind : EngineKind) (voters n finds : ℕ) (turns : List Turn) (disk 
 start_on kind voters n finds turns disk disk_now node aim answers started life =
     life_on (any_meaning kind) kind (setup_of voters) n finds (states_in disk) (states_in disk_now) turns _ None (Some node.running)
     (λ d is stands.
-    let over = started.over.each d is stands.0.seen in
-    (over.0, over.1.0, starts_on_hold (any_meaning kind) kind (setup_of voters) n turns d over.0 node aim answers (standing_of node) stands.0 stands.1 over.1.1 (record {
-      loads = refl;
-      servers = servers_told node;
-      starts = started.starts;
-      id = started.id;
-      links = started.links;
-      stands = record { term = refl; role = refl; applied = started.applied; databases = refl };
-    })))
+    let over = started.over.each d is stands.0.seen in (
+      over.0,
+      over.1.0,
+      starts_on_hold (any_meaning kind) kind (setup_of voters) n turns d over.0 node aim answers (standing_of node) stands.0 stands.1 over.1.1 (record {
+        loads = refl;
+        servers = servers_told node;
+        starts = started.starts;
+        id = started.id;
+        links = started.links;
+        stands = record { term = refl; role = refl; applied = started.applied; databases = refl };
+      }),
+    ))
     life
 
 -- ---- at a seat
@@ -154,9 +157,11 @@ life_at kind voters n finds turns disk now_disk node now_node same is life =
 
 -- where nothing has happened yet
 pub begins_new : (kind : EngineKind) (seat : Seat) → states_in seat.disk.contents no_files → seat.node ≡ None → IsNew (Knows kind) seat
-begins_new kind seat told_is none n voters = (0,
+begins_new kind seat told_is none n voters = (
+  0,
   subst (λ (s : Option Node). Lives (any_meaning kind) kind (setup_of voters) n 0 (states_in seat.disk.contents) [] (running_in s)) (sym none)
-      (life_begins (any_meaning kind) kind (setup_of voters) n (states_in seat.disk.contents) told_is))
+      (life_begins (any_meaning kind) kind (setup_of voters) n (states_in seat.disk.contents) told_is),
+)
 
 -- an engine that keeps no answers, and has lost none, has told none
 told_none : (e : Noting AnyEngine) (was : Node) → IsQuiet e (Some was) → Some (told_by e.noted e.cut) ≡ has_told []
@@ -370,3 +375,25 @@ starts_by number voters old mid new node (Ok end) same started seated =
 pub none_started : (old new : Seat) (why : StartFault) (mid : Contents) → new.node ≡ None → new.has_failed ≡ old.has_failed → mid ≡ old.disk.contents → StartsOver (states_in mid) (states_in new.disk.contents) (Err why) → NoneStarted old new
 none_started old new why mid none failed same over =
     record { none = none; failed = failed; why = why; over = subst (λ (d : Contents). StartsOver (states_in d) (states_in new.disk.contents) (Err why)) same over }
+
+-- ---- at a place whose engine is of a kind
+
+pub kept_step : (kind : EngineKind) (inside now new : Seat) (event : NodeEvent) (aim : Aim) (r : Result Came AllocError) → inside ≡ now → inside.kind ≡ kind
+    → IfOk r (λ (came : Came). Comes (place_of inside) (place_of new) came (λ (outcome : Outcome). LeadsOn (Knows inside.kind) inside new (λ node. Does node (doing_of event) aim outcome)))
+    → IfOk r (λ (came : Came). Comes (place_of now) (place_of new) came (λ (outcome : Outcome). LeadsOn (Knows kind) now new (λ node. Does node (doing_of event) aim outcome)))
+kept_step kind inside now new event aim r same is comes =
+    subst (λ (s : Seat). IfOk r (λ (came : Came). Comes (place_of s) (place_of new) came (λ (outcome : Outcome). LeadsOn (Knows kind) s new (λ node. Does node (doing_of event) aim outcome)))) same
+    (subst (λ (k : EngineKind). IfOk r (λ (came : Came). Comes (place_of inside) (place_of new) came (λ (outcome : Outcome). LeadsOn (Knows k) inside new (λ node. Does node (doing_of event) aim outcome)))) is comes)
+
+pub kept_start : (kind : EngineKind) (inside now new : Seat) (number voters : ℕ) (aim : Aim) (r : Result Came AllocError) → inside ≡ now → inside.kind ≡ kind
+    → IfOk r (λ (came : Came). Comes (place_of inside) (place_of new) came (StartsOn (Knows inside.kind) inside new number voters aim))
+    → IfOk r (λ (came : Came). Comes (place_of now) (place_of new) came (StartsOn (Knows kind) now new number voters aim))
+kept_start kind inside now new number voters aim r same is comes =
+    subst (λ (s : Seat). IfOk r (λ (came : Came). Comes (place_of s) (place_of new) came (StartsOn (Knows kind) s new number voters aim))) same
+    (subst (λ (k : EngineKind). IfOk r (λ (came : Came). Comes (place_of inside) (place_of new) came (StartsOn (Knows k) inside new number voters aim))) is comes)
+
+pub kept_crash : {E : Type 0} (kind : EngineKind) (inside now new : Seat) (pick : ℕ) (r : Result Unit E) → inside ≡ now → inside.kind ≡ kind → OnOk r (LeadsOn (Knows inside.kind) inside new (λ node. Crashes node pick))
+    → OnOk r (LeadsOn (Knows kind) now new (λ node. Crashes node pick))
+kept_crash kind inside now new pick r same is leads =
+    subst (λ (s : Seat). OnOk r (LeadsOn (Knows kind) s new (λ node. Crashes node pick))) same
+    (subst (λ (k : EngineKind). OnOk r (LeadsOn (Knows k) inside new (λ node. Crashes node pick))) is leads)

@@ -61,3 +61,10 @@ is_configuration count h = record {
   few = (let few : count ≤ 7 = h.1 in omega (arith, few, so_many count 1));
   few_voters = (let few : count ≤ 7 = h.1 in omega (arith, few, all_vote count 1));
 }
+
+-- all of them, behind the last one
+pub opened : (result items : List Server) (place count number voters : ℕ) → result ≡ items → items ≡ voters_from place 1 → count ≤ place → place ≤ count → count ≡ number → number ≡ voters → IsVoterCount voters
+    → IsConfiguration result
+opened result items place count number voters is made past within counted told range =
+    let all : place ≡ voters = omega (arith, past, within, counted, told) in
+    subst IsConfiguration (sym (is ∙ made ∙ ap (λ (n : ℕ). voters_from n 1) all)) (is_configuration voters range)
