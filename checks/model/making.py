@@ -5,8 +5,8 @@ from .script import World
 BARRIERS = 1 << 32
 
 
-def open_(flags=0):
-    return wire.message(3, wire.text("d") + wire.word(flags) + wire.text("volatile"))
+def open_(flags=0, name="d"):
+    return wire.message(3, wire.text(name) + wire.word(flags) + wire.text("volatile"))
 
 
 def execute(words, schema=0):
