@@ -1,12 +1,11 @@
 -- Steps of a node that has its disk and its engine by reference, seen as those of the node, the disk and the engine.
-use Rattle.std.proofs.Common.{◌≡◌, ◌≤◌, ℕ, List, [], ◌∷◌, refl, sym, ap, subst, ◌∙◌, arith}
+use Rattle.std.proofs.Common.{◌≤◌, ℕ, List, [], ◌∷◌, refl, sym, ap, subst, ◌∙◌, arith}
 use Rattle.std.specs.Prelude.{Option}
 use Rattle.node_edge.specs.declared.event.Event.{Event}
 use Rattle.node_edge.specs.declared.looping.LoopEnd.{LoopEnd}
 use Rattle.node_edge.specs.declared.looping.LoopEnd.TheVariants.{Closed, DiskFault, Spent, NoMemory, Unfit}
 use Rattle.node_edge.specs.Stepping.{Steps}
 use Rattle.node_edge.specs.Looping.{Taken, Broke, Ends, Loops}
-use Rattle.sql_engine.specs.Meanings.{Stays}
 use Rattle.served_node.specs.Serving.{Lent, StaysLent}
 
 -- the same steps, seen otherwise
