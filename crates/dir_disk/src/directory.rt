@@ -20,6 +20,15 @@ struct Written {
     file: File,
 }
 
+/// A call of a disk that failed, with the system's error.
+#[derive(Drop)]
+pub struct CallFault {
+    /// What was called for: `list`, `read`, `write`, `cut`, `sync`, `remove` or `sync the folder`.
+    pub call: &'static str,
+    /// What the system said.
+    pub error: io::Error,
+}
+
 /// A disk over the files of a folder of the operating system.
 ///
 /// It tells nothing of what is on it: that real files follow what the trait says is trusted, and with it that an `Ok` of
@@ -41,6 +50,9 @@ pub struct DirDisk<R: Files<File = File> + AllocGlobal + Clone + Drop> {
     // the folder, from the first call on, locked
     locked: Option<File>,
     written: Option<Written>,
+    // whether each call fails from now on
+    is_refused: bool,
+    last: Option<CallFault>,
     faults: u64,
     wants: u64,
     made: u64,
@@ -117,6 +129,8 @@ impl<R: Files<File = File> + AllocGlobal + Clone + Drop> DirDisk<R> {
             folder,
             locked: None,
             written: None,
+            is_refused: false,
+            last: None,
             faults: 0,
             wants: 0,
             made: 0,
@@ -130,6 +144,23 @@ impl<R: Files<File = File> + AllocGlobal + Clone + Drop> DirDisk<R> {
         self.faults
     }
 
+    /// The last call that answered `Failed` or `NoMemory`, if there is one. Where the disk was refused it is the last one before that.
+    pub fn last_fault(&self) -> Option<&CallFault> {
+        self.last.as_ref()
+    }
+
+    /// Whether it was refused.
+    pub fn is_refused(&self) -> bool {
+        self.is_refused
+    }
+
+    /// From now on each call answers `Failed` and does nothing, as where the folder is another one's.
+    pub fn refuse(&mut self)
+        ensures { self.new ≡ self.old }
+    {
+        self.is_refused = true;
+    }
+
     /// Counts a call.
     fn count(&mut self)
         ensures made { self.new.made ≡ one_more self.old.made }
@@ -139,15 +170,19 @@ impl<R: Files<File = File> + AllocGlobal + Clone + Drop> DirDisk<R> {
         self.made = self.made.saturating_add(1);
     }
 
-    /// Counts a fault or a want of memory.
-    fn fault(&mut self, error: io::Error) -> DiskFault
+    /// Counts a fault or a want of memory of a call, and keeps the last one.
+    fn fault(&mut self, call: &'static str, error: io::Error) -> DiskFault
         ensures never_falls { self.old.faults ≤ self.new.faults }
         ensures rose { result ≡ DiskFault.Failed → Rose self.old.faults self.new.faults }
         ensures wants_never_fall { self.old.wants ≤ self.new.wants }
         ensures wanted { result ≡ DiskFault.NoMemory → Rose self.old.wants self.new.wants }
         ensures made { self.new.made ≡ self.old.made }
     {
-        if error.kind() == ErrorKind::OutOfMemory {
+        let is_want = error.kind() == ErrorKind::OutOfMemory;
+        if !self.is_refused {
+            self.last = Some(CallFault { call, error });
+        }
+        if is_want {
             self.wants = self.wants.saturating_add(1);
             return DiskFault::NoMemory;
         }
@@ -159,6 +194,9 @@ impl<R: Files<File = File> + AllocGlobal + Clone + Drop> DirDisk<R> {
     fn lock(&mut self) -> io::Result<()>
         ensures { self.new ≡ self.old }
     {
+        if self.is_refused {
+            return Err(ErrorKind::PermissionDenied.into());
+        }
         if self.locked.is_some() {
             return Ok(());
         }
@@ -325,7 +363,7 @@ impl<R: Files<File = File> + AllocGlobal + Clone + Drop> Disk for DirDisk<R> {
         self.count();
         match self.names() {
             Ok(names) => Ok(Items::new(names)),
-            Err(error) => Err(self.fault(error)),
+            Err(error) => Err(self.fault("list", error)),
         }
     }
 
@@ -334,7 +372,7 @@ impl<R: Files<File = File> + AllocGlobal + Clone + Drop> Disk for DirDisk<R> {
         self.count();
         match self.read_from(name, at, into) {
             Ok(count) => Ok(count),
-            Err(error) => Err(self.fault(error)),
+            Err(error) => Err(self.fault("read", error)),
         }
     }
 
@@ -344,7 +382,7 @@ impl<R: Files<File = File> + AllocGlobal + Clone + Drop> Disk for DirDisk<R> {
         self.count();
         match self.write_to(name, at, [bytes, &[], &[]]) {
             Ok(()) => Ok(()),
-            Err(error) => Err(self.fault(error)),
+            Err(error) => Err(self.fault("write", error)),
         }
     }
 
@@ -361,7 +399,7 @@ impl<R: Files<File = File> + AllocGlobal + Clone + Drop> Disk for DirDisk<R> {
         self.count();
         match self.write_to(name, at, [head, body, tail]) {
             Ok(()) => Ok(()),
-            Err(error) => Err(self.fault(error)),
+            Err(error) => Err(self.fault("write", error)),
         }
     }
 
@@ -370,7 +408,7 @@ impl<R: Files<File = File> + AllocGlobal + Clone + Drop> Disk for DirDisk<R> {
         self.count();
         match self.cut_to(name, length) {
             Ok(()) => Ok(()),
-            Err(error) => Err(self.fault(error)),
+            Err(error) => Err(self.fault("cut", error)),
         }
     }
 
@@ -380,7 +418,7 @@ impl<R: Files<File = File> + AllocGlobal + Clone + Drop> Disk for DirDisk<R> {
         self.count();
         match self.sync_file(name) {
             Ok(()) => Ok(()),
-            Err(error) => Err(self.fault(error)),
+            Err(error) => Err(self.fault("sync", error)),
         }
     }
 
@@ -389,7 +427,7 @@ impl<R: Files<File = File> + AllocGlobal + Clone + Drop> Disk for DirDisk<R> {
         self.count();
         match self.remove_file(name) {
             Ok(()) => Ok(()),
-            Err(error) => Err(self.fault(error)),
+            Err(error) => Err(self.fault("remove", error)),
         }
     }
 
@@ -399,7 +437,7 @@ impl<R: Files<File = File> + AllocGlobal + Clone + Drop> Disk for DirDisk<R> {
         self.count();
         match self.sync_folder() {
             Ok(()) => Ok(()),
-            Err(error) => Err(self.fault(error)),
+            Err(error) => Err(self.fault("sync the folder", error)),
         }
     }
 }

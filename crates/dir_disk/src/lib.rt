@@ -3,4 +3,4 @@
 
 mod directory;
 
-pub use directory::DirDisk;
+pub use directory::{CallFault, DirDisk};

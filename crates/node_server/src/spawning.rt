@@ -56,6 +56,7 @@ pub fn beside<Q: Reader + Send + 'static, H: Host<Q::Told>>(
 ) -> Result<(), Failed>
     ensures done { Does (H.done host.old) (one_worker (H.done host.old)) (H.done host.new) result }
     ensures events { H.taken host.new ≡ H.taken host.old }
+    ensures left { H.left host.new ≡ H.left host.old }
     ensures cause { HasCause (H.faults host.old) (H.faults host.new) result }
 {
     host.may_work()?;
