@@ -1,5 +1,5 @@
 -- Each message that arrives in a script was sent.
-use Rattle.std.specs.Prelude.{ℕ, List, [], ◌∷◌}
+use Rattle.std.specs.Prelude.{◌≡◌, ℕ, List, [], ◌∷◌, ◌++◌}
 use Rattle.std.specs.List.{AllByRecursion}
 use Rattle.sql_engine.specs.declared.kind.EngineKind.{EngineKind}
 use Rattle.sql_engine.specs.Meanings.{Meaning}
@@ -22,9 +22,12 @@ abbrev pub AllCanHold : List Turn → Type 0
 AllCanHold [] = Unit {0}
 AllCanHold (turn ∷ turns) = AllByRecursion CanHold (messages_in turn) × AllCanHold turns
 
--- In a script, whatever came of its events, a node receives only messages that were sent to it.
+-- In a script, whatever came of its events, a node receives only messages that were sent to it; up to any moment, where the wire could
+-- hold what was sent until then.
 abbrev pub MailIsSent : Type 0
-MailIsSent = (script : List ℕ) (outcomes : List Outcome) → AllCanHold (run script outcomes).turns → AllSentTo [] (run script outcomes).turns
+MailIsSent =
+    (script : List ℕ) (outcomes : List Outcome) (front rest : List Turn) → (run script outcomes).turns ≡ front ++ rest → AllCanHold front →
+    AllSentTo [] front
 
 -- What came of a script's events is what whole nodes do, each at its place.
 pub record ByNodes (m : Meaning) (kind : EngineKind) (setup : Setup) (turns : List Turn) : Type 0 where
@@ -32,8 +35,8 @@ pub record ByNodes (m : Meaning) (kind : EngineKind) (setup : Setup) (turns : Li
   pub paths : (n : ℕ) → PathSo m kind setup n (Rests nothing_kept) (turns_at n turns) (ends n)
   pub hold : AllCanHold turns
 
--- So each script is safe.
+-- So each script is safe, up to any moment until which its nodes did so.
 abbrev pub ScriptsAreSafe : Meaning → EngineKind → Type 0
 ScriptsAreSafe m kind =
-    (setup : Setup) (script : List ℕ) (outcomes : List Outcome) → ByNodes m kind setup (run script outcomes).turns →
-    IsSafe m kind setup (run script outcomes).turns
+    (setup : Setup) (script : List ℕ) (outcomes : List Outcome) (front rest : List Turn) → (run script outcomes).turns ≡ front ++ rest →
+    ByNodes m kind setup front → IsSafe m kind setup front

@@ -36,7 +36,8 @@ pub fn places_lead_on<E: Engine>()
 {}
 
 /// In a script, whatever came of its events, a node receives only messages that were sent to it, as bytes that are read back; the wire has
-/// to be able to hold what is sent. So each script is safe whose nodes do at their places what whole nodes do.
+/// to be able to hold what is sent. So each script is safe whose nodes do at their places what whole nodes do; and up to any moment, where
+/// they did so until then.
 pub fn scripts_are_safe<E: Engine>()
     ensures mail { MailIsSent }
     ensures safe { (kind : _) → ScriptsAreSafe (E.meaning kind) kind }
