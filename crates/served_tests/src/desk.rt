@@ -21,7 +21,7 @@ pub(crate) struct Desk<R: Wait + Copy + Drop, E: Engine + Drop> {
 }
 
 /// The digit of a small number; `?` for others.
-fn digit(number: u64) -> u8 {
+pub(crate) fn digit(number: u64) -> u8 {
     if number < 10 {
         return b'0' + number as u8;
     }
@@ -29,7 +29,7 @@ fn digit(number: u64) -> u8 {
 }
 
 /// What a message is to a client: `d` a database, `r` a result, `w` rows, `e` empty, a digit for the code of a failure.
-fn letter(message: &[u8]) -> u8 {
+pub(crate) fn letter(message: &[u8]) -> u8 {
     let code = message.get(8).copied().unwrap_or(0);
     match message.get(4).copied().unwrap_or(b'?') {
         0 => digit(code as u64),

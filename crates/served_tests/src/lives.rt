@@ -6,7 +6,7 @@ ghost use Rattle.served_node.specs.Serving.{CanStep};
 use crate::desk::Desk;
 use crate::feed::Feed;
 use crate::messages::{Said, bytes_of};
-use disk_model::MemDisk;
+use disk_model::{Disk, MemDisk};
 use gateway::StepLimits;
 use node_core::{Node, NodeSpec};
 use node_edge::Event;
@@ -41,11 +41,11 @@ pub(crate) enum What {
 }
 
 /// The first node of these servers, which serves readers.
-fn started(
+pub(crate) fn started<D: Disk>(
     alloc: Global,
     servers: &[u8],
     steps: StepLimits,
-    disk: &mut MemDisk,
+    disk: &mut D,
 ) -> Option<Node>
     ensures { IfSome result (CanStep []) }
 {
@@ -60,7 +60,7 @@ fn started(
     Node::start(alloc, spec, disk).ok()
 }
 
-fn event_of(alloc: Global, what: What) -> Option<Event<Read>> {
+pub(crate) fn event_of(alloc: Global, what: What) -> Option<Event<Read>> {
     Some(match what {
         What::Timeout => Event::Timeout,
         What::Connects(conn) => Event::Connect(conn),
