@@ -55,6 +55,6 @@ module _ {D E : Type 0} (tells : Bool) (states : D → Disk Text → Type 0) (fa
       let by_rules = serves_by_rules_hold tells states faults meaning kind heard refused opening node disk disk_after engine engine_after before after said said_after budget end runs (told x.0 x.1.0 found.1) in
       record {
         by_rules = by_rules;
-        alone = λ order. alone_is_safe_hold (meaning (kind engine)) (kind engine) (read_setup opening) n node.running by_rules.last.running (servers_told node) (heard engine) by_rules.told_last _ _
-            (subst (λ (k : Kept). StartsSo (read_setup opening) k (node_of node) (servers_told node)) none stands) id by_rules.path order;
+        alone = λ links order. alone_is_safe_hold (meaning (kind engine)) (kind engine) (read_setup opening) n node.running by_rules.last.running (servers_told node) (heard engine) by_rules.told_last _ _
+            (subst (λ (k : Kept). StartsSo (read_setup opening) k (node_of node) (servers_told node)) none stands) id links by_rules.path order;
       }

@@ -22,11 +22,11 @@ module _ (m : Meaning) (kind : EngineKind) where
   paths_are_runs_hold setup past n old new before after [] (o ∷ more) hold up id path = tt
   paths_are_runs_hold setup past n old new before after (event ∷ events) [] hold up id path = tt
   paths_are_runs_hold setup past n old new before after (event ∷ events) (o ∷ more) hold up id path =
-      λ others held alone voters arrive.
+      λ others held alone arrive.
       let there = past ++ others in
       let holds = hold_more m kind setup past others hold held in
       let here : (run there).places n ≡ Up (seen old) = ap (λ (r : Run). r.places n) (run_more past others) ∙ alone.hold_place ∙ up in
-      let one = steps_run_hold m kind setup there n old path.0 event o before path.1 holds here id path.2 voters arrive in
+      let one = steps_run_hold m kind setup there n old path.0 event o before path.1 holds here id path.2 arrive in
       let then = hold_more m kind setup there one.leads.events holds one.leads.hold in
       (
         one,

@@ -10,7 +10,7 @@ use Rattle.raft_member.specs.Members.{read_setup}
 use Rattle.session_decisions.specs.declared.job.Read.{Read}
 use Rattle.node_edge.specs.declared.event.Event.{Event}
 use Rattle.node_edge.specs.declared.looping.LoopEnd.{LoopEnd}
-use Rattle.node_edge.specs.declared.looping.LoopEnd.TheVariants.{Closed, DiskFault, Spent, NoMemory}
+use Rattle.node_edge.specs.declared.looping.LoopEnd.TheVariants.{Closed, DiskFault, Spent, NoMemory, Unfit}
 use Rattle.node_edge.specs.Looping.{Taken, Broke, Ends}
 use Rattle.node_edge.specs.Stepping.{Steps}
 use Rattle.node_replica.specs.Replicas.{IsKept}
@@ -65,6 +65,7 @@ module _ {D E : Type 0} (tells : Bool) (states : D → Disk Text → Type 0) (fa
   ends_of last now before after events budget (Spent count) is keeps e = (e.0, subst (λ (s : Seat D E). IsKept tells (states s.disk) (replica_of last.node)) (sym e.1) keeps)
   ends_of last now before after events budget DiskFault is keeps e = record { event = e.event; took = e.took; finds = broke_so last now before after events is keeps e }
   ends_of last now before after events budget NoMemory is keeps e = record { event = e.event; took = e.took; finds = broke_so last now before after events is keeps e }
+  ends_of last now before after events budget Unfit is keeps e = record { event = e.event; took = e.took; finds = broke_so last now before after events is keeps e }
 
 module _ {D E : Type 0} (tells : Bool) (states : D → Disk Text → Type 0) (faults : D → ℕ) (meaning : EngineKind → Meaning) (kind : E → EngineKind) (told : E → Option Told) (refused : E → ℕ) where
   pub serves_by_rules_hold : ServesByRules tells states faults meaning kind told refused

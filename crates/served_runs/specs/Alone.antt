@@ -1,8 +1,5 @@
 -- A node that was served alone, as a run.
-use Rattle.std.specs.Prelude.{◌≡◌, ◌≢◌, ℕ, Bool, List, [], ◌∷◌, ◌++◌, map, Option, Some, None, Ok}
-use Rattle.std.specs.List.{AllByRecursion}
-use Rattle.disk_model.specs.Disk.{Disk, no_files}
-use Rattle.disk_model.specs.Trait.{Text}
+use Rattle.std.specs.Prelude.{◌≡◌, ◌≢◌, ℕ, false, List, [], ◌∷◌, ◌++◌, map, Option, Some, None}
 use Rattle.sql_engine.specs.declared.kind.EngineKind.{EngineKind}
 use Rattle.sql_engine.specs.Meanings.{Meaning, Told}
 use Rattle.session_rules.specs.Entries.{Entry as Line}
@@ -15,14 +12,12 @@ use Rattle.raft_world.specs.Members.{Setup}
 use Rattle.node_rules.specs.Steps.{StartsSo}
 use Rattle.node_core.specs.declared.event.Event as core
 use Rattle.node_core.specs.declared.event.Event.TheVariants as events
-use Rattle.node_core.specs.declared.node.Node.{Node}
 use Rattle.node_core.specs.declared.outs.Outs.{Outs}
 use Rattle.node_core.specs.declared.running.Running.{Running}
-use Rattle.node_core.specs.Account.{Sends, Begin, Happens, Comes, Compacts}
+use Rattle.node_core.specs.Account.{Sends}
 use Rattle.node_core.specs.Values.{seen}
 use Rattle.node_world.specs.Laws.{SafeRun}
-use Rattle.node_world.specs.Runs.{Up, Down, Run, Event, TellsOf, nothing_kept, spoken, first_run, run, AllHold}
-use Rattle.node_runs.specs.Steps.{AllTellVoters}
+use Rattle.node_world.specs.Runs.{Up, Down, Event, TellsOf, nothing_kept, spoken, first_run, run, AllHold}
 use Rattle.served_runs.specs.Paths.{PathSo}
 
 -- ---- what comes to a node alone
@@ -42,22 +37,11 @@ ComesAlone m kind jobs (events.Connect conn) = Unit {0}
 ComesAlone m kind jobs (events.Bytes conn bytes) = Unit {0}
 ComesAlone m kind jobs (events.Hangup conn) = Unit {0}
 
--- no act begins with a peer's message that came on a connection
-abbrev pub IsClients : Begin → Type 0
-IsClients (Happens event) = Unit {0}
-IsClients (Comes message) = ⊥
-IsClients (Compacts index) = Unit {0}
-
--- So it is at each step; and voters were told.
-abbrev pub Orderly : (m : Meaning) (kind : EngineKind) (setup : Setup) (jobs : ℕ → Option Job) (old : Running) (before : Option Told)
-    (events : List core.Event) (outs : List Outs) (new : Running) (after : Option Told) → PathSo m kind setup old before events outs new after → Type 0
-Orderly m kind setup jobs old before [] [] new after path = Unit {0}
-Orderly m kind setup jobs old before [] (o ∷ more) new after path = Unit {0}
-Orderly m kind setup jobs old before (event ∷ events) [] new after path = Unit {0}
-Orderly m kind setup jobs old before (event ∷ events) (o ∷ more) new after path =
-    ComesAlone m kind jobs event × AllByRecursion IsClients path.2.begins
-    × AllTellVoters m kind setup old path.0 path.2.begins path.2.made path.2.acts
-    × Orderly m kind setup (handed_on jobs o.reads.items) path.0 path.1 events more new after path.3
+-- so at each step, by what the steps before it handed to readers
+abbrev pub Orderly : Meaning → EngineKind → (ℕ → Option Job) → List core.Event → List Outs → Type 0
+Orderly m kind jobs [] outs = Unit {0}
+Orderly m kind jobs (event ∷ events) [] = Unit {0}
+Orderly m kind jobs (event ∷ events) (o ∷ more) = ComesAlone m kind jobs event × Orderly m kind (handed_on jobs o.reads.items) events more
 
 -- ---- what was served
 
@@ -86,9 +70,9 @@ pub record Served (m : Meaning) (kind : EngineKind) (setup : Setup) (n : ℕ) (o
   pub said : List Spoke
   pub safe : SafeRun m setup (run happened) chosen said
 
--- From a start over nothing that was kept: where the events were orderly, what was served is such a run.
+-- From a start over nothing that was kept, of a node without links: where the events were orderly, what was served is such a run.
 abbrev pub AloneIsSafe : Meaning → EngineKind → Type 0
 AloneIsSafe m kind =
     (setup : Setup) (n : ℕ) (old new : Running) (servers : List Server) (before after : Option Told) (events : List core.Event) (outs : List Outs) →
-    StartsSo setup nothing_kept (seen old) servers → (seen old).raft.id ≡ n → (path : PathSo m kind setup old before events outs new after) →
-    Orderly m kind setup no_jobs old before events outs new after path → Served m kind setup n outs new
+    StartsSo setup nothing_kept (seen old) servers → (seen old).raft.id ≡ n → old.has_links ≡ false → PathSo m kind setup old before events outs new after →
+    Orderly m kind no_jobs events outs → Served m kind setup n outs new

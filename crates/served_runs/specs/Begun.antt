@@ -1,5 +1,5 @@
 -- A node that was started over a disk without files, and then served.
-use Rattle.std.specs.Prelude.{◌≡◌, ℕ, Bool, List, map, Option, Ok}
+use Rattle.std.specs.Prelude.{◌≡◌, ℕ, Bool, false, List, map, Option, Ok}
 use Rattle.disk_model.specs.Disk.{Disk, no_files}
 use Rattle.disk_model.specs.Trait.{Text}
 use Rattle.sql_engine.specs.declared.kind.EngineKind.{EngineKind}
@@ -14,18 +14,19 @@ use Rattle.node_edge.specs.Looping.{Taken}
 use Rattle.node_rules.specs.Steps.{StartsSo}
 use Rattle.node_core.specs.declared.node.Node.{Node}
 use Rattle.node_core.specs.Starting.{StartsOver}
-use Rattle.node_core.specs.Values.{replica_of, node_of, kept_by, servers_told}
+use Rattle.node_core.specs.Values.{replica_of, node_of, kept_by, servers_told, has_links}
 use Rattle.served_node.specs.declared.said.Said.{Said}
 use Rattle.served_node.specs.Bridge.{event_of}
 use Rattle.served_node.specs.Serving.{Runs}
 use Rattle.served_runs.specs.Paths.{outs_of, ServedSo}
 use Rattle.served_runs.specs.Alone.{Orderly, Served}
 
--- What was served is by the rules; and where the events were orderly it is the run of a node alone, which is safe.
+-- What was served is by the rules; and where the node has no links, and the events were orderly, it is the run of a node alone, which is
+-- safe.
 pub record ServedFrom (m : Meaning) (kind : EngineKind) (setup : Setup) (n : ℕ) (tells : Bool) (states : Disk Text → Type 0) (node : Node) (told : Option Told)
     (before after : Taken Read) (said said_after : Option (List Said)) (end : LoopEnd) : Type 0 where
   pub by_rules : ServedSo m kind setup tells states node told before after said said_after end
-  pub alone : Orderly m kind setup no_jobs node.running told (map event_of by_rules.events) (map outs_of by_rules.outs) by_rules.last.running by_rules.told_last by_rules.path →
+  pub alone : has_links node ≡ false → Orderly m kind no_jobs (map event_of by_rules.events) (map outs_of by_rules.outs) →
       Served m kind setup n (map outs_of by_rules.outs) by_rules.last.running
 
 -- So it is where a node was started over a disk that may be without files, and a loop has run.

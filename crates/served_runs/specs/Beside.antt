@@ -9,7 +9,7 @@ use Rattle.node_core.specs.declared.running.Running.{Running}
 use Rattle.node_core.specs.Values.{seen}
 use Rattle.node_world.specs.Runs.{Up, Run, Event, first_run, run, run_from, AllHold}
 use Rattle.node_runs.specs.Comings.{AllArrive}
-use Rattle.node_runs.specs.Steps.{AllTellVoters, StepRuns}
+use Rattle.node_runs.specs.Steps.{StepRuns}
 use Rattle.served_runs.specs.Paths.{PathSo}
 
 -- Events of others: the node's place stays.
@@ -25,7 +25,7 @@ PathRuns m kind setup past n old before [] (o ∷ more) new after path = Unit {0
 PathRuns m kind setup past n old before (event ∷ events) [] new after path = Unit {0}
 PathRuns m kind setup past n old before (event ∷ events) (o ∷ more) new after path =
     (others : List Event) → AllHold m kind setup (run past) others → LeavesAlone (run past) n others →
-    AllTellVoters m kind setup old path.0 path.2.begins path.2.made path.2.acts → AllArrive m kind (run (past ++ others)) n path.2.begins →
+    AllArrive m kind (run (past ++ others)) n path.2.begins →
     (one : StepRuns m kind setup (run (past ++ others)) n path.0 path.2.begins o before path.1)
     × AllHold m kind setup first_run ((past ++ others) ++ one.leads.events)
     × PathRuns m kind setup ((past ++ others) ++ one.leads.events) n path.0 path.1 events more new after path.3

@@ -10,7 +10,7 @@ use Rattle.raft_world.specs.Members.{Setup}
 use Rattle.session_decisions.specs.declared.job.Read.{Read}
 use Rattle.node_edge.specs.declared.event.Event.{Event}
 use Rattle.node_edge.specs.declared.looping.LoopEnd.{LoopEnd}
-use Rattle.node_edge.specs.declared.looping.LoopEnd.TheVariants.{Closed, DiskFault, Spent, NoMemory}
+use Rattle.node_edge.specs.declared.looping.LoopEnd.TheVariants.{Closed, DiskFault, Spent, NoMemory, Unfit}
 use Rattle.node_edge.specs.Looping.{Taken, Took}
 use Rattle.node_edge.specs.Told.{Gains}
 use Rattle.node_replica.specs.Replicas.{IsKept}
@@ -49,6 +49,7 @@ EndsSo m kind setup tells states last before after events Closed = Took before a
 EndsSo m kind setup tells states last before after events (Spent count) = Took before after events × IsKept tells states (replica_of last)
 EndsSo m kind setup tells states last before after events DiskFault = Failed m kind setup tells states last before after events
 EndsSo m kind setup tells states last before after events NoMemory = Failed m kind setup tells states last before after events
+EndsSo m kind setup tells states last before after events Unfit = Failed m kind setup tells states last before after events
 
 -- A node was served from here on: it made steps by the rules for the events that were taken, what they say was put, and this is left.
 pub record ServedSo (m : Meaning) (kind : EngineKind) (setup : Setup) (tells : Bool) (states : Disk Text → Type 0) (node : Node) (told : Option Told)

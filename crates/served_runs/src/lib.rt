@@ -21,7 +21,7 @@ pub fn served_steps_are_events<E: Engine>()
     ensures { (kind : _) → PathsAreRuns (E.meaning kind) kind }
 {}
 
-/// What a node served alone, from a start over nothing that was kept, is a run, which is safe.
+/// What a node without links served, from a start over nothing that was kept, is a run, which is safe.
 pub fn served_alone_is_safe<E: Engine>()
     ensures { (kind : _) → AloneIsSafe (E.meaning kind) kind }
 {}
