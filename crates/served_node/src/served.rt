@@ -31,13 +31,13 @@ impl<'n, 'd, 'e, D: Disk, E: Engine> Core for ServedNode<'n, 'd, 'e, D, E> {
         StaysLent (record { disk = old.disk.ghost_name; engine = old.engine.ghost_name; faults = D.faults old.disk.now; kind = E.kind old.engine.now; refused = E.refused_openings old.engine.now })
         (record { disk = new.disk.ghost_name; engine = new.engine.ghost_name; faults = D.faults new.disk.now; kind = E.kind new.engine.now; refused = E.refused_openings new.engine.now })
         × StepsWell (E.meaning (E.kind old.engine.now)) (E.kind old.engine.now) (E.told old.engine.now) (E.told new.engine.now)
-            D.tells (D.states old.disk.now) (D.states new.disk.now) old.node.now new.node.now event said };
+        D.tells (D.states old.disk.now) (D.states new.disk.now) old.node.now new.node.now event said };
 
     ghost breaks = { λ old event new.
         StaysLent (record { disk = old.disk.ghost_name; engine = old.engine.ghost_name; faults = D.faults old.disk.now; kind = E.kind old.engine.now; refused = E.refused_openings old.engine.now })
         (record { disk = new.disk.ghost_name; engine = new.engine.ghost_name; faults = D.faults new.disk.now; kind = E.kind new.engine.now; refused = E.refused_openings new.engine.now })
         × StopsShort (E.meaning (E.kind old.engine.now)) (E.kind old.engine.now) D.tells (D.states old.disk.now) (D.states new.disk.now)
-            old.node.now new.node.now event };
+        old.node.now new.node.now event };
 
     ghost faults = { λ s. D.faults s.disk.now };
 
@@ -48,12 +48,12 @@ impl<'n, 'd, 'e, D: Disk, E: Engine> Core for ServedNode<'n, 'd, 'e, D, E> {
             (record { disk = self.old.disk.ghost_name; engine = self.old.engine.ghost_name; faults = D.faults self.old.disk.now; kind = E.kind self.old.engine.now; refused = E.refused_openings self.old.engine.now })
             (record { disk = self.new.disk.ghost_name; engine = self.new.engine.ghost_name; faults = D.faults self.new.disk.now; kind = E.kind self.new.engine.now; refused = E.refused_openings self.new.engine.now })
             × StepsWell (E.meaning (E.kind self.old.engine.now)) (E.kind self.old.engine.now) (E.told self.old.engine.now) (E.told self.new.engine.now)
-                D.tells (D.states self.old.disk.now) (D.states self.new.disk.now) self.old.node.now self.new.node.now event said) }
+            D.tells (D.states self.old.disk.now) (D.states self.new.disk.now) self.old.node.now self.new.node.now event said) }
         ensures breaks { OnErr result (StaysLent
             (record { disk = self.old.disk.ghost_name; engine = self.old.engine.ghost_name; faults = D.faults self.old.disk.now; kind = E.kind self.old.engine.now; refused = E.refused_openings self.old.engine.now })
             (record { disk = self.new.disk.ghost_name; engine = self.new.engine.ghost_name; faults = D.faults self.new.disk.now; kind = E.kind self.new.engine.now; refused = E.refused_openings self.new.engine.now })
             × StopsShort (E.meaning (E.kind self.old.engine.now)) (E.kind self.old.engine.now) D.tells (D.states self.old.disk.now)
-                (D.states self.new.disk.now) self.old.node.now self.new.node.now event) }
+            (D.states self.new.disk.now) self.old.node.now self.new.node.now event) }
         ensures cause { StepCause (D.faults self.old.disk.now) (D.faults self.new.disk.now) result }
     {
         match self.node.step(event_of(event), self.disk, self.engine) {

@@ -86,8 +86,7 @@ module _ (m : Meaning) (kind : EngineKind) (setup : Setup) (n : ℕ) where
   step_on past jobs old new event o before after a s comes =
       let one = steps_run_hold m kind setup past n old new event o before after a.hold a.up a.id s (all_arrive m kind (run past) n jobs a.jobs_are event s.begins s.are comes (s.alone a.links)) in
       let more = one.leads.events in
-      let same = run_more past more in
-      (
+      let same = run_more past more in (
         one,
         record {
           hold = hold_more m kind setup past more a.hold one.leads.hold;

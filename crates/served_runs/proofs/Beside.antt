@@ -27,8 +27,7 @@ module _ (m : Meaning) (kind : EngineKind) where
       let holds = hold_more m kind setup past others hold held in
       let here : (run there).places n ≡ Up (seen old) = ap (λ (r : Run). r.places n) (run_more past others) ∙ alone.hold_place ∙ up in
       let one = steps_run_hold m kind setup there n old path.0 event o before path.1 holds here id path.2 arrive in
-      let then = hold_more m kind setup there one.leads.events holds one.leads.hold in
-      (
+      let then = hold_more m kind setup there one.leads.events holds one.leads.hold in (
         one,
         then,
         paths_are_runs_hold setup (there ++ one.leads.events) n path.0 new path.1 after events more then (ap (λ (r : Run). r.places n) (run_more there one.leads.events) ∙ one.leads.here) one.id path.3,

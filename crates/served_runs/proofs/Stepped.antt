@@ -31,8 +31,7 @@ module _ {D E : Type 0} (tells : Bool) (states : D → Disk Text → Type 0) (fa
   path_of was [] (o ∷ os) now is steps = absurd steps
   path_of was (e ∷ es) [] now is steps = absurd steps
   path_of was (e ∷ es) (o ∷ os) now is steps =
-      let next = steps.0 in
-      (
+      let next = steps.0 in (
         next.node.running,
         told next.engine,
         subst (λ (z : EngineKind). StepsBy (meaning z) z (read_setup opening) was.node.running next.node.running (event_of e) o.outs (told was.engine) (told next.engine)) is (steps.1.2.acts opening),
