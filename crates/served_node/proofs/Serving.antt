@@ -22,7 +22,7 @@ use Rattle.node_edge.specs.Looping.{Taken, Broke, Ends, Loops}
 use Rattle.sql_engine.specs.Meanings.{Meaning, Stays, Told}
 use Rattle.served_node.specs.declared.said.Said.{Said}
 use Rattle.served_node.specs.Bridge.{event_of}
-use Rattle.served_node.specs.Serving.{IsStateOf, Lent, StaysLent, StepsWell, StopsShort}
+use Rattle.served_node.specs.Serving.{IsStateOf, Lent, StaysLent, StepsByRules, StopsByRules}
 
 -- the same steps, seen otherwise
 pub steps_seen : {S R E T : Type 0} (see : S → R) (makes : S → E → T → S → Type 0) (seen : R → E → T → R → Type 0)
@@ -128,18 +128,16 @@ pub steps_well : (m : Meaning) (kind : EngineKind) (told_before told_now : Optio
     (event : Event Read) (e : core.Event) (said : Said) → e ≡ event_of event →
     ((opening : List Server) → StepsBy m kind (read_setup opening) old.running new.running e said.outs told_before told_now) →
     (IsKept tells before (replica_of old) → IsKept tells after (replica_of new)) → applied_of new ≡ (raft_of new).commit → IsStateOf said.state new →
-    StepsWell m kind told_before told_now tells before after old new event said
+    StepsByRules m kind told_before told_now tells before after old new event said
 steps_well m kind told_before told_now tells before after old new event e said is acts stored applied told = record {
   acts = λ opening. subst (λ (z : core.Event). StepsBy m kind (read_setup opening) old.running new.running z said.outs told_before told_now) is (acts opening);
-  stored = stored;
-  applied = applied;
-  told = told;
+  well = record { stored = stored; applied = applied; told = told };
 }
 
 pub stops_short : (m : Meaning) (kind : EngineKind) (tells : Bool) (before after : Disk Text → Type 0) (old new : Node) (event : Event Read) (e : core.Event) →
     e ≡ event_of event → IsDown new →
     ((opening : List Server) → IsKept tells before (replica_of old) → Finds tells after (StopsBy m kind (read_setup opening) old.running e)) →
-    StopsShort m kind tells before after old new event
+    StopsByRules m kind tells before after old new event
 stops_short m kind tells before after old new event e is down stops = record {
   down = down;
   stops = λ opening keeps. subst (λ (z : core.Event). Finds tells after (StopsBy m kind (read_setup opening) old.running z)) is (stops opening keeps);

@@ -61,18 +61,21 @@ pub record StaysLent {A B : Type 0} (old new : Lent A B) : Type 0 where
 
 -- ---- one step
 
--- What a step does that ended well: it makes the acts of the rules, whatever the servers are with which the cluster was opened, and says
--- what they say. Where the disk kept what Raft was it keeps what Raft is, all that is committed is applied, and how the node stands then
--- is told.
-pub record StepsWell (m : Meaning) (kind : EngineKind) (told_before told_now : Option Told) (tells : Bool) (before after : Disk Text → Type 0)
-    (old new : Node) (event : Event Read) (said : Said) : Type 0 where
-  pub acts : (opening : List Server) → StepsBy m kind (read_setup opening) old.running new.running (event_of event) said.outs told_before told_now
+-- What a step leaves that ended well: where the disk kept what Raft was it keeps what Raft is, all that is committed is applied, and how
+-- the node stands then is told.
+pub record StepsWell (tells : Bool) (before after : Disk Text → Type 0) (old new : Node) (state : NodeState) : Type 0 where
   pub stored : IsKept tells before (replica_of old) → IsKept tells after (replica_of new)
   pub applied : applied_of new ≡ (raft_of new).commit
-  pub told : IsStateOf said.state new
+  pub told : IsStateOf state new
+
+-- It makes the acts of the rules, whatever the servers are with which the cluster was opened, and says what they say.
+pub record StepsByRules (m : Meaning) (kind : EngineKind) (told_before told_now : Option Told) (tells : Bool) (before after : Disk Text → Type 0)
+    (old new : Node) (event : Event Read) (said : Said) : Type 0 where
+  pub acts : (opening : List Server) → StepsBy m kind (read_setup opening) old.running new.running (event_of event) said.outs told_before told_now
+  pub well : StepsWell tells before after old new said.state
 
 -- What a step leaves that failed: the node is down, and where the disk kept what Raft was, a load finds what the acts of the rules left.
-pub record StopsShort (m : Meaning) (kind : EngineKind) (tells : Bool) (before after : Disk Text → Type 0) (old new : Node) (event : Event Read)
+pub record StopsByRules (m : Meaning) (kind : EngineKind) (tells : Bool) (before after : Disk Text → Type 0) (old new : Node) (event : Event Read)
     : Type 0 where
   pub down : IsDown new
   pub stops : (opening : List Server) → IsKept tells before (replica_of old) →
@@ -81,24 +84,44 @@ pub record StopsShort (m : Meaning) (kind : EngineKind) (tells : Bool) (before a
 -- ---- a node with its disk and its engine as values
 
 -- a step that ended well
-abbrev pub Makes : {D E : Type 0} → Bool → (D → Disk Text → Type 0) → (D → ℕ) → (EngineKind → Meaning) → (E → EngineKind) → (E → Option Told) → (E → ℕ) →
-    Seat D E → Event Read → Said → Seat D E → Type 0
-Makes tells states faults meaning kind told refused old event said new =
+abbrev pub Makes : {D E : Type 0} → Bool → (D → Disk Text → Type 0) → (D → ℕ) → (E → EngineKind) → (E → ℕ) → Seat D E → Event Read → Said → Seat D E → Type 0
+Makes tells states faults kind refused old event said new =
     (faults old.disk ≤ faults new.disk) × Stays (kind old.engine) (kind new.engine) (refused old.engine) (refused new.engine)
-    × StepsWell (meaning (kind old.engine)) (kind old.engine) (told old.engine) (told new.engine) tells (states old.disk) (states new.disk) old.node new.node event said
+    × StepsWell tells (states old.disk) (states new.disk) old.node new.node said.state
 
--- a step that failed
-abbrev pub Breaks : {D E : Type 0} → Bool → (D → Disk Text → Type 0) → (D → ℕ) → (EngineKind → Meaning) → (E → EngineKind) → (E → ℕ) →
-    Seat D E → Event Read → Seat D E → Type 0
-Breaks tells states faults meaning kind refused old event new =
-    (faults old.disk ≤ faults new.disk) × Stays (kind old.engine) (kind new.engine) (refused old.engine) (refused new.engine)
-    × StopsShort (meaning (kind old.engine)) (kind old.engine) tells (states old.disk) (states new.disk) old.node new.node event
+-- a step that failed: the node is down
+abbrev pub Breaks : {D E : Type 0} → (D → ℕ) → (E → EngineKind) → (E → ℕ) → Seat D E → Event Read → Seat D E → Type 0
+Breaks faults kind refused old event new =
+    (faults old.disk ≤ faults new.disk) × Stays (kind old.engine) (kind new.engine) (refused old.engine) (refused new.engine) × IsDown new.node
 
 -- A node made one step for each event that was taken, in order, and what they say was put, in order; one that failed was the last.
-pub record Runs {D E : Type 0} (tells : Bool) (states : D → Disk Text → Type 0) (faults : D → ℕ) (meaning : EngineKind → Meaning) (kind : E → EngineKind)
-    (told : E → Option Told) (refused : E → ℕ) (node : Node) (disk disk_after : D) (engine engine_after : E) (before after : Taken Read)
-    (said said_after : Option (List Said)) (budget : ℕ) (end : LoopEnd) : Type 0 where
+pub record Runs {D E : Type 0} (tells : Bool) (states : D → Disk Text → Type 0) (faults : D → ℕ) (kind : E → EngineKind) (refused : E → ℕ)
+    (node : Node) (disk disk_after : D) (engine engine_after : E) (before after : Taken Read) (said said_after : Option (List Said)) (budget : ℕ)
+    (end : LoopEnd) : Type 0 where
   pub last : Node
-  pub loops : Loops (Makes tells states faults meaning kind told refused) (Breaks tells states faults meaning kind refused)
+  pub loops : Loops (Makes tells states faults kind refused) (Breaks faults kind refused) (record { node = node; disk = disk; engine = engine })
+      (record { node = last; disk = disk_after; engine = engine_after }) before after said said_after budget end
+
+-- ---- the same, by the rules
+
+abbrev pub MakesByRules : {D E : Type 0} → Bool → (D → Disk Text → Type 0) → (D → ℕ) → (EngineKind → Meaning) → (E → EngineKind) → (E → Option Told) →
+    (E → ℕ) → Seat D E → Event Read → Said → Seat D E → Type 0
+MakesByRules tells states faults meaning kind told refused old event said new =
+    (faults old.disk ≤ faults new.disk) × Stays (kind old.engine) (kind new.engine) (refused old.engine) (refused new.engine)
+    × StepsByRules (meaning (kind old.engine)) (kind old.engine) (told old.engine) (told new.engine) tells (states old.disk) (states new.disk) old.node new.node
+    event said
+
+abbrev pub BreaksByRules : {D E : Type 0} → Bool → (D → Disk Text → Type 0) → (D → ℕ) → (EngineKind → Meaning) → (E → EngineKind) → (E → ℕ) →
+    Seat D E → Event Read → Seat D E → Type 0
+BreaksByRules tells states faults meaning kind refused old event new =
+    (faults old.disk ≤ faults new.disk) × Stays (kind old.engine) (kind new.engine) (refused old.engine) (refused new.engine)
+    × StopsByRules (meaning (kind old.engine)) (kind old.engine) tells (states old.disk) (states new.disk) old.node new.node event
+
+-- Each step that ended well made the acts of the rules, and said what they say; and what a failed one left is what its acts left.
+pub record RunsByRules {D E : Type 0} (tells : Bool) (states : D → Disk Text → Type 0) (faults : D → ℕ) (meaning : EngineKind → Meaning)
+    (kind : E → EngineKind) (told : E → Option Told) (refused : E → ℕ) (node : Node) (disk disk_after : D) (engine engine_after : E)
+    (before after : Taken Read) (said said_after : Option (List Said)) (budget : ℕ) (end : LoopEnd) : Type 0 where
+  pub last : Node
+  pub loops : Loops (MakesByRules tells states faults meaning kind told refused) (BreaksByRules tells states faults meaning kind refused)
       (record { node = node; disk = disk; engine = engine }) (record { node = last; disk = disk_after; engine = engine_after })
       before after said said_after budget end

@@ -17,7 +17,7 @@ use Rattle.node_core.specs.Starting.{StartsOver}
 use Rattle.node_core.specs.Values.{replica_of, node_of, kept_by, servers_told, has_links}
 use Rattle.served_node.specs.declared.said.Said.{Said}
 use Rattle.served_node.specs.Bridge.{event_of}
-use Rattle.served_node.specs.Serving.{Runs}
+use Rattle.served_node.specs.Serving.{RunsByRules}
 use Rattle.served_runs.specs.Paths.{outs_of, ServedSo}
 use Rattle.served_runs.specs.Alone.{Orderly, Served}
 
@@ -37,5 +37,5 @@ StartServes {D = D} {E = E} tells states faults meaning kind told refused =
     (said said_after : Option (List Said)) (budget : ℕ) (end : LoopEnd) →
     states first no_files → StartsOver (states first) (states disk) (Ok node) →
     StartsSo (read_setup opening) (kept_by node) (node_of node) (servers_told node) → (replica_of node).raft.id ≡ n →
-    Runs tells states faults meaning kind told refused node disk disk_after engine engine_after before after said said_after budget end →
+    RunsByRules tells states faults meaning kind told refused node disk disk_after engine engine_after before after said said_after budget end →
     ServedFrom (meaning (kind engine)) (kind engine) (read_setup opening) n tells (states disk_after) node (told engine) before after said said_after end

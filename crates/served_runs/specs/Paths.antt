@@ -23,7 +23,7 @@ use Rattle.node_core.specs.Finding.{Finds}
 use Rattle.node_core.specs.Values.{replica_of}
 use Rattle.served_node.specs.declared.said.Said.{Said}
 use Rattle.served_node.specs.Bridge.{event_of}
-use Rattle.served_node.specs.Serving.{Runs}
+use Rattle.served_node.specs.Serving.{RunsByRules}
 
 -- A node made one step by the rules for each of these events, in order, and said this at each; its engine told the answers that they use.
 abbrev pub PathSo : Meaning → EngineKind → Setup → Running → Option Told → List core.Event → List Outs → Running → Option Told → Type 0
@@ -68,6 +68,6 @@ abbrev pub ServesByRules : {D E : Type 0} → Bool → (D → Disk Text → Type
 ServesByRules {D = D} {E = E} tells states faults meaning kind told refused =
     (opening : List Server) (node : Node) (disk disk_after : D) (engine engine_after : E) (before after : Taken Read) (said said_after : Option (List Said))
     (budget : ℕ) (end : LoopEnd) →
-    Runs tells states faults meaning kind told refused node disk disk_after engine engine_after before after said said_after budget end →
+    RunsByRules tells states faults meaning kind told refused node disk disk_after engine engine_after before after said said_after budget end →
     IsKept tells (states disk) (replica_of node) →
     ServedSo (meaning (kind engine)) (kind engine) (read_setup opening) tells (states disk_after) node (told engine) before after said said_after end
