@@ -1,4 +1,4 @@
-use Rattle.std.proofs.Common.{◌∙◌, subst}
+use Rattle.std.proofs.Common.{inl, ◌∙◌, subst}
 use Rattle.sqlite_engine.specs.Any.{any_meaning}
 use Rattle.lone_node.proofs.Safety.{runs_are_safe_hold}
 use Rattle.cluster_runner.specs.Run.{run}
@@ -16,6 +16,12 @@ returns-in-Ok-clause-words_journal g c = λ other. c.run.ensures.words_journal (
 
 pub returns-in-Ok-clause-generated : goal.returns-in-Ok-clause-generated
 returns-in-Ok-clause-generated g c = λ number writes asked. c.run.ensures.generated number writes (c.in-Ok.ensures.asked ∙ asked)
+
+pub returns-in-Ok-clause-spent : goal.returns-in-Ok-clause-spent
+returns-in-Ok-clause-spent g c = λ served asked. c.run.ensures.spent served (c.in-Ok.ensures.asked ∙ asked)
+
+pub returns-in-Ok-clause-serves : goal.returns-in-Ok-clause-serves
+returns-in-Ok-clause-serves g c = λ served asked. inl (c.run.ensures.serves served (c.in-Ok.ensures.asked ∙ asked))
 
 runs_are_safe : RunsAreSafe
 runs_are_safe = λ kind script journal allowed. runs_are_safe_hold (any_meaning kind) kind (run script journal).turns allowed
