@@ -4,4 +4,4 @@ pub mod Telling
 pub mod Idle
 pub mod Deciding
 pub mod Generated
-pub mod Served
+pub mod ServeEnds

@@ -1,6 +1,6 @@
 //! Which node a folder is of.
 
-ghost use Rattle.std.specs.Prelude.{◌≡◌, IfOk};
+ghost use Rattle.std.specs.Prelude.{◌≡◌, vec_len, IfOk};
 
 use disk_model::{Disk, DiskFault};
 use program_words::Serve;

@@ -64,7 +64,7 @@ fn give_up(alloc: Global, journal: &mut Journal) -> Status
 }
 
 /// Does what is asked for.
-#[tactic(auto, using(crate::proofs::Asked::ends_for, crate::proofs::Asked::unled_for, crate::proofs::Asked::statement_linked, crate::proofs::Asked::statement_code, crate::proofs::Idle::no_call, crate::proofs::Generated::generated_for, crate::proofs::Generated::generated_code, crate::proofs::Served::served_for, crate::proofs::Served::spent_for))]
+#[tactic(auto, using(crate::proofs::Asked::ends_for, crate::proofs::Asked::unled_for, crate::proofs::Asked::statement_linked, crate::proofs::Asked::statement_code, crate::proofs::Idle::no_call, crate::proofs::Generated::generated_for, crate::proofs::Generated::generated_code, crate::proofs::ServeEnds::served_for, crate::proofs::ServeEnds::spent_for))]
 fn run<S: Source, K: Sink, D: Disk, N: Dialer, H: Host<Read>, W: Notes>(
     alloc: Global,
     asked: Option<Asked>,
@@ -170,7 +170,7 @@ fn run<S: Source, K: Sink, D: Disk, N: Dialer, H: Host<Read>, W: Notes>(
 ///
 /// After words that ask for no script the input is as it was; so is the dialer where no statement is asked for, the disk where neither a
 /// check nor a node is, and the host where no node is.
-#[tactic(auto, using(crate::proofs::Endings::unread_breaks, crate::proofs::Endings::unread_safely, crate::proofs::Idle::unasked, crate::proofs::Idle::unchecked, crate::proofs::Idle::no_call, crate::proofs::Idle::nothing_written, crate::proofs::Generated::ungenerated, crate::proofs::Served::unserved))]
+#[tactic(auto, using(crate::proofs::Endings::unread_breaks, crate::proofs::Endings::unread_safely, crate::proofs::Idle::unasked, crate::proofs::Idle::unchecked, crate::proofs::Idle::no_call, crate::proofs::Idle::nothing_written, crate::proofs::Generated::ungenerated, crate::proofs::ServeEnds::unserved))]
 pub fn dqnode<S: Source, K: Sink, D: Disk, N: Dialer, H: Host<Read>, W: Notes>(
     alloc: Global,
     words: &[String],
