@@ -12,7 +12,7 @@ use Rattle.node_service.specs.declared.end.ServeEnd.{ServeEnd}
 use Rattle.node_service.specs.declared.end.ServeEnd.TheVariants as ends
 use Rattle.dqnode.specs.declared.status.Status.{Status}
 use Rattle.dqnode.specs.declared.status.Status.TheVariants as status
-use Rattle.dqnode.specs.Status.{status_code, IsServeCode}
+use Rattle.dqnode.specs.Status.{status_code, IsScriptCode, IsStatementCode, IsCheckCode, IsServeCode}
 use Rattle.dqnode.specs.Asks.{ForServed}
 use Rattle.dqnode.specs.Serving.{serve_status, ServedBy, NotServed}
 
@@ -89,3 +89,38 @@ end_spent ends.DiskFault s is e = let bad : status.DiskFault ≡ status.Spent = 
 end_spent ends.HostFault s is e = let bad : status.HostFault ≡ status.Spent = sym is ∙ e in absurd cc
 end_spent ends.NoMemory s is e = let bad : status.NoMemory ≡ status.Spent = sym is ∙ e in absurd cc
 end_spent ends.Spent s is e = refl
+
+-- ---- only a served node ends with 10
+
+pub script_not_ten : (code : ℕ) → IsScriptCode code → code ≡ 10 → ⊥
+script_not_ten code (inl a) e = let bad : 0 ≡ 10 = sym a ∙ e in cc
+script_not_ten code (inr (inl a)) e = let bad : 2 ≡ 10 = sym a ∙ e in cc
+script_not_ten code (inr (inr (inl a))) e = let bad : 3 ≡ 10 = sym a ∙ e in cc
+script_not_ten code (inr (inr (inr (inl a)))) e = let bad : 4 ≡ 10 = sym a ∙ e in cc
+script_not_ten code (inr (inr (inr (inr (inl a))))) e = let bad : 7 ≡ 10 = sym a ∙ e in cc
+script_not_ten code (inr (inr (inr (inr (inr a))))) e = let bad : 9 ≡ 10 = sym a ∙ e in cc
+
+pub statement_not_ten : (code : ℕ) → IsStatementCode code → code ≡ 10 → ⊥
+statement_not_ten code (inl a) e = let bad : 0 ≡ 10 = sym a ∙ e in cc
+statement_not_ten code (inr (inl a)) e = let bad : 4 ≡ 10 = sym a ∙ e in cc
+statement_not_ten code (inr (inr (inl a))) e = let bad : 7 ≡ 10 = sym a ∙ e in cc
+statement_not_ten code (inr (inr (inr (inl a)))) e = let bad : 11 ≡ 10 = sym a ∙ e in cc
+statement_not_ten code (inr (inr (inr (inr (inl a))))) e = let bad : 12 ≡ 10 = sym a ∙ e in cc
+statement_not_ten code (inr (inr (inr (inr (inr a))))) e = let bad : 13 ≡ 10 = sym a ∙ e in cc
+
+pub check_not_ten : (code : ℕ) → IsCheckCode code → code ≡ 10 → ⊥
+check_not_ten code (inl a) e = let bad : 0 ≡ 10 = sym a ∙ e in cc
+check_not_ten code (inr (inl a)) e = let bad : 4 ≡ 10 = sym a ∙ e in cc
+check_not_ten code (inr (inr (inl a))) e = let bad : 5 ≡ 10 = sym a ∙ e in cc
+check_not_ten code (inr (inr (inr (inl a)))) e = let bad : 7 ≡ 10 = sym a ∙ e in cc
+check_not_ten code (inr (inr (inr (inr a)))) e = let bad : 8 ≡ 10 = sym a ∙ e in cc
+
+pub words_not_ten : (s : Status) → (s ≡ status.Words) ⊎ (s ≡ status.WriteFault) → status_code s ≡ 10 → ⊥
+words_not_ten s (inl a) e = let bad : 1 ≡ 10 = sym (ap status_code a) ∙ e in cc
+words_not_ten s (inr a) e = let bad : 4 ≡ 10 = sym (ap status_code a) ∙ e in cc
+
+-- what holds of a disk, a network and a status, holds of the same by other names
+pub moved : {D N : Type 0} (disk disk_then : D) (network network_then : N) (s t : Status) (code : ℕ) → disk ≡ disk_then → network ≡ network_then → s ≡ t → code ≡ status_code s
+    → (P : D → N → ℕ → Type 0) → P disk_then network_then (status_code t) → P disk network code
+moved disk disk_then network network_then s t code disk_is network_is status_is code_is P h =
+    subst (λ d. P d network code) (sym disk_is) (subst (λ n. P disk_then n code) (sym network_is) (subst (λ k. P disk_then network_then k) (sym (code_is ∙ ap status_code status_is)) h))

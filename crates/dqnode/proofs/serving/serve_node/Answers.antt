@@ -5,10 +5,10 @@ use Rattle.dqnode.proofs.serving.serve_node.Goals as goal
 
 pub returns-clause-served : goal.returns-clause-served
 returns-clause-served g c = record {
-  engine = c.engine_of.result;
+  engine = c.engine_of-engine.result;
   engine_after = c.serve.new.engine;
-  kind_is = c.engine_of.ensures.kind;
-  is_new = c.engine_of.ensures.is_new;
+  kind_is = c.engine_of-engine.ensures.kind;
+  is_new = c.engine_of-engine.ensures.is_new;
   end = c.serve.result;
   code_is = ap status_code c.status_of.ensures;
   serves = c.serve.ensures.serves;
