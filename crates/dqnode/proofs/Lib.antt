@@ -2,6 +2,6 @@ pub mod Endings
 pub mod Asked
 pub mod Telling
 pub mod Idle
-pub mod Deciding
+pub mod Made
 pub mod Generated
 pub mod ServeEnds

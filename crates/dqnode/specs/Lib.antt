@@ -4,5 +4,4 @@ pub mod Status
 pub mod Statements
 pub mod Checks
 pub mod Generating
-pub mod Deciding
 pub mod Serving

@@ -1,5 +1,6 @@
 //! `dqnode` runs scripts, serves a node, has the leader of a cluster run statements, and tells what the files of a stopped node stand
-//! for. A script drives a node of dqlite, which is SQLite replicated over a Raft cluster, or machines that apply one list of replicated commands.
+//! for. A script drives a whole cluster of dqlite, which is SQLite replicated over a Raft cluster, or machines that apply one list of
+//! replicated commands.
 #![tactic(auto)]
 
 mod checks;
@@ -8,6 +9,7 @@ mod founding;
 mod generating;
 mod network;
 mod program;
+mod script_bytes;
 mod scripts;
 mod serving;
 mod statements;
@@ -17,13 +19,13 @@ mod words;
 use dir_disk::DirDisk;
 use disk_model::DiskFault;
 use dq_base::{ReadSource, WriteSink};
-use engine_journal::Journal;
 use error_stream::{ErrorStream, tell_disk, tell_host, tell_memory, tell_owner};
 use founding::{Owner, owner_of};
 use gateway::Read;
 pub use network::Network;
 pub use program::dqnode;
 use program_words::{Asked, Serve, read_words};
+use script_nodes::ClusterJournal;
 use server_hosts::TcpHost;
 pub use status::Status;
 use std::alloc::AllocError;
@@ -93,7 +95,7 @@ fn main(rt: HostRuntime) -> ExitCode {
     }
     let mut input = ReadSource::new(rt.stdin());
     let mut output = WriteSink::new(io::writer(&rt));
-    let mut journal = Journal::new(rt.alloc());
+    let mut journal = ClusterJournal::new(rt.alloc());
     let mut network = Network {
         dialer: TcpDialer::new(rt),
         host,

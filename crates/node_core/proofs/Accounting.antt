@@ -1,11 +1,11 @@
 -- Turns of a node join to what happened since an act began, and that is an act, or one that was stopped.
 use Rattle.std.proofs.Common.{◌≡◌, ◌⊎◌, inl, inr, ⊎_elim, ℕ, Bool, false, List, [], ◌∷◌, ◌++◌, refl, sym, ap, ◌∙◌, subst, append-nil, append_assoc}
-use Rattle.std.specs.Prelude.{map, ◌||◌, Option}
+use Rattle.std.specs.Prelude.{map, ◌||◌, Option, None}
 use Rattle.std.specs.List.{AllByRecursion, flat_map}
 use Rattle.std.proofs.lemmas.List.{map-append}
 use Rattle.wire_msgs.specs.declared.request.Request.{Request}
 use Rattle.sql_engine.specs.declared.kind.EngineKind.{EngineKind}
-use Rattle.sql_engine.specs.Meanings.{Meaning, Told, Tells}
+use Rattle.sql_engine.specs.Meanings.{Meaning, Told}
 use Rattle.statement_runs.specs.Running.{TellsAll}
 use Rattle.session_rules.specs.Engines.{Answer}
 use Rattle.session_rules.specs.Sessions.{Reply, Job}
@@ -17,7 +17,7 @@ use Rattle.store_laws.specs.Store.{Kept}
 use Rattle.node_replica.specs.Mails.{MailValue, no_mail, posted, all_posted, sent}
 use Rattle.node_replica.specs.Replicas.{kept_of}
 use Rattle.node_rules.specs.Accounts.{Moment, resting, Piece, no_piece, both, read_by, Goes, Begins, SameTerm, MayEnd, with_input, LeftBy}
-use Rattle.node_rules.specs.Steps.{Letter, Made, AllSent}
+use Rattle.node_rules.specs.Steps.{Letter, Made, TellsSo, AllSent}
 use Rattle.node_rules.specs.ClientTurns.{Hears}
 use Rattle.node_rules.specs.RaftTurns.{HasServers}
 use Rattle.node_rules.proofs.Connecting.{hearing_goes_holds}
@@ -27,8 +27,10 @@ use Rattle.node_core.specs.declared.event.Event.{Event}
 use Rattle.node_core.specs.declared.outs.Outs.{Outs}
 use Rattle.node_core.specs.declared.running.Running.{Running}
 use Rattle.node_core.specs.Values.{seen}
-use Rattle.node_core.specs.Account.{moment_of, letter_of, lived, responses_in, sent_so, Sends, Says, Brought, IsOwn, Adds, Turns, KnowsServers, Since, Begin, IsLost, Brings, Comes_in, Takes, AtRest, none_made, made_both, Act, Acts, Stopped, Fresh, SoFar, Between, Went, IsMore, Happens, AreOf, Underway, StepsBy, StopsBy}
+use Rattle.node_core.specs.Account.{moment_of, letter_of, lived, responses_in, sent_so, Sends, Says, Brought, IsOwn, Adds, Turns, KnowsServers, Since, Begin, IsLost, Brings, Comes_in, Takes, AtRest, none_made, made_both, Act, Acts, Stopped, Fresh, SoFar, Between, Went, IsMore, Happens, AreOf, IsAlone, AreAlone, Underway, StepsBy, StopsBy}
 use Rattle.node_core.specs.Taking.{TurnsOn}
+use Rattle.node_core.specs.Voters.{Beside, MayBe}
+use Rattle.node_core.proofs.Besides.{beside_none, beside_on, tells_act, tells_begun}
 
 -- ---- what is said
 
@@ -102,8 +104,18 @@ adds_join xs ys given a b = record {
 
 -- ---- the account
 
+-- a turn of which it is known what it takes in; one that takes nothing in; and so what happened since an act began
+abbrev pub TurnsIn : Meaning → EngineKind → Setup → List ℕ → Option ℕ → Running → Running → Option Told → Option Told → List raft.Input → Type 0
+TurnsIn m kind setup bytes joins old new before now inputs = (t : Turns m kind setup bytes joins old new before now) × (t.piece.inputs ≡ inputs)
+
+abbrev pub QuietTurns : Meaning → EngineKind → Setup → List ℕ → Option ℕ → Running → Running → Option Told → Option Told → Type 0
+QuietTurns m kind setup bytes joins old new before now = TurnsIn m kind setup bytes joins old new before now []
+
+abbrev pub SinceIn : Meaning → EngineKind → Setup → Brought → Bool → Running → Running → Option Told → Option Told → List raft.Input → Type 0
+SinceIn m kind setup x late old new before now inputs = (s : Since m kind setup x late old new before now) × (s.piece.inputs ≡ inputs)
+
 -- nothing was brought but what may come with an event beside Raft's inputs and requests
-pub since_nothing : {told : Option Told} (m : Meaning) (kind : EngineKind) (setup : Setup) (x : Brought) (n : Running) → x.inputs ≡ [] → ((conn : ℕ) → x.asks conn ≡ []) → Since m kind setup x false n n told told
+unfoldable pub since_nothing : {told : Option Told} (m : Meaning) (kind : EngineKind) (setup : Setup) (x : Brought) (n : Running) → x.inputs ≡ [] → ((conn : ℕ) → x.asks conn ≡ []) → Since m kind setup x false n n told told
 since_nothing m kind setup x n inputs asks = record {
   piece = no_piece;
   goes = λ known. goes_begins_holds m kind setup n.replica.id x.bytes x.joins x.read (moment_of n) (moment_of n) no_piece (nothing_goes_holds m kind setup n.replica.id x.bytes x.joins (moment_of n));
@@ -116,8 +128,12 @@ since_nothing m kind setup x n inputs asks = record {
   id = refl;
 }
 
+pub nothing_since : {told : Option Told} (m : Meaning) (kind : EngineKind) (setup : Setup) (x : Brought) (n : Running) → x.inputs ≡ [] → ((conn : ℕ) → x.asks conn ≡ []) → SinceIn m kind setup x false n n told told []
+unfolding since_nothing
+nothing_since m kind setup x n inputs asks = (since_nothing m kind setup x n inputs asks, refl)
+
 -- one turn more
-pub since_on : {before mid now : Option Told} (m : Meaning) (kind : EngineKind) (setup : Setup) (x : Brought) (late : Bool) (a b c : Running) → Since m kind setup x late a b before mid → (t : Turns m kind setup x.bytes x.joins b c mid now) →
+unfoldable pub since_on : {before mid now : Option Told} (m : Meaning) (kind : EngineKind) (setup : Setup) (x : Brought) (late : Bool) (a b c : Running) → Since m kind setup x late a b before mid → (t : Turns m kind setup x.bytes x.joins b c mid now) →
     (late ≡ false) ⊎ SameTerm (moment_of b) (moment_of c) → ((kept_of a.replica).snap ≡ (kept_of b.replica).snap) ⊎ ((kept_of b.replica).snap ≡ (kept_of c.replica).snap) →
     Since m kind setup x (late || t.piece.late) a c before now
 since_on m kind setup x late a b c s t when once = record {
@@ -133,7 +149,7 @@ since_on m kind setup x late a b c s t when once = record {
   id = t.id ∙ s.id;
 }
 
-pub since_fresh : {before now : Option Told} (m : Meaning) (kind : EngineKind) (setup : Setup) (x : Brought) (late : Bool) (a b c : Running) → Fresh a b → Since m kind setup x late b c before now → Since m kind setup x late a c before now
+unfoldable pub since_fresh : {before now : Option Told} (m : Meaning) (kind : EngineKind) (setup : Setup) (x : Brought) (late : Bool) (a b c : Running) → Fresh a b → Since m kind setup x late b c before now → Since m kind setup x late a c before now
 since_fresh m kind setup x late a b c f s = record {
   piece = s.piece;
   goes = λ known. subst (λ me. Begins m kind setup me x.bytes x.joins x.read (moment_of a) (moment_of c) s.piece) f.id
@@ -159,9 +175,9 @@ taken_so old begin x p c inputs asks = record {
 }
 
 -- what happened until nothing was left to do is an act, and it was said
-pub since_ends : {before now : Option Told} (m : Meaning) (kind : EngineKind) (setup : Setup) (x : Brought) (late : Bool) (a b : Running) (begin : Begin) → AtRest a → Comes_in a begin x → Since m kind setup x late a b before now → MayEnd (moment_of b) → b.replica.raft.id ≡ b.replica.id →
+pub since_ends : {before now : Option Told} (m : Meaning) (kind : EngineKind) (setup : Setup) (x : Brought) (late : Bool) (a b : Running) (begin : Begin) → AtRest a → Comes_in a begin x → (s : Since m kind setup x late a b before now) → Beside setup a b x.bytes s.piece.inputs → MayEnd (moment_of b) → b.replica.raft.id ≡ b.replica.id →
     (made : Made) × Act m kind setup a b begin made × Says a b made.letters made.replies made.jobs × TellsAll made.answers before now
-since_ends m kind setup x late a b begin stood comes s end id = (
+since_ends m kind setup x late a b begin stood comes s beside end id = (
   record { letters = s.piece.letters; replies = s.piece.replies; jobs = s.piece.jobs; answers = s.piece.answers },
   record {
     stood = stood;
@@ -169,6 +185,8 @@ since_ends m kind setup x late a b begin stood comes s end id = (
     taken = read_by x.bytes x.joins x.read s.piece;
     takes = taken_so a begin x s.piece comes s.inputs s.asks;
     steps = λ known. goes_to_end_holds m kind setup a.replica.id x.bytes x.joins x.read (seen a) (moment_of b) s.piece (subst (λ z. Begins m kind setup a.replica.id x.bytes x.joins x.read z (moment_of b) s.piece) stood.rests (s.goes known)) end;
+    tells = (tells_act setup x.bytes a b x.joins x.read s.piece beside).0;
+    counts = (tells_act setup x.bytes a b x.joins x.read s.piece beside).1;
     sent = s.sent;
   },
   s.says,
@@ -176,18 +194,21 @@ since_ends m kind setup x late a b begin stood comes s end id = (
 )
 
 -- a stop between two turns
-pub since_stops : {before now : Option Told} (m : Meaning) (kind : EngineKind) (setup : Setup) (x : Brought) (late : Bool) (a b : Running) (begin : Begin) → AtRest a → Comes_in a begin x → Since m kind setup x late a b before now → Stopped m kind setup a begin (kept_of b.replica)
-since_stops m kind setup x late a b begin stood comes s = record {
+pub since_stops : {before now : Option Told} (m : Meaning) (kind : EngineKind) (setup : Setup) (x : Brought) (late : Bool) (a b : Running) (begin : Begin) → AtRest a → Comes_in a begin x → (s : Since m kind setup x late a b before now) → Beside setup a b x.bytes s.piece.inputs →
+    Stopped m kind setup a begin (kept_of b.replica)
+since_stops m kind setup x late a b begin stood comes s beside = record {
   stood = stood;
   taken = read_by x.bytes x.joins x.read s.piece;
   takes = taken_so a begin x s.piece comes s.inputs s.asks;
   stops = λ known. stops_between_holds m kind setup a.replica.id x.bytes x.joins x.read (seen a) (moment_of b) s.piece (subst (λ z. Begins m kind setup a.replica.id x.bytes x.joins x.read z (moment_of b) s.piece) stood.rests (s.goes known));
+  tells = (tells_act setup x.bytes a b x.joins x.read s.piece beside).0;
 }
 
 -- a stop within the step of one input more, which the node added
-pub since_within : {before now : Option Told} (m : Meaning) (kind : EngineKind) (setup : Setup) (x : Brought) (late : Bool) (a b : Running) (begin : Begin) (i : raft.Input) (kept : Kept) → AtRest a → Comes_in a begin x → Since m kind setup x late a b before now → IsOwn i →
-    (KnowsServers setup a → LeftBy setup a.replica.id x.bytes x.joins (moment_of b) i kept) → Stopped m kind setup a begin kept
-since_within m kind setup x late a b begin i kept stood comes s own left = record {
+pub since_within : {before now : Option Told} (m : Meaning) (kind : EngineKind) (setup : Setup) (x : Brought) (late : Bool) (a b : Running) (begin : Begin) (i : raft.Input) (kept : Kept) → AtRest a → Comes_in a begin x → (s : Since m kind setup x late a b before now) → IsOwn i →
+    TellsSo setup a.replica.id (seen a) (read_by x.bytes x.joins x.read (with_input s.piece i)) → (KnowsServers setup a → LeftBy setup a.replica.id x.bytes x.joins (moment_of b) i kept) → Stopped m kind setup a begin kept
+since_within m kind setup x late a b begin i kept stood comes s own tells left = record {
+  tells = tells;
   stood = stood;
   taken = read_by x.bytes x.joins x.read (with_input s.piece i);
   takes = taken_so a begin x (with_input s.piece i) comes (adds_join s.piece.inputs (i ∷ []) x.inputs s.inputs (record { own = i ∷ []; each = (own, tt); is = refl })) s.asks;
@@ -196,8 +217,9 @@ since_within m kind setup x late a b begin i kept stood comes s own left = recor
 
 -- or within the act's own input
 pub begin_within : (m : Meaning) (kind : EngineKind) (setup : Setup) (x : Brought) (a : Running) (begin : Begin) (i : raft.Input) (kept : Kept) → AtRest a → Comes_in a begin x → x.inputs ≡ i ∷ [] → ((conn : ℕ) → x.asks conn ≡ []) →
-    (KnowsServers setup a → LeftBy setup a.replica.id x.bytes x.joins (moment_of a) i kept) → Stopped m kind setup a begin kept
-begin_within m kind setup x a begin i kept stood comes is asks left = record {
+    MayBe setup a x.bytes (i ∷ []) → (KnowsServers setup a → LeftBy setup a.replica.id x.bytes x.joins (moment_of a) i kept) → Stopped m kind setup a begin kept
+begin_within m kind setup x a begin i kept stood comes is asks may left = record {
+  tells = tells_begun setup x.bytes a x.joins x.read (with_input no_piece i) may;
   stood = stood;
   taken = read_by x.bytes x.joins x.read (with_input no_piece i);
   takes = taken_so a begin x (with_input no_piece i) comes (subst (Adds (i ∷ [])) (sym is) (adds_none (i ∷ []))) (λ conn. sym (asks conn));
@@ -255,8 +277,10 @@ went_on m kind setup a b c d begins begin ys w between act says heard = record {
 
 -- what is said at the end is what was said since the begin, where nothing had been
 pub went_steps : {before now : Option Told} (m : Meaning) (kind : EngineKind) (setup : Setup) (a b c : Running) (begins : List Begin) (event : Event) (outs : Outs) → a.mail ≡ no_mail → a.outs.replies.items ≡ [] → a.outs.reads.items ≡ [] → AreOf event begins →
-    Went m kind setup a b begins before now → seen c ≡ seen b → outs.messages.items ≡ sent b.mail → outs.replies.items ≡ b.outs.replies.items → outs.reads.items ≡ b.outs.reads.items → StepsBy m kind setup a c event outs before now
-went_steps m kind setup a b c begins event outs quiet silent unread are w same messages replies reads = record {
+    Went m kind setup a b begins before now → seen c ≡ seen b → outs.messages.items ≡ sent b.mail → outs.replies.items ≡ b.outs.replies.items → outs.reads.items ≡ b.outs.reads.items → c.has_links ≡ a.has_links → AreAlone a begins → StepsBy m kind setup a c event outs before now
+went_steps m kind setup a b c begins event outs quiet silent unread are w same messages replies reads links alone = record {
+  links = links;
+  alone = alone;
   begins = begins;
   are = are;
   made = w.made;
@@ -270,8 +294,9 @@ went_steps m kind setup a b c begins event outs quiet silent unread are w same m
 }
 
 -- what the last act left, behind those before it
-pub went_stops : {before now : Option Told} (m : Meaning) (kind : EngineKind) (setup : Setup) (a b c : Running) (begins : List Begin) (last : Begin) (event : Event) (kept : Kept) → AreOf event (begins ++ last ∷ []) → Went m kind setup a b begins before now → Between b c → Stopped m kind setup c last kept → StopsBy m kind setup a event kept
-went_stops m kind setup a b c begins last event kept are w between stopped = record {
+pub went_stops : {before now : Option Told} (m : Meaning) (kind : EngineKind) (setup : Setup) (a b c : Running) (begins : List Begin) (last : Begin) (event : Event) (kept : Kept) → AreOf event (begins ++ last ∷ []) → Went m kind setup a b begins before now → Between b c → Stopped m kind setup c last kept → AreAlone a (begins ++ last ∷ []) → StopsBy m kind setup a event kept
+went_stops m kind setup a b c begins last event kept are w between stopped alone = record {
+  alone = alone;
   begins = begins;
   last = last;
   are = are;
@@ -297,6 +322,7 @@ begun_stops m kind setup x a begin machine stood comes none =
       stood = stood;
       taken = read_by x.bytes x.joins x.read p;
       takes = taken_so a begin x p comes (subst (Adds []) (sym none) (adds_none [])) (λ conn. refl);
+      tells = (tells_act setup x.bytes a a x.joins x.read p (beside_none setup x.bytes a)).0;
       stops = λ known. stops_between_holds m kind setup a.replica.id x.bytes x.joins x.read (seen a) (asked_by (moment_of a) x.asks) p (subst (λ z. Begins m kind setup a.replica.id x.bytes x.joins x.read z (asked_by (moment_of a) x.asks) p) stood.rests goes);
     }
 
@@ -323,14 +349,23 @@ underway_starts m kind setup a from b event between stood so_far = record {
   between = between;
   stood = stood;
   so_far = so_far;
+  links = so_far.beside.links ∙ between.links;
+  alone = λ none. (tt, tt);
 }
 
 -- a turn more, in which nothing comes in, and which leaves term, leadership and the kept snapshot
 pub so_far_on : {before mid now : Option Told} (m : Meaning) (kind : EngineKind) (setup : Setup) (a b c : Running) (begin : Begin) → SoFar m kind setup a b begin before mid → ((bytes : List ℕ) (joins : Option ℕ) → TurnsOn m kind setup bytes joins b c mid now) → SoFar m kind setup a c begin before now
+unfolding since_on
 so_far_on m kind setup a b c begin f t =
     let x = f.brought in
     let on = t x.bytes x.joins in
-    record { brought = x; late = f.late || on.turns.piece.late; comes = f.comes; since = since_on m kind setup x f.late a b c f.since on.turns (inr on.same) (inr on.snap) }
+    record {
+      brought = x;
+      late = f.late || on.turns.piece.late;
+      comes = f.comes;
+      since = since_on m kind setup x f.late a b c f.since on.turns (inr on.same) (inr on.snap);
+      beside = beside_on setup x.bytes a b c f.since.piece.inputs on.turns.piece.inputs f.since.id f.beside on.beside;
+    }
 
 pub underway_on : {before mid now : Option Told} (m : Meaning) (kind : EngineKind) (setup : Setup) (a b c : Running) (event : Event) → Underway m kind setup a b event before mid → ((bytes : List ℕ) (joins : Option ℕ) → TurnsOn m kind setup bytes joins b c mid now) → Underway m kind setup a c event before now
 underway_on m kind setup a b c event u t = record {
@@ -344,14 +379,20 @@ underway_on m kind setup a b c event u t = record {
   between = u.between;
   stood = u.stood;
   so_far = so_far_on m kind setup u.from b c u.begin u.so_far t;
+  links = (t [] None).beside.links ∙ u.links;
+  alone = u.alone;
 }
+
+pub all_then : (begins : List Begin) (next : Begin) → AllByRecursion IsAlone begins → IsAlone next → AllByRecursion IsAlone (begins ++ next ∷ [])
+all_then [] next all alone = (alone, tt)
+all_then (b ∷ begins) next all alone = (all.0, all_then begins next all.1 alone)
 
 -- the node rests again, and another act has begun
 pub underway_next : {before mid now : Option Told} (m : Meaning) (kind : EngineKind) (setup : Setup) (a b c d : Running) (event : Event) → Underway m kind setup a b event before mid → MayEnd (moment_of b) → b.replica.raft.id ≡ b.replica.id → Between b c → AtRest c → (next : Begin) → IsMore next →
-    SoFar m kind setup c d next mid now → Underway m kind setup a d event before now
-underway_next m kind setup a b c d event u end id between stood next more so_far =
+    (a.has_links ≡ false → IsAlone next) → SoFar m kind setup c d next mid now → Underway m kind setup a d event before now
+underway_next m kind setup a b c d event u end id between stood next more alone so_far =
     let f = u.so_far in
-    let r = since_ends m kind setup f.brought f.late u.from b u.begin u.stood f.comes f.since end id in
+    let r = since_ends m kind setup f.brought f.late u.from b u.begin u.stood f.comes f.since f.beside end id in
     record {
       begins = u.begins ++ u.begin ∷ [];
       begin = next;
@@ -363,16 +404,18 @@ underway_next m kind setup a b c d event u end id between stood next more so_far
       between = between;
       stood = stood;
       so_far = so_far;
+      links = so_far.beside.links ∙ between.links ∙ u.links;
+      alone = λ none. all_then (u.begins ++ u.begin ∷ []) next (u.alone none) (alone none);
     }
 
 -- the step ends, and what was said is taken from it
 pub underway_ends : {before now : Option Told} (m : Meaning) (kind : EngineKind) (setup : Setup) (a b c : Running) (event : Event) (outs : Outs) → Underway m kind setup a b event before now → MayEnd (moment_of b) → b.replica.raft.id ≡ b.replica.id →
-    a.mail ≡ no_mail → a.outs.replies.items ≡ [] → a.outs.reads.items ≡ [] → seen c ≡ seen b → outs.messages.items ≡ sent b.mail → outs.replies.items ≡ b.outs.replies.items → outs.reads.items ≡ b.outs.reads.items → StepsBy m kind setup a c event outs before now
-underway_ends m kind setup a b c event outs u end id quiet silent unread same messages replies reads =
+    a.mail ≡ no_mail → a.outs.replies.items ≡ [] → a.outs.reads.items ≡ [] → seen c ≡ seen b → outs.messages.items ≡ sent b.mail → outs.replies.items ≡ b.outs.replies.items → outs.reads.items ≡ b.outs.reads.items → c.has_links ≡ b.has_links → StepsBy m kind setup a c event outs before now
+underway_ends m kind setup a b c event outs u end id quiet silent unread same messages replies reads links =
     let f = u.so_far in
-    let r = since_ends m kind setup f.brought f.late u.from b u.begin u.stood f.comes f.since end id in
-    went_steps m kind setup a b c (u.begins ++ u.begin ∷ []) event outs quiet silent unread u.are (went_on m kind setup a u.mid u.from b u.begins u.begin r.0 u.went u.between r.1 r.2 r.3) same messages replies reads
+    let r = since_ends m kind setup f.brought f.late u.from b u.begin u.stood f.comes f.since f.beside end id in
+    went_steps m kind setup a b c (u.begins ++ u.begin ∷ []) event outs quiet silent unread u.are (went_on m kind setup a u.mid u.from b u.begins u.begin r.0 u.went u.between r.1 r.2 r.3) same messages replies reads (links ∙ u.links) u.alone
 
 -- the act under way was stopped
 pub underway_stops : {before now : Option Told} (m : Meaning) (kind : EngineKind) (setup : Setup) (a b : Running) (event : Event) (kept : Kept) (u : Underway m kind setup a b event before now) → Stopped m kind setup u.from u.begin kept → StopsBy m kind setup a event kept
-underway_stops m kind setup a b event kept u stopped = went_stops m kind setup a u.mid u.from u.begins u.begin event kept u.are u.went u.between stopped
+underway_stops m kind setup a b event kept u stopped = went_stops m kind setup a u.mid u.from u.begins u.begin event kept u.are u.went u.between stopped u.alone

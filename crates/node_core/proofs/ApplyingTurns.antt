@@ -1,9 +1,10 @@
 -- An entry that is applied, as a stretch of an act.
-use Rattle.std.proofs.Common.{◌≡◌, ◌≤◌, ◌<◌, ◌-◌, ℕ, suc, List, ◌++◌, Some, refl, ap, subst, ◌∙◌, arith}
+use Rattle.std.proofs.Common.{◌≡◌, ◌≤◌, ◌<◌, ◌-◌, ℕ, suc, List, ◌++◌, Some, refl, sym, ap, subst, ◌∙◌, arith}
 use Rattle.std.specs.List.{slice_get}
 use Rattle.std.specs.Prelude.{slice_index_or, length}
 use Rattle.std.proofs.lemmas.Option.{slice_get_read}
 use Rattle.raft_rules.specs.Log.{Entry}
+use Rattle.raft_member.specs.Members.{IsOf}
 use Rattle.page_apply.specs.Machines.{IsMachine}
 use Rattle.session_rules.specs.Machine.{machine_of}
 use Rattle.client_sessions.specs.Calls.{landed_at, told_at}
@@ -14,13 +15,14 @@ use Rattle.node_core.specs.declared.running.Running.{Running}
 use Rattle.node_core.specs.Applying.{TakesEntry, AppliesSo}
 use Rattle.node_core.specs.Values.{clients_in, waiting_on}
 use Rattle.node_core.specs.Account.{proposals_in}
+use Rattle.node_core.specs.Voters.{SettlesAt}
 use Rattle.node_core.specs.Whole.{IsGoing}
 
 pub applies_so : (old mid new : Running) → IsGoing old → old.applied.index < old.replica.raft.commit → IsMachine old.applied.machine → TakesEntry old mid → clients_in mid ≡ clients_in old
-    → mid ≡ record old { applied = mid.applied; members = mid.members; view = mid.view } → mid.view.serving ≡ old.view.serving → clients_in new ≡ landed_at mid.applied.index (clients_in mid)
+    → mid ≡ record old { applied = mid.applied; members = mid.members; view = mid.view } → mid.view.serving ≡ old.view.serving → SettlesAt old.members mid.members (suc old.applied.index) → clients_in new ≡ landed_at mid.applied.index (clients_in mid)
     → new.outs.replies.items ≡ mid.outs.replies.items ++ told_at mid.applied.index (clients_in mid) → new.outs.reads.items ≡ mid.outs.reads.items → machine_of new.applied.machine ≡ machine_of mid.applied.machine
     → new ≡ record mid { clients = new.clients; applied = record mid.applied { machine = new.applied.machine }; outs = new.outs } → IsMachine new.applied.machine → AppliesSo old new
-applies_so old mid new going more stood t same entered serving landed said unread files told machine =
+applies_so old mid new going more stood t same entered serving settled landed said unread files told machine =
     let index : mid.applied.index ≡ suc old.applied.index = ap (λ (a : Applied). a.index) t.applied in
     let land : clients_in new ≡ landed_at (suc old.applied.index) (clients_in old) =
     landed ∙ ap (λ (n : ℕ). landed_at n (clients_in mid)) index ∙ ap (λ (k : Clients). landed_at (suc old.applied.index) k) same in
@@ -51,6 +53,15 @@ applies_so old mid new going more stood t same entered serving landed said unrea
       outs = said ∙ ap (λ (n : Running). n.outs.replies.items ++ told_at mid.applied.index (clients_in mid)) entered
           ∙ ap (λ (n : ℕ). old.outs.replies.items ++ told_at n (clients_in mid)) index ∙ ap (λ (k : Clients). old.outs.replies.items ++ told_at (suc old.applied.index) k) same;
       reads = unread ∙ ap (λ (n : Running). n.outs.reads.items) entered;
+      beside = record {
+        voters = record {
+          raft = ap (λ (r : ReplicaValue). r.raft) replica;
+          applied = suc old.applied.index;
+          high = more;
+          settle = λ setup log of within. subst (IsOf setup log) (sym (ap (λ (n : Running). n.members) told)) (settled setup log of within);
+        };
+        links = ap (λ (n : Running). n.has_links) told ∙ ap (λ (n : Running). n.has_links) entered;
+      };
     }
 
 -- the entry behind the applied ones, as it is found by its index

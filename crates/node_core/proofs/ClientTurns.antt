@@ -30,12 +30,12 @@ use Rattle.node_rules.specs.Accounts.{Moment, Piece, no_piece, both, Goes, GoesO
 use Rattle.node_rules.specs.ClientTurns.{Stays, HangsUp, StayingGoes, HangingGoes, ResumingGoes}
 use Rattle.node_rules.specs.Turns.{KeepsRaft, HandlingGoes}
 use Rattle.node_core.specs.declared.running.Running.{Running}
-use Rattle.node_core.specs.Account.{proposals_in, moment_of, Item, Lived, Unread, lived, responses_in, Sends, Turns}
+use Rattle.node_core.specs.Account.{proposals_in, moment_of, Item, Lived, Unread, lived, responses_in, Sends}
 use Rattle.node_core.specs.Performing.{SaysNothing, gone_by, Performed, ReadsSo}
 use Rattle.node_core.specs.Acts.{messages_by, proposals_by, jobs_by}
 use Rattle.node_core.specs.Values.{clients_in}
 use Rattle.node_core.specs.Whole.{InOffice, IsGoing}
-use Rattle.node_core.proofs.Accounting.{heard_none}
+use Rattle.node_core.proofs.Accounting.{QuietTurns, heard_none}
 use Rattle.node_core.proofs.Bridges.{as_sent, Shows, Sees, took_handles, took_stays, ran_resumes, finished_reads, same_stays, hung_up_goes}
 
 -- ---- what is said
@@ -105,7 +105,7 @@ module _ (m : Meaning) (kind : EngineKind) (on : GoesOn m kind) (staying : Stayi
   -- what was decided, and then done
   pub decided_turns : (old mid new : Running) (before now : Option Told) (act : Act) (replies : List (ℕ × Reply)) (jobs : List (ℕ × Job)) (answers : List Answer) → Goes m kind setup old.replica.id bytes joins (moment_of old) (acting mid act) (decides replies jobs answers)
       → mid.replica ≡ old.replica → mid.due.items ≡ old.due.items → mid.outs ≡ old.outs → mid.mail ≡ old.mail → proposals_in old.due.items ≡ [] → Performed mid new act → Sends replies (messages_by act) → jobs_by act ≡ jobs → TellsAll answers before now
-      → Turns m kind setup bytes joins old new before now
+      → QuietTurns m kind setup bytes joins old new before now
   decided_turns old mid new before now act replies jobs answers goes replica due outs mail idle done sends lends heard =
       let rest : KeepsRaft (acting mid act) (moment_of new) = record {
         raft = ap (λ (r : ReplicaValue). r.raft) done.replica;
@@ -117,39 +117,44 @@ module _ (m : Meaning) (kind : EngineKind) (on : GoesOn m kind) (staying : Stayi
       } in
       let same : (moment_of new).due ≡ proposals_by act = done.due ∙ ap (λ (es : List RaftEvent). proposals_in es ++ proposals_by act) due ∙ ap (λ (l : List (List Entry)). l ++ proposals_by act) idle in
       let later = stays_or_hangs old.replica.id (acting mid act) (moment_of new)
-      (gone act (acting mid act) (moment_of new) (clients_in mid) (clients_in new) (record { sessions = refl; waiting = λ conn. refl }) (record { sessions = refl; waiting = λ conn. refl }) rest same done.clients) in
-      record {
-        piece = both (decides replies jobs answers) no_piece;
-        goes = on setup old.replica.id bytes joins (moment_of old) (acting mid act) (moment_of new) (decides replies jobs answers) no_piece goes later (inl refl);
-        says = record {
-          posted = [];
-          letters_are = refl;
-          mail = done.mail ∙ mail;
-          told = messages_by act;
-          outs = done.replies ∙ ap (λ o. o.replies.items ++ messages_by act) outs;
-          tells = subst (λ (rs : List (ℕ × Reply)). Sends rs (messages_by act)) (sym (append-nil replies)) sends;
-          reads = done.reads ∙ ap (λ o. o.reads.items ++ jobs_by act) outs ∙ ap (λ (js : List (ℕ × Job)). old.outs.reads.items ++ js) (lends ∙ sym (append-nil jobs));
-        };
-        heard = subst (λ (all : List Answer). TellsAll all before now) (sym (append-nil answers)) heard;
-        inputs = record { own = []; each = tt; is = refl };
-        asks = λ conn. refl;
-        sent = tt;
-        id = ap (λ (r : ReplicaValue). r.id) (done.replica ∙ replica);
-      }
+      (gone act (acting mid act) (moment_of new) (clients_in mid) (clients_in new) (record { sessions = refl; waiting = λ conn. refl }) (record { sessions = refl; waiting = λ conn. refl }) rest same done.clients) in (
+        record {
+          piece = both (decides replies jobs answers) no_piece;
+          goes = on setup old.replica.id bytes joins (moment_of old) (acting mid act) (moment_of new) (decides replies jobs answers) no_piece goes later (inl refl);
+          says = record {
+            posted = [];
+            letters_are = refl;
+            mail = done.mail ∙ mail;
+            told = messages_by act;
+            outs = done.replies ∙ ap (λ o. o.replies.items ++ messages_by act) outs;
+            tells = subst (λ (rs : List (ℕ × Reply)). Sends rs (messages_by act)) (sym (append-nil replies)) sends;
+            reads = done.reads ∙ ap (λ o. o.reads.items ++ jobs_by act) outs ∙ ap (λ (js : List (ℕ × Job)). old.outs.reads.items ++ js) (lends ∙ sym (append-nil jobs));
+          };
+          heard = subst (λ (all : List Answer). TellsAll all before now) (sym (append-nil answers)) heard;
+          inputs = record { own = []; each = tt; is = refl };
+          asks = λ conn. refl;
+          sent = tt;
+          id = ap (λ (r : ReplicaValue). r.id) (done.replica ∙ replica);
+        },
+        refl,
+      )
 
   -- ---- nothing was decided
 
-  stays_turns : {told : Option Told} (old new : Running) → new.replica ≡ old.replica → Stays (moment_of old) (moment_of new) → SaysNothing old new → Turns m kind setup bytes joins old new told told
-  stays_turns old new replica s quiet = record {
-    piece = no_piece;
-    goes = staying setup old.replica.id bytes joins (moment_of old) (moment_of new) s;
-    says = record { posted = []; letters_are = refl; mail = quiet.mail; told = []; outs = quiet.replies ∙ sym (append-nil old.outs.replies.items); tells = record { items = []; lives = refl; sends = refl }; reads = quiet.reads ∙ sym (append-nil old.outs.reads.items) };
-    heard = heard_none _;
-    inputs = record { own = []; each = tt; is = refl };
-    asks = λ conn. refl;
-    sent = tt;
-    id = ap (λ (r : ReplicaValue). r.id) replica;
-  }
+  stays_turns : {told : Option Told} (old new : Running) → new.replica ≡ old.replica → Stays (moment_of old) (moment_of new) → SaysNothing old new → QuietTurns m kind setup bytes joins old new told told
+  stays_turns old new replica s quiet = (
+    record {
+      piece = no_piece;
+      goes = staying setup old.replica.id bytes joins (moment_of old) (moment_of new) s;
+      says = record { posted = []; letters_are = refl; mail = quiet.mail; told = []; outs = quiet.replies ∙ sym (append-nil old.outs.replies.items); tells = record { items = []; lives = refl; sends = refl }; reads = quiet.reads ∙ sym (append-nil old.outs.reads.items) };
+      heard = heard_none _;
+      inputs = record { own = []; each = tt; is = refl };
+      asks = λ conn. refl;
+      sent = tt;
+      id = ap (λ (r : ReplicaValue). r.id) replica;
+    },
+    refl,
+  )
 
   -- the clients have changed, and the databases' marks with them
   abbrev Moved : Running → Running → Type 0
@@ -160,18 +165,24 @@ module _ (m : Meaning) (kind : EngineKind) (on : GoesOn m kind) (staying : Stayi
       keeps_raft old mid (ap (λ (n : Running). n.replica) is) (ap (λ (n : Running). n.applied.index) is) (ap (λ (n : Running). n.view.serving) is) machine files
 
   pub same_turns : {told : Option Told} (old new : Running) → Moved old new → IsMachine new.applied.machine → machine_of new.applied.machine ≡ machine_of old.applied.machine
-      → (clients_in new).sessions ≡ (clients_in old).sessions → ((conn : ℕ) → (clients_in new).streams conn ≡ (clients_in old).streams conn) → Turns m kind setup bytes joins old new told told
+      → (clients_in new).sessions ≡ (clients_in old).sessions → ((conn : ℕ) → (clients_in new).streams conn ≡ (clients_in old).streams conn) → QuietTurns m kind setup bytes joins old new told told
   same_turns old new is machine files sessions streams =
       stays_turns old new (ap (λ (n : Running). n.replica) is)
       (same_stays (moment_of old) (moment_of new) (clients_in old) (clients_in new) (record { sessions = refl; waiting = λ conn. refl }) (record { sessions = refl; waiting = λ conn. refl }) (moved_keeps old new is machine files)
       (ap (λ (n : Running). proposals_in n.due.items) is) sessions streams)
-      (record { mail = ap (λ (n : Running). n.mail) is; replies = ap (λ (n : Running). n.outs.replies.items) is; reads = ap (λ (n : Running). n.outs.reads.items) is })
+      (record {
+        mail = ap (λ (n : Running). n.mail) is;
+        replies = ap (λ (n : Running). n.outs.replies.items) is;
+        reads = ap (λ (n : Running). n.outs.reads.items) is;
+        members = ap (λ (n : Running). n.members) is;
+        links = ap (λ (n : Running). n.has_links) is;
+      })
 
   pub idle_turns_on : (old new : Running) (before now : Option Told) → Moved old new → IsMachine new.applied.machine → machine_of new.applied.machine ≡ machine_of old.applied.machine → (refused refused_now : ℕ) (result : Option Act)
-      → TookTurn (call_of m kind before now) old.view (machine_of old.applied.machine) (clients_in old) refused refused_now (clients_in new) result → result ≡ None → Turns m kind setup bytes joins old new before now
+      → TookTurn (call_of m kind before now) old.view (machine_of old.applied.machine) (clients_in old) refused refused_now (clients_in new) result → result ≡ None → QuietTurns m kind setup bytes joins old new before now
   idle_turns_on old new before now is machine files refused refused_now result t e =
       let idle : WasIdle (clients_in old) before now (clients_in new) = subst (λ (r : Option Act). TookTurn (call_of m kind before now) old.view (machine_of old.applied.machine) (clients_in old) refused refused_now (clients_in new) r) e t in
-      subst (λ (t : Option Told). Turns m kind setup bytes joins old new before t) (sym idle.untold)
+      subst (λ (t : Option Told). QuietTurns m kind setup bytes joins old new before t) (sym idle.untold)
       (same_turns old new is machine files (ap (λ (k : Clients). k.sessions) idle.rest) (λ conn. ap (λ (k : Clients). k.streams conn) idle.rest))
 
   -- ---- a client's message
@@ -212,15 +223,15 @@ module _ (m : Meaning) (kind : EngineKind) (on : GoesOn m kind) (staying : Stayi
           subst (λ (t : Option Told). TellsAll [] before t) (sym s.2) (heard_none before),
         )
 
-    decided : (new : Running) → Decided → Performed mid new act → Turns m kind setup bytes joins old new before now
+    decided : (new : Running) → Decided → Performed mid new act → QuietTurns m kind setup bytes joins old new before now
     decided new d done =
         decided_turns old mid new before now act d.0 d.1 d.2 d.3 (ap (λ (n : Running). n.replica) is) (ap (λ (n : Running). n.due.items) is) (ap (λ (n : Running). n.outs) is) (ap (λ (n : Running). n.mail) is) none_due done d.4 d.5 d.6
 
-    took_given : (new : Running) → TookOffer (call_of m kind before now) old.view (machine_of old.applied.machine) (clients_in old) refused refused_now (clients_in mid) act → Performed mid new act → Turns m kind setup bytes joins old new before now
+    took_given : (new : Running) → TookOffer (call_of m kind before now) old.view (machine_of old.applied.machine) (clients_in old) refused refused_now (clients_in mid) act → Performed mid new act → QuietTurns m kind setup bytes joins old new before now
     took_given new x done = decided new (took_decided x (request_of x.offer.message) refl) done
 
     pub took_turns_on : (new : Running) (result : Option Act) → TookTurn (call_of m kind before now) old.view (machine_of old.applied.machine) (clients_in old) refused refused_now (clients_in mid) result → result ≡ Some act → Performed mid new act
-        → Turns m kind setup bytes joins old new before now
+        → QuietTurns m kind setup bytes joins old new before now
     took_turns_on new result t e done =
         took_given new (subst (λ (r : Option Act). TookTurn (call_of m kind before now) old.view (machine_of old.applied.machine) (clients_in old) refused refused_now (clients_in mid) r) e t) done
 
@@ -234,26 +245,26 @@ module _ (m : Meaning) (kind : EngineKind) (on : GoesOn m kind) (staying : Stayi
         (h.0, [], h.1.answers, resuming setup old.replica.id bytes joins (moment_of old) (acting mid act) conn h.0 h.1, sends_so h.0 (messages_by act) h.2, h.3, h.4)
 
     by_query : (new : Running) (conn : ℕ) (query : Option Statement) → later_query ((clients_in old).sessions.session conn).later ≡ query → ((other : ℕ) → (clients_in mid).streams other ≡ (clients_in old).streams other)
-        → ResumesBy (call_of m kind before now) (scene old.view (machine_of old.applied.machine) (clients_in old).sessions conn) query refused refused_now (clients_in mid).sessions (Some act) → Performed mid new act → Turns m kind setup bytes joins old new before now
+        → ResumesBy (call_of m kind before now) (scene old.view (machine_of old.applied.machine) (clients_in old).sessions conn) query refused refused_now (clients_in mid).sessions (Some act) → Performed mid new act → QuietTurns m kind setup bytes joins old new before now
     by_query new conn None later streams r done = absurd r
     by_query new conn (Some statement) later streams r done = decided new (ran_decided conn statement streams later r) done
 
     pub ran_turns_on : (new : Running) (conn : ℕ) (result : Option Act) → ResumesBy (call_of m kind before now) (scene old.view (machine_of old.applied.machine) (clients_in old).sessions conn) (later_query ((clients_in old).sessions.session conn).later) refused refused_now (clients_in mid).sessions result
-        → clients_in mid ≡ freed (clients_in old) (clients_in mid).sessions (turn_for conn result) → result ≡ Some act → Performed mid new act → Turns m kind setup bytes joins old new before now
+        → clients_in mid ≡ freed (clients_in old) (clients_in mid).sessions (turn_for conn result) → result ≡ Some act → Performed mid new act → QuietTurns m kind setup bytes joins old new before now
     ran_turns_on new conn result r rest e done =
         by_query new conn (later_query ((clients_in old).sessions.session conn).later) refl (λ other. ap (λ (k : Clients). k.streams other) rest)
         (subst (λ (x : Option Act). ResumesBy (call_of m kind before now) (scene old.view (machine_of old.applied.machine) (clients_in old).sessions conn) (later_query ((clients_in old).sessions.session conn).later) refused refused_now (clients_in mid).sessions x) e r) done
 
   none_by : (old new : Running) (conn : ℕ) (query : Option Statement) (before now : Option Told) (refused refused_now : ℕ) → Moved old new → IsMachine new.applied.machine → machine_of new.applied.machine ≡ machine_of old.applied.machine
       → ResumesBy (call_of m kind before now) (scene old.view (machine_of old.applied.machine) (clients_in old).sessions conn) query refused refused_now (clients_in new).sessions None
-      → clients_in new ≡ freed (clients_in old) (clients_in new).sessions (turn_for conn None) → Turns m kind setup bytes joins old new before now
+      → clients_in new ≡ freed (clients_in old) (clients_in new).sessions (turn_for conn None) → QuietTurns m kind setup bytes joins old new before now
   none_by old new conn None before now refused refused_now is machine files r rest =
-      subst (λ (t : Option Told). Turns m kind setup bytes joins old new before t) r.1 (same_turns old new is machine files r.0 (λ other. ap (λ (k : Clients). k.streams other) rest))
+      subst (λ (t : Option Told). QuietTurns m kind setup bytes joins old new before t) r.1 (same_turns old new is machine files r.0 (λ other. ap (λ (k : Clients). k.streams other) rest))
   none_by old new conn (Some statement) before now refused refused_now is machine files r rest = absurd r
 
   pub none_turns_on : (old new : Running) (conn : ℕ) (before now : Option Told) (refused refused_now : ℕ) → Moved old new → IsMachine new.applied.machine → machine_of new.applied.machine ≡ machine_of old.applied.machine
       → (result : Option Act) → ResumesBy (call_of m kind before now) (scene old.view (machine_of old.applied.machine) (clients_in old).sessions conn) (later_query ((clients_in old).sessions.session conn).later) refused refused_now (clients_in new).sessions result
-      → clients_in new ≡ freed (clients_in old) (clients_in new).sessions (turn_for conn result) → result ≡ None → Turns m kind setup bytes joins old new before now
+      → clients_in new ≡ freed (clients_in old) (clients_in new).sessions (turn_for conn result) → result ≡ None → QuietTurns m kind setup bytes joins old new before now
   none_turns_on old new conn before now refused refused_now is machine files result r rest e =
       none_by old new conn (later_query ((clients_in old).sessions.session conn).later) before now refused refused_now is machine files
       (subst (λ (x : Option Act). ResumesBy (call_of m kind before now) (scene old.view (machine_of old.applied.machine) (clients_in old).sessions conn) (later_query ((clients_in old).sessions.session conn).later) refused refused_now (clients_in new).sessions x) e r)
@@ -282,7 +293,13 @@ module _ (old mid new : Running) (conn : ℕ) (is : mid ≡ record old { clients
   reads_nothing told act f rest none =
       inl (
         told_nothing (none_told (lent_query ((clients_in old).sessions.session conn).later) told act f none) (λ other. ap (λ (k : Clients). k.streams other) rest),
-        record { mail = ap (λ (n : Running). n.mail) is; replies = ap (λ (n : Running). n.outs.replies.items) is; reads = ap (λ (n : Running). n.outs.reads.items) is },
+        record {
+          mail = ap (λ (n : Running). n.mail) is;
+          replies = ap (λ (n : Running). n.outs.replies.items) is;
+          reads = ap (λ (n : Running). n.outs.reads.items) is;
+          members = ap (λ (n : Running). n.members) is;
+          links = ap (λ (n : Running). n.has_links) is;
+        },
       )
 
   -- a reply was told
@@ -316,6 +333,7 @@ module _ (old mid new : Running) (conn : ℕ) (is : mid ≡ record old { clients
               tells = sends_so ((conn, reply) ∷ []) (messages_by act) (h.1 act some).0;
               reads = done.reads ∙ ap (λ (n : Running). n.outs.reads.items ++ jobs_by act) is ∙ ap (λ (js : List (ℕ × Job)). old.outs.reads.items ++ js) (h.1 act some).1;
             },
+            record { members = done.members ∙ ap (λ (n : Running). n.members) is; links = done.links ∙ ap (λ (n : Running). n.has_links) is },
           ),
         ),
       )
@@ -328,14 +346,17 @@ module _ (old mid new : Running) (conn : ℕ) (is : mid ≡ record old { clients
   reads_reply told result act f rest some done = told_by (lent_query ((clients_in old).sessions.session conn).later) told result act refl f rest some done
 
 -- nothing happened
-pub nothing_turns : {told : Option Told} (m : Meaning) (kind : EngineKind) → NothingGoes m kind → (setup : Setup) (bytes : List ℕ) (joins : Option ℕ) (n : Running) → Turns m kind setup bytes joins n n told told
-nothing_turns m kind nothing setup bytes joins n = record {
-  piece = no_piece;
-  goes = nothing setup n.replica.id bytes joins (moment_of n);
-  inputs = record { own = []; each = tt; is = refl };
-  asks = λ conn. refl;
-  says = record { posted = []; letters_are = refl; mail = refl; told = []; outs = sym (append-nil n.outs.replies.items); tells = record { items = []; lives = refl; sends = refl }; reads = sym (append-nil n.outs.reads.items) };
-  heard = heard_none _;
-  sent = tt;
-  id = refl;
-}
+pub nothing_turns : {told : Option Told} (m : Meaning) (kind : EngineKind) → NothingGoes m kind → (setup : Setup) (bytes : List ℕ) (joins : Option ℕ) (n : Running) → QuietTurns m kind setup bytes joins n n told told
+nothing_turns m kind nothing setup bytes joins n = (
+  record {
+    piece = no_piece;
+    goes = nothing setup n.replica.id bytes joins (moment_of n);
+    inputs = record { own = []; each = tt; is = refl };
+    asks = λ conn. refl;
+    says = record { posted = []; letters_are = refl; mail = refl; told = []; outs = sym (append-nil n.outs.replies.items); tells = record { items = []; lives = refl; sends = refl }; reads = sym (append-nil n.outs.reads.items) };
+    heard = heard_none _;
+    sent = tt;
+    id = refl;
+  },
+  refl,
+)

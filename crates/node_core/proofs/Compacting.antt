@@ -1,5 +1,5 @@
 -- An own snapshot, as the account has it.
-use Rattle.std.proofs.Common.{◌≡◌, ℕ, ◌+◌, ◌<◌, ◌≤◌, arith, Bool, true, List, [], ◌∷◌, length, refl, sym, ap, subst, ◌∙◌, append-nil}
+use Rattle.std.proofs.Common.{◌≡◌, ℕ, ◌+◌, ◌<◌, ◌≤◌, arith, Bool, true, List, [], refl, sym, ap, subst, ◌∙◌, append-nil}
 use Rattle.std.specs.Prelude.{map, Option, Some, None}
 use Rattle.page_apply.specs.Machines.{IsMachine}
 use Rattle.session_rules.specs.Sessions.{View}
@@ -19,11 +19,12 @@ use Rattle.node_replica.specs.Letters.{Tells}
 use Rattle.node_replica.specs.Mails.{MailValue, all_posted}
 use Rattle.node_replica.specs.Replicas.{ReplicaValue, IsWhole, stepped, said, snapped, own_snap}
 use Rattle.node_rules.specs.RaftTurns.{HasEnded, SpellsApplied}
+use Rattle.node_rules.proofs.VoterTurns.{compact_tells}
 use Rattle.node_core.specs.declared.running.Running.{Running}
 use Rattle.node_core.specs.Account.{proposals_in, moment_of, letter_of, KnowsServers}
 use Rattle.node_core.specs.Posting.{Posts}
 use Rattle.node_core.specs.Taking.{CompactsSo}
-use Rattle.node_core.specs.Values.{clients_in}
+use Rattle.node_core.specs.Values.{seen, clients_in}
 use Rattle.node_core.specs.Whole.{LeadsInOffice, ServesLast, IsFree, IsLed}
 use Rattle.node_core.proofs.Accounting.{sends_none}
 use Rattle.node_core.proofs.Posting.{posts_so, posts_on}
@@ -72,6 +73,7 @@ compacts_at opening old r mail v bytes messages was past made whole snap tells p
       says = record { posted = q.posted; letters_are = refl; mail = q.mail; told = []; outs = sym (append-nil old.outs.replies.items); tells = sends_none; reads = sym (append-nil old.outs.reads.items) };
       sent = q.sent;
       id = q.id;
+      beside = record { voters = compact_tells opening old.replica.id [] (seen old) (seen new) old.applied.index (record { made = q.steps.made; members = refl }); links = refl };
     }
 
 pub compacts_so : (opening : List Server) (old new : Running) (r : ReplicaValue) (mail : MailValue) (bytes : List ℕ) (messages : List RaftMessage) → IsWhole old.replica → old.replica.raft.snapshot.index < old.applied.index →

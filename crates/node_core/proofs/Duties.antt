@@ -1,6 +1,6 @@
 -- What a leader does behind an entry, as a stretch of an act.
-use Rattle.std.proofs.Common.{◌≡◌, ◌≢◌, ◌<◌, ◌≤◌, ◌⊎◌, inl, inr, ⊎_elim, ℕ, ◌+◌, Bool, true, false, true≢false, cond, List, [], ◌∷◌, ◌++◌, length, take, get_or, Option, Some, None, refl, sym, ap, subst, ◌∙◌}
-use Rattle.std.specs.Prelude.{◌==◌, ◌||◌, bytes_eq, map, is_none, is_some}
+use Rattle.std.proofs.Common.{◌≡◌, ◌<◌, ◌≤◌, inl, inr, ⊎_elim, ℕ, ◌+◌, Bool, true, false, true≢false, cond, List, [], ◌∷◌, ◌++◌, length, take, get_or, Option, Some, None, refl, sym, ap, subst, ◌∙◌}
+use Rattle.std.specs.Prelude.{◌==◌, ◌||◌, bytes_eq, is_some}
 use Rattle.std.specs.List.{AllByRecursion}
 use Rattle.std.proofs.lemmas.Bool.{cond_both, cases_Bool}
 use Rattle.std.proofs.lemmas.List.{take_all, take_more}
@@ -17,7 +17,7 @@ use Rattle.session_world.specs.Life.{ArePlain}
 use Rattle.session_world.specs.Logs.{with_undo, undos_for, undos}
 use Rattle.raft_rules.specs.Log.{Entry}
 use Rattle.raft_rules.specs.Node.{is_leader}
-use Rattle.raft_rules.specs.NodeValues.{NodeValue, node_of}
+use Rattle.raft_rules.specs.NodeValues.{node_of}
 use Rattle.raft_core.specs.declared.event.RaftEvent.TheVariants.{Propose}
 use Rattle.client_sessions.specs.declared.clients.Clients.{Clients as Held}
 use Rattle.client_sessions.specs.Clients.{Clients}
@@ -28,7 +28,7 @@ use Rattle.node_state.specs.declared.effect.Effect.TheVariants as effect
 use Rattle.node_state.specs.declared.office.Office.{Office}
 use Rattle.node_state.specs.declared.office.Phase.{Phase}
 use Rattle.node_state.specs.declared.office.Phase.TheVariants.{Barrier, Undos, Serving}
-use Rattle.node_state.specs.Office.{owed, phase_after, past_barrier, office_after, checkpoint_behind, serves}
+use Rattle.node_state.specs.Office.{owed, phase_after, office_after, checkpoint_behind, serves}
 use Rattle.node_replica.specs.Replicas.{ReplicaValue, kept_of}
 use Rattle.node_core.specs.declared.running.Running.{Running}
 use Rattle.node_core.specs.Account.{proposals_in, moment_of}

@@ -1,15 +1,15 @@
 -- The turn in which a snapshot came, as the account has it.
-use Rattle.std.proofs.Common.{◌≡◌, ◌⊎◌, inl, inr, ℕ, ◌≤◌, ◌<◌, Bool, true, false, true≢false, List, [], ◌∷◌, ◌++◌, length, refl, sym, ap, subst, ◌∙◌, append_assoc, arith}
-use Rattle.std.specs.Prelude.{◌≢◌, Option, Some, None, nat_lt}
+use Rattle.std.proofs.Common.{◌≡◌, ◌⊎◌, inl, inr, ℕ, ◌≤◌, ◌<◌, Bool, true, false, true≢false, List, [], ◌∷◌, ◌++◌, refl, sym, ap, subst, ◌∙◌, append_assoc}
+use Rattle.std.specs.Prelude.{◌≢◌, Option, Some, None}
 use Rattle.std.proofs.lemmas.Bool.{ltb-true}
 use Rattle.page_apply.specs.Machines.{IsMachine}
 use Rattle.session_rules.specs.Events.{on_lost, told_lost}
 use Rattle.session_rules.specs.Machine.{files}
 use Rattle.session_rules.specs.Seen.{log_seen}
-use Rattle.session_rules.specs.Sessions.{Reply, Gateway}
-use Rattle.raft_rules.specs.Log.{Entry, LogEnd}
+use Rattle.session_rules.specs.Sessions.{Reply}
+use Rattle.raft_rules.specs.Log.{LogEnd}
 use Rattle.raft_rules.specs.Node as raft
-use Rattle.raft_rules.specs.Node.{Server, is_leader}
+use Rattle.raft_rules.specs.Node.{Server, Follower, is_leader}
 use Rattle.raft_rules.specs.NodeValues.{NodeValue, node_of}
 use Rattle.raft_vote.specs.declared.message.RaftMessage.{RaftMessage}
 use Rattle.raft_vote.specs.declared.message.Snapshot.{Snapshot}
@@ -40,9 +40,10 @@ use Rattle.node_rules.proofs.EndedSessions.{ends_on_holds}
 use Rattle.node_core.specs.declared.running.Running.{Running}
 use Rattle.node_core.specs.Account as account
 use Rattle.node_core.specs.Account.{proposals_in, moment_of, Fresh}
-use Rattle.node_core.specs.Posting.{Posts, ToldOr, LosesSo, OfficeSo, InstallsSo, InstallsOn}
+use Rattle.node_core.specs.Posting.{Posts, ToldOr, told_inputs, LosesSo, OfficeSo, InstallsSo, InstallsOn}
 use Rattle.node_core.specs.Stepping.{Brings, HasStepped, HasTold, KeepsRest}
 use Rattle.node_core.specs.Values.{clients_in, waiting_on}
+use Rattle.node_core.specs.Voters.{Beside}
 use Rattle.node_core.specs.Whole.{InOffice, LeadsInOffice, ServesLast, IsFree, IsLed, IsGoing}
 use Rattle.node_core.proofs.Accounting.{sends_join}
 use Rattle.node_core.proofs.ClientTurns.{sends_so}
@@ -104,11 +105,11 @@ bytes_of_offer : (event : RaftEvent) (r : ReplicaValue) (a : Applied) (b : Bring
 bytes_of_offer event r a b =
     ap (λ (e : RaftEvent). replicas.bytes_in (offered e)) b.event_is ∙ ap (λ (w : What). replicas.bytes_in (offered (events.Message (record b.message { what = w })))) b.what_is ∙ sym (ap account.bytes_in b.what_is)
 
-comes_not_to_leader : (old step : Running) (event : RaftEvent) (a : Applied) → IsGoing old → Brings old.replica event a → node_of step.replica.raft ≡ stepped old.replica event → is_leader step.replica.raft.role ≡ false
-comes_not_to_leader old step event a g b node =
+pub follows_behind_snapshot : (old step : Running) (event : RaftEvent) (a : Applied) → IsGoing old → Brings old.replica event a → node_of step.replica.raft ≡ stepped old.replica event → step.replica.raft.role ≡ Follower
+follows_behind_snapshot old step event a g b node =
     let h = old.replica.raft in
     let low : h.snapshot.index ≤ h.commit = g.holds.replica.coherent.applied in
-    ap (λ (s : raft.Node). is_leader s.role) node ∙ ap (λ (e : RaftEvent). is_leader (stepped old.replica e).role) b.event_is
+    ap (λ (s : raft.Node). s.role) node ∙ ap (λ (e : RaftEvent). (stepped old.replica e).role) b.event_is
     ∙ comes_to_none h.id (node_of h) (message_value b.message) low (ltb-true _ _ b.puts)
 
 pub brings_intake : (r : ReplicaValue) (event : RaftEvent) (a : Applied) → Brings r event a → IsIntake event
@@ -165,9 +166,10 @@ installs_so opening old step lost placed event batch a g led idle b s posts offi
     index : placed.replica.raft.snapshot.index ≡ a.index
     index = ap (λ (r : ReplicaValue). r.raft.snapshot.index) placed_replica ∙ ap (λ (l : LogEnd). l.index) s.whole.snap ∙ ap (λ (x : Snap). x.index) s.snap ∙ brought old.replica event a b
 
-pub installs_on : (opening : List Server) (old placed last new : Running) (event : RaftEvent) (a : Applied) (b : Brings old.replica event a) → InstallsSo (read_setup opening) old placed (account.bytes_in b.message.what) (message_value b.message) → ToldOr placed last →
-    new ≡ record last { view = new.view } → new.view.serving ≡ last.view.serving → InstallsOn (read_setup opening) old new event
-installs_on opening old placed last new event a b i tells is same = record {
+pub installs_on : (opening : List Server) (old placed last new : Running) (event : RaftEvent) (a : Applied) (b : Brings old.replica event a) → InstallsSo (read_setup opening) old placed (account.bytes_in b.message.what) (message_value b.message) → (tells : ToldOr placed last) →
+    Beside (read_setup opening) old last (account.bytes_in b.message.what) (raft.Receive (message_value b.message) ∷ told_inputs tells) → new ≡ record last { view = new.view } → new.view.serving ≡ last.view.serving → InstallsOn (read_setup opening) old new event
+installs_on opening old placed last new event a b i tells beside is same = record {
+  beside = beside;
   message = b.message;
   event_is = b.event_is;
   mid = placed;
@@ -190,7 +192,7 @@ pub installed_led : (old step lost placed last new : Running) (event : RaftEvent
     HasTold placed last → ToldOr placed last → new ≡ record last { view = new.view } → new.view.serving ≡ last.view.serving → IsLed new
 installed_led old step lost placed last new event batch a g idle b s serves ends rest replica office is clients t tells new_is same = record {
   leads = leads_not new.office new.replica.raft (ap (λ (n : Running). is_leader n.replica.raft.role) new_is ∙ (told_same placed last tells).leads ∙ ap (λ (n : Running). is_leader n.replica.raft.role) is ∙ ap (λ (r : ReplicaValue). is_leader r.raft.role) replica
-      ∙ comes_not_to_leader old step event a g b s.node);
+      ∙ ap is_leader (follows_behind_snapshot old step event a g b s.node));
   serves = subst (λ (o : Option Held). ServesLast o new.view.serving) (sym (behind ∙ office.0)) (subst (ServesLast step.office) (sym serving) serves);
   free = free_lost new.office step new
       (ap (λ (n : Running). (clients_in n).sessions) new_is ∙ ap (λ (n : Running). (clients_in n).sessions) t.is ∙ ap (λ (k : Clients). k.sessions) clients ∙ lost_sessions (clients_in step) (clients_in lost) ends.clients)

@@ -1,6 +1,5 @@
 -- What holds of the office between two turns, turn by turn.
-use Rattle.std.proofs.Common.{◌≡◌, ◌⊎◌, inl, inr, ⊎_elim, ℕ, Bool, true, false, true≢false, cond, List, [], ◌++◌, Option, Some, None, Result, Ok, Err, refl, sym, ap, subst, ◌∙◌}
-use Rattle.std.specs.List.{filter}
+use Rattle.std.proofs.Common.{◌≡◌, inl, inr, ⊎_elim, ℕ, Bool, true, false, true≢false, List, [], ◌++◌, Option, Some, None, Result, Ok, Err, refl, sym, ap, subst, ◌∙◌}
 use Rattle.std.proofs.lemmas.Bool.{cond_both, cond-true, cond-false}
 use Rattle.wire_msgs.specs.declared.fault.MsgFault.{MsgFault}
 use Rattle.wire_msgs.specs.declared.request.Request.{Request}
@@ -11,7 +10,7 @@ use Rattle.sql_engine.specs.Replies.{Statement}
 use Rattle.page_apply.specs.Machines.{IsMachine}
 use Rattle.session_rules.specs.Asking.{Asked, Never, Tells, Sets, Opens, Creates, Prepares, Drops, Begins, Commits, RollsBack, Changes, Runs, Reads as ReadsRows, asked}
 use Rattle.session_rules.specs.Engines.{Answer}
-use Rattle.session_rules.specs.Events.{tidy, still_lent, lost, on_lost, on_hangup, connects, connected}
+use Rattle.session_rules.specs.Events.{tidy, still_lent, lost, on_lost, connects, connected}
 use Rattle.session_rules.specs.Machine.{Machine, machine_of}
 use Rattle.session_rules.specs.Requests.{with_tx, with_flight, with_later, with_statements, with_session, without_later, affected_by, does, on_request, on_later, run_in}
 use Rattle.session_rules.specs.Causes.{NotLeader}
@@ -23,7 +22,7 @@ use Rattle.raft_rules.specs.NodeValues.{NodeValue}
 use Rattle.client_sessions.specs.declared.act.Act.{Act}
 use Rattle.client_sessions.specs.Calls.{TookOffer, WasIdle, TookTurn, call_of, scene}
 use Rattle.client_sessions.specs.Clients.{Clients, freed}
-use Rattle.client_sessions.specs.Later.{RanLater, turn_for, Resumes as ResumesBy}
+use Rattle.client_sessions.specs.Later.{turn_for, Resumes as ResumesBy}
 use Rattle.node_state.specs.declared.office.Office.{Office}
 use Rattle.node_replica.specs.Replicas.{ReplicaValue, kept_of}
 use Rattle.node_rules.specs.Accounts.{Moment}
@@ -37,7 +36,7 @@ use Rattle.node_core.specs.Acts.{proposals_by}
 use Rattle.node_core.specs.Performing.{Performed, ComesOr, GoesOr, ClosesSo, HearsSo, ReadsSo}
 use Rattle.node_core.specs.Values.{clients_in}
 use Rattle.node_core.specs.Whole.{InOffice, LeadsInOffice, ServesLast, IsFree, IsGoing, IsLed}
-use Rattle.node_core.proofs.Bridges.{took_handles, took_stays, ran_resumes, same_stays}
+use Rattle.node_core.proofs.Bridges.{took_handles, took_stays, ran_resumes}
 use Rattle.node_core.proofs.ClientTurns.{serving_leads, sees_itself, gone, acting}
 
 -- ---- a node that doesn't serve

@@ -11,6 +11,7 @@ mod Installing
 mod Bridges
 mod ClientTurns
 mod Performing
+mod Besides
 mod Accounting
 mod ClientMoves
 mod ApplyingTurns
@@ -27,6 +28,8 @@ mod Looping
 mod RaftAccounts
 mod Stepped
 mod OwnTurns
+mod Followed
+mod OneChange
 mod Installed
 mod AlikeLists
 mod Compacting

@@ -1,40 +1,39 @@
 -- Turns of a step join, and lead a step that is under way to its end.
-use Rattle.std.proofs.Common.{◌≡◌, ◌⊎◌, inl, inr, ⊎_elim, ℕ, Bool, true, false, List, [], ◌∷◌, ◌++◌, Option, Some, None, Result, Ok, Err, refl, sym, ap, subst, ◌∙◌, append-nil}
+use Rattle.std.proofs.Common.{◌≡◌, inl, inr, ℕ, Bool, true, false, true≢false, List, [], ◌∷◌, ◌++◌, Option, Some, None, Result, Ok, Err, refl, sym, ap, subst, ◌∙◌, append-nil}
 use Rattle.std.specs.Prelude.{OnOk, IfOk}
 use Rattle.wire_msgs.specs.declared.request.Request.{Request}
 use Rattle.sql_engine.specs.declared.kind.EngineKind.{EngineKind}
 use Rattle.sql_engine.specs.Meanings.{Meaning, Told}
 use Rattle.client_connection.specs.Connection.{Conn}
-use Rattle.session_rules.specs.Entries.{Content}
 use Rattle.session_rules.specs.Events.{told_applied}
 use Rattle.session_rules.specs.Sessions.{Gateway, is_due}
 use Rattle.raft_rules.specs.Node.{is_leader}
-use Rattle.raft_vote.specs.declared.message.RaftMessage.{RaftMessage}
 use Rattle.raft_core.specs.declared.event.RaftEvent.TheVariants as raft_events
 use Rattle.raft_world.specs.Members.{Setup}
 use Rattle.client_sessions.specs.Calls.{told_at}
-use Rattle.client_sessions.specs.Clients.{Clients, offered_on}
+use Rattle.client_sessions.specs.Clients.{offered_on}
 use Rattle.store_laws.specs.Store.{Kept}
 use Rattle.node_replica.specs.Mails.{sent}
 use Rattle.node_replica.specs.Replicas.{ReplicaValue, kept_of}
 use Rattle.node_rules.specs.Accounts.{Moment, no_piece, both, Goes, MayEnd}
-use Rattle.node_rules.specs.ClientTurns.{Stays, HangsUp, Serves}
+use Rattle.node_rules.specs.ClientTurns.{Stays}
 use Rattle.node_rules.specs.RaftTurns.{SnapshotGoes}
-use Rattle.node_rules.specs.Turns.{Owes}
 use Rattle.node_rules.proofs.Stretches.{nothing_goes_holds, goes_on_holds, sent_on_holds}
 use Rattle.node_core.specs.declared.event.Event.{Event}
 use Rattle.node_core.specs.declared.outs.Outs.{Outs}
 use Rattle.node_core.specs.declared.running.Running.{Running}
-use Rattle.node_core.specs.Account.{proposals_in, moment_of, Turns, Comes, Compacts, AtRest, Fresh, Underway, StepsBy}
+use Rattle.node_core.specs.Account.{proposals_in, moment_of, Comes, Compacts, AtRest, Fresh, Underway, StepsBy}
 use Rattle.node_core.specs.Applying.{AppliesSo}
 use Rattle.node_core.specs.Duties.{DutySo}
 use Rattle.node_core.specs.Performing.{SaysNothing, GoesOr, ClosesSo}
 use Rattle.node_core.specs.Posting.{HadNone}
-use Rattle.node_core.specs.Taking.{TurnsOn, BeganBy, TookLetter, came, none_came, CompactsSo}
+use Rattle.node_core.specs.Taking.{TurnsOn, TookLetter, came, none_came, CompactsSo}
 use Rattle.node_core.specs.Values.{seen, clients_in, waiting_on}
 use Rattle.node_core.specs.Waiting.{is_among, NoneIsDue}
 use Rattle.node_core.specs.Whole.{IsGoing, IsQuiet}
-use Rattle.node_core.proofs.Accounting.{says_none, says_join, heard_none, heard_join, adds_none, adds_join, underway_on, underway_next, underway_ends}
+use Rattle.node_core.specs.Voters.{Beside, RestsBeside}
+use Rattle.node_core.proofs.Accounting.{QuietTurns, says_none, says_join, heard_none, heard_join, adds_none, adds_join, underway_on, underway_next, underway_ends}
+use Rattle.node_core.proofs.Besides.{rests_same, beside_rest, beside_none, beside_on, beside_then}
 use Rattle.node_core.proofs.Beginning.{begins_raft, begins_compact, with_letter}
 use Rattle.node_core.proofs.ClientTurns.{sends_so}
 use Rattle.node_core.proofs.TurnsOf.{turns_stays, turns_hangs, turns_applies, turns_owes, turns_serves}
@@ -47,12 +46,16 @@ on_ok_then (Err e) f p = tt
 
 module _ (m : Meaning) (kind : EngineKind) (setup : Setup) (bytes : List ℕ) (joins : Option ℕ) where
   -- a turn without a step of Raft
-  pub turns_kept : {before now : Option Told} (a b : Running) → b.replica ≡ a.replica → Turns m kind setup bytes joins a b before now → TurnsOn m kind setup bytes joins a b before now
-  turns_kept a b replica t = record {
-    turns = t;
+  turns_rest : {before now : Option Told} (a b : Running) → b.replica ≡ a.replica → RestsBeside a b → QuietTurns m kind setup bytes joins a b before now → TurnsOn m kind setup bytes joins a b before now
+  turns_rest a b replica rests t = record {
+    turns = t.0;
     same = record { term = ap (λ (r : ReplicaValue). r.raft.term) replica; leads = ap (λ (r : ReplicaValue). is_leader r.raft.role) replica };
     snap = ap (λ (r : ReplicaValue). (kept_of r).snap) (sym replica);
+    beside = subst (Beside setup a b bytes) (sym t.1) (beside_rest setup bytes a b rests);
   }
+
+  pub turns_kept : {before now : Option Told} (a b : Running) → b.replica ≡ a.replica → b.members ≡ a.members → b.has_links ≡ a.has_links → QuietTurns m kind setup bytes joins a b before now → TurnsOn m kind setup bytes joins a b before now
+  turns_kept a b replica members links t = turns_rest a b replica (rests_same a b replica members links) t
 
   pub turns_join : {before mid now : Option Told} (a b c : Running) → TurnsOn m kind setup bytes joins a b before mid → TurnsOn m kind setup bytes joins b c mid now → TurnsOn m kind setup bytes joins a c before now
   turns_join a b c x y =
@@ -72,6 +75,7 @@ module _ (m : Meaning) (kind : EngineKind) (setup : Setup) (bytes : List ℕ) (j
         };
         same = record { term = y.same.term ∙ x.same.term; leads = y.same.leads ∙ x.same.leads };
         snap = x.snap ∙ y.snap;
+        beside = beside_on setup bytes a b c s.piece.inputs t.piece.inputs s.id x.beside y.beside;
       }
 
   id_stays : (a b : Running) → b.replica ≡ a.replica → b.replica.id ≡ a.replica.id
@@ -91,15 +95,16 @@ module _ (m : Meaning) (kind : EngineKind) (setup : Setup) (bytes : List ℕ) (j
     };
     same = record { term = ap (λ (z : Moment). z.node.raft.term) f.moment; leads = ap (λ (z : Moment). is_leader z.node.raft.role) f.moment };
     snap = ap (λ (k : Kept). k.snap) (sym f.kept);
+    beside = beside_then setup bytes a a b [] (beside_none setup bytes a) f;
   }
 
   -- nothing that the rules see
   pub stays_turn : {told : Option Told} (a b : Running) → b.replica ≡ a.replica → Stays (moment_of a) (moment_of b) → SaysNothing a b → TurnsOn m kind setup bytes joins a b told told
-  stays_turn a b replica x quiet = turns_kept a b replica (turns_stays m kind setup a b (id_stays a b replica) bytes joins x (says_none a b quiet.mail quiet.replies quiet.reads))
+  stays_turn a b replica x quiet = turns_kept a b replica quiet.members quiet.links (turns_stays m kind setup a b (id_stays a b replica) bytes joins x (says_none a b quiet.mail quiet.replies quiet.reads))
 
   goes_turn : {told : Option Told} (a b : Running) (conn : ℕ) → b.replica ≡ a.replica → GoesOr a b conn → SaysNothing a b → TurnsOn m kind setup bytes joins a b told told
   goes_turn a b conn replica (inl x) quiet = stays_turn a b replica x quiet
-  goes_turn a b conn replica (inr x) quiet = turns_kept a b replica (turns_hangs m kind setup a b (id_stays a b replica) bytes joins conn x (says_none a b quiet.mail quiet.replies quiet.reads))
+  goes_turn a b conn replica (inr x) quiet = turns_kept a b replica quiet.members quiet.links (turns_hangs m kind setup a b (id_stays a b replica) bytes joins conn x (says_none a b quiet.mail quiet.replies quiet.reads))
 
   pub closes_turn : {told : Option Told} (a b : Running) → b.replica ≡ a.replica → ClosesSo a b → SaysNothing a b → TurnsOn m kind setup bytes joins a b told told
   closes_turn a b replica (inl x) quiet = stays_turn a b replica x quiet
@@ -109,13 +114,13 @@ module _ (m : Meaning) (kind : EngineKind) (setup : Setup) (bytes : List ℕ) (j
   applies_turn : {told : Option Told} (a b : Running) → b.replica ≡ a.replica → AppliesSo a b → TurnsOn m kind setup bytes joins a b told told
   applies_turn a b replica x =
       let replies = told_applied _ (clients_in a).sessions in
-      turns_kept a b replica (turns_applies m kind setup a b (id_stays a b replica) bytes joins replies x.applies
+      turns_rest a b replica x.beside (turns_applies m kind setup a b (id_stays a b replica) bytes joins replies x.applies
       (record { posted = []; letters_are = refl; mail = x.mail; told = told_at _ (clients_in a); outs = x.outs; tells = sends_so replies (told_at _ (clients_in a)) refl; reads = x.reads ∙ sym (append-nil a.outs.reads.items) }))
 
   duties_turn : {told : Option Told} (a b : Running) → b.replica ≡ a.replica → DutySo a b → SaysNothing a b → TurnsOn m kind setup bytes joins a b told told
   duties_turn a b replica (inl x) quiet = stays_turn a b replica x quiet
-  duties_turn a b replica (inr (inl x)) quiet = turns_kept a b replica (turns_serves m kind setup a b (id_stays a b replica) bytes joins x (says_none a b quiet.mail quiet.replies quiet.reads))
-  duties_turn a b replica (inr (inr x)) quiet = turns_kept a b replica (turns_owes m kind setup a b (id_stays a b replica) bytes joins x.0 x.1 (says_none a b quiet.mail quiet.replies quiet.reads))
+  duties_turn a b replica (inr (inl x)) quiet = turns_kept a b replica quiet.members quiet.links (turns_serves m kind setup a b (id_stays a b replica) bytes joins x (says_none a b quiet.mail quiet.replies quiet.reads))
+  duties_turn a b replica (inr (inr x)) quiet = turns_kept a b replica quiet.members quiet.links (turns_owes m kind setup a b (id_stays a b replica) bytes joins x.0 x.1 (says_none a b quiet.mail quiet.replies quiet.reads))
 
   pub entry_turn : {before now : Option Told} (a b c d : Running) → b.replica ≡ a.replica → d.replica ≡ c.replica → AppliesSo a b → TurnsOn m kind setup bytes joins b c before now → DutySo c d → SaysNothing c d → TurnsOn m kind setup bytes joins a d before now
   entry_turn a b c d first last x t duty quiet = turns_join a b d (applies_turn a b first x) (turns_join b c d t (duties_turn c d last duty quiet))
@@ -166,20 +171,21 @@ module _ (m : Meaning) (kind : EngineKind) (setup : Setup) (start : Running) (ev
     reads = ap (λ (n : Running). n.outs.reads.items) h.is;
     kept = ap (λ (n : Running). kept_of n.replica) h.is;
     id = ap (λ (n : Running). n.replica.id) h.is;
+    links = ap (λ (n : Running). n.has_links) h.is;
   }))
 
   -- an own snapshot is an act of its own
   pub compacts : {now : Option Told} → SnapshotGoes m kind → (a b : Running) → So a now → IsGoing a → MayEnd (moment_of a) → AtRest a → CompactsSo setup a b → So b now
   compacts law a b u going end rest c =
-      underway_next m kind setup start a a b event u end going.holds.replica.id (record { same = refl; mail = refl; replies = refl; reads = refl }) rest (Compacts a.applied.index) tt (begins_compact m kind setup a b law c)
+      underway_next m kind setup start a a b event u end going.holds.replica.id (record { same = refl; links = refl; mail = refl; replies = refl; reads = refl }) rest (Compacts a.applied.index) tt (λ none. tt) (begins_compact m kind setup a b law c)
 
   -- and so is a message of a peer that came on a connection
   pub letter_came : {mid now : Option Told} (a b : Running) → So a mid → IsGoing a → MayEnd (moment_of a) → AtRest a → TookLetter m kind setup a b mid now → So b now
   letter_came a b u going end rest (none_came f same) = subst (So b) same (goes_further a b u (λ bytes joins. fresh_turn m kind setup bytes joins a b f))
-  letter_came a b u going end rest (came message mid is began) =
+  letter_came a b u going end rest (came message mid linked is began) =
       underway_next m kind setup start a mid b event u end going.holds.replica.id
-      (record { same = ap seen is; mail = ap (λ (n : Running). n.mail) is; replies = ap (λ (n : Running). n.outs.replies.items) is; reads = ap (λ (n : Running). n.outs.reads.items) is })
-      (subst AtRest (sym is) (record { rests = rest.rests; at = rest.at; id = rest.id })) (Comes message) tt (begins_raft m kind setup mid b (Comes message) (raft_events.Message message) (with_letter mid message) began)
+      (record { same = ap seen is; links = ap (λ (n : Running). n.has_links) is; mail = ap (λ (n : Running). n.mail) is; replies = ap (λ (n : Running). n.outs.replies.items) is; reads = ap (λ (n : Running). n.outs.reads.items) is })
+      (subst AtRest (sym is) (record { rests = rest.rests; at = rest.at; id = rest.id })) (Comes message) tt (λ none. absurd (true≢false (sym linked ∙ u.links ∙ none))) (begins_raft m kind setup mid b (Comes message) (raft_events.Message message) (with_letter mid message) began)
 
 -- ---- along an engine, whose kind stays
 
@@ -216,5 +222,5 @@ pub steps_said : {F : Type 0} {before now : Option Told} (m : Meaning) (kind : E
     → c ≡ record b { outs = c.outs; mail = c.mail } → IfOk r (λ outs. (outs.replies.items ≡ b.outs.replies.items) × (outs.closed.items ≡ b.outs.closed.items)) → IfOk r (λ outs. outs.messages.items ≡ sent b.mail)
     → IfOk r (λ outs. outs.reads.items ≡ b.outs.reads.items) → IfOk r (λ outs. StepsBy m kind setup a c event outs before now)
 steps_said m kind setup a b c event (Ok outs) u end id quiet rest said messages reads =
-    underway_ends m kind setup a b c event outs u end id quiet.mail quiet.replies quiet.reads (ap seen rest) messages said.0 reads
+    underway_ends m kind setup a b c event outs u end id quiet.mail quiet.replies quiet.reads (ap seen rest) messages said.0 reads (ap (λ (n : Running). n.has_links) rest)
 steps_said m kind setup a b c event (Err f) u end id quiet rest said messages reads = tt

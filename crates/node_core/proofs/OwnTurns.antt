@@ -1,28 +1,28 @@
 -- The turn of what the node gave Raft itself.
-use Rattle.std.proofs.Common.{◌≡◌, ◌≤◌, ℕ, Bool, true, false, List, [], ◌∷◌, refl, sym, ap, subst, ◌∙◌, arith}
+use Rattle.std.proofs.Common.{◌≡◌, ◌≤◌, ℕ, Bool, true, List, [], ◌∷◌, ◌++◌, refl, sym, ap, subst, ◌∙◌, arith}
 use Rattle.std.specs.Prelude.{map, Option, Some, None, MatchOption, ◌<◌}
 use Rattle.page_apply.specs.Machines.{IsMachine}
-use Rattle.raft_rules.specs.Laws.{HasShortTerm}
 use Rattle.raft_rules.specs.Log.{Entry}
 use Rattle.raft_rules.specs.Node as raft
 use Rattle.raft_rules.specs.Node.{is_leader}
-use Rattle.raft_rules.specs.NodeValues.{NodeValue, IsCoherent, node_of}
+use Rattle.raft_rules.specs.NodeValues.{NodeValue, IsCoherent}
 use Rattle.raft_core.specs.declared.event.RaftEvent.{RaftEvent}
 use Rattle.raft_core.specs.declared.event.RaftEvent.TheVariants as events
-use Rattle.raft_core.specs.Events.{EventFits, input_of}
+use Rattle.raft_core.specs.Events.{input_of}
 use Rattle.raft_member.specs.Members.{Configurations, AllStand}
 use Rattle.client_sessions.specs.Seen.{StandOver}
 use Rattle.node_state.specs.declared.office.Office.{Office as Held}
 use Rattle.node_replica.specs.Mails.{MailValue}
-use Rattle.node_replica.specs.Replicas.{ReplicaValue, IsIntake, IsWhole, HasMoved, kept_of}
+use Rattle.node_replica.specs.Replicas.{ReplicaValue}
 use Rattle.node_rules.specs.Accounts.{SameTerm}
 use Rattle.node_rules.specs.RaftTurns.{HasEnded}
 use Rattle.node_rules.proofs.RaftGoes.{proposals_taken_hold}
 use Rattle.node_core.specs.declared.running.Running.{Running}
 use Rattle.node_core.specs.Account.{proposals_in, moment_of, letter_of, Fresh}
-use Rattle.node_core.specs.Posting.{Posts, LeavesSo, ToldOr, untold, told_servers, ProposesSo, OwnsSo, owns_proposal, owns_transfer, WasDue, MayTake}
-use Rattle.node_core.specs.Stepping.{PutsNone, HasMade, HasStepped, HasFollowed, HasTold}
+use Rattle.node_core.specs.Posting.{Posts, LeavesSo, ToldOr, untold, told_servers, told_inputs, ProposesSo, OwnsSo, owns_proposal, owns_transfer, WasDue, MayTake}
+use Rattle.node_core.specs.Stepping.{PutsNone, HasMade, HasStepped, HasTold}
 use Rattle.node_core.specs.Values.{clients_in, seen}
+use Rattle.node_core.specs.Voters.{BesideAll}
 use Rattle.node_core.specs.Waiting.{HasTurns}
 use Rattle.node_core.specs.Whole.{InOffice, LeadsInOffice, ServesLast, IsFree, IsLed, IsGoing, IsOwnDue, Holds}
 use Rattle.node_core.proofs.Posting.{posts_on, kept_snap, same_term, leaves_so}
@@ -81,7 +81,7 @@ office_made popped told made event batch own tells t m p g =
 made_is_stepped : (popped told made : Running) (event : RaftEvent) (batch : Option ℕ) → IsGoing popped → HasTold popped told → HasMade told made event batch → InOffice made.office made.view.serving made.replica.raft → HasStepped told made event batch
 made_is_stepped popped told made event batch g t m office =
     let is : made ≡ record popped { replica = made.replica; mail = made.mail } = m.is ∙ ap (λ (n : Running). record n { replica = made.replica; mail = made.mail }) t.is in
-    stepped_so told made made event batch m t.short refl (record { members = refl; index = refl; servers = refl; seen = refl; due = refl })
+    stepped_so told made made event batch m t.short refl (record { members = refl; index = refl; servers = refl; seen = refl; due = refl; links = refl })
     (subst (λ (n : Running). StandOver n.clients n.applied.machine) (sym is) g.holds.clients) (subst (λ (n : Running). HasTurns (clients_in n)) (sym is) g.holds.turns) office
 
 pub own_past : (popped told made : Running) (event : RaftEvent) (batch : Option ℕ) → IsOwnDue event → IsGoing popped → HasTold popped told → HasMade told made event batch →
@@ -186,6 +186,12 @@ proposes_at told w r mail c es p coherent leads due snapshot snap machine =
       snap = sym (kept_snap told.replica r snapshot snap);
     }
 
+-- what Raft was told stays
+pub due_inputs : (a b w : Running) (e : ToldOr a b) → told_inputs (told_due a b w e) ≡ told_inputs e
+unfolding told_due
+due_inputs a b w (untold e) = refl
+due_inputs a b w (told_servers servers l) = refl
+
 -- whatever configurations follow
 leaves_members : (a b : Running) (c : Configurations) (i : raft.Input) → LeavesSo a b i → LeavesSo a (record b { members = c }) i
 leaves_members a b c i l = record {
@@ -210,34 +216,50 @@ fresh_due w n new is same due = subst (Fresh (record n { due = w.due })) (sym is
   reads = refl;
   kept = refl;
   id = refl;
+  links = refl;
 })
 
 pub before_is : (before popped : Running) (event : RaftEvent) → WasDue event before popped → record popped { due = before.due } ≡ before
 before_is before popped event was = ap (λ (n : Running). record n { due = before.due }) was.is
 
+-- what is due has no part in what voters are told
+due_before : (w a b : Running) (is : List raft.Input) → BesideAll a b is → BesideAll (record a { due = w.due }) b is
+due_before w a b is beside opening bytes = let x = beside opening bytes in record { voters = x.voters; links = x.links }
+
+due_behind : (w a b : Running) (is : List raft.Input) → BesideAll a b is → BesideAll a (record b { due = w.due }) is
+due_behind w a b is beside opening bytes = let x = beside opening bytes in record { voters = x.voters; links = x.links }
+
 -- the two ends of the turn, by what it was
-pub owns_so : (before popped told made followed new : Running) (event : RaftEvent) (batch : Option ℕ) → IsOwnDue event → MayTake event popped.replica.raft → WasDue event before popped → IsGoing popped → HasTold popped told → ToldOr popped told →
-    HasMade told made event batch → Posts told made (input_of event) → followed ≡ record made { members = followed.members } → new ≡ record followed { view = new.view } → new.view.serving ≡ followed.view.serving → IsMachine popped.applied.machine → OwnsSo before new
-owns_so before popped told made followed new (events.Propose es) batch own takes was g t tells m p f_is is same machine =
-    let q = told_due popped told before tells in
-    let q_before = subst (λ (n : Running). ToldOr n (record told { due = before.due })) (before_is before popped (events.Propose es) was) q in
+pub owns_so : (before popped told made followed new : Running) (event : RaftEvent) (batch : Option ℕ) → IsOwnDue event → MayTake event popped.replica.raft → WasDue event before popped → IsGoing popped → HasTold popped told → (tells : ToldOr popped told) →
+    HasMade told made event batch → Posts told made (input_of event) → followed ≡ record made { members = followed.members } → new ≡ record followed { view = new.view } → new.view.serving ≡ followed.view.serving → IsMachine popped.applied.machine →
+    BesideAll popped followed (told_inputs tells ++ input_of event ∷ []) → OwnsSo before new
+owns_so before popped told made followed new (events.Propose es) batch own takes was g t tells m p f_is is same machine beside =
+    let i : raft.Input = raft.Local (raft.Propose es) in
+    let first : Running = record popped { due = before.due } in
     let behind : followed ≡ record told { replica = made.replica; mail = made.mail; members = followed.members } = f_is ∙ ap (λ (n : Running). record n { members = followed.members }) m.is in
     let due : before.due.items ≡ events.Propose es ∷ told.due.items = was.first ∙ ap (λ l. events.Propose es ∷ l) (sym (ap (λ (n : Running). n.due.items) t.is)) in
-    let proposed = proposes_at told before made.replica made.mail followed.members es (subst (λ (n : Running). Posts told n (raft.Local (raft.Propose es))) m.is p) t.whole.coherent ((told_same popped told tells).leads ∙ takes) due
+    let proposed = proposes_at told before made.replica made.mail followed.members es (subst (λ (n : Running). Posts told n i) m.is p) t.whole.coherent ((told_same popped told tells).leads ∙ takes) due
     (keeps_snapshot told.replica made.replica (events.Propose es) t.whole m.whole m.node m.snap tt) (same_snap told.replica made.replica (events.Propose es) _ refl m.whole m.node m.snap tt)
     (subst (λ (n : Running). IsMachine n.applied.machine) (sym t.is) machine) in
-    owns_proposal (record told { due = before.due }) followed es q_before (subst (λ (n : Running). ProposesSo (record told { due = before.due }) n es) (sym behind) proposed)
-    (fresh_view followed new followed.office new.view is same)
-owns_so before popped told made followed new (events.Transfer to) batch own takes was g t tells m p f_is is same machine =
-    let l = leaves_so told made (raft.Local (raft.Transfer to)) tt tt p m.is (keeps_snapshot told.replica made.replica (events.Transfer to) t.whole m.whole m.node m.snap tt)
+    subst (λ (n : Running). OwnsSo n new) (before_is before popped (events.Propose es) was)
+    (owns_proposal (record told { due = before.due }) followed es (told_due popped told before tells) (subst (λ (n : Running). ProposesSo (record told { due = before.due }) n es) (sym behind) proposed)
+    (subst (λ (told_is : List raft.Input). BesideAll first followed (told_is ++ i ∷ [])) (sym (due_inputs popped told before tells)) (due_before before popped followed (told_inputs tells ++ i ∷ []) beside))
+    (fresh_view followed new followed.office new.view is same))
+owns_so before popped told made followed new (events.Transfer to) batch own takes was g t tells m p f_is is same machine beside =
+    let i : raft.Input = raft.Local (raft.Transfer to) in
+    let first : Running = record popped { due = before.due } in
+    let l = leaves_so told made i tt tt p m.is (keeps_snapshot told.replica made.replica (events.Transfer to) t.whole m.whole m.node m.snap tt)
     (same_snap told.replica made.replica (events.Transfer to) _ refl m.whole m.node m.snap tt) (subst (λ (n : Running). IsMachine n.applied.machine) (sym t.is) machine) in
-    let q_before = subst (λ (n : Running). ToldOr n (record told { due = before.due })) (before_is before popped (events.Transfer to) was) (told_due popped told before tells) in
-    owns_transfer (record told { due = before.due }) (record (record made { members = followed.members }) { due = before.due }) to q_before
-    (leaves_due told (record made { members = followed.members }) before (raft.Local (raft.Transfer to)) (leaves_members told made followed.members (raft.Local (raft.Transfer to)) l))
+    let own_beside = due_before before popped (record made { members = followed.members }) (told_inputs tells ++ i ∷ []) (subst (λ (n : Running). BesideAll popped n (told_inputs tells ++ i ∷ [])) f_is beside) in
+    subst (λ (n : Running). OwnsSo n new) (before_is before popped (events.Transfer to) was)
+    (owns_transfer (record told { due = before.due }) (record (record made { members = followed.members }) { due = before.due }) to (told_due popped told before tells)
+    (leaves_due told (record made { members = followed.members }) before i (leaves_members told made followed.members i l))
+    (subst (λ (told_is : List raft.Input). BesideAll first (record (record made { members = followed.members }) { due = before.due }) (told_is ++ i ∷ [])) (sym (due_inputs popped told before tells))
+    (due_behind before first (record made { members = followed.members }) (told_inputs tells ++ i ∷ []) own_beside))
     (fresh_due before (record made { members = followed.members }) new (is ∙ ap (λ (n : Running). record n { view = new.view }) f_is) (same ∙ ap (λ (n : Running). n.view.serving) f_is)
-    (ap proposals_in (ap (λ (n : Running). n.due.items) (m.is ∙ ap (λ (n : Running). record n { replica = made.replica; mail = made.mail }) t.is)) ∙ sym (ap proposals_in was.first)))
-owns_so before popped told made followed new events.Timeout batch own takes was g t tells m p f_is is same machine = absurd own
-owns_so before popped told made followed new events.Beat batch own takes was g t tells m p f_is is same machine = absurd own
-owns_so before popped told made followed new (events.Message x) batch own takes was g t tells m p f_is is same machine = absurd own
-owns_so before popped told made followed new (events.Snapped at) batch own takes was g t tells m p f_is is same machine = absurd own
-owns_so before popped told made followed new (events.Servers servers) batch own takes was g t tells m p f_is is same machine = absurd own
+    (ap proposals_in (ap (λ (n : Running). n.due.items) (m.is ∙ ap (λ (n : Running). record n { replica = made.replica; mail = made.mail }) t.is)) ∙ sym (ap proposals_in was.first))))
+owns_so before popped told made followed new events.Timeout batch own takes was g t tells m p f_is is same machine beside = absurd own
+owns_so before popped told made followed new events.Beat batch own takes was g t tells m p f_is is same machine beside = absurd own
+owns_so before popped told made followed new (events.Message x) batch own takes was g t tells m p f_is is same machine beside = absurd own
+owns_so before popped told made followed new (events.Snapped at) batch own takes was g t tells m p f_is is same machine beside = absurd own
+owns_so before popped told made followed new (events.Servers servers) batch own takes was g t tells m p f_is is same machine beside = absurd own

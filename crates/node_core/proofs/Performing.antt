@@ -35,6 +35,8 @@ performed_propose old new act conn entries kind machine due is = subst (λ (a : 
   due = due_more old new (raft_events.Propose entries) due;
   clients = ap clients_in is;
   replica = ap (λ (n : Running). n.replica) is;
+  members = ap (λ (n : Running). n.members) is;
+  links = ap (λ (n : Running). n.has_links) is;
   index = ap (λ (n : Running). n.applied.index) is;
   serving = ap (λ (n : Running). n.view.serving) is;
   office = ap (λ (n : Running). n.office) is;
@@ -51,6 +53,8 @@ performed_transfer old new outs act conn to reply kind machine said unread due i
   due = due_more old new (raft_events.Transfer to) due;
   clients = ap clients_in is;
   replica = ap (λ (n : Running). n.replica) is;
+  members = ap (λ (n : Running). n.members) is;
+  links = ap (λ (n : Running). n.has_links) is;
   index = ap (λ (n : Running). n.applied.index) is;
   serving = ap (λ (n : Running). n.view.serving) is;
   office = ap (λ (n : Running). n.office) is;

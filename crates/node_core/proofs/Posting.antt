@@ -1,21 +1,17 @@
 -- What a replica's call says of its step is a step of Raft that is kept and posted, and what its turn leaves.
-use Rattle.std.proofs.Common.{◌≡◌, ◌⊎◌, inl, inr, ⊎_elim, ℕ, ◌<◌, Bool, true, false, not, List, [], ◌∷◌, ◌++◌, refl, sym, ap, subst, ◌∙◌, append-nil}
+use Rattle.std.proofs.Common.{◌≡◌, ℕ, Bool, true, false, not, List, [], refl, sym, ap, subst, ◌∙◌, append-nil}
 use Rattle.std.specs.Prelude.{map, ◌&&◌, ◌==◌, Option, Some, None}
-use Rattle.std.specs.List.{AllByRecursion}
 use Rattle.page_apply.specs.Machines.{IsMachine}
 use Rattle.session_rules.specs.Machine.{machine_of}
-use Rattle.session_rules.specs.Events.{on_lost, told_lost}
-use Rattle.session_rules.specs.Sessions.{Reply, Gateway}
-use Rattle.raft_rules.specs.Log.{Entry, LogEnd}
+use Rattle.session_rules.specs.Events.{told_lost}
 use Rattle.raft_rules.specs.Node as raft
 use Rattle.raft_rules.specs.Node.{is_leader}
-use Rattle.raft_rules.specs.NodeValues.{NodeValue, IsCoherent, node_of}
+use Rattle.raft_rules.specs.NodeValues.{IsCoherent, node_of}
 use Rattle.raft_vote.specs.declared.message.RaftMessage.{RaftMessage}
 use Rattle.raft_core.specs.declared.event.RaftEvent.{RaftEvent}
 use Rattle.raft_core.specs.declared.event.RaftEvent.TheVariants as events
 use Rattle.raft_core.specs.Events.{input_of}
 use Rattle.client_sessions.specs.Calls.{told_all_lost}
-use Rattle.client_sessions.specs.Clients.{Clients}
 use Rattle.raft_member.specs.Members.{Configurations}
 use Rattle.node_state.specs.declared.office.Office.{Office as Held}
 use Rattle.node_replica.specs.Letters.{Tells}
@@ -24,12 +20,11 @@ use Rattle.node_replica.specs.Replicas.{ReplicaValue, IsWhole, kept_of, stepped,
 use Rattle.node_rules.specs.Accounts.{SameTerm}
 use Rattle.node_rules.specs.Steps.{AllSent}
 use Rattle.node_rules.specs.Turns.{KeepsAll}
-use Rattle.node_rules.specs.RaftTurns.{RaftSteps, LeavesLog, KeepsSnapshot, HasEnded, Office, in_office, loses, has_none, IsNoProposal}
+use Rattle.node_rules.specs.RaftTurns.{RaftSteps, LeavesLog, HasEnded, Office, in_office, loses, has_none, IsNoProposal}
 use Rattle.node_rules.proofs.EndedSessions.{ends_on_holds}
-use Rattle.node_rules.proofs.RaftGoes.{proposals_taken_hold}
 use Rattle.node_core.specs.declared.running.Running.{Running}
-use Rattle.node_core.specs.Account.{proposals_in, moment_of, letter_of, IsOwn, Fresh, Sends}
-use Rattle.node_core.specs.Posting.{Posts, LeavesSo, ToldOr, untold, told_servers, ProposesSo, ends_office, LosesSo, OfficeSo, FollowsSo, FollowsOn, OwnsSo, owns_proposal, owns_transfer, WasDue}
+use Rattle.node_core.specs.Account.{proposals_in, moment_of, letter_of, IsOwn}
+use Rattle.node_core.specs.Posting.{Posts, LeavesSo, ends_office, LosesSo, OfficeSo, FollowsSo}
 use Rattle.node_core.specs.Values.{clients_in, waiting_on}
 use Rattle.node_core.specs.Whole.{IsOutside, InOffice, LeadsInOffice, ServesLast, IsFree, IsLed}
 use Rattle.node_core.proofs.Accounting.{sends_none}

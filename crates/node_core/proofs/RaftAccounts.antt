@@ -1,5 +1,5 @@
 -- What Raft's turns leave is what the account has of them.
-use Rattle.std.proofs.Common.{◌≡◌, ◌⊎◌, inl, inr, ℕ, Bool, false, List, [], ◌∷◌, ◌++◌, refl, sym, ap, subst, ◌∙◌, append-nil}
+use Rattle.std.proofs.Common.{◌≡◌, inl, inr, ℕ, Bool, false, List, [], ◌∷◌, ◌++◌, refl, sym, ap, subst, ◌∙◌, append-nil}
 use Rattle.std.specs.Prelude.{map, Option}
 use Rattle.sql_engine.specs.declared.kind.EngineKind.{EngineKind}
 use Rattle.sql_engine.specs.Meanings.{Meaning, Told}
@@ -11,6 +11,7 @@ use Rattle.raft_vote.specs.Messages.{message_value}
 use Rattle.raft_core.specs.declared.event.RaftEvent.{RaftEvent}
 use Rattle.raft_core.specs.declared.event.RaftEvent.TheVariants as events
 use Rattle.raft_core.specs.Events.{input_of}
+use Rattle.raft_member.specs.Members.{read_setup}
 use Rattle.raft_world.specs.Members.{Setup}
 use Rattle.store_laws.specs.Store.{Kept}
 use Rattle.node_replica.specs.Mails.{all_posted}
@@ -22,10 +23,12 @@ use Rattle.node_rules.proofs.RaftSnapshots.{install_goes_holds}
 use Rattle.node_rules.proofs.Stretches.{nothing_goes_holds, goes_on_holds, sent_on_holds}
 use Rattle.node_core.specs.declared.outs.Outs.{Outs}
 use Rattle.node_core.specs.declared.running.Running.{Running}
-use Rattle.node_core.specs.Account.{moment_of, bytes_in, letter_of, Sends, Says, Brought, IsOwn, Turns, Since, Fresh}
-use Rattle.node_core.specs.Posting.{Posts, LeavesSo, ToldOr, untold, told_servers, ProposesSo, FollowsSo, InstallsSo, FollowsOn, InstallsOn, OwnsSo, owns_proposal, owns_transfer}
+use Rattle.node_core.specs.Account.{moment_of, bytes_in, letter_of, Sends, Says, Brought, IsOwn, Turns, Fresh}
+use Rattle.node_core.specs.Posting.{LeavesSo, ToldOr, untold, told_servers, told_inputs, ProposesSo, FollowsSo, InstallsSo, FollowsOn, InstallsOn, OwnsSo, owns_proposal, owns_transfer}
 use Rattle.node_core.specs.Taking.{TurnsOn, bytes_with, came_by, BeganBy, takes}
-use Rattle.node_core.proofs.Accounting.{sends_none, says_none, adds_none, adds_join, says_join, heard_none, heard_join, since_on}
+use Rattle.node_core.specs.Voters.{Beside}
+use Rattle.node_core.proofs.Accounting.{SinceIn, sends_none, says_none, adds_none, adds_join, says_join, heard_none, heard_join, since_on}
+use Rattle.node_core.proofs.Besides.{beside_then}
 use Rattle.node_core.proofs.TurnsOf.{turns_proposes, turns_leaves, early_leaves, since_follows, since_installs}
 
 -- ---- what is said
@@ -39,11 +42,21 @@ says_then a b c letters replies jobs s f = record { posted = s.posted; letters_a
 
 -- ---- turns
 
+-- A turn in which Raft makes steps of these inputs, and which leaves term, leadership and the kept snapshot.
+pub record RaftTurn (m : Meaning) (kind : EngineKind) (setup : Setup) (bytes : List ℕ) (joins : Option ℕ) (old new : Running) (told_before told_now : Option Told) (inputs : List raft.Input) : Type 0 where
+  pub turns : Turns m kind setup bytes joins old new told_before told_now
+  pub is : turns.piece.inputs ≡ inputs
+  pub same : SameTerm (moment_of old) (moment_of new)
+  pub snap : (kept_of old.replica).snap ≡ (kept_of new.replica).snap
+
 module _ (m : Meaning) (kind : EngineKind) (setup : Setup) where
   module _ (bytes : List ℕ) (joins : Option ℕ) where
+    abbrev So : Running → Running → Option Told → Option Told → List raft.Input → Type 0
+    So a b before now inputs = RaftTurn m kind setup bytes joins a b before now inputs
+
     -- only what the rules don't see changes behind a turn
-    turns_then : {before now : Option Told} (a b c : Running) → TurnsOn m kind setup bytes joins a b before now → Fresh b c → TurnsOn m kind setup bytes joins a c before now
-    turns_then a b c t f = record {
+    turns_then : {before now : Option Told} (a b c : Running) (inputs : List raft.Input) → So a b before now inputs → Fresh b c → So a c before now inputs
+    turns_then a b c inputs t f = record {
       turns = record {
         piece = t.turns.piece;
         goes = subst (λ z. Goes m kind setup a.replica.id bytes joins (moment_of a) z t.turns.piece) (sym f.moment) t.turns.goes;
@@ -54,12 +67,13 @@ module _ (m : Meaning) (kind : EngineKind) (setup : Setup) where
         sent = subst (λ k. AllSent (kept_of a.replica) k t.turns.piece.letters) (sym f.kept) t.turns.sent;
         id = f.id ∙ t.turns.id;
       };
+      is = t.is;
       same = subst (SameTerm (moment_of a)) (sym f.moment) t.same;
       snap = t.snap ∙ sym (ap (λ (k : Kept). k.snap) f.kept);
     }
 
-    turns_on : {before mid now : Option Told} (a b c : Running) → TurnsOn m kind setup bytes joins a b before mid → TurnsOn m kind setup bytes joins b c mid now → TurnsOn m kind setup bytes joins a c before now
-    turns_on a b c s t = record {
+    turns_on : {before mid now : Option Told} (a b c : Running) (xs ys : List raft.Input) → So a b before mid xs → So b c mid now ys → So a c before now (xs ++ ys)
+    turns_on a b c xs ys s t = record {
       turns = record {
         piece = both s.turns.piece t.turns.piece;
         goes = goes_on_holds m kind setup a.replica.id bytes joins (moment_of a) (moment_of b) (moment_of c) s.turns.piece t.turns.piece s.turns.goes
@@ -71,86 +85,120 @@ module _ (m : Meaning) (kind : EngineKind) (setup : Setup) where
         sent = sent_on_holds (kept_of a.replica) (kept_of b.replica) (kept_of c.replica) s.turns.piece.letters t.turns.piece.letters s.turns.sent t.turns.sent (inl s.snap);
         id = t.turns.id ∙ s.turns.id;
       };
+      is = λ i. s.is i ++ t.is i;
       same = record { term = t.same.term ∙ s.same.term; leads = t.same.leads ∙ s.same.leads };
       snap = s.snap ∙ t.snap;
     }
 
-    turns_left : {told : Option Told} (a b : Running) (i : raft.Input) → IsOwn i → LeavesSo a b i → TurnsOn m kind setup bytes joins a b told told
-    turns_left a b i own l = record {
-      turns = turns_leaves m kind setup a b l.posts.id bytes joins (leaving_goes_holds m kind) i (map letter_of l.posts.posted) own l.leaves
-          (says_so a b l.posts.posted [] [] l.posts.mail (ap (λ (o : Outs). o.replies.items) l.outs ∙ sym (append-nil a.outs.replies.items)) (ap (λ (o : Outs). o.reads.items) l.outs) sends_none) l.posts.sent;
-      same = l.same;
-      snap = l.snap;
-    }
+    turns_left : {told : Option Told} (a b : Running) (i : raft.Input) → IsOwn i → LeavesSo a b i → So a b told told (i ∷ [])
+    turns_left a b i own l =
+        let t = turns_leaves m kind setup a b l.posts.id bytes joins (leaving_goes_holds m kind) i (map letter_of l.posts.posted) own l.leaves
+        (says_so a b l.posts.posted [] [] l.posts.mail (ap (λ (o : Outs). o.replies.items) l.outs ∙ sym (append-nil a.outs.replies.items)) (ap (λ (o : Outs). o.reads.items) l.outs) sends_none) l.posts.sent in
+        record { turns = t.0; is = t.1; same = l.same; snap = l.snap }
 
-    turns_proposed : {told : Option Told} (a b : Running) (es : List Entry) → ProposesSo a b es → TurnsOn m kind setup bytes joins a b told told
-    turns_proposed a b es l = record {
-      turns = turns_proposes m kind setup a b l.posts.id bytes joins es (map letter_of l.posts.posted) l.proposes
-          (says_so a b l.posts.posted [] [] l.posts.mail (ap (λ (o : Outs). o.replies.items) l.outs ∙ sym (append-nil a.outs.replies.items)) (ap (λ (o : Outs). o.reads.items) l.outs) sends_none) l.posts.sent;
-      same = l.same;
-      snap = l.snap;
-    }
+    turns_proposed : {told : Option Told} (a b : Running) (es : List Entry) → ProposesSo a b es → So a b told told (raft.Local (raft.Propose es) ∷ [])
+    turns_proposed a b es l =
+        let t = turns_proposes m kind setup a b l.posts.id bytes joins es (map letter_of l.posts.posted) l.proposes
+        (says_so a b l.posts.posted [] [] l.posts.mail (ap (λ (o : Outs). o.replies.items) l.outs ∙ sym (append-nil a.outs.replies.items)) (ap (λ (o : Outs). o.reads.items) l.outs) sends_none) l.posts.sent in
+        record { turns = t.0; is = t.1; same = l.same; snap = l.snap }
 
-    turns_told : {told : Option Told} (a b c : Running) → ToldOr a b → TurnsOn m kind setup bytes joins b c told told → TurnsOn m kind setup bytes joins a c told told
-    turns_told {told} a b c (untold e) t = subst (λ (n : Running). TurnsOn m kind setup bytes joins n c told told) e t
-    turns_told a b c (told_servers servers l) t = turns_on a b c (turns_left a b (raft.Local (raft.UseServers servers)) tt l) t
+    turns_told : {told : Option Told} (a b c : Running) (ys : List raft.Input) (e : ToldOr a b) → So b c told told ys → So a c told told (told_inputs e ++ ys)
+    turns_told {told} a b c ys (untold e) t = subst (λ (n : Running). So n c told told ys) e t
+    turns_told a b c ys (told_servers servers l) t = turns_on a b c (raft.Local (raft.UseServers servers) ∷ []) ys (turns_left a b (raft.Local (raft.UseServers servers)) tt l) t
 
-    -- what the node gave Raft itself
-    pub owns_turns : {told : Option Told} (old new : Running) → OwnsSo old new → TurnsOn m kind setup bytes joins old new told told
-    owns_turns old new (owns_transfer mid last to e l f) = turns_then old last new (turns_told old mid last e (turns_left mid last (raft.Local (raft.Transfer to)) tt l)) f
-    owns_turns old new (owns_proposal mid last es e p f) = turns_then old last new (turns_told old mid last e (turns_proposed mid last es p)) f
+    -- with what the node is told of its voters
+    with_beside : {before now : Option Told} (a b : Running) (inputs : List raft.Input) → So a b before now inputs → Beside setup a b bytes inputs → TurnsOn m kind setup bytes joins a b before now
+    with_beside a b inputs t beside = record { turns = t.turns; same = t.same; snap = t.snap; beside = subst (Beside setup a b bytes) (sym t.is) beside }
 
   -- ---- an event from outside
 
-  since_then : {before now : Option Told} (x : Brought) (late : Bool) (a b c : Running) → Since m kind setup x late a b before now → Fresh b c → Since m kind setup x late a c before now
-  since_then x late a b c s f = record {
-    piece = s.piece;
-    goes = λ known. subst (λ z. Begins m kind setup a.replica.id x.bytes x.joins x.read (moment_of a) z s.piece) (sym f.moment) (s.goes known);
-    inputs = s.inputs;
-    asks = s.asks;
-    is_late = s.is_late;
-    says = says_then a b c s.piece.letters s.piece.replies s.piece.jobs s.says f;
-    heard = s.heard;
-    sent = subst (λ k. AllSent (kept_of a.replica) k s.piece.letters) (sym f.kept) s.sent;
-    id = f.id ∙ s.id;
-  }
+  since_then : {before now : Option Told} (x : Brought) (late : Bool) (a b c : Running) (inputs : List raft.Input) → SinceIn m kind setup x late a b before now inputs → Fresh b c → SinceIn m kind setup x late a c before now inputs
+  since_then x late a b c inputs (s, is) f = (
+    record {
+      piece = s.piece;
+      goes = λ known. subst (λ z. Begins m kind setup a.replica.id x.bytes x.joins x.read (moment_of a) z s.piece) (sym f.moment) (s.goes known);
+      inputs = s.inputs;
+      asks = s.asks;
+      is_late = s.is_late;
+      says = says_then a b c s.piece.letters s.piece.replies s.piece.jobs s.says f;
+      heard = s.heard;
+      sent = subst (λ k. AllSent (kept_of a.replica) k s.piece.letters) (sym f.kept) s.sent;
+      id = f.id ∙ s.id;
+    },
+    is,
+  )
 
-  since_told : {told : Option Told} (x : Brought) (a b c : Running) → Since m kind setup x false a b told told → ToldOr b c → Since m kind setup x false a c told told
-  since_told {told} x a b c s (untold e) = subst (λ (n : Running). Since m kind setup x false a n told told) (sym e) s
-  since_told {told} x a b c s (told_servers servers l) =
+  since_told : {told : Option Told} (x : Brought) (a b c : Running) (inputs : List raft.Input) → SinceIn m kind setup x false a b told told inputs → (e : ToldOr b c) → SinceIn m kind setup x false a c told told (inputs ++ told_inputs e)
+  unfolding since_on
+  since_told {told} x a b c inputs s (untold e) =
+      let r = subst (λ (n : Running). SinceIn m kind setup x false a n told told inputs) (sym e) s in
+      (r.0, r.1 ∙ sym (append-nil inputs))
+  since_told {told} x a b c inputs s (told_servers servers l) =
       let i : raft.Input = raft.Local (raft.UseServers servers) in
       let says = says_so b c l.posts.posted [] [] l.posts.mail (ap (λ (o : Outs). o.replies.items) l.outs ∙ sym (append-nil b.outs.replies.items)) (ap (λ (o : Outs). o.reads.items) l.outs) sends_none in
       let law = leaving_goes_holds m kind in
       let letters = map letter_of l.posts.posted in
-      subst (λ late. Since m kind setup x late a c told told) (early_leaves m kind setup b c l.posts.id x.bytes x.joins told law i letters tt l.leaves says l.posts.sent)
-      (since_on m kind setup x false a b c s (turns_leaves m kind setup b c l.posts.id x.bytes x.joins law i letters tt l.leaves says l.posts.sent) (inl refl) (inr l.snap))
+      let t = turns_leaves m kind setup b c l.posts.id x.bytes x.joins law i letters tt l.leaves says l.posts.sent in
+      subst (λ late. SinceIn m kind setup x late a c told told (inputs ++ i ∷ [])) (early_leaves m kind setup b c l.posts.id x.bytes x.joins told law i letters tt l.leaves says l.posts.sent)
+      (since_on m kind setup x false a b c s.0 t.0 (inl refl) (inr l.snap), λ j. s.1 j ++ t.1 j)
 
-  pub since_followed : {told : Option Told} (old mid : Running) (event : RaftEvent) → FollowsSo old mid (input_of event) → Since m kind setup (came_by event) false old mid told told
+  pub since_followed : {told : Option Told} (old mid : Running) (event : RaftEvent) → FollowsSo old mid (input_of event) → SinceIn m kind setup (came_by event) false old mid told told (input_of event ∷ [])
   since_followed old mid event f =
       since_follows m kind setup old mid f.posts.id (bytes_with event) (following_goes_holds m kind) (input_of event) (map letter_of f.posts.posted) f.replies f.follows
       (says_so old mid f.posts.posted f.replies f.told f.posts.mail f.outs f.reads f.tells) f.posts.sent
 
-  pub began_following : {told : Option Told} (old new : Running) (event : RaftEvent) → FollowsOn old new event → BeganBy m kind setup old new event told told
-  began_following old new event o =
-      takes (since_then (came_by event) false old o.last new (since_told (came_by event) old o.mid o.last (since_followed old o.mid event o.follows) o.tells) o.fresh)
-
   pub since_installed : {told : Option Told} (old mid : Running) (message : RaftMessage) → InstallsSo setup old mid (bytes_in message.what) (message_value message) →
-      Since m kind setup (came_by (events.Message message)) false old mid told told
+      SinceIn m kind setup (came_by (events.Message message)) false old mid told told (raft.Receive (message_value message) ∷ [])
   since_installed old mid message i =
       since_installs m kind setup old mid i.posts.id (bytes_in message.what) (install_goes_holds m kind) (message_value message) (map letter_of i.posts.posted) i.replies i.installs
       (says_so old mid i.posts.posted i.replies i.told i.posts.mail i.outs i.reads i.tells) i.posts.sent
 
-  installing : {told : Option Told} (old new : Running) (message : RaftMessage) (mid last : Running) → InstallsSo setup old mid (bytes_in message.what) (message_value message) → ToldOr mid last → Fresh last new →
-      BeganBy m kind setup old new (events.Message message) told told
-  installing old new message mid last i tells fresh =
-      takes (since_then (came_by (events.Message message)) false old last new (since_told (came_by (events.Message message)) old mid last (since_installed old mid message i) tells) fresh)
+  -- the act of an event has begun, in which this was taken in
+  began_with : {told : Option Told} (old new : Running) (event : RaftEvent) (inputs : List raft.Input) → SinceIn m kind setup (came_by event) false old new told told inputs → Beside setup old new (bytes_with event) inputs → BeganBy m kind setup old new event told told
+  began_with old new event inputs s beside = takes s.0 (subst (Beside setup old new (bytes_with event)) (sym s.1) beside)
+
+  installing : {told : Option Told} (old new : Running) (message : RaftMessage) (mid last : Running) → InstallsSo setup old mid (bytes_in message.what) (message_value message) → (tells : ToldOr mid last) →
+      Beside setup old last (bytes_in message.what) (raft.Receive (message_value message) ∷ told_inputs tells) → Fresh last new → BeganBy m kind setup old new (events.Message message) told told
+  installing old new message mid last i tells beside fresh =
+      let x : Brought = came_by (events.Message message) in
+      let first : List raft.Input = raft.Receive (message_value message) ∷ [] in
+      began_with old new (events.Message message) (first ++ told_inputs tells)
+      (since_then x false old last new (first ++ told_inputs tells) (since_told x old mid last first (since_installed old mid message i) tells) fresh)
+      (beside_then setup (bytes_in message.what) old last new (first ++ told_inputs tells) beside fresh)
 
   pub began_installing : {told : Option Told} (old new : Running) (event : RaftEvent) → InstallsOn setup old new event → BeganBy m kind setup old new event told told
-  began_installing {told} old new event o = subst (λ (e : RaftEvent). BeganBy m kind setup old new e told told) (sym o.event_is) (installing old new o.message o.mid o.last o.installs o.tells o.fresh)
+  began_installing {told} old new event o = subst (λ (e : RaftEvent). BeganBy m kind setup old new e told told) (sym o.event_is) (installing old new o.message o.mid o.last o.installs o.tells o.beside o.fresh)
+
+module _ (m : Meaning) (kind : EngineKind) (opening : List raft.Server) where
+  pub began_following : {told : Option Told} (old new : Running) (event : RaftEvent) → FollowsOn old new event → BeganBy m kind (read_setup opening) old new event told told
+  began_following old new event o =
+      let vs : Setup = read_setup opening in
+      let x : Brought = came_by event in
+      let first : List raft.Input = input_of event ∷ [] in
+      began_with m kind vs old new event (first ++ told_inputs o.tells)
+      (since_then m kind vs x false old o.last new (first ++ told_inputs o.tells) (since_told m kind vs x old o.mid o.last first (since_followed m kind vs old o.mid event o.follows) o.tells) o.fresh)
+      (beside_then vs (bytes_with event) old o.last new (first ++ told_inputs o.tells) (o.beside opening (bytes_with event)) o.fresh)
+
+  -- what the node gave Raft itself
+  pub owns_turns : {told : Option Told} (bytes : List ℕ) (joins : Option ℕ) (old new : Running) → OwnsSo old new → TurnsOn m kind (read_setup opening) bytes joins old new told told
+  owns_turns bytes joins old new (owns_transfer mid last to e l beside f) =
+      let vs : Setup = read_setup opening in
+      let i : raft.Input = raft.Local (raft.Transfer to) in
+      let all : List raft.Input = told_inputs e ++ i ∷ [] in
+      with_beside m kind vs bytes joins old new all
+      (turns_then m kind vs bytes joins old last new all (turns_told m kind vs bytes joins old mid last (i ∷ []) e (turns_left m kind vs bytes joins mid last i tt l)) f)
+      (beside_then vs bytes old last new all (beside opening bytes) f)
+  owns_turns bytes joins old new (owns_proposal mid last es e p beside f) =
+      let vs : Setup = read_setup opening in
+      let i : raft.Input = raft.Local (raft.Propose es) in
+      let all : List raft.Input = told_inputs e ++ i ∷ [] in
+      with_beside m kind vs bytes joins old new all
+      (turns_then m kind vs bytes joins old last new all (turns_told m kind vs bytes joins old mid last (i ∷ []) e (turns_proposed m kind vs bytes joins mid last es p)) f)
+      (beside_then vs bytes old last new all (beside opening bytes) f)
 
 -- Raft was told servers, or nothing has changed
-pub told_turns : {told : Option Told} (m : Meaning) (kind : EngineKind) (setup : Setup) (bytes : List ℕ) (joins : Option ℕ) (a b : Running) → ToldOr a b → TurnsOn m kind setup bytes joins a b told told
-told_turns {told} m kind setup bytes joins a b (untold e) = subst (λ (n : Running). TurnsOn m kind setup bytes joins a n told told) (sym e) (record {
+pub told_turns : {told : Option Told} (m : Meaning) (kind : EngineKind) (setup : Setup) (bytes : List ℕ) (joins : Option ℕ) (a b : Running) (e : ToldOr a b) → RaftTurn m kind setup bytes joins a b told told (told_inputs e)
+told_turns {told} m kind setup bytes joins a b (untold e) = subst (λ (n : Running). RaftTurn m kind setup bytes joins a n told told []) (sym e) (record {
   turns = record {
     piece = no_piece;
     goes = nothing_goes_holds m kind setup a.replica.id bytes joins (moment_of a);
@@ -161,6 +209,7 @@ told_turns {told} m kind setup bytes joins a b (untold e) = subst (λ (n : Runni
     sent = tt;
     id = refl;
   };
+  is = refl;
   same = record { term = refl; leads = refl };
   snap = refl;
 })

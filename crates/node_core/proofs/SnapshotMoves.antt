@@ -3,7 +3,7 @@ use Rattle.std.proofs.Common.{◌≡◌, ◌⊎◌, inl, inr, ⊎_elim, ℕ, ◌
 use Rattle.std.specs.Prelude.{◌&&◌, nat_lt, nat_le}
 use Rattle.std.proofs.lemmas.Bool.{cond_both, cond-true, cond-false, ltb-true, leb-false, lt-ltb, le-ltb}
 use Rattle.raft_rules.specs.Log.{Entry, LogEnd, matches}
-use Rattle.raft_rules.specs.Node.{What, AskVote, Vote, Append, Ack, Install, TimeoutNow, Message, Node, Outcome, voters, among, peers, majority, is_leader, is_candidate, Timeout, Beat, Propose, Transfer, Snapped, UseServers, Input, Local, Receive}
+use Rattle.raft_rules.specs.Node.{Follower, What, AskVote, Vote, Append, Ack, Install, TimeoutNow, Message, Node, Outcome, voters, among, peers, majority, is_leader, is_candidate, Timeout, Beat, Propose, Transfer, Snapped, UseServers, Input, Local, Receive}
 use Rattle.raft_rules.specs.Outcomes.{in_newer_term, with_grants}
 use Rattle.raft_rules.specs.Elections.{on_grants, grants_vote, on_ask_vote, grants_with, on_vote}
 use Rattle.raft_rules.specs.Replication.{agrees, replaces_committed, take_entries, on_append, on_ack}
@@ -18,7 +18,7 @@ use Rattle.node_rules.specs.Accounts.{Moment}
 use Rattle.node_rules.specs.RaftTurns.{raft_after, BytesAfter, kept_bytes, brought_bytes}
 
 abbrev Settles : LogEnd → ℕ → Outcome → Type 0
-Settles x commit d = (d.node.snapshot ≡ x) ⊎ ((commit < d.node.snapshot.index) × (is_leader d.node.role ≡ false))
+Settles x commit d = (d.node.snapshot ≡ x) ⊎ ((commit < d.node.snapshot.index) × (d.node.role ≡ Follower))
 
 counted : (voters_of : List Entry → List ℕ) (me : ℕ) (s : Node) → Settles s.snapshot s.commit (on_grants voters_of me s [])
 unfolding on_grants
@@ -81,17 +81,17 @@ unfolding raft_step
 received voters_of me s m =
     let e = ends_snapshot voters_of me (on_message voters_of me s m) in
     ⊎_elim (λ (x : (on_message voters_of me s m).node.snapshot ≡ s.snapshot). inl (e ∙ x))
-    (λ (x : (s.commit < (on_message voters_of me s m).node.snapshot.index) × (is_leader (on_message voters_of me s m).node.role ≡ false)).
-    inr (subst (λ (l : LogEnd). s.commit < l.index) (sym e) x.0, ap is_leader (ends_role voters_of me (on_message voters_of me s m)) ∙ x.1))
+    (λ (x : (s.commit < (on_message voters_of me s m).node.snapshot.index) × ((on_message voters_of me s m).node.role ≡ Follower)).
+    inr (subst (λ (l : LogEnd). s.commit < l.index) (sym e) x.0, ends_role voters_of me (on_message voters_of me s m) ∙ x.1))
     (heard voters_of me s m)
 
--- a snapshot past the commit index comes to no leader
-pub comes_to_none : (me : ℕ) (s : Node) (m : Message) → s.snapshot.index ≤ s.commit → s.commit < (compacted_step me s (Receive m)).node.snapshot.index → is_leader (compacted_step me s (Receive m)).node.role ≡ false
+-- who takes a snapshot past the commit index follows behind it
+pub comes_to_none : (me : ℕ) (s : Node) (m : Message) → s.snapshot.index ≤ s.commit → s.commit < (compacted_step me s (Receive m)).node.snapshot.index → (compacted_step me s (Receive m)).node.role ≡ Follower
 unfolding compacted_step
 comes_to_none me s m low past = ⊎_elim
     (λ (same : (compacted_step me s (Receive m)).node.snapshot ≡ s.snapshot).
     absurd (let q : (compacted_step me s (Receive m)).node.snapshot.index ≡ s.snapshot.index = ap (λ (l : LogEnd). l.index) same in omega (arith, q, low, past)))
-    (λ (x : (s.commit < (compacted_step me s (Receive m)).node.snapshot.index) × (is_leader (compacted_step me s (Receive m)).node.role ≡ false)). x.1)
+    (λ (x : (s.commit < (compacted_step me s (Receive m)).node.snapshot.index) × ((compacted_step me s (Receive m)).node.role ≡ Follower)). x.1)
     (received (λ log. voters s.servers) me s m)
 
 -- the input of another step
@@ -134,7 +134,7 @@ bytes_after_step setup me came a i bytes coherent other e = by i other e
     message m e = ⊎_elim
         (λ (same : (raft_after me a (Receive m)).snapshot ≡ a.node.raft.snapshot).
         kept_bytes same (e ∙ cond-false (nat_lt a.node.raft.commit (raft_after me a (Receive m)).snapshot.index) came a.node.kept.snap.bytes (below (raft_after me a (Receive m)).snapshot.index (let q : (raft_after me a (Receive m)).snapshot.index ≡ a.node.raft.snapshot.index = ap (λ (l : LogEnd). l.index) same in omega (arith, q, low)))))
-        (λ (x : (a.node.raft.commit < (raft_after me a (Receive m)).snapshot.index) × (is_leader (raft_after me a (Receive m)).role ≡ false)).
+        (λ (x : (a.node.raft.commit < (raft_after me a (Receive m)).snapshot.index) × ((raft_after me a (Receive m)).role ≡ Follower)).
         brought_bytes m refl x.0 (e ∙ cond-true (nat_lt a.node.raft.commit (raft_after me a (Receive m)).snapshot.index) came a.node.kept.snap.bytes (lt-ltb _ _ x.0)))
         (received (λ log. voters a.node.raft.servers) me (node_of a.node.raft) m)
       where

@@ -22,7 +22,7 @@ use Rattle.node_core.specs.Account.{proposals_in, moment_of}
 use Rattle.node_core.specs.Starting.{AppliesKept, Begun, HasStarted}
 use Rattle.node_core.specs.Values.{seen, waiting_on}
 use Rattle.node_core.specs.Waiting.{HasTurns}
-use Rattle.node_core.specs.Whole.{InOffice, LeadsInOffice, ServesLast, IsFree, IsOwnDue, IsLed, Rests}
+use Rattle.node_core.specs.Whole.{InOffice, LeadsInOffice, ServesLast, IsFree, IsOwnDue, Rests}
 use Rattle.node_core.proofs.Waiting.{none_turns}
 
 -- what is known of the parts of a node that starts

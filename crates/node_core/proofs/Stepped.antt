@@ -1,27 +1,26 @@
 -- A turn of Raft's, from its step to its end.
-use Rattle.std.proofs.Common.{◌≡◌, ◌≤◌, ℕ, Bool, true, false, List, [], ◌∷◌, refl, sym, ap, subst, ◌∙◌}
+use Rattle.std.proofs.Common.{◌≡◌, ◌≤◌, ℕ, List, [], ◌∷◌, refl, sym, ap, subst, ◌∙◌}
 use Rattle.std.specs.Prelude.{Option, Some, None}
 use Rattle.page_apply.specs.Machines.{IsMachine}
 use Rattle.raft_rules.specs.Laws.{HasShortTerm}
-use Rattle.raft_rules.specs.Log.{Entry}
 use Rattle.raft_rules.specs.Node as raft
 use Rattle.raft_rules.specs.Node.{is_leader}
-use Rattle.raft_rules.specs.NodeValues.{NodeValue, node_of}
+use Rattle.raft_rules.specs.NodeValues.{node_of}
 use Rattle.raft_core.specs.declared.event.RaftEvent.{RaftEvent}
 use Rattle.raft_core.specs.declared.event.RaftEvent.TheVariants as events
 use Rattle.raft_core.specs.Events.{input_of}
-use Rattle.raft_member.specs.Members.{Configurations, AllStand}
-use Rattle.client_sessions.specs.Clients.{Clients}
+use Rattle.raft_member.specs.Members.{Configurations}
 use Rattle.client_sessions.specs.Seen.{StandOver}
 use Rattle.session_rules.specs.Sessions.{View}
 use Rattle.node_state.specs.declared.office.Office.{Office as Held}
-use Rattle.node_replica.specs.Replicas.{ReplicaValue, IsWhole, HasMoved, kept_of, stepped, snap_after}
+use Rattle.node_replica.specs.Replicas.{ReplicaValue, IsWhole, HasMoved}
 use Rattle.node_rules.specs.RaftTurns.{HasEnded}
 use Rattle.node_core.specs.declared.running.Running.{Running}
 use Rattle.node_core.specs.Account.{proposals_in, moment_of, Fresh}
-use Rattle.node_core.specs.Posting.{Posts, LeavesSo, ToldOr, untold, told_servers, OfficeSo, FollowsSo, FollowsOn}
+use Rattle.node_core.specs.Posting.{Posts, LeavesSo, ToldOr, told_inputs, OfficeSo, FollowsSo, FollowsOn}
 use Rattle.node_core.specs.Stepping.{PutsNone, HasMade, HasStepped, HasFollowed, HasTold, KeepsRest}
 use Rattle.node_core.specs.Values.{clients_in, seen}
+use Rattle.node_core.specs.Voters.{BesideAll}
 use Rattle.node_core.specs.Waiting.{HasTurns}
 use Rattle.node_core.specs.Whole.{InOffice, LeadsInOffice, ServesLast, IsFree, IsLed, IsGoing, IsOutside, Holds}
 use Rattle.node_core.proofs.Posting.{leaves_so, follows_so}
@@ -49,6 +48,7 @@ stepped_so old mid new event batch m short replica rest stand turns office = rec
     servers = rest.servers ∙ ap (λ (n : Running). n.applied.servers) m.is;
     seen = rest.seen ∙ ap (λ (n : Running). n.view.servers) m.is;
     due = rest.due ∙ ap (λ (n : Running). n.due.items) m.is;
+    links = rest.links ∙ ap (λ (n : Running). n.has_links) m.is;
   };
 }
 
@@ -63,20 +63,10 @@ tells_so old new servers batch whole m posts machine =
     leaves_so old new (raft.Local (raft.UseServers servers)) tt tt posts m.is (keeps_snapshot old.replica new.replica (events.Servers servers) whole m.whole m.node m.snap tt)
     (same_snap old.replica new.replica (events.Servers servers) _ refl m.whole m.node m.snap tt) machine
 
--- ---- configurations
-
-pub tells_behind : (old mid new : Running) → mid ≡ record old { members = mid.members } → HasTold mid new → ToldOr mid new → ToldOr (record old { members = new.members }) new
-tells_behind old mid new is told tells =
-    let same : new.members ≡ mid.members = ap (λ (n : Running). n.members) told.is in
-    subst (λ (n : Running). ToldOr n new) (is ∙ ap (λ (c : Configurations). record old { members = c }) (sym same)) tells
-
-pub tells_none : (old new : Running) → new ≡ old → ToldOr (record old { members = new.members }) new
-tells_none old new e = untold (e ∙ ap (λ (c : Configurations). record old { members = c }) (sym (ap (λ (n : Running). n.members) e)))
-
 -- ---- the turn ends
 
 pub fresh_view : (n m : Running) (o : Option Held) (v : View) → m ≡ record n { office = o; view = v } → v.serving ≡ n.view.serving → Fresh n m
-fresh_view n m o v is same = subst (Fresh n) (sym is) (record { moment = λ i. record (moment_of n) { node = record (seen n) { serving = same i } }; mail = refl; replies = refl; reads = refl; kept = refl; id = refl })
+fresh_view n m o v is same = subst (Fresh n) (sym is) (record { moment = λ i. record (moment_of n) { node = record (seen n) { serving = same i } }; mail = refl; replies = refl; reads = refl; kept = refl; id = refl; links = refl })
 
 pub fresh_won : (followed won new : Running) → won ≡ record followed { office = won.office } → new ≡ record won { view = new.view } → new.view.serving ≡ won.view.serving → Fresh followed new
 fresh_won followed won new won_is is same =
@@ -93,12 +83,13 @@ follows_step old step event batch g outside none idle s posts offices c =
     (same_snap old.replica step.replica event _ refl s.whole s.node s.snap none)
 
 pub began_so : (old step followed new : Running) (event : RaftEvent) (batch : Option ℕ) → IsGoing old → IsOutside event → PutsNone old.replica event → old.due.items ≡ [] → HasStepped old step event batch → Posts old step (input_of event) →
-    OfficeSo old step → ToldOr (record step { members = followed.members }) followed → Fresh followed new → FollowsOn old new event
-began_so old step followed new event batch g outside none idle s posts offices tells fresh = record {
+    OfficeSo old step → (tells : ToldOr (record step { members = followed.members }) followed) → BesideAll old followed (input_of event ∷ told_inputs tells) → Fresh followed new → FollowsOn old new event
+began_so old step followed new event batch g outside none idle s posts offices tells beside fresh = record {
   mid = record step { members = followed.members };
   follows = follows_step old step event batch g outside none idle s posts offices followed.members;
   last = followed;
   tells = tells;
+  beside = beside;
   fresh = fresh;
 }
 

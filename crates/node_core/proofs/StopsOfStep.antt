@@ -1,5 +1,5 @@
 -- What is kept where a step was stopped, as what the acts of the rules leave.
-use Rattle.std.proofs.Common.{Bool, ◌≡◌, inl, inr, ℕ, cond, List, [], ◌∷◌, ◌++◌, Option, Some, None, Result, Ok, Err, refl, sym, ap, subst, ◌∙◌}
+use Rattle.std.proofs.Common.{Bool, false, true≢false, append_assoc, ◌≡◌, inl, inr, ℕ, cond, List, [], ◌∷◌, ◌++◌, Option, Some, None, Result, Ok, Err, refl, sym, ap, subst, ◌∙◌}
 use Rattle.std.specs.Prelude.{◌==◌, OnErr}
 use Rattle.std.proofs.lemmas.Bool.{cond-true, cond-false, eq-eqb, ne_eqb}
 use Rattle.wire_msgs.specs.declared.request.Request.{Request}
@@ -13,19 +13,22 @@ use Rattle.raft_core.specs.declared.event.RaftEvent.TheVariants as raft_events
 use Rattle.raft_core.specs.Events.{input_of}
 use Rattle.raft_world.specs.Members.{Setup}
 use Rattle.store_laws.specs.Store.{Kept}
-use Rattle.node_replica.specs.Replicas.{ReplicaValue, kept_of}
-use Rattle.node_rules.specs.Accounts.{Moment, MayEnd, LeftBy}
-use Rattle.node_rules.specs.RaftTurns.{IsFirst, StopsAt, StopLeaves}
+use Rattle.node_replica.specs.Replicas.{kept_of}
+use Rattle.node_rules.specs.Accounts.{Moment, both, read_by, with_input, MayEnd, LeftBy}
+use Rattle.node_rules.specs.Steps.{TellsSo}
+use Rattle.node_rules.specs.RaftTurns.{IsFirst, StopLeaves}
 use Rattle.node_core.specs.declared.event.Event.{Event}
 use Rattle.node_core.specs.declared.event.Event.TheVariants as happens
 use Rattle.node_core.specs.declared.running.Running.{Running}
-use Rattle.node_core.specs.Account.{moment_of, Brought, Since, Begin, Happens, Comes, Compacts, BytesAsk, told_of, AtRest, Stopped, none_made, Between, Comes_in, IsOwn, IsMore, Underway, StopsBy}
-use Rattle.node_core.specs.Finding.{StopsIn, StopsTelling, untold_yet, in_telling, StopsOwn, before_own, in_own, StopsCompacting, BeganStops, at_once, later_on, StopsLetter, letter_stopped, no_letter}
-use Rattle.node_core.specs.Posting.{ToldOr}
-use Rattle.node_core.specs.Taking.{TurnsOn, bytes_with, came_by}
+use Rattle.node_core.specs.Account.{moment_of, Brought, Since, Begin, Happens, Comes, Compacts, BytesAsk, told_of, AtRest, Stopped, none_made, Between, Comes_in, IsOwn, IsMore, IsAlone, Underway, StopsBy}
+use Rattle.node_core.specs.Finding.{StopsIn, unchanged_yet, in_change, StopsOwn, before_own, in_own, StopsCompacting, BeganStops, at_once, later_on, StopsLetter, letter_stopped, no_letter}
+use Rattle.node_core.specs.Posting.{told_inputs}
+use Rattle.node_core.specs.Voters.{MayBe}
+use Rattle.node_core.specs.Taking.{bytes_with, came_by}
 use Rattle.node_core.specs.Values.{seen, clients_in, waiting_on}
 use Rattle.node_core.specs.Whole.{IsOutside}
-use Rattle.node_core.proofs.Accounting.{begun_stops, since_stops, since_within, begin_within, since_ends, went_on, went_stops, are_more, since_on, underway_stops}
+use Rattle.node_core.proofs.Accounting.{begun_stops, since_stops, since_within, begin_within, since_ends, went_on, went_stops, are_more, all_then, since_on, underway_stops}
+use Rattle.node_core.proofs.Besides.{tells_stop, tells_begun}
 use Rattle.node_core.proofs.Beginning.{BeginsWith, with_letter}
 use Rattle.node_core.proofs.Bridges.{asked_more}
 use Rattle.node_core.proofs.RaftAccounts.{told_turns}
@@ -48,61 +51,70 @@ module _ (law : StopLeaves) (m : Meaning) (kind : EngineKind) (setup : Setup) wh
   -- ---- an act
 
   -- within the step of an input that the node added
-  stops_in : {before now : Option Told} (x : Brought) (late : Bool) (from mid : Running) (begin : Begin) (i : raft.Input) (kept : Kept) → AtRest from → Comes_in from begin x → Since m kind setup x late from mid before now → IsOwn i → IsFirst (moment_of mid) i →
-      StopsIn setup x.bytes mid i kept → Stopped m kind setup from begin kept
-  stops_in x late from mid begin i kept stood comes since own first s =
-      since_within m kind setup x late from mid begin i kept stood comes since own
+  stops_in : {before now : Option Told} (x : Brought) (late : Bool) (from mid : Running) (begin : Begin) (i : raft.Input) (kept : Kept) → AtRest from → Comes_in from begin x → (since : Since m kind setup x late from mid before now) → IsOwn i → IsFirst (moment_of mid) i →
+      TellsSo setup from.replica.id (seen from) (read_by x.bytes x.joins x.read (with_input since.piece i)) → StopsIn setup x.bytes mid i kept → Stopped m kind setup from begin kept
+  stops_in x late from mid begin i kept stood comes since own first tells s =
+      since_within m kind setup x late from mid begin i kept stood comes since own tells
       (λ known. subst (λ me. LeftBy setup me x.bytes x.joins (moment_of mid) i kept) since.id (law setup mid.replica.id x.bytes x.joins (moment_of mid) i kept first s))
 
   -- with its event of Raft's
   pub began_stopped : (from : Running) (begin : Begin) (e : RaftEvent) (kept : Kept) → AtRest from → BeginsWith from begin e → IsOutside e → BeganStops m kind setup from e kept → Stopped m kind setup from begin kept
-  began_stopped from begin e kept stood w outside (at_once s) =
-      begin_within m kind setup (came_by e) from begin (input_of e) kept stood (record { inputs = inl w.inputs; bytes = w.bytes; joins = w.joins; read = w.read; asks = w.asks }) refl (λ conn. refl)
+  began_stopped from begin e kept stood w outside (at_once may s) =
+      begin_within m kind setup (came_by e) from begin (input_of e) kept stood (record { inputs = inl w.inputs; bytes = w.bytes; joins = w.joins; read = w.read; asks = w.asks }) refl (λ conn. refl) may
       (λ known. law setup from.replica.id (bytes_with e) None (moment_of from) (input_of e) kept (outside_first (moment_of from) e outside) s)
-  began_stopped from begin e kept stood w outside (later_on mid i since own first s) =
-      stops_in (came_by e) _ from mid begin i kept stood (record { inputs = inl w.inputs; bytes = w.bytes; joins = w.joins; read = w.read; asks = w.asks }) since own first s
+  began_stopped from begin e kept stood w outside (later_on mid i since own first may s) =
+      stops_in (came_by e) _ from mid begin i kept stood (record { inputs = inl w.inputs; bytes = w.bytes; joins = w.joins; read = w.read; asks = w.asks }) since own first
+      (tells_begun setup (bytes_with e) from None None (with_input since.piece i) may) s
 
   -- ---- a step under way
 
   module _ {before now : Option Told} (start : Running) (event : Event) (a : Running) (u : Underway m kind setup start a event before now) where
     -- between two turns
     pub stopped_here : StopsBy m kind setup start event (kept_of a.replica)
-    stopped_here = underway_stops m kind setup start a event (kept_of a.replica) u (since_stops m kind setup u.so_far.brought u.so_far.late u.from a u.begin u.stood u.so_far.comes u.so_far.since)
+    stopped_here = underway_stops m kind setup start a event (kept_of a.replica) u (since_stops m kind setup u.so_far.brought u.so_far.late u.from a u.begin u.stood u.so_far.comes u.so_far.since u.so_far.beside)
 
     -- in a turn for what the node gave Raft itself
     pub stopped_own : (kept : Kept) → StopsOwn setup u.so_far.brought.bytes a kept → StopsBy m kind setup start event kept
-    stopped_own kept (before_own (untold_yet e)) = subst (StopsBy m kind setup start event) (sym e) stopped_here
-    stopped_own kept (before_own (in_telling servers s)) =
+    unfolding since_on
+    stopped_own kept (before_own (unchanged_yet e)) = subst (StopsBy m kind setup start event) (sym e) stopped_here
+    stopped_own kept (before_own (in_change servers may s)) =
+        let x = u.so_far.brought in
+        let i : raft.Input = raft.Local (raft.UseServers servers) in
         underway_stops m kind setup start a event kept u
-        (stops_in u.so_far.brought u.so_far.late u.from a u.begin (raft.Local (raft.UseServers servers)) kept u.stood u.so_far.comes u.so_far.since tt tt s)
-    stopped_own kept (in_own mid i told own first s) =
+        (stops_in u.so_far.brought u.so_far.late u.from a u.begin i kept u.stood u.so_far.comes u.so_far.since tt tt
+        (tells_stop setup x.bytes u.from a x.joins x.read (with_input u.so_far.since.piece i) u.so_far.since.piece.inputs (i ∷ []) u.so_far.since.id u.so_far.beside may refl) s)
+    stopped_own kept (in_own mid i told own first may s) =
         let x = u.so_far.brought in
         let t = told_turns m kind setup x.bytes x.joins a mid told in
         underway_stops m kind setup start a event kept u
-        (stops_in x _ u.from mid u.begin i kept u.stood u.so_far.comes (since_on m kind setup x u.so_far.late u.from a mid u.so_far.since t.turns (inr t.same) (inr t.snap)) own first s)
+        (stops_in x _ u.from mid u.begin i kept u.stood u.so_far.comes (since_on m kind setup x u.so_far.late u.from a mid u.so_far.since t.turns (inr t.same) (inr t.snap)) own first
+        (tells_stop setup x.bytes u.from a x.joins x.read (with_input (both u.so_far.since.piece t.turns.piece) i) u.so_far.since.piece.inputs (told_inputs told ++ i ∷ []) u.so_far.since.id u.so_far.beside may
+        (ap (λ (is : List raft.Input). (u.so_far.since.piece.inputs ++ is) ++ i ∷ []) t.is ∙ append_assoc u.so_far.since.piece.inputs (told_inputs told) (i ∷ []))) s)
 
     -- at the begin of another act
-    pub stopped_next : (b : Running) (next : Begin) (kept : Kept) → MayEnd (moment_of a) → a.replica.raft.id ≡ a.replica.id → Between a b → IsMore next → Stopped m kind setup b next kept → StopsBy m kind setup start event kept
-    stopped_next b next kept end id between more stopped =
+    pub stopped_next : (b : Running) (next : Begin) (kept : Kept) → MayEnd (moment_of a) → a.replica.raft.id ≡ a.replica.id → Between a b → IsMore next → (a.has_links ≡ false → IsAlone next) → Stopped m kind setup b next kept → StopsBy m kind setup start event kept
+    stopped_next b next kept end id between more alone stopped =
         let f = u.so_far in
-        let r = since_ends m kind setup f.brought f.late u.from a u.begin u.stood f.comes f.since end id in
+        let r = since_ends m kind setup f.brought f.late u.from a u.begin u.stood f.comes f.since f.beside end id in
         went_stops m kind setup start a b (u.begins ++ u.begin ∷ []) next event kept (are_more event u.begins u.begin next u.are more)
         (went_on m kind setup start u.mid u.from a u.begins u.begin r.0 u.went u.between r.1 r.2 r.3) between stopped
+        (λ none. all_then (u.begins ++ u.begin ∷ []) next (u.alone none) (alone (u.links ∙ none)))
 
     -- in an own snapshot
-    pub stopped_compacting : (kept : Kept) → MayEnd (moment_of a) → a.replica.raft.id ≡ a.replica.id → AtRest a → StopsCompacting setup [] a kept → StopsBy m kind setup start event kept
-    stopped_compacting kept end id stood s =
-        stopped_next a (Compacts a.applied.index) kept end id (record { same = refl; mail = refl; replies = refl; reads = refl }) tt
+    pub stopped_compacting : (kept : Kept) → MayEnd (moment_of a) → a.replica.raft.id ≡ a.replica.id → AtRest a → MayBe setup a [] (raft.Local (raft.Snapped a.applied.index) ∷ []) → StopsCompacting setup [] a kept → StopsBy m kind setup start event kept
+    stopped_compacting kept end id stood may s =
+        stopped_next a (Compacts a.applied.index) kept end id (record { same = refl; links = refl; mail = refl; replies = refl; reads = refl }) tt (λ none. tt)
         (begin_within m kind setup (record { inputs = raft.Local (raft.Snapped a.applied.index) ∷ []; bytes = []; joins = None; read = None; asks = λ conn. [] }) a (Compacts a.applied.index) (raft.Local (raft.Snapped a.applied.index)) kept stood
-        (record { inputs = inl refl; bytes = refl; joins = refl; read = refl; asks = λ conn. refl }) refl (λ conn. refl)
+        (record { inputs = inl refl; bytes = refl; joins = refl; read = refl; asks = λ conn. refl }) refl (λ conn. refl) may
         (λ known. law setup a.replica.id [] None (moment_of a) (raft.Local (raft.Snapped a.applied.index)) kept tt (s known)))
 
     -- at the begin of a message of a peer
     pub stopped_letter : (kept : Kept) → MayEnd (moment_of a) → a.replica.raft.id ≡ a.replica.id → AtRest a → StopsLetter m kind setup a kept → StopsBy m kind setup start event kept
     stopped_letter kept end id stood (no_letter e) = subst (StopsBy m kind setup start event) (sym e) stopped_here
-    stopped_letter kept end id stood (letter_stopped message mid is s) =
+    stopped_letter kept end id stood (letter_stopped message mid linked is s) =
         stopped_next mid (Comes message) kept end id
-        (record { same = ap seen is; mail = ap (λ (n : Running). n.mail) is; replies = ap (λ (n : Running). n.outs.replies.items) is; reads = ap (λ (n : Running). n.outs.reads.items) is }) tt
+        (record { same = ap seen is; links = ap (λ (n : Running). n.has_links) is; mail = ap (λ (n : Running). n.mail) is; replies = ap (λ (n : Running). n.outs.replies.items) is; reads = ap (λ (n : Running). n.outs.reads.items) is }) tt
+        (λ none. absurd (true≢false (sym linked ∙ none)))
         (began_stopped mid (Comes message) (raft_events.Message message) kept (subst AtRest (sym is) (record { rests = stood.rests; at = stood.at; id = stood.id })) (with_letter mid message) tt s)
 
 -- ---- the begin of a step
@@ -156,4 +168,5 @@ first_stopped m kind setup start from event kept between stopped = record {
   made = none_made;
   acts = (between.same, refl);
   stopped = stopped;
+  alone = λ none. (tt, tt);
 }

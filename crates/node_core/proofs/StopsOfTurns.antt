@@ -1,5 +1,5 @@
 -- What is kept where a turn of Raft's was stopped.
-use Rattle.std.proofs.Common.{◌≡◌, ◌≢◌, ℕ, ◌<◌, Bool, List, [], ◌∷◌, refl, sym, ap, subst, ◌∙◌, Option, None}
+use Rattle.std.proofs.Common.{◌≡◌, ◌≢◌, ℕ, List, [], ◌∷◌, ◌++◌, refl, sym, ap, subst, ◌∙◌, None}
 use Rattle.sql_engine.specs.declared.kind.EngineKind.{EngineKind}
 use Rattle.sql_engine.specs.Meanings.{Meaning}
 use Rattle.raft_rules.specs.Node as raft
@@ -11,7 +11,7 @@ use Rattle.raft_vote.specs.declared.message.What.TheVariants as whats
 use Rattle.raft_core.specs.declared.event.RaftEvent.{RaftEvent}
 use Rattle.raft_core.specs.declared.event.RaftEvent.TheVariants as events
 use Rattle.raft_core.specs.Events.{input_of, offered}
-use Rattle.raft_member.specs.Members.{Configurations}
+use Rattle.raft_member.specs.Members.{Configurations, read_setup}
 use Rattle.raft_world.specs.Members.{Setup}
 use Rattle.store_laws.specs.Snapshots.{Longer, given}
 use Rattle.store_laws.specs.Store.{Snap, Kept}
@@ -23,12 +23,14 @@ use Rattle.node_rules.specs.RaftTurns as turns
 use Rattle.node_core.specs.declared.running.Running.{Running}
 use Rattle.node_core.specs.Account as account
 use Rattle.node_core.specs.Account.{proposals_in, moment_of, IsOwn}
-use Rattle.node_core.specs.Finding.{StopsIn, StopsTelling, untold_yet, in_telling, StopsBehind, StopsFollowing, in_step, behind_step, StopsInstalling, in_install, behind_install, StopsOwn, before_own, in_own, BeganStops, at_once, later_on}
-use Rattle.node_core.specs.Posting.{Posts, LeavesSo, ToldOr, untold, told_servers, FollowsSo, InstallsSo, WasDue}
+use Rattle.node_core.specs.Finding.{StopsIn, StopsTelling, untold_yet, in_telling, StopsBehind, StopsFollowing, in_step, behind_step, StopsInstalling, in_install, behind_install, StopsChanging, unchanged_yet, in_change, StopsOwn, before_own, in_own, BeganStops, at_once, later_on}
+use Rattle.node_core.specs.Posting.{Posts, ToldOr, untold, told_servers, told_inputs, FollowsSo, InstallsSo, WasDue}
 use Rattle.node_core.specs.Stepping.{HasTold}
 use Rattle.node_core.specs.Taking.{bytes_with}
-use Rattle.node_core.specs.Whole.{IsOwnDue}
-use Rattle.node_core.proofs.OwnTurns.{before_is, told_due}
+use Rattle.node_core.specs.Voters.{MayBe}
+use Rattle.node_core.specs.Whole.{IsOwnDue, IsOutside}
+use Rattle.node_core.proofs.Besides.{may_outside, may_outside_told}
+use Rattle.node_core.proofs.OwnTurns.{before_is, told_due, due_inputs}
 use Rattle.node_core.proofs.RaftAccounts.{since_followed, since_installed}
 use Rattle.node_core.proofs.RaftBridges.{longer_self}
 
@@ -131,11 +133,15 @@ stops_due setup came a w i kept own (at_end bytes b l) = at_end bytes (by b) (re
     by (brought_bytes m e past q) = brought_bytes m e past q
     by (own_bytes index e s) = absurd (subst IsOwn e own)
 
+-- what the node may be told doesn't hang on what is due
+may_before : (setup : Setup) (came : List ℕ) (before popped : Running) (event : RaftEvent) (is : List raft.Input) → WasDue event before popped → MayBe setup popped came is → MayBe setup before came is
+may_before setup came before popped event is was may = subst (λ (n : Running). MayBe setup n came is) (before_is before popped event was) may
+
 -- where Raft was told servers before
-pub own_telling : (setup : Setup) (came : List ℕ) (before popped : Running) (event : RaftEvent) (kept : Kept) → WasDue event before popped → StopsTelling setup came popped kept → StopsOwn setup came before kept
-own_telling setup came before popped event kept was (untold_yet e) = before_own (untold_yet (e ∙ ap (λ (n : Running). kept_of n.replica) was.is))
-own_telling setup came before popped event kept was (in_telling servers x) =
-    before_own (in_telling servers (subst (λ (n : Running). StopsIn setup came n (raft.Local (raft.UseServers servers)) kept) (before_is before popped event was) (stops_due setup came popped before (raft.Local (raft.UseServers servers)) kept tt x)))
+pub own_telling : (setup : Setup) (came : List ℕ) (before popped : Running) (event : RaftEvent) (kept : Kept) → WasDue event before popped → StopsChanging setup came popped kept → StopsOwn setup came before kept
+own_telling setup came before popped event kept was (unchanged_yet e) = before_own (unchanged_yet (e ∙ ap (λ (n : Running). kept_of n.replica) was.is))
+own_telling setup came before popped event kept was (in_change servers may x) =
+    before_own (in_change servers (may_before setup came before popped event (raft.Local (raft.UseServers servers) ∷ []) was may) (subst (λ (n : Running). StopsIn setup came n (raft.Local (raft.UseServers servers)) kept) (before_is before popped event was) (stops_due setup came popped before (raft.Local (raft.UseServers servers)) kept tt x)))
 
 own_input : (event : RaftEvent) → IsOwnDue event → IsOwn (input_of event)
 own_input (events.Propose es) own = tt
@@ -155,21 +161,32 @@ is_first (events.Message m) told w own due = absurd own
 is_first (events.Snapped at) told w own due = absurd own
 is_first (events.Servers servers) told w own due = absurd own
 
-pub own_making : (setup : Setup) (came : List ℕ) (before popped told : Running) (event : RaftEvent) (kept : Kept) → IsOwnDue event → WasDue event before popped → HasTold popped told → ToldOr popped told → StopsIn setup (bytes_with event) told (input_of event) kept → StopsOwn setup came before kept
-own_making setup came before popped told event kept own was t tells x =
+pub own_making : (setup : Setup) (came : List ℕ) (before popped told : Running) (event : RaftEvent) (kept : Kept) → IsOwnDue event → WasDue event before popped → HasTold popped told → (tells : ToldOr popped told) → MayBe setup popped came (told_inputs tells ++ input_of event ∷ []) → StopsIn setup (bytes_with event) told (input_of event) kept → StopsOwn setup came before kept
+own_making setup came before popped told event kept own was t tells may x =
     let mid : Running = record told { due = before.due } in
-    in_own mid (input_of event) (subst (λ (n : Running). ToldOr n mid) (before_is before popped event was) (told_due popped told before tells)) (own_input event own)
+    subst (λ (n : Running). StopsOwn setup came n kept) (before_is before popped event was) (in_own mid (input_of event) (told_due popped told before tells) (own_input event own)
     (is_first event told before own (was.first ∙ ap (λ l. event ∷ l) (sym (ap (λ (n : Running). n.due.items) t.is))))
-    (stops_due setup came told before (input_of event) kept (own_input event own) (stops_other setup (bytes_with event) came told (input_of event) kept (no_message (input_of event) (own_input event own)) x))
+    (subst (λ (is : List raft.Input). MayBe setup (record popped { due = before.due }) came (is ++ input_of event ∷ [])) (sym (due_inputs popped told before tells)) may)
+    (stops_due setup came told before (input_of event) kept (own_input event own) (stops_other setup (bytes_with event) came told (input_of event) kept (no_message (input_of event) (own_input event own)) x)))
 
 -- ---- an act that began with an event
 
-module _ (m : Meaning) (kind : EngineKind) (setup : Setup) (old : Running) where
-  pub following_stops : (event : RaftEvent) (kept : Kept) → StopsFollowing setup old event kept → BeganStops m kind setup old event kept
-  following_stops event kept (in_step x) = at_once x
-  following_stops event kept (behind_step mid servers f x) = later_on mid (raft.Local (raft.UseServers servers)) (since_followed m kind setup {told = None} old mid event f) tt tt x
+module _ (m : Meaning) (kind : EngineKind) (opening : List raft.Server) (old : Running) where
+  abbrev setup : Setup
+  setup = read_setup opening
 
-  pub installing_stops : (event : RaftEvent) (kept : Kept) → StopsInstalling setup old event kept → BeganStops m kind setup old event kept
-  installing_stops event kept (in_install x) = at_once x
-  installing_stops event kept (behind_install message mid servers is i x) =
-      subst (λ (e : RaftEvent). BeganStops m kind setup old e kept) (sym is) (later_on mid (raft.Local (raft.UseServers servers)) (since_installed m kind setup {told = None} old mid message i) tt tt x)
+  pub following_stops : (event : RaftEvent) (kept : Kept) → IsOutside event → StopsFollowing setup old event kept → BeganStops m kind setup old event kept
+  following_stops event kept outside (in_step x) = at_once (may_outside opening (bytes_with event) old event outside) x
+  following_stops event kept outside (behind_step mid servers f x) =
+      let i : raft.Input = raft.Local (raft.UseServers servers) in
+      let s = since_followed m kind setup {told = None} old mid event f in
+      later_on mid i s.0 tt tt (subst (λ (is : List raft.Input). MayBe setup old (bytes_with event) (is ++ i ∷ [])) (sym s.1) (may_outside_told opening (bytes_with event) old event servers outside)) x
+
+  pub installing_stops : (event : RaftEvent) (kept : Kept) → IsOutside event → StopsInstalling setup old event kept → BeganStops m kind setup old event kept
+  installing_stops event kept outside (in_install x) = at_once (may_outside opening (bytes_with event) old event outside) x
+  installing_stops event kept outside (behind_install message mid servers is i x) =
+      let own : raft.Input = raft.Local (raft.UseServers servers) in
+      let s = since_installed m kind setup {told = None} old mid message i in
+      let bytes : List ℕ = account.bytes_in message.what in
+      subst (λ (e : RaftEvent). BeganStops m kind setup old e kept) (sym is)
+      (later_on mid own s.0 tt tt (subst (λ (is : List raft.Input). MayBe setup old bytes (is ++ own ∷ [])) (sym s.1) (may_outside_told opening bytes old (events.Message message) servers tt)) x)

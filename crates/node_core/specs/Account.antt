@@ -1,6 +1,6 @@
 -- What a step of a node makes: acts of the rules of nodes, one after another, each from rest to rest, and what they say. The first act
 -- is that of the event; each message of a peer that came on a connection begins one of its own, and so does each own snapshot.
-use Rattle.std.specs.Prelude.{◌≡◌, ◌≢◌, ◌⊎◌, ℕ, Bool, true, List, [], ◌∷◌, ◌++◌, map, Option, Some, None}
+use Rattle.std.specs.Prelude.{◌≡◌, ◌≢◌, ◌⊎◌, ℕ, Bool, true, false, List, [], ◌∷◌, ◌++◌, map, Option, Some, None}
 use Rattle.std.specs.List.{AllByRecursion, flat_map}
 use Rattle.wire_msgs.specs.declared.fault.MsgFault.{MsgFault}
 use Rattle.wire_msgs.specs.declared.request.Request.{Request}
@@ -30,12 +30,13 @@ use Rattle.node_replica.specs.Replicas.{kept_of}
 use Rattle.node_state.specs.Snapshot.{snapshot_in, offered_to}
 use Rattle.node_rules.specs.Accounts.{Moment, resting, Piece, Goes, Begins}
 use Rattle.node_rules.specs.RaftTurns.{HasServers}
-use Rattle.node_rules.specs.Steps.{Letter, Taken, Made, StepsSo, StopsSo, AllSent}
+use Rattle.node_rules.specs.Steps.{Letter, Taken, Made, TellsSo, CountsSo, StepsSo, StopsSo, AllSent}
 use Rattle.node_core.specs.declared.event.Event.{Event}
 use Rattle.node_core.specs.declared.event.Event.TheVariants as events
 use Rattle.node_core.specs.declared.outs.Outs.{Outs}
 use Rattle.node_core.specs.declared.running.Running.{Running}
 use Rattle.node_core.specs.Values.{seen, clients_in, requests_in, waiting_on}
+use Rattle.node_core.specs.Voters.{Beside}
 
 -- ---- a moment of a step
 
@@ -296,13 +297,15 @@ made_both x y = record {
   answers = x.answers ++ y.answers;
 }
 
--- An act of a step that ended well, with what it makes.
+-- An act of a step that ended well, with what it makes. At each of its steps of Raft the node was told the voters by which it is counted.
 pub record Act (m : Meaning) (kind : EngineKind) (setup : Setup) (old new : Running) (begin : Begin) (made : Made) : Type 0 where
   pub stood : AtRest old
   pub id : new.replica.raft.id ≡ old.replica.raft.id
   pub taken : Taken
   pub takes : Takes old begin taken
   pub steps : KnowsServers setup old → StepsSo m kind setup old.replica.id (seen old) (seen new) taken made.letters made.replies made.jobs made.answers
+  pub tells : TellsSo setup old.replica.id (seen old) taken
+  pub counts : CountsSo setup old.replica.id (seen old) (seen new) taken
   pub sent : AllSent (kept_of old.replica) (kept_of new.replica) made.letters
 
 -- These acts lead from one node to another, and make this. Before each of them, and after the last, only what the rules don't see changes.
@@ -318,6 +321,7 @@ pub record Stopped (m : Meaning) (kind : EngineKind) (setup : Setup) (old : Runn
   pub taken : Taken
   pub takes : Takes old begin taken
   pub stops : KnowsServers setup old → StopsSo m kind setup old.replica.id (seen old) kept taken
+  pub tells : TellsSo setup old.replica.id (seen old) taken
 
 -- ---- the acts of a step
 
@@ -338,9 +342,20 @@ abbrev pub AreOf : Event → List Begin → Type 0
 AreOf event [] = ⊥
 AreOf event (begin ∷ begins) = (begin ≡ Happens event) × AllByRecursion IsMore begins
 
+-- no message of a peer came on a connection
+abbrev pub IsAlone : Begin → Type 0
+IsAlone (Happens event) = Unit {0}
+IsAlone (Comes message) = ⊥
+IsAlone (Compacts index) = Unit {0}
+
+-- none did where the node has no links
+abbrev pub AreAlone : Running → List Begin → Type 0
+AreAlone n begins = n.has_links ≡ false → AllByRecursion IsAlone begins
+
 -- nothing is said between two acts, and only what the rules don't see changes
 pub record Between (old new : Running) : Type 0 where
   pub same : seen new ≡ seen old
+  pub links : new.has_links ≡ old.has_links
   pub mail : new.mail ≡ old.mail
   pub replies : new.outs.replies.items ≡ old.outs.replies.items
   pub reads : new.outs.reads.items ≡ old.outs.reads.items
@@ -355,6 +370,7 @@ pub record Fresh (old new : Running) : Type 0 where
   pub reads : new.outs.reads.items ≡ old.outs.reads.items
   pub kept : kept_of new.replica ≡ kept_of old.replica
   pub id : new.replica.id ≡ old.replica.id
+  pub links : new.has_links ≡ old.has_links
 
 -- Of an act that began at this node: this came in by it, and this happened since.
 pub record SoFar (m : Meaning) (kind : EngineKind) (setup : Setup) (from now : Running) (begin : Begin) (told_before told_now : Option Told) : Type 0 where
@@ -362,8 +378,10 @@ pub record SoFar (m : Meaning) (kind : EngineKind) (setup : Setup) (from now : R
   pub late : Bool
   pub comes : Comes_in from begin brought
   pub since : Since m kind setup brought late from now told_before told_now
+  pub beside : Beside setup from now brought.bytes since.piece.inputs
 
--- A step of an event is under way: these acts have ended, and this one began where the node last rested.
+-- A step of an event is under way: these acts have ended, and this one began where the node last rested. Without links none of them began
+-- with a message on a connection.
 pub record Underway (m : Meaning) (kind : EngineKind) (setup : Setup) (start now : Running) (event : Event) (told_before told_now : Option Told) : Type 0 where
   pub begins : List Begin
   pub begin : Begin
@@ -375,11 +393,14 @@ pub record Underway (m : Meaning) (kind : EngineKind) (setup : Setup) (start now
   pub between : Between mid from
   pub stood : AtRest from
   pub so_far : SoFar m kind setup from now begin told_between told_now
+  pub links : now.has_links ≡ start.has_links
+  pub alone : AreAlone start (begins ++ begin ∷ [])
 
 -- ---- what a step shows
 
 -- A step that ended well: its acts are those of the rules, the first one that of the event, and it says what they say: of the Appends and
--- Installs to one peer the last one. It hands to readers what they lend, and the engine told the answers that they use, and no others.
+-- Installs to one peer the last one. It hands to readers what they lend, and the engine told the answers that they use, and no others. A
+-- node without links takes no peer's message from a connection, and stays without them.
 pub record StepsBy (m : Meaning) (kind : EngineKind) (setup : Setup) (old new : Running) (event : Event) (outs : Outs) (told_before told_now : Option Told)
     : Type 0 where
   pub begins : List Begin
@@ -392,6 +413,8 @@ pub record StepsBy (m : Meaning) (kind : EngineKind) (setup : Setup) (old new : 
   pub tells : Sends made.replies outs.replies.items
   pub reads : outs.reads.items ≡ made.jobs
   pub heard : TellsAll made.answers told_before told_now
+  pub links : new.has_links ≡ old.has_links
+  pub alone : AreAlone old begins
 
 -- A step that failed or was stopped: what is kept is what the last of its acts left, and those before it ended well.
 pub record StopsBy (m : Meaning) (kind : EngineKind) (setup : Setup) (old : Running) (event : Event) (kept : Kept) : Type 0 where
@@ -402,3 +425,4 @@ pub record StopsBy (m : Meaning) (kind : EngineKind) (setup : Setup) (old : Runn
   pub made : Made
   pub acts : Acts m kind setup old mid begins made
   pub stopped : Stopped m kind setup mid last kept
+  pub alone : AreAlone old (begins ++ last ∷ [])

@@ -9,6 +9,7 @@ use Rattle.node_rules.specs.ClientTurns.{Applies}
 use Rattle.node_core.specs.declared.running.Running.{Running}
 use Rattle.node_core.specs.Account.{moment_of}
 use Rattle.node_core.specs.Values.{clients_in}
+use Rattle.node_core.specs.Voters.{RestsBeside}
 
 -- the next entry of the log was applied
 pub record TakesEntry (old new : Running) : Type 0 where
@@ -22,3 +23,4 @@ pub record AppliesSo (old new : Running) : Type 0 where
   pub mail : new.mail ≡ old.mail
   pub outs : new.outs.replies.items ≡ old.outs.replies.items ++ told_at (suc old.applied.index) (clients_in old)
   pub reads : new.outs.reads.items ≡ old.outs.reads.items
+  pub beside : RestsBeside old new

@@ -1,5 +1,5 @@
 -- What a load finds where a part of a step failed or was stopped.
-use Rattle.std.specs.Prelude.{◌≡◌, ℕ, Bool, false, List, Option, Result, OnErr}
+use Rattle.std.specs.Prelude.{◌≡◌, ℕ, Bool, true, false, ◌∷◌, ◌++◌, [], List, Option, Result, OnErr}
 use Rattle.sql_engine.specs.declared.kind.EngineKind.{EngineKind}
 use Rattle.sql_engine.specs.Meanings.{Meaning, Told}
 use Rattle.raft_rules.specs.Node as raft
@@ -23,8 +23,9 @@ use Rattle.node_rules.specs.RaftTurns.{IsFirst, StopsAt}
 use Rattle.node_core.specs.declared.fault.NodeFault.{NodeFault}
 use Rattle.node_core.specs.declared.running.Running.{Running}
 use Rattle.node_core.specs.Account.{moment_of, bytes_in, IsOwn, KnowsServers, Since}
-use Rattle.node_core.specs.Posting.{ToldOr, FollowsSo, InstallsSo}
+use Rattle.node_core.specs.Posting.{ToldOr, told_inputs, FollowsSo, InstallsSo}
 use Rattle.node_core.specs.Taking.{bytes_with, came_by}
+use Rattle.node_core.specs.Voters.{MayBe}
 
 -- ---- a load
 
@@ -72,10 +73,17 @@ pub data StopsInstalling (setup : Setup) (old : Running) (event : RaftEvent) (ke
   behind_install : (message : RaftMessage) (mid : Running) (servers : List raft.Server) → event ≡ events.Message message → InstallsSo setup old mid (bytes_in message.what) (message_value message) →
       StopsIn setup (bytes_in message.what) mid (raft.Local (raft.UseServers servers)) kept → StopsInstalling setup old event kept
 
+-- Raft was to be told the servers of a change: nothing was kept yet, or it was stopped in that step, at which the voters may be told.
+pub data StopsChanging (setup : Setup) (came : List ℕ) (old : Running) (kept : Kept) : Type 0 where
+  unchanged_yet : kept ≡ kept_of old.replica → StopsChanging setup came old kept
+  in_change : (servers : List raft.Server) → MayBe setup old came (raft.Local (raft.UseServers servers) ∷ []) →
+      StopsIn setup came old (raft.Local (raft.UseServers servers)) kept → StopsChanging setup came old kept
+
 -- What the node gave Raft itself: before or in the step in which Raft was told servers, or in the step of the first of what is due.
 pub data StopsOwn (setup : Setup) (came : List ℕ) (old : Running) (kept : Kept) : Type 0 where
-  before_own : StopsTelling setup came old kept → StopsOwn setup came old kept
-  in_own : (mid : Running) (i : raft.Input) → ToldOr old mid → IsOwn i → IsFirst (moment_of mid) i → StopsIn setup came mid i kept → StopsOwn setup came old kept
+  before_own : StopsChanging setup came old kept → StopsOwn setup came old kept
+  in_own : (mid : Running) (i : raft.Input) (tells : ToldOr old mid) → IsOwn i → IsFirst (moment_of mid) i → MayBe setup old came (told_inputs tells ++ i ∷ []) →
+      StopsIn setup came mid i kept → StopsOwn setup came old kept
 
 -- An own snapshot, where the servers of the node's configurations are those that are applied.
 abbrev pub StopsCompacting : Setup → List ℕ → Running → Kept → Type 0
@@ -83,10 +91,11 @@ StopsCompacting setup came old kept = KnowsServers setup old → StopsIn setup c
 
 -- An act that began with an event was stopped in Raft's step of it, or in one that the node added.
 pub data BeganStops (m : Meaning) (kind : EngineKind) (setup : Setup) (old : Running) (event : RaftEvent) (kept : Kept) : Type 0 where
-  at_once : StopsIn setup (bytes_with event) old (input_of event) kept → BeganStops m kind setup old event kept
-  later_on : {told : Option Told} (mid : Running) (i : raft.Input) → Since m kind setup (came_by event) false old mid told told → IsOwn i → IsFirst (moment_of mid) i → StopsIn setup (bytes_with event) mid i kept → BeganStops m kind setup old event kept
+  at_once : MayBe setup old (bytes_with event) (input_of event ∷ []) → StopsIn setup (bytes_with event) old (input_of event) kept → BeganStops m kind setup old event kept
+  later_on : {told : Option Told} (mid : Running) (i : raft.Input) (since : Since m kind setup (came_by event) false old mid told told) → IsOwn i → IsFirst (moment_of mid) i →
+      MayBe setup old (bytes_with event) (since.piece.inputs ++ i ∷ []) → StopsIn setup (bytes_with event) mid i kept → BeganStops m kind setup old event kept
 
 -- A message of a peer that came on a connection was stopped; or nothing was kept yet.
 pub data StopsLetter (m : Meaning) (kind : EngineKind) (setup : Setup) (old : Running) (kept : Kept) : Type 0 where
-  letter_stopped : (message : RaftMessage) (mid : Running) → mid ≡ record old { links = mid.links } → BeganStops m kind setup mid (events.Message message) kept → StopsLetter m kind setup old kept
+  letter_stopped : (message : RaftMessage) (mid : Running) → old.has_links ≡ true → mid ≡ record old { links = mid.links } → BeganStops m kind setup mid (events.Message message) kept → StopsLetter m kind setup old kept
   no_letter : kept ≡ kept_of old.replica → StopsLetter m kind setup old kept

@@ -5,6 +5,7 @@ pub mod Starting
 pub mod Stepping
 pub mod Waiting
 pub mod Acts
+pub mod Voters
 pub mod Account
 pub mod Performing
 pub mod Applying

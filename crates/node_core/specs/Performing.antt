@@ -13,11 +13,13 @@ use Rattle.node_core.specs.Account.{proposals_in, moment_of, Says, BytesAsk}
 use Rattle.node_core.specs.Acts.{messages_by, proposals_by, jobs_by}
 use Rattle.node_core.specs.Values.{clients_in}
 
--- nothing is said
+-- nothing is said, the configurations stay, and there are links where there were
 pub record SaysNothing (old new : Running) : Type 0 where
   pub mail : new.mail ≡ old.mail
   pub replies : new.outs.replies.items ≡ old.outs.replies.items
   pub reads : new.outs.reads.items ≡ old.outs.reads.items
+  pub members : new.members ≡ old.members
+  pub links : new.has_links ≡ old.has_links
 
 -- a connection that carries a peer's messages from now on has gone
 abbrev pub gone_by : Act → Clients → Clients
@@ -36,6 +38,8 @@ pub record Performed (old new : Running) (act : Act) : Type 0 where
   pub due : proposals_in new.due.items ≡ proposals_in old.due.items ++ proposals_by act
   pub clients : clients_in new ≡ gone_by act (clients_in old)
   pub replica : new.replica ≡ old.replica
+  pub members : new.members ≡ old.members
+  pub links : new.has_links ≡ old.has_links
   pub index : new.applied.index ≡ old.applied.index
   pub serving : new.view.serving ≡ old.view.serving
   pub office : new.office ≡ old.office
@@ -60,8 +64,13 @@ ClosesSo old new = Stays (moment_of old) (moment_of new) ⊎ ((conn : ℕ) × ((
 abbrev pub HearsSo : Running → Running → ℕ → List ℕ → Type 0
 HearsSo old new conn bytes = (asks : ℕ → List Request) × Hears (moment_of old) (moment_of new) asks × BytesAsk old conn bytes asks
 
+-- the configurations stay, and there are links where there were
+pub record StaysBeside (old new : Running) : Type 0 where
+  pub members : new.members ≡ old.members
+  pub links : new.has_links ≡ old.has_links
+
 -- what a reader told was told to the connection, and nothing else; or nothing has changed
 abbrev pub ReadsSo : Running → Running → ℕ → Option Reply → Type 0
 ReadsSo old new conn told =
     (Stays (moment_of old) (moment_of new) × SaysNothing old new)
-    ⊎ ((reply : Reply) × ((told ≡ Some reply) × (Reads (moment_of old) (moment_of new) conn × Says old new [] ((conn, reply) ∷ []) [])))
+    ⊎ ((reply : Reply) × ((told ≡ Some reply) × (Reads (moment_of old) (moment_of new) conn × Says old new [] ((conn, reply) ∷ []) [] × StaysBeside old new)))

@@ -1,29 +1,33 @@
 -- A step of Raft within a turn: what it leaves is kept, what it says is posted, and sessions follow its office.
-use Rattle.std.specs.Prelude.{◌≡◌, ℕ, Bool, true, false, not, ◌&&◌, ◌==◌, List, [], ◌∷◌, ◌++◌, map, Option, Some, None}
+use Rattle.std.specs.Prelude.{◌≡◌, ◌≢◌, ℕ, Bool, true, false, not, ◌&&◌, ◌||◌, ◌==◌, List, [], ◌∷◌, ◌++◌, map, Option, Some, None}
 use Rattle.page_apply.specs.Machines.{IsMachine}
 use Rattle.session_rules.specs.Machine.{machine_of}
 use Rattle.session_rules.specs.Sessions.{Reply}
 use Rattle.raft_rules.specs.Log.{Entry}
 use Rattle.raft_rules.specs.Node as raft
-use Rattle.raft_rules.specs.Node.{is_leader}
+use Rattle.raft_rules.specs.Node.{is_leader, voters}
 use Rattle.raft_rules.specs.NodeValues.{NodeValue}
 use Rattle.raft_vote.specs.declared.message.RaftMessage.{RaftMessage}
 use Rattle.raft_vote.specs.Messages.{message_value}
 use Rattle.raft_core.specs.declared.event.RaftEvent.{RaftEvent}
 use Rattle.raft_core.specs.declared.event.RaftEvent.TheVariants as events
 use Rattle.raft_core.specs.Events.{input_of}
-use Rattle.raft_world.specs.Members.{Setup}
+use Rattle.raft_member.specs.Members.{last_index, last_servers}
+use Rattle.raft_world.specs.Members.{Setup, is_change}
 use Rattle.client_sessions.specs.Calls.{lost_all, told_all_lost}
 use Rattle.node_state.specs.declared.office.Office.{Office as Held}
 use Rattle.node_replica.specs.Mails.{all_posted}
 use Rattle.node_replica.specs.Replicas.{kept_of}
-use Rattle.node_rules.specs.Accounts.{Moment, SameTerm}
+use Rattle.node_rules.specs.Accounts.{SameTerm}
 use Rattle.node_rules.specs.RaftTurns.{RaftSteps, Leaves, Office, Follows, Installs}
 use Rattle.node_rules.specs.Steps.{AllSent}
 use Rattle.node_rules.specs.Turns.{Proposes}
+use Rattle.node_rules.specs.Changes.{are_near}
+use Rattle.node_rules.specs.Voting.{IsPlain, OwnsCommit, MayChange}
 use Rattle.node_core.specs.declared.running.Running.{Running}
 use Rattle.node_core.specs.Account.{moment_of, bytes_in, letter_of, Sends, Fresh}
-use Rattle.node_core.specs.Values.{clients_in}
+use Rattle.node_core.specs.Values.{seen, clients_in}
+use Rattle.node_core.specs.Voters.{Beside, BesideAll}
 
 -- ---- a step
 
@@ -47,6 +51,47 @@ pub record LeavesSo (old new : Running) (i : raft.Input) : Type 0 where
 pub data ToldOr (old new : Running) : Type 0 where
   untold : new ≡ old → ToldOr old new
   told_servers : (servers : List raft.Server) → LeavesSo old new (raft.Local (raft.UseServers servers)) → ToldOr old new
+
+-- what it was told
+abbrev pub told_inputs : {old new : Running} → ToldOr old new → List raft.Input
+told_inputs (untold e) = []
+told_inputs (told_servers servers l) = raft.Local (raft.UseServers servers) ∷ []
+
+-- Behind a step the configurations have followed the log. They stayed; or the node doesn't follow, whose own entries were told before; or
+-- Raft was told the current one.
+pub data ToldBehind (old new : Running) : Type 0 where
+  same_members : new ≡ old → ToldBehind old new
+  own_log : new ≡ record old { members = new.members } → old.replica.raft.role ≢ raft.Follower → ToldBehind old new
+  told_current : LeavesSo (record old { members = new.members }) new (raft.Local (raft.UseServers (last_servers new.members))) → ToldBehind old new
+
+-- A node tells its Raft the current configuration where it follows.
+pub data TellsCurrent (old new : Running) : Type 0 where
+  stays_own : new ≡ old → old.replica.raft.role ≢ raft.Follower → TellsCurrent old new
+  tells_current : LeavesSo old new (raft.Local (raft.UseServers (last_servers old.members))) → TellsCurrent old new
+
+-- A change to these servers may be proposed: the node has applied all that is committed, the last of it of its own term, and each change of
+-- its log; and their voters are those of the applied configuration, or one more or less.
+pub record MayChangeTo (n : Running) (servers : List raft.Server) : Type 0 where
+  pub at : n.members.at ≡ n.replica.raft.commit
+  pub none : last_index n.members ≡ n.members.at
+  pub barrier : OwnsCommit n.replica.raft
+  pub near : are_near (voters n.members.servers) (voters servers) ≡ true
+
+-- one of these entries is of the kind that changes servers
+abbrev pub has_change : List Entry → Bool
+has_change [] = false
+has_change (e ∷ es) = is_change e.kind || has_change es
+
+-- the event proposes such an entry
+abbrev pub ProposesChange : RaftEvent → Type 0
+ProposesChange (events.Propose entries) = has_change entries ≡ true
+ProposesChange event = ⊥
+
+-- Before an own step: it is none of a change, and nothing has changed; or a leader may propose its change, of which Raft was told the servers.
+pub data ToldChange (old new : Running) (event : RaftEvent) : Type 0 where
+  no_change : IsPlain (input_of event) → new ≡ old → ToldChange old new event
+  change_told : (entry : Entry) (servers : List raft.Server) → event ≡ events.Propose (entry ∷ []) → MayChange (seen old) entry servers →
+      LeavesSo old new (raft.Local (raft.UseServers servers)) → ToldChange old new event
 
 -- A leader took the first proposal that was due, and nothing else has changed.
 pub record ProposesSo (old new : Running) (entries : List Entry) : Type 0 where
@@ -113,6 +158,7 @@ pub record FollowsOn (old new : Running) (event : RaftEvent) : Type 0 where
   pub follows : FollowsSo old mid (input_of event)
   pub last : Running
   pub tells : ToldOr mid last
+  pub beside : BesideAll old last (input_of event ∷ told_inputs tells)
   pub fresh : Fresh last new
 
 -- A message that brought a snapshot: Raft's step, and then it may be told the snapshot's servers.
@@ -123,12 +169,15 @@ pub record InstallsOn (setup : Setup) (old new : Running) (event : RaftEvent) : 
   pub installs : InstallsSo setup old mid (bytes_in message.what) (message_value message)
   pub last : Running
   pub tells : ToldOr mid last
+  pub beside : Beside setup old last (bytes_in message.what) (raft.Receive (message_value message) ∷ told_inputs tells)
   pub fresh : Fresh last new
 
 -- What the node gave Raft itself: a proposal, before which Raft was told the servers that it makes, if any; or a leadership is handed over.
 pub data OwnsSo (old new : Running) : Type 0 where
-  owns_proposal : (mid last : Running) (entries : List Entry) → ToldOr old mid → ProposesSo mid last entries → Fresh last new → OwnsSo old new
-  owns_transfer : (mid last : Running) (to : ℕ) → ToldOr old mid → LeavesSo mid last (raft.Local (raft.Transfer to)) → Fresh last new → OwnsSo old new
+  owns_proposal : (mid last : Running) (entries : List Entry) (tells : ToldOr old mid) → ProposesSo mid last entries →
+      BesideAll old last (told_inputs tells ++ raft.Local (raft.Propose entries) ∷ []) → Fresh last new → OwnsSo old new
+  owns_transfer : (mid last : Running) (to : ℕ) (tells : ToldOr old mid) → LeavesSo mid last (raft.Local (raft.Transfer to)) →
+      BesideAll old last (told_inputs tells ++ raft.Local (raft.Transfer to) ∷ []) → Fresh last new → OwnsSo old new
 
 -- An event was the first of what was due.
 pub record WasDue (event : RaftEvent) (before now : Running) : Type 0 where

@@ -61,14 +61,15 @@ IsOffer n event offers.Nothing = PutsNone n.replica event
 IsOffer n event (offers.Snapshot a) = Brings n.replica event a
 IsOffer n event offers.Lost = IsLostBy n event
 
--- What no step of Raft changes: the configurations of the log, what is applied but for marks, what sessions are told of servers, and what
--- is due.
+-- What no step of Raft changes: the configurations of the log, what is applied but for marks, what sessions are told of servers, what is
+-- due, and whether there are links.
 pub record KeepsRest (old new : Running) : Type 0 where
   pub members : new.members ≡ old.members
   pub index : new.applied.index ≡ old.applied.index
   pub servers : new.applied.servers ≡ old.applied.servers
   pub seen : new.view.servers ≡ old.view.servers
   pub due : new.due.items ≡ old.due.items
+  pub links : new.has_links ≡ old.has_links
 
 -- Raft has made this step, which is kept; its messages are posted, and nothing else has followed yet.
 pub record HasMade (old new : Running) (event : RaftEvent) (batch : Option ℕ) : Type 0 where

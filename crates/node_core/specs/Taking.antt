@@ -1,7 +1,8 @@
 -- What Raft's turns show: an event from outside begins an act, what the node gave Raft is a turn, and an own snapshot is an act of its own.
-use Rattle.std.specs.Prelude.{◌≡◌, ℕ, false, List, [], ◌∷◌, Option, None}
+use Rattle.std.specs.Prelude.{◌≡◌, ℕ, true, false, List, [], ◌∷◌, Option, None}
 use Rattle.sql_engine.specs.declared.kind.EngineKind.{EngineKind}
 use Rattle.sql_engine.specs.Meanings.{Meaning, Told}
+use Rattle.raft_rules.specs.Node as raft
 use Rattle.raft_vote.specs.declared.message.RaftMessage.{RaftMessage}
 use Rattle.raft_core.specs.declared.event.RaftEvent.{RaftEvent}
 use Rattle.raft_core.specs.declared.event.RaftEvent.TheVariants as events
@@ -13,15 +14,17 @@ use Rattle.node_rules.specs.RaftTurns.{TakesSnapshot}
 use Rattle.node_rules.specs.Steps.{Letter, AllSent}
 use Rattle.node_core.specs.declared.running.Running.{Running}
 use Rattle.node_core.specs.Account.{moment_of, bytes_in, Says, Brought, Turns, KnowsServers, Since, LosesMessage, Fresh}
+use Rattle.node_core.specs.Voters.{Beside}
 
 -- ---- turns
 
--- A turn that leaves term, leadership and the kept snapshot.
+-- A turn that leaves term, leadership and the kept snapshot, and in which the node is told its voters.
 pub record TurnsOn (m : Meaning) (kind : EngineKind) (setup : Setup) (bytes : List ℕ) (joins : Option ℕ) (old new : Running)
     (told_before told_now : Option Told) : Type 0 where
   pub turns : Turns m kind setup bytes joins old new told_before told_now
   pub same : SameTerm (moment_of old) (moment_of new)
   pub snap : (kept_of old.replica).snap ≡ (kept_of new.replica).snap
+  pub beside : Beside setup old new bytes turns.piece.inputs
 
 -- ---- an event from outside
 
@@ -41,13 +44,14 @@ IsLostBy old event = ⊥
 
 -- Its act has begun: its input was taken in; or its message counts as lost, and nothing has changed.
 pub data BeganBy (m : Meaning) (kind : EngineKind) (setup : Setup) (old new : Running) (event : RaftEvent) (told_before told_now : Option Told) : Type 0 where
-  takes : Since m kind setup (came_by event) false old new told_before told_now → BeganBy m kind setup old new event told_before told_now
+  takes : (since : Since m kind setup (came_by event) false old new told_before told_now) → Beside setup old new (bytes_with event) since.piece.inputs →
+      BeganBy m kind setup old new event told_before told_now
   loses : IsLostBy old event → new ≡ old → told_before ≡ told_now → BeganBy m kind setup old new event told_before told_now
 
--- A message of a peer came on a connection, and its act has begun where only the connections' messages were others; or nothing came that
--- the rules see.
+-- A message of a peer came on a connection, of a node with links, and its act has begun where only the connections' messages were others;
+-- or nothing came that the rules see.
 pub data TookLetter (m : Meaning) (kind : EngineKind) (setup : Setup) (old new : Running) (told_before told_now : Option Told) : Type 0 where
-  came : (message : RaftMessage) (mid : Running) → mid ≡ record old { links = mid.links } →
+  came : (message : RaftMessage) (mid : Running) → old.has_links ≡ true → mid ≡ record old { links = mid.links } →
       BeganBy m kind setup mid new (events.Message message) told_before told_now → TookLetter m kind setup old new told_before told_now
   none_came : Fresh old new → told_before ≡ told_now → TookLetter m kind setup old new told_before told_now
 
@@ -60,3 +64,4 @@ pub record CompactsSo (setup : Setup) (old new : Running) : Type 0 where
   pub says : Says old new letters [] []
   pub sent : AllSent (kept_of old.replica) (kept_of new.replica) letters
   pub id : new.replica.id ≡ old.replica.id
+  pub beside : Beside setup old new [] (raft.Local (raft.Snapped old.applied.index) ∷ [])

@@ -1,5 +1,5 @@
 -- A node as the rules of nodes see it.
-use Rattle.std.specs.Prelude.{ℕ, List, [], ◌∷◌, ◌++◌, Option, Some, None, Result, Ok, Err}
+use Rattle.std.specs.Prelude.{ℕ, Bool, List, [], ◌∷◌, ◌++◌, Option, Some, None, Result, Ok, Err}
 use Rattle.wire_words.specs.declared.message.Message.{Message}
 use Rattle.wire_msgs.specs.declared.fault.MsgFault.{MsgFault}
 use Rattle.wire_msgs.specs.declared.request.Request.{Request}
@@ -79,3 +79,7 @@ applied_of n = n.running.applied.index
 
 abbrev pub databases_of : Node → List Database
 databases_of n = n.running.applied.machine
+
+-- whether it has links to other nodes
+abbrev pub has_links : Node → Bool
+has_links n = n.running.has_links

@@ -1,6 +1,8 @@
-//! Whether servers are the same.
+//! Whether servers are the same, and whether voters are nearly so.
 
-ghost use Rattle.std.specs.Prelude.{◌≡◌, true};
+ghost use Rattle.std.specs.Prelude.{◌≡◌, ◌<◌, true, suc, length};
+ghost use Rattle.raft_world.specs.Members.{one_more};
+ghost use Rattle.node_rules.specs.Changes.{are_near};
 
 use raft_vote::Server;
 
@@ -26,4 +28,56 @@ pub(crate) fn are_same(ones: &[Server], others: &[Server]) -> bool
         }
     }
     true
+}
+
+/// Whether these are the same ids.
+fn are_alike(ones: &[u64], others: &[u64]) -> bool
+    ensures { result ≡ true → ones.now ≡ others.now }
+{
+    if ones.len() != others.len() {
+        return false;
+    }
+    for place in 0..ones.len() {
+        if ones[place] != others[place] {
+            return false;
+        }
+    }
+    true
+}
+
+/// Whether these ids are those without the one at a place.
+fn lacks_at(fewer: &[u64], more: &[u64], place: usize) -> bool
+    requires within { place < length more.now }
+    requires one { suc (length fewer.now) ≡ length more.now }
+    ensures { result ≡ true → one_more fewer.now more.now ≡ true }
+{
+    are_alike(&fewer[..place], &more[..place]) && are_alike(&fewer[place..], &more[place + 1..])
+}
+
+/// Whether these ids are those without one of them.
+fn lacks_one(fewer: &[u64], more: &[u64]) -> bool
+    ensures { result ≡ true → one_more fewer.now more.now ≡ true }
+{
+    if more.is_empty() || fewer.len() != more.len() - 1 {
+        return false;
+    }
+    for place in 0..more.len() {
+        if lacks_at(fewer, more, place) {
+            return true;
+        }
+    }
+    false
+}
+
+/// Whether voters are the same, or one more or less.
+pub(crate) fn are_near(ones: &[u64], others: &[u64]) -> bool
+    ensures { result ≡ true → are_near ones.now others.now ≡ true }
+{
+    if are_alike(ones, others) {
+        return true;
+    }
+    if lacks_one(ones, others) {
+        return true;
+    }
+    lacks_one(others, ones)
 }

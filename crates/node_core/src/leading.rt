@@ -17,6 +17,7 @@ ghost use Rattle.node_core.specs.Taking.{TurnsOn};
 ghost use Rattle.node_core.specs.Performing.{SaysNothing};
 ghost use Rattle.node_core.specs.Waiting.{NoneIsDue};
 ghost use Rattle.node_core.specs.Values.{clients_in};
+ghost use Rattle.node_core.specs.Voters.{SettlesAt};
 ghost use Rattle.node_core.specs.declared.fault.NodeFault.TheVariants as fault;
 ghost use Rattle.node_core.specs.Stepping.{StaysAgreed};
 ghost use Rattle.node_core.specs.Whole.{IsGoing, IsLed};
@@ -129,6 +130,7 @@ impl Running {
         ensures clients { OnOk result (clients_in self.new ≡ clients_in self.old) }
         ensures rest { self.new ≡ record self.old { applied = self.new.applied; members = self.new.members; view = self.new.view } }
         ensures serving { self.new.view.serving ≡ self.old.view.serving }
+        ensures settled { OnOk result (SettlesAt self.old.members self.new.members (suc self.old.applied.index)) }
     {
         let index = one_more(self.applied.index)?;
         let entry = self.replica.entry(index).unwrap();

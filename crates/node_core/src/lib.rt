@@ -2,6 +2,7 @@
 //! kept; then what is said comes out, in one fixed order.
 #![tactic(auto)]
 
+mod changing;
 mod comparing;
 mod event;
 mod fault;

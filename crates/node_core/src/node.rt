@@ -15,7 +15,7 @@ ghost use Rattle.node_core.specs.Account.{StepsBy, StopsBy};
 ghost use Rattle.node_core.specs.Finding.{LeavesBy};
 ghost use Rattle.node_core.specs.Starting.{StartsOver};
 ghost use Rattle.node_core.specs.Stepping.{IsDown, IsUp, StaysDown, StaysStored};
-ghost use Rattle.node_core.specs.Values.{applied_of, databases_of, keeps_of, kept_by, node_of, raft_of, replica_of, servers_told};
+ghost use Rattle.node_core.specs.Values.{applied_of, databases_of, has_links, keeps_of, kept_by, node_of, raft_of, replica_of, servers_told};
 ghost use Rattle.node_core.specs.Whole.{Agrees, IsSound};
 
 use crate::event::{Event, NodeSpec, NodeState};
@@ -50,6 +50,7 @@ impl Node {
         ensures starts { StartsOver (D.states disk.old) (D.states disk.new) result }
         ensures stands { IfOk result (λ node. StartsSo (read_setup spec.servers) (kept_by node) (node_of node) (servers_told node)) }
         ensures id { IfOk result (λ node. (replica_of node).raft.id ≡ spec.id) }
+        ensures links { IfOk result (λ node. has_links node ≡ spec.links) }
         ensures sound { IfOk result IsSound }
         ensures up { IfOk result IsUp }
         // No number stands for two images, for an engine that knows none.

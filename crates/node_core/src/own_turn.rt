@@ -18,8 +18,8 @@ ghost use Rattle.node_core.specs.declared.running.Running.{Running as RunningVal
 use crate::fault::NodeFault;
 use crate::running::Running;
 use disk_model::Disk;
+use node_replica::twins_keep_alike;
 use raft_core::RaftEvent;
-use raft_member::change_in;
 
 impl Running {
     /// The first of what the node has given Raft itself happens: a proposal, or a leadership that is handed over. False where
@@ -62,38 +62,11 @@ impl Running {
         ensures runs { result ≢ Err fault.Down }
     {
         self.holds_machine();
+        twins_keep_alike();
         self.tell_change(&event, disk)?;
         let batch = self.make_step(event, disk)?;
         self.follow_members(batch)?;
         self.look()?;
         Ok(())
-    }
-
-    /// A leader that proposes a change tells Raft its servers first, so that its entry is counted by them.
-    fn tell_change<D: Disk>(&mut self, event: &RaftEvent, disk: &mut D) -> Result<(), NodeFault>
-        requires whole { IsWhole self.old.replica }
-        requires short { HasShortTerm (node_of self.old.replica.raft) }
-        requires machine { IsMachine self.old.applied.machine }
-        ensures told { OnOk result (HasTold self.old self.new) }
-        ensures tells { OnOk result (ToldOr self.old self.new) }
-        ensures stored { StaysStored D.tells (D.states disk.old) (D.states disk.new) self.old.replica self.new.replica result }
-        ensures stops { (opening : List ServerValue) (came : List ℕ) → LeavesBy D.tells (D.states disk.old) (D.states disk.new) self.old.replica result
-            (StopsTelling (read_setup opening) came self.old) }
-        ensures cause { StepCause (D.faults disk.old) (D.faults disk.new) result }
-        ensures runs { result ≢ Err fault.Down }
-    {
-        let RaftEvent::Propose(entries) = event else {
-            return Ok(());
-        };
-        let [entry] = entries.as_slice() else {
-            return Ok(());
-        };
-        if !self.leads() {
-            return Ok(());
-        }
-        match change_in(self.alloc, entry)? {
-            Some(servers) => self.tell(servers, disk),
-            None => Ok(()),
-        }
     }
 }

@@ -13,14 +13,16 @@ ghost use Rattle.raft_vote.specs.Servers.{IsConfiguration};
 ghost use Rattle.raft_member.specs.Members.{AllStand, read_setup};
 ghost use Rattle.raft_core.specs.Events.{EventFits, input_of};
 ghost use Rattle.node_replica.specs.Replicas.{IsIntake, IsWhole};
+ghost use Rattle.node_rules.specs.Voting.{FromSnapshot};
 ghost use Rattle.node_core.specs.declared.fault.NodeFault.TheVariants as fault;
 ghost use Rattle.node_core.specs.Account.{moment_of};
 ghost use Rattle.node_core.specs.Faults.{StepCause};
 ghost use Rattle.node_core.specs.Finding.{BeganStops, LeavesBy, StopsBehind, StopsFollowing, StopsIn, StopsInstalling, StopsTelling};
-ghost use Rattle.node_core.specs.Posting.{FollowsOn, InstallsOn, LeavesSo, LosesSo, OfficeSo, Posts, ToldOr, ends_office};
+ghost use Rattle.node_core.specs.Posting.{FollowsOn, InstallsOn, LeavesSo, LosesSo, OfficeSo, Posts, TellsCurrent, ToldBehind, ends_office};
 ghost use Rattle.node_core.specs.Stepping.{Brings, HasFollowed, HasMade, HasStepped, HasTold, IsOffer, KeepsRest, PutsNone, StaysAgreed, StaysStored};
 ghost use Rattle.node_core.specs.Taking.{BeganBy, bytes_with};
 ghost use Rattle.node_core.specs.Values.{clients_in};
+ghost use Rattle.node_core.specs.Voters.{FollowsBy};
 ghost use Rattle.node_core.specs.Waiting.{HasTurns};
 ghost use Rattle.node_core.specs.Whole.{InOffice, IsFree, IsGoing, IsLed, IsOutside, LeadsInOffice, ServesLast};
 
@@ -29,7 +31,7 @@ use crate::running::Running;
 use crate::view::copied;
 use client_sessions::clients_change_databases;
 use disk_model::Disk;
-use node_replica::Moved;
+use node_replica::{Moved, twins_keep_alike};
 use node_state::{Applied, Office};
 use raft_core::RaftEvent;
 use raft_vote::{Servers, What};
@@ -195,6 +197,7 @@ impl Running {
         ensures agrees { OnOk result (StaysAgreed self.old self.new) }
         ensures runs { result ≢ Err fault.Down }
     {
+        twins_keep_alike();
         let batch = self.keep_step(event, disk)?;
         self.follow_log(batch, disk)?;
         self.note_win();
@@ -211,6 +214,7 @@ impl Running {
         ensures stand { OnOk result (AllStand self.new.members) }
         ensures at { OnOk result (self.new.members.at ≡ self.old.members.at) }
         ensures stays { IfOk result (λ others. others ≡ false → self.new ≡ self.old) }
+        ensures follows { OnOk result (FollowsBy self.old.members self.new.members (node_of self.old.replica.raft).log batch) }
         ensures wants { IfErr result (λ f. f ≡ fault.NoMemory) }
     {
         let Some(first) = batch else {
@@ -229,7 +233,8 @@ impl Running {
         requires past { MatchOption batch (Unit {0}) (λ first. (self.old.replica.raft.base < first) × (self.old.members.at < first)) }
         requires machine { IsMachine self.old.applied.machine }
         ensures followed { OnOk result (HasFollowed self.old self.new) }
-        ensures tells { OnOk result (ToldOr (record self.old { members = self.new.members }) self.new) }
+        ensures tells { OnOk result (ToldBehind self.old self.new) }
+        ensures follows { OnOk result (FollowsBy self.old.members self.new.members (node_of self.old.replica.raft).log batch) }
         ensures stored { StaysStored D.tells (D.states disk.old) (D.states disk.new) self.old.replica self.new.replica result }
         ensures stops { (opening : List ServerValue) (came : List ℕ) → LeavesBy D.tells (D.states disk.old) (D.states disk.new) self.old.replica result
             (StopsBehind (read_setup opening) came self.old) }
@@ -280,6 +285,7 @@ impl Running {
         requires servers { IsConfiguration applied.servers }
         ensures applied { OnOk result (self.new.applied ≡ applied) }
         ensures at { OnOk result (self.new.members.at ≡ self.old.replica.snap.index) }
+        ensures from { OnOk result (FromSnapshot applied.servers self.old.replica.snap.index (node_of self.old.replica.raft).log self.new.members) }
         ensures stand { OnOk result (AllStand self.new.members) }
         ensures machine { OnOk result (IsMachine self.new.applied.machine) }
         ensures is { OnOk result (self.new ≡ record self.old { members = self.new.members; applied = self.new.applied }) }
@@ -321,7 +327,7 @@ impl Running {
         requires office { InOffice self.old.office self.old.view.serving self.old.replica.raft }
         requires machine { IsMachine self.old.applied.machine }
         ensures told { OnOk result (HasTold self.old self.new) }
-        ensures tells { OnOk result (ToldOr self.old self.new) }
+        ensures tells { OnOk result (TellsCurrent self.old self.new) }
         ensures office { OnOk result (InOffice self.new.office self.new.view.serving self.new.replica.raft) }
         ensures stored { StaysStored D.tells (D.states disk.old) (D.states disk.new) self.old.replica self.new.replica result }
         ensures stops { (opening : List ServerValue) (came : List ℕ) → LeavesBy D.tells (D.states disk.old) (D.states disk.new) self.old.replica result

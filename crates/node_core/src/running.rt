@@ -25,8 +25,9 @@ pub(crate) struct Running {
     pub(crate) members: Members,
     pub(crate) applied: Applied,
     pub(crate) clients: Clients,
-    /// Connections that carry the messages of peers.
+    /// Connections that carry the messages of peers, and whether there are any at all: a node without links takes none from them.
     pub(crate) links: Links,
+    pub(crate) has_links: bool,
     /// Whether readers answer queries beside it, and the connections whose queries are at readers.
     pub(crate) has_readers: bool,
     pub(crate) lent: Vec<u64>,

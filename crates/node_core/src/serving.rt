@@ -111,7 +111,8 @@ impl Running {
         self.databases_stand();
     }
 
-    /// Takes the next message of a peer: it happens at Raft, or its connection is closed. False where none waits.
+    /// Takes the next message of a peer, where the node has links: it happens at Raft, or its connection is closed. False where
+    /// none waits.
     pub(crate) fn take_letter<D: Disk, E: Engine>(
         &mut self,
         disk: &mut D,
@@ -135,6 +136,9 @@ impl Running {
             (StopsLetter (E.meaning (E.kind engine.old)) (E.kind engine.old) (read_setup opening) self.old) }
         ensures runs { result ≢ Err fault.Down }
     {
+        if !self.has_links {
+            return Ok(false);
+        }
         let me = self.id();
         match self.links.next(me)? {
             Some(Letter::Message(message)) => {

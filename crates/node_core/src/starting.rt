@@ -125,6 +125,7 @@ impl Running {
         ensures rests { IfOk result Rests }
         ensures agrees { IfOk result (λ node. Agrees [] node.clients node.applied.machine) }
         ensures keeps { IfOk result (λ node. node.replica.keeps ≡ 0) }
+        ensures links { IfOk result (λ node. node.has_links ≡ spec.links) }
         ensures unread { IfErr result (IsUnread kept.snap.index kept.snap.bytes) }
     {
         let NodeSpec {
@@ -154,6 +155,7 @@ impl Running {
     ) -> Result<Running, AllocError>
         requires unpinned { HasNoPins applied.machine }
         ensures started { IfOk result (HasStarted replica members applied view) }
+        ensures links { IfOk result (λ node. node.has_links ≡ view.links) }
     {
         let due = VecDeque::with_capacity(alloc, DUE_ROOM)?;
         let _databases = applied.machine.databases();
@@ -164,6 +166,7 @@ impl Running {
             applied,
             clients: Clients::new(alloc),
             links: Links::new(alloc),
+            has_links: view.links,
             has_readers: view.readers,
             lent: Vec::new(alloc),
             view,

@@ -1,7 +1,7 @@
 //! What a node is for its sessions.
 
-ghost use Rattle.std.specs.Prelude.{◌≡◌, true, false, IfOk, OnOk};
-ghost use Rattle.raft_rules.specs.Node.{is_leader, Follower};
+ghost use Rattle.std.specs.Prelude.{◌≡◌, ◌≢◌, true, false, IfOk, OnOk};
+ghost use Rattle.raft_rules.specs.Node.{Follower};
 ghost use Rattle.node_core.specs.Whole.{Holds, InOffice, IsGoing};
 
 use crate::running::Running;
@@ -38,6 +38,7 @@ pub(crate) fn starting_view(
     ensures term { result.term ≡ raft.term }
     ensures last { result.last ≡ raft.last.index }
     ensures servers { result.servers ≡ servers }
+    ensures links { result.links ≡ links }
 {
     View {
         id,
@@ -101,18 +102,12 @@ impl Running {
 
     /// Whether it follows.
     pub(crate) fn follows(&self) -> bool
-        ensures { result ≡ true → self.now.replica.raft.role ≡ Follower }
+        ensures is { result ≡ true → self.now.replica.raft.role ≡ Follower }
+        ensures none { result ≡ false → self.now.replica.raft.role ≢ Follower }
     {
         match self.replica.view().role {
             RaftRole::Follower => true,
             RaftRole::Leader | RaftRole::Candidate => false,
         }
-    }
-
-    /// Whether it leads.
-    pub(crate) fn leads(&self) -> bool
-        ensures { result ≡ is_leader self.now.replica.raft.role }
-    {
-        self.replica.view().role.leads()
     }
 }

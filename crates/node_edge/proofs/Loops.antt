@@ -97,6 +97,7 @@ ends_broken : {S T : Type 0} (breaks : S → Event T → S → Type 0) (last now
     → Broke breaks last now before after events → Ends breaks last now before after events budget (end_of fault)
 ends_broken breaks last now before after events budget step.DiskFault broke = broke
 ends_broken breaks last now before after events budget step.NoMemory broke = broke
+ends_broken breaks last now before after events budget step.Unfit broke = broke
 
 pub breaks_off : {S T O : Type 0} (makes : S → Event T → O → S → Type 0) (breaks : S → Event T → S → Type 0) (was now next : S) (before after later : Taken T) (said said_now : Option (List O)) (budget made : ℕ) (event : Event T) (fault : StepFault)
     → Going makes was now before after said said_now made → Gives after.left later.left (event ∷ []) → later.count ≡ after.count + 1 → breaks now event next

@@ -4,7 +4,7 @@ use Rattle.node_edge.specs.declared.event.Event.{Event}
 use Rattle.node_edge.specs.declared.stepping.StepFault.{StepFault}
 use Rattle.node_edge.specs.declared.stepping.StepFault.TheVariants as step
 use Rattle.node_edge.specs.declared.looping.LoopEnd.{LoopEnd}
-use Rattle.node_edge.specs.declared.looping.LoopEnd.TheVariants.{Closed, DiskFault, Spent, NoMemory}
+use Rattle.node_edge.specs.declared.looping.LoopEnd.TheVariants.{Closed, DiskFault, Spent, NoMemory, Unfit}
 use Rattle.node_edge.specs.Told.{Gains, Gives}
 use Rattle.node_edge.specs.Stepping.{Steps}
 
@@ -30,6 +30,7 @@ Ends breaks last now before after events budget Closed = Took before after event
 Ends breaks last now before after events budget (Spent count) = Took before after events × (now ≡ last) × (count ≡ budget) × (length events ≡ budget)
 Ends breaks last now before after events budget DiskFault = Broke breaks last now before after events
 Ends breaks last now before after events budget NoMemory = Broke breaks last now before after events
+Ends breaks last now before after events budget Unfit = Broke breaks last now before after events
 
 -- The core makes one step for each of the events that were taken, in order, and what the steps say is put, in order. A step that fails
 -- is the last, and says nothing.
@@ -45,3 +46,4 @@ pub record Loops {S T O : Type 0} (makes : S → Event T → O → S → Type 0)
 abbrev pub end_of : StepFault → LoopEnd
 end_of step.DiskFault = DiskFault
 end_of step.NoMemory = NoMemory
+end_of step.Unfit = Unfit

@@ -2,12 +2,13 @@
 use Rattle.std.specs.Prelude.{◌≡◌, ◌≤◌, ℕ, List, [], ◌∷◌, Result, Ok, Err}
 use Rattle.dq_base.specs.Faults.{Rose}
 use Rattle.node_edge.specs.declared.stepping.StepFault.{StepFault}
-use Rattle.node_edge.specs.declared.stepping.StepFault.TheVariants.{DiskFault, NoMemory}
+use Rattle.node_edge.specs.declared.stepping.StepFault.TheVariants.{DiskFault, NoMemory, Unfit}
 
 -- a fault of the disk has its cause in the disk's count
 abbrev pub FaultCause : ℕ → ℕ → StepFault → Type 0
 FaultCause before now DiskFault = Rose before now
 FaultCause before now NoMemory = Unit {0}
+FaultCause before now Unfit = Unit {0}
 
 abbrev pub AnswerCause : {T : Type 0} → ℕ → ℕ → Result T StepFault → Type 0
 AnswerCause before now (Ok outs) = Unit {0}

@@ -20,6 +20,8 @@ pub enum LoopEnd {
     Spent(u64),
     /// There was not enough memory for a step.
     NoMemory,
+    /// What a step was to do may not be done, though it was let pass.
+    Unfit,
 }
 
 impl From<StepFault> for LoopEnd {
@@ -31,6 +33,7 @@ impl From<StepFault> for LoopEnd {
         match fault {
             StepFault::DiskFault => LoopEnd::DiskFault,
             StepFault::NoMemory => LoopEnd::NoMemory,
+            StepFault::Unfit => LoopEnd::Unfit,
         }
     }
 }
@@ -39,7 +42,7 @@ impl From<StepFault> for LoopEnd {
 /// the inbox, as long as that does.
 ///
 /// `Closed` comes only where the inbox's count of faults rose, `DiskFault` only where the disk's did, `Spent` with the budget,
-/// after so many events. After `DiskFault` and `NoMemory` the core's last step has failed, and said nothing.
+/// after so many events. After `DiskFault`, `NoMemory` and `Unfit` the core's last step has failed, and said nothing.
 #[tactic(auto, using(crate::proofs::Loops::spends, crate::proofs::Loops::closes, crate::proofs::Loops::breaks_off))]
 pub fn core_loop<C: Core, I: Inbox<C::Told>, O: Outbox<C::Outs>>(
     core: &mut C,
@@ -48,7 +51,8 @@ pub fn core_loop<C: Core, I: Inbox<C::Told>, O: Outbox<C::Outs>>(
     budget: u64,
 ) -> LoopEnd
     requires { C.stands core.old }
-    ensures loops { Loops C.makes C.breaks core.old core.new (record { left = I.left inbox.old; count = I.taken inbox.old }) (record { left = I.left inbox.new; count = I.taken inbox.new }) (O.said outbox.old) (O.said outbox.new) budget result }
+    ensures loops { Loops C.makes C.breaks core.old core.new (record { left = I.left inbox.old; count = I.taken inbox.old })
+        (record { left = I.left inbox.new; count = I.taken inbox.new }) (O.said outbox.old) (O.said outbox.new) budget result }
     ensures closed { result ≡ ends.Closed → Rose (I.faults inbox.old) (I.faults inbox.new) }
     ensures disk { result ≡ ends.DiskFault → Rose (C.faults core.old) (C.faults core.new) }
 {

@@ -28,7 +28,8 @@ pub(crate) fn hand_on<T, L: Link, P: Post<T>>(
 ) -> Result<usize, LinkEnd>
     requires some { 0 < room }
     requires fits { room ≤ length buffer.old }
-    ensures piece { MatchResult result (Hands conn (L.left link.old) (L.left link.new) (P.posted post.old) (P.posted post.new) room) (Stops (L.left link.old) (L.left link.new) (P.posted post.old) (P.posted post.new)) }
+    ensures piece { MatchResult result (Hands conn (L.left link.old) (L.left link.new) (P.posted post.old) (P.posted post.new) room)
+        (Stops (L.left link.old) (L.left link.new) (P.posted post.old) (P.posted post.new)) }
     ensures buffer { length buffer.new ≡ length buffer.old }
     ensures cause { PieceCause (L.faults link.old) (L.faults link.new) (P.faults post.old) (P.faults post.new) result }
 {

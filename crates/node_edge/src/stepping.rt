@@ -10,6 +10,9 @@ pub enum StepFault {
     /// There is not enough memory.
     #[error("out of memory")]
     NoMemory,
+    /// What was to be done isn't what may be done now, though it was let pass.
+    #[error("what was let pass may not be done")]
+    Unfit,
 }
 
 /// What a loop drives: a node with the disk and the engine that are lent to its steps. It makes one step for each event, and says

@@ -24,7 +24,7 @@ use Rattle.node_rules.specs.Nodes as rules
 use Rattle.node_rules.specs.Nodes.{KeptIs}
 use Rattle.node_rules.specs.Steps.{TakesIn, Counts}
 use Rattle.node_rules.specs.Voting.{taking, MayTell, IsPlain, TellsLast, with_same, with_own, with_told, MayChange, FromSnapshot, RestTells, FollowTells, ChangeTells, InstallTells, CompactTells, PlainStops, ChangeStops, StartCounts}
-use Rattle.node_rules.proofs.Proposing.{changes_are_proposed}
+use Rattle.node_rules.proofs.Proposing.{none_later, near_are_proposed}
 use Rattle.node_rules.proofs.SnapshotSteps.{snapshots_come}
 use Rattle.node_rules.proofs.Stretches.{tail_is, head_is}
 use Rattle.node_rules.proofs.VoterLogs.{current_voters, same_voters_after, change_follows}
@@ -119,15 +119,15 @@ stepped opening me bytes a s i x is xs mid t may told made = record {
 -- ---- no step
 
 pub rest_tells : RestTells
-rest_tells opening me bytes a b r = record {
+rest_tells setup me bytes a b r = record {
   made = ap node_of r.raft;
-  may = λ s is c t. subst (Told (read_setup opening) me s) (sym (none_is is t.alike)) tt;
+  may = λ s is c t. subst (Told setup me s) (sym (none_is is t.alike)) tt;
   counts = λ s is c t told.
       let commit = same_commit s a.raft (t.twins 0 tt) in
       let long : s.commit ≤ length s.log = (t.kept 0).1.0 in
       let high = r.high in
-      subst (λ l. Counts (read_setup opening) b (steps (member_step (read_setup opening) me) s l)) (sym (none_is is t.alike))
-      (record { told = c.told; members = r.settle (read_setup opening) s.log c.members (omega (arith, commit, long, high)) });
+      subst (λ l. Counts setup b (steps (member_step setup me) s l)) (sym (none_is is t.alike))
+      (record { told = c.told; members = r.settle setup s.log c.members (omega (arith, commit, long, high)) });
 }
 
 -- ---- a step that proposes no change
@@ -217,7 +217,7 @@ told_leader opening me a e servers s m twin of =
     let r = reads_so e servers m.reads in
     let reads_some : configuration_of e.bytes ≡ Some servers = r.1 in
     let is : changes (read_setup opening) e ≡ true = (λ k. r.0 k && reads (reads_some k)) in (
-      changes_are_proposed opening (with_servers me s servers) e a.members m.view servers of (m.at ∙ same_commit s a.raft twin) m.none (same_barrier s a.raft twin m.coherent m.barrier) reads_some m.one m.stands,
+      near_are_proposed opening (with_servers me s servers) e a.members servers of (m.at ∙ same_commit s a.raft twin) (none_later (read_setup opening) s.log a.members of m.none) (same_barrier s a.raft twin m.coherent m.barrier) reads_some m.near,
       sym (change_follows (read_setup opening) s.log (record { term = s.term; kind = e.kind; bytes = e.bytes }) is ∙ ap (λ (o : Option (List Server)). voters (servers_read o)) reads_some),
     )
 

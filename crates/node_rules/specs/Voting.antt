@@ -4,7 +4,7 @@ use Rattle.std.specs.Prelude.{◌≡◌, ◌≢◌, ℕ, ◌<◌, ◌≤◌, tru
 use Rattle.page_apply.specs.Files.{Content}
 use Rattle.raft_rules.specs.Log.{Entry, term_at}
 use Rattle.raft_rules.specs.Node as raft
-use Rattle.raft_rules.specs.Node.{Follower, Server, is_leader, Timeout, Beat, Propose, Transfer, Snapped, UseServers, Local, Receive}
+use Rattle.raft_rules.specs.Node.{Follower, Server, voters, is_leader, Timeout, Beat, Propose, Transfer, Snapped, UseServers, Local, Receive}
 use Rattle.raft_rules.specs.NodeValues.{NodeValue, IsCoherent, node_of}
 use Rattle.raft_rules.specs.Account.{Stored, steps, loaded}
 use Rattle.raft_rules.specs.Compaction.{compacted_step}
@@ -12,9 +12,8 @@ use Rattle.raft_vote.specs.Servers.{IsConfiguration}
 use Rattle.raft_world.specs.Laws.{SameUpTo}
 use Rattle.raft_world.specs.Members.{Setup, any_change, configuration, member_step}
 use Rattle.raft_world.specs.Cuts.{Twin, Told}
-use Rattle.raft_member.specs.Members.{Configurations, last_servers, configuration_in, read_setup, IsOf}
-use Rattle.session_rules.specs.Allowed.{IsOneChange}
-use Rattle.session_rules.specs.Sessions.{View}
+use Rattle.raft_member.specs.Members.{Configurations, last_index, last_servers, configuration_in, read_setup, IsOf}
+use Rattle.node_rules.specs.Changes.{are_near}
 use Rattle.node_state.specs.Snapshot.{SpellsSnapshot}
 use Rattle.store_laws.specs.Store.{Kept}
 use Rattle.node_rules.specs.Nodes.{Node, KeptIs}
@@ -101,17 +100,16 @@ abbrev pub OwnsCommit : NodeValue → Type 0
 OwnsCommit h = term_at (node_of h).log h.commit ≡ h.term
 
 -- A leader may propose an entry that changes to these servers: it has applied the barrier of its term and every change of its log, and
--- they are one change away from the applied configuration.
+-- their voters are those of the applied configuration, or one more or less.
 pub record MayChange (a : Node) (e : Entry) (servers : List Server) : Type 0 where
   pub leads : is_leader a.raft.role ≡ true
   pub coherent : IsCoherent a.raft
   pub reads : configuration_in e ≡ Some servers
   pub at : a.members.at ≡ a.raft.commit
-  pub none : a.members.later ≡ []
+  pub none : last_index a.members ≡ a.members.at
   pub stands : IsConfiguration a.members.servers
   pub barrier : OwnsCommit a.raft
-  pub view : View
-  pub one : IsOneChange view a.members.servers servers
+  pub near : are_near (voters a.members.servers) (voters servers) ≡ true
 
 -- Raft is told the servers, and then proposes the entry, which is counted by them.
 pub record VotersChange (me : ℕ) (a b : Node) (e : Entry) (servers : List Server) : Type 0 where
@@ -159,7 +157,7 @@ pub record VotersStart (opening : List Server) (kept : Kept) (new : Node) (serve
 -- ---- each turn is a stretch
 
 abbrev pub RestTells : Type 0
-RestTells = (opening : List Server) (me : ℕ) (bytes : List ℕ) (a b : Node) → VotersRest a b → Tells (read_setup opening) me bytes a b []
+RestTells = (setup : Setup) (me : ℕ) (bytes : List ℕ) (a b : Node) → VotersRest a b → Tells setup me bytes a b []
 
 abbrev pub FollowTells : Type 0
 FollowTells =

@@ -28,7 +28,6 @@ use Rattle.node_world.specs.Acts.{PlaceIs, RunIs}
 use Rattle.node_world.specs.Runs as runs
 use Rattle.node_world.specs.Runs.{Place, Up, Down, Run, Asks, Gets, Reads, taken, taken_letter, joins_in, read_in, asks_in, Goes, Fails, TellsOf, ReadsJob, Holds}
 use Rattle.node_runs.specs.Comings.{nothing, IsMade, ReadTells, Arrives, asks_of}
-use Rattle.node_runs.specs.Steps.{TellsVoters}
 use Rattle.node_runs.proofs.Takens.{NoneReceived, AsTaken, tells_as, counts_as, steps_as, stops_as}
 
 -- ---- what comes
@@ -191,8 +190,8 @@ module _ (m : Meaning) (kind : EngineKind) (setup : Setup) where
       subst (λ (z : Moment). HasServers setup z old.members.servers) (sym rest.rests) (resting_servers_hold setup (seen old) (node_at setup (cluster setup acts).raft n) ((cluster setup acts).lives n) here.0 here.1 at)
 
   pub act_holds : (r : Run) (acts : List RuleAct) (n : ℕ) (old new : Running) (begin : Begin) (made : Made) → RunIs m kind setup r acts → r.places n ≡ Up (seen old) → (seen old).raft.id ≡ n →
-      Arrives m kind r n begin → (a : Act m kind setup old new begin made) → TellsVoters setup old new a.taken → EventHolds r n begin (seen new) made
-  act_holds r acts n old new begin made was up id here a voters =
+      Arrives m kind r n begin → (a : Act m kind setup old new begin made) → EventHolds r n begin (seen new) made
+  act_holds r acts n old new begin made was up id here a =
       let c = comes_so m kind r n old begin a.taken here a.takes in
       let me : old.replica.id ≡ n = sym a.stood.id ∙ id in
       let y = taken r n c.came c.added in
@@ -205,8 +204,8 @@ module _ (m : Meaning) (kind : EngineKind) (setup : Setup) where
           up,
           c.reads,
           record {
-            tells = tells_as setup n a.taken y c.like (seen old) (subst (λ k. TellsSo setup k (seen old) a.taken) me voters.tells);
-            counts = counts_as setup n a.taken y c.like (seen old) (seen new) (subst (λ k. CountsSo setup k (seen old) (seen new) a.taken) me voters.counts);
+            tells = tells_as setup n a.taken y c.like (seen old) (subst (λ k. TellsSo setup k (seen old) a.taken) me a.tells);
+            counts = counts_as setup n a.taken y c.like (seen old) (seen new) (subst (λ k. CountsSo setup k (seen old) (seen new) a.taken) me a.counts);
             whole = steps_as setup n a.taken y c.like m kind (seen old) (seen new) made.letters made.replies made.jobs made.answers
                 (subst (λ k. StepsSo m kind setup k (seen old) (seen new) a.taken made.letters made.replies made.jobs made.answers) me (a.steps (knows r acts n old was up a.stood)));
             sent = a.sent;
@@ -226,8 +225,8 @@ module _ (m : Meaning) (kind : EngineKind) (setup : Setup) where
     pub asks : (conn : ℕ) → asks_of begin ≢ Some conn → asks_in came conn ≡ []
 
   pub stop_holds : (r : Run) (acts : List RuleAct) (n : ℕ) (old : Running) (begin : Begin) (kept : Kept) → RunIs m kind setup r acts → r.places n ≡ Up (seen old) → (seen old).raft.id ≡ n →
-      Arrives m kind r n begin → (a : Stopped m kind setup old begin kept) → TellsSo setup old.replica.id (seen old) a.taken → StopHolds r n begin kept
-  stop_holds r acts n old begin kept was up id here a voters =
+      Arrives m kind r n begin → (a : Stopped m kind setup old begin kept) → StopHolds r n begin kept
+  stop_holds r acts n old begin kept was up id here a =
       let c = comes_so m kind r n old begin a.taken here a.takes in
       let me : old.replica.id ≡ n = sym a.stood.id ∙ id in
       let y = taken r n c.came c.added in
@@ -240,7 +239,7 @@ module _ (m : Meaning) (kind : EngineKind) (setup : Setup) where
           up,
           c.reads,
           record {
-            tells = tells_as setup n a.taken y c.like (seen old) (subst (λ k. TellsSo setup k (seen old) a.taken) me voters);
+            tells = tells_as setup n a.taken y c.like (seen old) (subst (λ k. TellsSo setup k (seen old) a.taken) me a.tells);
             counts = tt;
             whole = tt;
             sent = tt;

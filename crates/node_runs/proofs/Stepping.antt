@@ -16,7 +16,7 @@ use Rattle.raft_world.specs.Members.{Setup}
 use Rattle.store_laws.specs.Store.{Kept}
 use Rattle.cluster_world.specs.Clusters.{Act as RuleAct}
 use Rattle.node_rules.specs.Nodes.{Node}
-use Rattle.node_rules.specs.Steps.{Letter, Made, TellsSo}
+use Rattle.node_rules.specs.Steps.{Letter, Made}
 use Rattle.node_core.specs.declared.event.Event as core
 use Rattle.node_core.specs.declared.outs.Outs.{Outs}
 use Rattle.node_core.specs.declared.running.Running.{Running}
@@ -27,7 +27,7 @@ use Rattle.node_world.specs.Acts.{RunIs, asked}
 use Rattle.node_world.specs.Runs.{Place, Up, Down, Run, asks_in, spoken, Goes, Fails, Event, with_place, happens, run_from, run}
 use Rattle.node_world.proofs.Runs.{other_place, here_place, runs_go_on_hold, runs_make_acts_hold}
 use Rattle.node_runs.specs.Comings.{IsMade, Arrives, ArrivesLater, AllArrive}
-use Rattle.node_runs.specs.Steps.{Leads, used_in, StaysUp, AllTellVoters, StopTellsVoters, StepRuns, StepsRun, StopRuns, StopsRun}
+use Rattle.node_runs.specs.Steps.{Leads, used_in, StaysUp, StepRuns, StepsRun, StopRuns, StopsRun}
 use Rattle.node_runs.proofs.Sending.{sent_among}
 use Rattle.node_runs.proofs.Acting.{EventHolds, act_holds, stop_holds}
 
@@ -123,27 +123,27 @@ module _ (m : Meaning) (kind : EngineKind) (setup : Setup) where
     pub id : (seen new).raft.id ≡ n
 
   acts_run : (r : Run) (acts : List RuleAct) (n : ℕ) (old new : Running) (begins : List Begin) (made : Made) → RunIs m kind setup r acts → r.places n ≡ Up (seen old) → (seen old).raft.id ≡ n →
-      AllArrive m kind r n begins → (a : Acts m kind setup old new begins made) → AllTellVoters m kind setup old new begins made a → ActsRun r n new begins made
-  acts_run r acts n old new [] made was up id here a voters = record {
+      AllArrive m kind r n begins → (a : Acts m kind setup old new begins made) → ActsRun r n new begins made
+  acts_run r acts n old new [] made was up id here a = record {
     leads = leads_none r n (Up (seen new)) made.letters made.replies (up ∙ ap Up (sym a.0)) (ap (λ (z : Made). z.letters) a.1) (ap (λ (z : Made). z.replies) a.1);
     stays = record { starts = λ k. tt; joined = λ k conn none. tt; asks = λ k conn none. refl };
     reads = λ conn. ap (λ (z : Made). handed_on (r.jobs n) z.jobs conn) (sym a.1);
     used = ap (λ (z : Made). z.answers) (sym a.1);
     id = ap (λ (v : Node). v.raft.id) a.0 ∙ id;
   }
-  acts_run r acts n old new (begin ∷ begins) made was up id here a voters =
+  acts_run r acts n old new (begin ∷ begins) made was up id here a =
       let from = a.0 in
       let mid = a.1 in
       let first = a.2 in
       let rest = a.3 in
       let same : seen from ≡ seen old = a.4 in
       let from_id : (seen from).raft.id ≡ n = ap (λ (v : Node). v.raft.id) same ∙ id in
-      let one = act_holds m kind setup r acts n from mid begin first was (up ∙ ap Up (sym same)) from_id here.0 a.5 voters.0 in
+      let one = act_holds m kind setup r acts n from mid begin first was (up ∙ ap Up (sym same)) from_id here.0 a.5 in
       let js = handed_on (r.jobs n) first.jobs in
       let e = Goes n one.came one.added (seen mid) first.letters first.replies first.jobs in
       let q = happens r e in
       let g = runs_go_on_hold m kind setup r acts (e ∷ []) was (one.holds, tt) in
-      let more = acts_run q (acts ++ g.later) n mid new begins rest g.is (here_place m kind r n (Up (seen mid)) js first.letters (map (spoken n) first.replies)) (a.5.id ∙ from_id) (all_arrive m kind r q n first.letters refl begins here.1) a.6 voters.1 in
+      let more = acts_run q (acts ++ g.later) n mid new begins rest g.is (here_place m kind r n (Up (seen mid)) js first.letters (map (spoken n) first.replies)) (a.5.id ∙ from_id) (all_arrive m kind r q n first.letters refl begins here.1) a.6 in
       record {
         leads = leads_on r n (Up (seen new)) begin (seen mid) first one rest.letters rest.replies made.letters made.replies (ap (λ (z : Made). z.letters) a.7) (ap (λ (z : Made). z.replies) a.7) more.leads;
         stays = stays_first r n (Up (seen new)) begin (seen mid) first one begins more.leads.events more.stays;
@@ -154,10 +154,10 @@ module _ (m : Meaning) (kind : EngineKind) (setup : Setup) where
 
   -- ---- an act that was stopped
 
-  stop_run : (r : Run) (acts : List RuleAct) (n : ℕ) (old : Running) (begin : Begin) (kept : Kept) → RunIs m kind setup r acts → r.places n ≡ Up (seen old) → (seen old).raft.id ≡ n → Arrives m kind r n begin → (a : Stopped m kind setup old begin kept) → TellsSo setup old.replica.id (seen old) a.taken →
+  stop_run : (r : Run) (acts : List RuleAct) (n : ℕ) (old : Running) (begin : Begin) (kept : Kept) → RunIs m kind setup r acts → r.places n ≡ Up (seen old) → (seen old).raft.id ≡ n → Arrives m kind r n begin → Stopped m kind setup old begin kept →
       StopRuns m kind setup r n (begin ∷ []) kept
-  stop_run r acts n old begin kept was up id here a voters =
-      let h = stop_holds m kind setup r acts n old begin kept was up id here a voters in
+  stop_run r acts n old begin kept was up id here a =
+      let h = stop_holds m kind setup r acts n old begin kept was up id here a in
       record {
         letters = [];
         replies = [];
@@ -173,22 +173,22 @@ module _ (m : Meaning) (kind : EngineKind) (setup : Setup) where
       }
 
   acts_stop : (r : Run) (acts : List RuleAct) (n : ℕ) (old mid : Running) (begins : List Begin) (last : Begin) (made : Made) (kept : Kept) → RunIs m kind setup r acts → r.places n ≡ Up (seen old) → (seen old).raft.id ≡ n →
-      AllArrive m kind r n (begins ++ last ∷ []) → (a : Acts m kind setup old mid begins made) → AllTellVoters m kind setup old mid begins made a → (stopped : Stopped m kind setup mid last kept) → TellsSo setup mid.replica.id (seen mid) stopped.taken → StopRuns m kind setup r n (begins ++ last ∷ []) kept
-  acts_stop r acts n old mid [] last made kept was up id here a voters stopped told =
-      stop_run r acts n mid last kept was (up ∙ ap Up (sym a.0)) (ap (λ (v : Node). v.raft.id) a.0 ∙ id) here.0 stopped told
-  acts_stop r acts n old mid (begin ∷ begins) last made kept was up id here a voters stopped told =
+      AllArrive m kind r n (begins ++ last ∷ []) → (a : Acts m kind setup old mid begins made) → Stopped m kind setup mid last kept → StopRuns m kind setup r n (begins ++ last ∷ []) kept
+  acts_stop r acts n old mid [] last made kept was up id here a stopped =
+      stop_run r acts n mid last kept was (up ∙ ap Up (sym a.0)) (ap (λ (v : Node). v.raft.id) a.0 ∙ id) here.0 stopped
+  acts_stop r acts n old mid (begin ∷ begins) last made kept was up id here a stopped =
       let from = a.0 in
       let next = a.1 in
       let first = a.2 in
       let rest = a.3 in
       let same : seen from ≡ seen old = a.4 in
       let from_id : (seen from).raft.id ≡ n = ap (λ (v : Node). v.raft.id) same ∙ id in
-      let one = act_holds m kind setup r acts n from next begin first was (up ∙ ap Up (sym same)) from_id here.0 a.5 voters.0 in
+      let one = act_holds m kind setup r acts n from next begin first was (up ∙ ap Up (sym same)) from_id here.0 a.5 in
       let js = handed_on (r.jobs n) first.jobs in
       let e = Goes n one.came one.added (seen next) first.letters first.replies first.jobs in
       let q = happens r e in
       let g = runs_go_on_hold m kind setup r acts (e ∷ []) was (one.holds, tt) in
-      let more = acts_stop q (acts ++ g.later) n next mid begins last rest kept g.is (here_place m kind r n (Up (seen next)) js first.letters (map (spoken n) first.replies)) (a.5.id ∙ from_id) (all_arrive m kind r q n first.letters refl (begins ++ last ∷ []) here.1) a.6 voters.1 stopped told in
+      let more = acts_stop q (acts ++ g.later) n next mid begins last rest kept g.is (here_place m kind r n (Up (seen next)) js first.letters (map (spoken n) first.replies)) (a.5.id ∙ from_id) (all_arrive m kind r q n first.letters refl (begins ++ last ∷ []) here.1) a.6 stopped in
       record {
         letters = first.letters ++ more.letters;
         replies = first.replies ++ more.replies;
@@ -199,9 +199,9 @@ module _ (m : Meaning) (kind : EngineKind) (setup : Setup) where
 -- ---- from any run
 
 module _ (m : Meaning) (kind : EngineKind) (setup : Setup) (r : Run) (acts : List RuleAct) (was : RunIs m kind setup r acts) (n : ℕ) (old : Running) (up : r.places n ≡ Up (seen old)) (id : (seen old).raft.id ≡ n) (what : core.Event) where
-  pub step_at : (new : Running) (outs : Outs) (told_before told_now : Option Told) (s : StepsBy m kind setup old new what outs told_before told_now) → AllTellVoters m kind setup old new s.begins s.made s.acts → AllArrive m kind r n s.begins → StepRuns m kind setup r n new s.begins outs told_before told_now
-  step_at new outs told_before told_now s voters here =
-      let a = acts_run m kind setup r acts n old new s.begins s.made was up id here s.acts voters in
+  pub step_at : (new : Running) (outs : Outs) (told_before told_now : Option Told) (s : StepsBy m kind setup old new what outs told_before told_now) → AllArrive m kind r n s.begins → StepRuns m kind setup r n new s.begins outs told_before told_now
+  step_at new outs told_before told_now s here =
+      let a = acts_run m kind setup r acts n old new s.begins s.made was up id here s.acts in
       record {
         letters = s.made.letters;
         replies = s.made.replies;
@@ -216,18 +216,18 @@ module _ (m : Meaning) (kind : EngineKind) (setup : Setup) (r : Run) (acts : Lis
         id = a.id;
       }
 
-  pub stop_at : (kept : Kept) (s : StopsBy m kind setup old what kept) → StopTellsVoters m kind setup old what kept s → AllArrive m kind r n (s.begins ++ s.last ∷ []) → StopRuns m kind setup r n (s.begins ++ s.last ∷ []) kept
-  stop_at kept s voters here = acts_stop m kind setup r acts n old s.mid s.begins s.last s.made kept was up id here s.acts voters.acts s.stopped voters.last
+  pub stop_at : (kept : Kept) (s : StopsBy m kind setup old what kept) → AllArrive m kind r n (s.begins ++ s.last ∷ []) → StopRuns m kind setup r n (s.begins ++ s.last ∷ []) kept
+  stop_at kept s here = acts_stop m kind setup r acts n old s.mid s.begins s.last s.made kept was up id here s.acts s.stopped
 
 -- ---- the laws
 
 module _ (m : Meaning) (kind : EngineKind) where
   pub steps_run_hold : StepsRun m kind
-  steps_run_hold setup past n old new what outs told_before told_now holds up id s voters here =
+  steps_run_hold setup past n old new what outs told_before told_now holds up id s here =
       let is = runs_make_acts_hold m kind setup past holds in
-      step_at m kind setup (run past) is.0 is.1 n old up id what new outs told_before told_now s voters here
+      step_at m kind setup (run past) is.0 is.1 n old up id what new outs told_before told_now s here
 
   pub stops_run_hold : StopsRun m kind
-  stops_run_hold setup past n old what kept holds up id s voters here =
+  stops_run_hold setup past n old what kept holds up id s here =
       let is = runs_make_acts_hold m kind setup past holds in
-      stop_at m kind setup (run past) is.0 is.1 n old up id what kept s voters here
+      stop_at m kind setup (run past) is.0 is.1 n old up id what kept s here

@@ -10,11 +10,11 @@ use Rattle.statement_runs.specs.Running.{TellsAll}
 use Rattle.raft_vote.specs.declared.message.RaftMessage.{RaftMessage}
 use Rattle.raft_world.specs.Members.{Setup}
 use Rattle.store_laws.specs.Store.{Kept}
-use Rattle.node_rules.specs.Steps.{Letter, Taken, Made, TellsSo, CountsSo}
+use Rattle.node_rules.specs.Steps.{Letter}
 use Rattle.node_core.specs.declared.event.Event as core
 use Rattle.node_core.specs.declared.outs.Outs.{Outs}
 use Rattle.node_core.specs.declared.running.Running.{Running}
-use Rattle.node_core.specs.Account.{letter_of, Sends, Begin, joins_of, Acts, StepsBy, StopsBy}
+use Rattle.node_core.specs.Account.{letter_of, Sends, Begin, joins_of, StepsBy, StopsBy}
 use Rattle.node_core.specs.Values.{seen}
 use Rattle.node_world.specs.Acts.{NotStarted, NotJoined, asked}
 use Rattle.node_world.specs.Runs.{Place, Up, Down, Run, Event, Goes, Fails, Crashes, Starts, StartFails, spoken, happens, first_run, run, run_from, Holds, AllHold}
@@ -59,25 +59,6 @@ pub record StaysUp (n : ℕ) (begins : List Begin) (events : List Event) : Type 
   pub joined : (k conn : ℕ) → (k ≡ n → NoneJoins conn begins) → NotJoined k conn events
   pub asks : (k conn : ℕ) → (k ≡ n → NoneAsk conn begins) → asked k conn events ≡ []
 
--- ---- what voters are told
-
--- What a node is told of its voters in an act, whatever log stands behind it: by which ones each step is counted, and at the end again. The
--- account of a step doesn't show it yet.
-pub record TellsVoters (setup : Setup) (old new : Running) (x : Taken) : Type 0 where
-  pub tells : TellsSo setup old.replica.id (seen old) x
-  pub counts : CountsSo setup old.replica.id (seen old) (seen new) x
-
-abbrev pub AllTellVoters : (m : Meaning) (kind : EngineKind) (setup : Setup) (old new : Running) (begins : List Begin) (made : Made) →
-    Acts m kind setup old new begins made → Type 0
-AllTellVoters m kind setup old new [] made a = Unit {0}
-AllTellVoters m kind setup old new (begin ∷ begins) made a = TellsVoters setup a.0 a.1 a.5.taken × AllTellVoters m kind setup a.1 new begins a.3 a.6
-
--- so of one that was stopped
-pub record StopTellsVoters (m : Meaning) (kind : EngineKind) (setup : Setup) (old : Running) (event : core.Event) (kept : Kept)
-    (s : StopsBy m kind setup old event kept) : Type 0 where
-  pub acts : AllTellVoters m kind setup old s.mid s.begins s.made s.acts
-  pub last : TellsSo setup s.mid.replica.id (seen s.mid) s.stopped.taken
-
 -- ---- a step that ended well
 
 -- the messages are among these letters
@@ -99,13 +80,12 @@ pub record StepRuns (m : Meaning) (kind : EngineKind) (setup : Setup) (r : Run) 
   pub heard : TellsAll (used_in m kind setup r leads.events leads.hold) told_before told_now
   pub id : (seen new).raft.id ≡ n
 
--- A step at a node of a run that ended well, where what came may come there, and voters were told, is events of the run.
+-- A step at a node of a run that ended well, where what came may come there, is events of the run.
 abbrev pub StepsRun : Meaning → EngineKind → Type 0
 StepsRun m kind =
     (setup : Setup) (past : List Event) (n : ℕ) (old new : Running) (event : core.Event) (outs : Outs) (told_before told_now : Option Told) →
     AllHold m kind setup first_run past → (run past).places n ≡ Up (seen old) → (seen old).raft.id ≡ n →
-    (s : StepsBy m kind setup old new event outs told_before told_now) → AllTellVoters m kind setup old new s.begins s.made s.acts →
-    AllArrive m kind (run past) n s.begins →
+    (s : StepsBy m kind setup old new event outs told_before told_now) → AllArrive m kind (run past) n s.begins →
     StepRuns m kind setup (run past) n new s.begins outs told_before told_now
 
 -- ---- a step that failed or was stopped
@@ -122,5 +102,5 @@ abbrev pub StopsRun : Meaning → EngineKind → Type 0
 StopsRun m kind =
     (setup : Setup) (past : List Event) (n : ℕ) (old : Running) (event : core.Event) (kept : Kept) → AllHold m kind setup first_run past →
     (run past).places n ≡ Up (seen old) → (seen old).raft.id ≡ n → (s : StopsBy m kind setup old event kept) →
-    StopTellsVoters m kind setup old event kept s → AllArrive m kind (run past) n (s.begins ++ s.last ∷ []) →
+    AllArrive m kind (run past) n (s.begins ++ s.last ∷ []) →
     StopRuns m kind setup (run past) n (s.begins ++ s.last ∷ []) kept

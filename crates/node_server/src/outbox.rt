@@ -40,7 +40,7 @@ impl<R: Wait + Copy + Drop, L: Drop, J: Drop> Queues<R, L, J> {
     /// Sends a reply. A connection that reads too slowly, or for which memory is wanting, is cut.
     pub fn reply(&self, conn: u64, bytes: WireBytes) {
         if let Some(writer) = self.writers.get(place_of(conn)) {
-            writer.send(&self.rt, conn, bytes);
+            let _ = writer.send(&self.rt, conn, bytes);
         }
     }
 

@@ -39,7 +39,10 @@ impl<R: Wait + Copy + Drop, L: Link> Writer<R, L> {
     fn perform(&mut self, write: Write<L>) {
         match write {
             Write::Take(conn, link) => self.link = Some((conn, link)),
-            Write::Send(conn, bytes) => self.send(conn, &bytes),
+            Write::Send(conn, waiting) => {
+                self.send(conn, &waiting.bytes);
+                self.writes.give(waiting);
+            }
             Write::Close(conn) => self.close(conn),
         }
     }

@@ -6,3 +6,4 @@ pub mod Doing
 pub mod Happening
 pub mod Telling
 pub mod Rows
+pub mod Learning

@@ -1,6 +1,6 @@
 -- Messages as letters.
 use Rattle.std.proofs.Common.{◌≡◌, ℕ, ◌+◌, ◌<◌, ◌≤◌, Bool, true, false, cond, nat_le, min, List, [], ◌∷◌, ◌++◌, map, take, length, set, get_or, add-one, zero, suc, Option, Some, None, refl, sym, ap, subst, ◌∙◌, arith}
-use Rattle.std.specs.List.{sum_by}
+use Rattle.std.specs.List.{AllByRecursion, sum_by}
 use Rattle.std.specs.Option.{option_map}
 use Rattle.std.proofs.lemmas.Bool.{leb-true, leb-false, lt-ltb, le-ltb}
 use Rattle.std.proofs.lemmas.List.{take_all, take_more, length-map, map-append}
@@ -11,6 +11,7 @@ use Rattle.script_lines.specs.declared.usage.Usage.{Usage}
 use Rattle.script_lines.specs.Usage.{with_messages}
 use Rattle.script_nodes.specs.World.{Letter, letter_of, letters_of, bytes_in, first_waiting, arrived_at}
 use Rattle.script_nodes.specs.declared.mail.Letter.{Letter as CodeLetter}
+use Rattle.script_nodes.specs.Knowing.{CanHold}
 use Rattle.script_nodes.specs.Seen.{HaveArrived, IsFirstWaiting, letter_seen}
 
 -- ---- how many bytes
@@ -161,3 +162,17 @@ written_more letters new letter messages i m push is item within before =
     ∙ ap (λ (l : Letter). letters_of (take i messages) ++ l ∷ []) (is ∙ ap letter_of item)
     ∙ sym (map-append letter_of (take i messages) (get_or messages i m ∷ []))
     ∙ ap letters_of (sym (take_more messages i m within))
+
+-- ---- what the wire can hold
+
+all_behind : (xs ys : List RaftMessage) → AllByRecursion CanHold xs → AllByRecursion CanHold ys → AllByRecursion CanHold (xs ++ ys)
+all_behind [] ys a b = b
+all_behind (x ∷ xs) ys a b = (a.0, all_behind xs ys a.1 b)
+
+pub held_more : (messages : List RaftMessage) (i : ℕ) (m : RaftMessage) → m ≡ get_or messages i m → i < length messages → CanHold m → AllByRecursion CanHold (take i messages) → AllByRecursion CanHold (take (i + 1) messages)
+held_more messages i m item within hold before =
+    subst (AllByRecursion CanHold) (sym (take_more messages i m within))
+    (all_behind (take i messages) (get_or messages i m ∷ []) before (subst CanHold item hold, tt))
+
+pub held_whole : (messages : List RaftMessage) (i : ℕ) → length messages ≤ i → AllByRecursion CanHold (take i messages) → AllByRecursion CanHold messages
+held_whole messages i past all = subst (AllByRecursion CanHold) (take_all i messages past) all

@@ -16,16 +16,16 @@ use Rattle.script_nodes.specs.Outcomes.{Standing, Outs, Ending, Steps, Starts, S
 use Rattle.script_nodes.specs.World.{Place, after_step, closings, replies_said, closed_said, messages_said}
 use Rattle.script_nodes.specs.Places.{TellsEnding, outs_of}
 use Rattle.script_nodes.specs.Seen.{loaded_in}
-use Rattle.script_nodes.specs.Holding.{beside, world_of, with_note, note_of, places_after, SaysAll, SaysNone, SaysOuts, Falls, Asks, Tells}
+use Rattle.script_nodes.specs.Holding.{outside_of, world_of, with_note, note_of, places_after, SaysAll, SaysNone, SaysOuts, Falls, Asks, Tells}
 
 -- ---- a step
 
 all_asks : (node : ℕ) (aim : Aim) (answers : List Answer) (failed : Bool) (told : Outs) (standing : Standing) (old new : Outside) (before now : List Said) → SaysAll aim answers told old new before now
-    → (voters : ℕ) (places : List Place) → Asks node aim answers failed (Steps told standing) (beside voters places old) (beside voters (places_after node (Steps told standing) places) new) before now
+    → (voters : ℕ) (places : List Place) → Asks node aim answers failed (Steps told standing) (outside_of voters places old) (outside_of voters (places_after node (Steps told standing) places) new) before now
 all_asks node aim answers failed told standing old new before now a voters places = record {
   more = replies_said told.replies ++ (closed_said told.closed ++ messages_said (suc (length old.mail)) told.messages);
   goes = λ turns later.
-      ap (after_step node told standing (world_of (with_note (beside voters places old) aim answers failed (Steps told standing)) turns later)) a.usage
+      ap (after_step node told standing (world_of (with_note (outside_of voters places old) aim answers failed (Steps told standing)) turns later)) a.usage
       ∙ (λ i. record {
         world = record {
           voters = voters;
@@ -41,6 +41,7 @@ all_asks node aim answers failed told standing old new before now a voters place
         halt = None;
       });
   says = a.says;
+  hold = a.hold;
 }
 
 none_asks : (node : ℕ) (aim : Aim) (answers : List Answer) (failed : Bool) (told : Outs) (standing : Standing) (old new : Outside) (before now : List Said) → SaysNone told old new before now
@@ -48,7 +49,7 @@ none_asks : (node : ℕ) (aim : Aim) (answers : List Answer) (failed : Bool) (to
 none_asks node aim answers failed told standing old new before now a = (
   λ voters places. record {
     halts = λ turns later.
-        ap (λ (usage : Option Usage). (after_step node told standing (world_of (with_note (beside voters places old) aim answers failed (Steps told standing)) turns later) usage).halt) a.usage;
+        ap (λ (usage : Option Usage). (after_step node told standing (world_of (with_note (outside_of voters places old) aim answers failed (Steps told standing)) turns later) usage).halt) a.usage;
   },
   a.same,
   a.silent,
@@ -100,6 +101,7 @@ start_tells node aim answers loaded old new before now is silent failed (Starts 
     halt = None;
   };
   says = silent ∙ sym (append-nil before);
+  hold = tt;
 }
 start_tells node aim answers loaded old new before now is silent failed (Steps told standing) tells = absurd tells
 start_tells node aim answers loaded old new before now is silent failed (Stops keeps) tells = absurd tells
@@ -133,6 +135,7 @@ stop_tells node aim answers keeps old new before now a failed (Stops told) tells
     halt = None;
   };
   says = a.says;
+  hold = tt;
 }
 stop_tells node aim answers keeps old new before now a failed (Steps told standing) tells = absurd tells
 stop_tells node aim answers keeps old new before now a failed (Starts kept standing) tells = absurd tells
@@ -158,6 +161,7 @@ fail_tells node aim answers keeps old new before now a failed (Fails told) tells
     halt = None;
   };
   says = a.says;
+  hold = tt;
 }
 fail_tells node aim answers keeps old new before now a failed (Steps told standing) tells = absurd tells
 fail_tells node aim answers keeps old new before now a failed (Starts kept standing) tells = absurd tells
@@ -181,11 +185,12 @@ unread_tells : (node : ℕ) (aim : Aim) (answers : List Answer) (old new : Outsi
 unread_tells node aim answers old new before now is told failed Unreadable tells = λ voters places. record {
   more = says.Down node causes.Unreadable ∷ [];
   goes = λ turns later. λ i. record {
-    world = world_of (beside voters places (sym is i)) turns later;
+    world = world_of (outside_of voters places (sym is i)) turns later;
     said = says.Down node causes.Unreadable ∷ [];
     halt = None;
   };
   says = told;
+  hold = tt;
 }
 unread_tells node aim answers old new before now is told failed (Steps outs standing) tells = absurd tells
 unread_tells node aim answers old new before now is told failed (Starts kept standing) tells = absurd tells

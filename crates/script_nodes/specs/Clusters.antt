@@ -1,39 +1,52 @@
 -- What a cluster's code holds.
-use Rattle.std.specs.Prelude.{◌≡◌, ◌+◌, ◌-◌, ℕ, Bool, true, false, List, [], map, set, get_or, Option, Some, None, Result}
+use Rattle.std.specs.Prelude.{◌≡◌, ◌+◌, ◌-◌, ℕ, Bool, true, false, List, [], map, set, slice_get, Option, Some, None, Result}
 use Rattle.script_lines.specs.declared.faults.EventFault.{EventFault}
 use Rattle.script_lines.specs.declared.grammar.Aim.{Aim}
 use Rattle.script_lines.specs.Usage.{no_usage, with_event}
 use Rattle.script_nodes.specs.declared.cluster.Cluster.{Cluster}
 use Rattle.script_nodes.specs.declared.outside.Outside.{Outside}
 use Rattle.script_nodes.specs.declared.place.Came.{Came}
-use Rattle.script_nodes.specs.declared.place.Ended.{Ended}
 use Rattle.script_nodes.specs.declared.said.Said.{Said}
 use Rattle.script_lines.specs.declared.events.Event.{Event}
 use Rattle.script_lines.specs.declared.events.Event.TheVariants as event
-use Rattle.script_nodes.specs.Outcomes.{Ending, Timeout, Beat, Bytes}
-use Rattle.script_nodes.specs.World.{Place, World, Went, NotThere, halted, empty_place, empty_places}
+use Rattle.script_nodes.specs.Outcomes.{Outcome, Ending, Timeout, Beat, Bytes}
+use Rattle.script_nodes.specs.World.{Place, World, Went, NotThere, halted, empty_places}
 use Rattle.script_nodes.specs.World.{at_node, connects, on_link, node_of, hangs_up, delivers, crashes, starts}
-use Rattle.script_nodes.specs.Places.{Comes, TellsEnding}
+use Rattle.script_nodes.specs.Places.{Comes, TellsEnding, place_after_crash}
 use Rattle.script_nodes.specs.Seen.{answers_in}
 use Rattle.script_nodes.specs.Holding.{Held, TellsAll, beside, world_of}
 
-abbrev pub held : {P : Type 0} → (P → Place) → Cluster P → Held
-held shows c = beside c.voters (map shows c.places.items) c.outside
+abbrev pub held : {P : Type 0} → (P → Place) → Cluster P → Held P
+held shows c = beside c.voters c.places.items (map shows c.places.items) c.outside
 
 -- the world of these, where nothing is asked of turns or of what is to come
-abbrev pub world_now : Held → World
+abbrev pub world_now : {P : Type 0} → Held P → World
 world_now h = world_of h [] []
 
--- so many voters and further nodes, none of which runs
-abbrev pub empty_held : ℕ → ℕ → Held
-empty_held voters spare = record { voters = voters; places = empty_places (voters + spare); links = []; mail = []; usage = no_usage; journal = [] }
+-- so many voters and further nodes, at these places, none of which runs
+abbrev pub empty_held : {P : Type 0} → ℕ → ℕ → List P → Held P
+empty_held voters spare nodes =
+    record { voters = voters; nodes = nodes; places = empty_places (voters + spare); links = []; mail = []; usage = no_usage; journal = [] }
 
--- this came of an event at a place, and the others stay
-abbrev pub ComesAt : List Place → List Place → ℕ → Ended → Type 0
-ComesAt old new index came = (q : Place) × Comes (get_or old index empty_place) q came × (new ≡ set old index q)
+-- this came of an event at a place, by which its turn leads on; and the others stay
+pub record ComesAt {P : Type 0} (shows : P → Place) (leads : P → P → Outcome → Type 0) (old new : List P) (index : ℕ) (came : Came) : Type 0 where
+  pub was : P
+  pub now : P
+  pub there : slice_get old index ≡ Some was
+  pub comes : Comes (shows was) (shows now) came (leads was now)
+  pub rest : new ≡ set old index now
+
+-- a node at a place goes
+pub record CrashesAt {P : Type 0} (shows : P → Place) (leads : P → P → Type 0) (old new : List P) (index : ℕ) : Type 0 where
+  pub was : P
+  pub now : P
+  pub there : slice_get old index ≡ Some was
+  pub crashed : shows now ≡ place_after_crash (shows was)
+  pub on : leads was now
+  pub rest : new ≡ set old index now
 
 -- one event more was counted, or there may be none
-abbrev pub Counts : Bool → Held → Held → Type 0
+abbrev pub Counts : {P : Type 0} → Bool → Held P → Held P → Type 0
 Counts true old new = (with_event old.usage ≡ Some new.usage) × (new ≡ record old { usage = new.usage })
 Counts false old new = (with_event old.usage ≡ None) × (new ≡ old)
 

@@ -1,5 +1,6 @@
 -- What the code of a cluster holds of a world, and what its calls lead to.
 use Rattle.std.specs.Prelude.{◌≡◌, ◌-◌, ◌++◌, ℕ, suc, Bool, true, false, List, [], ◌∷◌, map, set, length, Option, Some, None, Result, Ok, Err}
+use Rattle.std.specs.List.{AllByRecursion}
 use Rattle.session_rules.specs.Engines.{Answer}
 use Rattle.script_lines.specs.declared.faults.EventFault.{EventFault}
 use Rattle.script_lines.specs.declared.faults.EventFault.TheVariants as faults
@@ -11,13 +12,15 @@ use Rattle.script_nodes.specs.declared.said.Said.{Said}
 use Rattle.script_nodes.specs.Outcomes.{Outs, Ending, Steps, Starts, Stops, Fails, Unreadable, Outcome, Item, Answered, Turn, met_by, noted}
 use Rattle.script_nodes.specs.World.{Place, Link, Letter, World, Halt, NotThere, TooMany, Went, standing_so, after_ending}
 use Rattle.script_nodes.specs.World.{bytes_in, letters_of, replies_said, closed_said, messages_said, without_all, without_node, closings}
+use Rattle.script_nodes.specs.Knowing.{Knowing, AllKnow, CanHold, messages_of}
 use Rattle.script_nodes.specs.Places.{down_place}
 
 -- ---- what is held
 
--- a world but for its turns and for what is to come of events
-pub record Held : Type 0 where
+-- a world but for its turns and for what is to come of events; and its places as the code has them
+pub record Held (P : Type 0) : Type 0 where
   pub voters : ℕ
+  pub nodes : List P
   pub places : List Place
   pub links : List Link
   pub mail : List Letter
@@ -25,7 +28,7 @@ pub record Held : Type 0 where
   pub journal : List Item
 
 -- the world of these after these turns, with this to come of the events
-abbrev pub world_of : Held → List Turn → List Outcome → World
+abbrev pub world_of : {P : Type 0} → Held P → List Turn → List Outcome → World
 world_of h turns outcomes = record {
   voters = h.voters;
   places = h.places;
@@ -38,8 +41,9 @@ world_of h turns outcomes = record {
 }
 
 -- what there is beside nodes, with these places
-abbrev pub beside : ℕ → List Place → Outside → Held
-beside voters places o = record { voters = voters; places = places; links = o.connections; mail = o.mail; usage = o.usage; journal = o.journal }
+abbrev pub beside : {P : Type 0} → ℕ → List P → List Place → Outside → Held P
+beside voters nodes places o =
+    record { voters = voters; nodes = nodes; places = places; links = o.connections; mail = o.mail; usage = o.usage; journal = o.journal }
 
 pub record IsNothing (o : Outside) : Type 0 where
   pub links : o.connections ≡ []
@@ -60,6 +64,7 @@ pub record SaysAll (aim : Aim) (answers : List Answer) (outs : Outs) (old new : 
   pub mail : new.mail ≡ old.mail ++ letters_of outs.messages
   pub journal : new.journal ≡ old.journal ++ note_of answers aim None
   pub says : now ≡ before ++ (replies_said outs.replies ++ (closed_said outs.closed ++ messages_said (suc (length old.mail)) outs.messages))
+  pub hold : AllByRecursion CanHold outs.messages
 
 -- nothing of it was said, as its messages are too many
 pub record SaysNone (outs : Outs) (old new : Outside) (before now : List Said) : Type 0 where
@@ -87,28 +92,33 @@ places_after node (Stops keeps) places = set places (node - 1) (down_place true)
 places_after node (Fails keeps) places = set places (node - 1) (down_place true)
 places_after node Unreadable places = places
 
-abbrev pub with_note : Held → Aim → List Answer → Bool → Ending → Held
+abbrev pub with_note : {P : Type 0} → Held P → Aim → List Answer → Bool → Ending → Held P
 with_note h aim answers failed ending = record h { journal = h.journal ++ noted aim failed (record { answers = answers; ending = ending }) }
 
+-- what there is beside nodes, whatever stands at these places
+abbrev pub outside_of : ℕ → List Place → Outside → Held (Unit {0})
+outside_of voters places o = beside voters [] places o
+
 -- what came of an event at a node is noted and said: it leads here
-pub record Asks (node : ℕ) (aim : Aim) (answers : List Answer) (failed : Bool) (ending : Ending) (old new : Held) (before now : List Said) : Type 0 where
+pub record Asks (node : ℕ) (aim : Aim) (answers : List Answer) (failed : Bool) (ending : Ending) (old new : Held (Unit {0})) (before now : List Said) : Type 0 where
   pub more : List Said
   pub goes : (turns : List Turn) (later : List Outcome)
       → after_ending node ending (world_of (with_note old aim answers failed ending) turns later)
       ≡ record { world = world_of new turns later; said = more; halt = None }
   pub says : now ≡ before ++ more
+  pub hold : AllByRecursion CanHold (messages_of ending)
 
 -- it isn't in the run, as its messages are too many
-pub record Overruns (node : ℕ) (aim : Aim) (answers : List Answer) (failed : Bool) (ending : Ending) (old : Held) : Type 0 where
+pub record Overruns (node : ℕ) (aim : Aim) (answers : List Answer) (failed : Bool) (ending : Ending) (old : Held (Unit {0})) : Type 0 where
   pub halts : (turns : List Turn) (later : List Outcome)
       → (after_ending node ending (world_of (with_note old aim answers failed ending) turns later)).halt ≡ Some TooMany
 
 abbrev pub Tells : Bool → ℕ → Aim → List Answer → Bool → Ending → Outside → Outside → List Said → List Said → Type 0
 Tells true node aim answers failed ending old new before now =
     (voters : ℕ) (places : List Place)
-    → Asks node aim answers failed ending (beside voters places old) (beside voters (places_after node ending places) new) before now
+    → Asks node aim answers failed ending (outside_of voters places old) (outside_of voters (places_after node ending places) new) before now
 Tells false node aim answers failed ending old new before now =
-    ((voters : ℕ) (places : List Place) → Overruns node aim answers failed ending (beside voters places old)) × (new ≡ old) × (now ≡ before)
+    ((voters : ℕ) (places : List Place) → Overruns node aim answers failed ending (outside_of voters places old)) × (new ≡ old) × (now ≡ before)
 
 -- the same by an answer
 abbrev pub TellsAll : {T : Type 0} → Result T EventFault → ℕ → Aim → List Answer → Bool → Ending → Outside → Outside → List Said → List Said → Type 0
@@ -120,36 +130,41 @@ TellsAll (Err faults.NoMemory) node aim answers failed ending old new before now
 -- ---- what a call leads to
 
 -- Something was done to a world: these outcomes came, one after another, of these turns. With them at the front of what is to come it
--- leads here, and this was said.
-pub record Leads (go : World → Went) (old new : Held) (before now : List Said) : Type 0 where
+-- leads here, and this was said; and places that were led to by the turns of their nodes are led on by these.
+pub record Leads {P : Type 0} (knows : Knowing P) (go : World → Went) (old new : Held P) (before now : List Said) : Type 0 where
   pub outcomes : List Outcome
   pub turns : List Turn
   pub more : List Said
   pub goes : (earlier : List Turn) (later : List Outcome)
       → go (world_of old earlier (outcomes ++ later)) ≡ record { world = world_of new (earlier ++ turns) later; said = more; halt = None }
   pub says : now ≡ before ++ more
+  pub know : (earlier : List Turn) → AllKnow knows old.voters old.nodes earlier → AllKnow knows new.voters new.nodes (earlier ++ turns)
 
--- it ended so, when this was noted, and this said
-pub record HaltsAt (why : Halt) (journal : List Item) (said : List Said) (went : Went) : Type 0 where
+-- it ended so, behind these turns, when this was noted, and this said
+pub record HaltsAt (why : Halt) (journal : List Item) (said : List Said) (turns : List Turn) (went : Went) : Type 0 where
   pub halt : went.halt ≡ Some why
   pub said_is : went.said ≡ said
   pub journal_is : went.world.journal ≡ journal
+  pub turns_are : went.world.turns ≡ turns
 
--- it ended before its end: with these outcomes at the front of what is to come
-pub record Halts (go : World → Went) (why : Halt) (old new : Held) (before now : List Said) : Type 0 where
+-- it ended before its end: with these outcomes at the front of what is to come; and these places were led to until then
+pub record Halts {P : Type 0} (knows : Knowing P) (go : World → Went) (why : Halt) (old new : Held P) (before now : List Said) : Type 0 where
   pub outcomes : List Outcome
+  pub turns : List Turn
   pub more : List Said
-  pub halts : (earlier : List Turn) (later : List Outcome) → HaltsAt why new.journal more (go (world_of old earlier (outcomes ++ later)))
+  pub nodes : List P
+  pub halts : (earlier : List Turn) (later : List Outcome) → HaltsAt why new.journal more (earlier ++ turns) (go (world_of old earlier (outcomes ++ later)))
   pub says : now ≡ before ++ more
+  pub know : (earlier : List Turn) → AllKnow knows old.voters old.nodes earlier → AllKnow knows new.voters nodes (earlier ++ turns)
 
 -- what was done: it leads to its end, or halts before it
-abbrev pub DoesBy : (World → Went) → Option Halt → Held → Held → List Said → List Said → Type 0
-DoesBy go None old new before now = Leads go old new before now
-DoesBy go (Some why) old new before now = Halts go why old new before now
+abbrev pub DoesBy : {P : Type 0} → Knowing P → (World → Went) → Option Halt → Held P → Held P → List Said → List Said → Type 0
+DoesBy knows go None old new before now = Leads knows go old new before now
+DoesBy knows go (Some why) old new before now = Halts knows go why old new before now
 
 -- the same by its answer; after want of memory nothing is told
-abbrev pub Does : {T : Type 0} → (World → Went) → Result T EventFault → Held → Held → List Said → List Said → Type 0
-Does go (Ok x) old new before now = DoesBy go None old new before now
-Does go (Err faults.NotThere) old new before now = DoesBy go (Some NotThere) old new before now
-Does go (Err faults.TooMany) old new before now = DoesBy go (Some TooMany) old new before now
-Does go (Err faults.NoMemory) old new before now = Unit {0}
+abbrev pub Does : {P T : Type 0} → Knowing P → (World → Went) → Result T EventFault → Held P → Held P → List Said → List Said → Type 0
+Does knows go (Ok x) old new before now = DoesBy knows go None old new before now
+Does knows go (Err faults.NotThere) old new before now = DoesBy knows go (Some NotThere) old new before now
+Does knows go (Err faults.TooMany) old new before now = DoesBy knows go (Some TooMany) old new before now
+Does knows go (Err faults.NoMemory) old new before now = Unit {0}

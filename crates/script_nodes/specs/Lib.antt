@@ -2,6 +2,8 @@ pub mod Kinds
 pub mod Outcomes
 pub mod World
 pub mod Seen
+pub mod Voters
+pub mod Knowing
 pub mod Places
 pub mod Holding
 pub mod Clusters

@@ -1,6 +1,7 @@
 -- What comes of an event at a place, as the code has it.
 use Rattle.std.specs.Prelude.{◌≡◌, Bool, true, Some, None, if◌then◌else◌}
 use Rattle.file_digest.specs.Digest.{digest}
+use Rattle.script_nodes.specs.declared.place.Came.{Came}
 use Rattle.script_nodes.specs.declared.place.Ended.{Ended}
 use Rattle.script_nodes.specs.declared.place.Ended.TheVariants as ended
 use Rattle.script_nodes.specs.declared.place.NodeEvent.{NodeEvent}
@@ -8,7 +9,8 @@ use Rattle.script_nodes.specs.declared.place.NodeEvent.TheVariants as event
 use Rattle.script_nodes.specs.declared.place.NodeLine.{NodeLine}
 use Rattle.script_nodes.specs.declared.place.Outs.{Outs as CodeOuts}
 use Rattle.script_nodes.specs.Kinds.{role_of}
-use Rattle.script_nodes.specs.Outcomes.{Standing, Outs, Ending, Steps, Starts, Stops, Fails, Unreadable, Doing, Timeout, Beat, Connect, Bytes, Hangup, Receive}
+use Rattle.script_nodes.specs.Outcomes.{Outcome, Standing, Outs, Ending, Steps, Starts, Stops, Fails, Unreadable, Doing, Timeout, Beat, Connect, Bytes, Hangup, Receive}
+use Rattle.script_nodes.specs.Seen.{answers_in}
 use Rattle.script_nodes.specs.World.{Place, standing_so}
 
 abbrev pub doing_of : NodeEvent → Doing
@@ -50,11 +52,12 @@ TellsEnding failed (ended.Failed keeps) (Fails told) = told ≡ keeps
 TellsEnding failed ended.Unreadable Unreadable = Unit {0}
 TellsEnding failed came ending = ⊥
 
--- an event at a place ended so, and it stands as after that
-pub record Comes (old new : Place) (came : Ended) : Type 0 where
+-- An event at a place ended so, and it stands as after that; with this outcome the turn leads on.
+pub record Comes (old new : Place) (came : Came) (leads : Outcome → Type 0) : Type 0 where
   pub ending : Ending
-  pub tells : TellsEnding old.failed came ending
+  pub tells : TellsEnding old.failed came.ended ending
   pub stands : new ≡ place_after ending old
+  pub on : leads (record { answers = answers_in came.answers; ending = ending })
 
 -- an event at a node that runs is no start, and the other way round
 abbrev pub IsStep : Ended → Type 0

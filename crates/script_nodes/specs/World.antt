@@ -104,8 +104,9 @@ empty_place = record { standing = None; failed = false }
 abbrev pub place_at : World → ℕ → Place
 place_at w n = get_or w.places (n - 1) empty_place
 
+-- none runs by the number 0
 abbrev pub is_up : World → ℕ → Bool
-is_up w n = is_some (place_at w n).standing
+is_up w n = nat_le 1 n && is_some (place_at w n).standing
 
 abbrev pub with_place : World → ℕ → Place → World
 with_place w n place = record w { places = set w.places (n - 1) place }

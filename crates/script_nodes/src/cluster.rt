@@ -1,15 +1,17 @@
 //! The nodes of a script, and what its events do to them.
 
-ghost use Rattle.std.specs.Prelude.{◌≡◌, ◌<◌, ◌-◌, true, false, length, map, set, get_or, is_some, IfOk, OnOk, IsTrue};
-ghost use Rattle.script_nodes.specs.Outcomes.{Bytes as Hears};
-ghost use Rattle.script_nodes.specs.Places.{doing_of, place_after_crash};
+ghost use Rattle.std.specs.Prelude.{◌≡◌, ◌<◌, ◌≤◌, ◌-◌, ◌&&◌, [], nat_le, true, false, length, map, get_or, is_some, IfOk, OnOk, IsTrue};
+ghost use Rattle.script_nodes.specs.Outcomes.{Bytes as Hears, Does as Happened, Crashes};
+ghost use Rattle.script_nodes.specs.Knowing.{AllKnow, LeadsOn, StartsOn};
+ghost use Rattle.script_nodes.specs.Places.{doing_of};
 ghost use Rattle.script_nodes.specs.World.{World, at_node, starts, connects, hangs_up, on_link, node_of, crashes, empty_place, is_node, exists, is_known};
-ghost use Rattle.script_nodes.specs.Clusters.{held, world_now, empty_held, Counts, TellsIn, ComesAt};
+ghost use Rattle.script_nodes.specs.Clusters.{held, world_now, empty_held, Counts, TellsIn, ComesAt, CrashesAt};
 ghost use Rattle.script_nodes.specs.Holding.{Does};
 
 use crate::outside::Outside;
 use crate::place::{Came, NodeEvent, NodePlace};
 use crate::said::{NODE_DOWN, Said};
+use crate::voters::VoterCount;
 use dq_base::Bytes;
 use script_lines::{Aim, Event, EventFault};
 use std::alloc::{AllocError, Global};
@@ -21,12 +23,16 @@ fn index_of(node: u64) -> usize
     node.saturating_sub(1) as usize
 }
 
-#[tactic(auto, using(crate::proofs::Placing::down_past, crate::proofs::Placing::up_is))]
-/// Whether a node runs at a place; past the last place none does.
-fn is_up_at<P: NodePlace>(places: &[P], index: usize) -> bool
-    ensures up { result ≡ is_some (get_or (map P.shows places.now) index empty_place).standing }
-    ensures within { IsTrue result → index < length places.now }
+#[tactic(auto, using(crate::proofs::Placing::down_zero, crate::proofs::Placing::down_past, crate::proofs::Placing::up_is))]
+/// Whether a node of this number runs; past the last place none does.
+fn is_up_at<P: NodePlace>(places: &[P], node: u64) -> bool
+    ensures up { result ≡ (nat_le 1 node && is_some (get_or (map P.shows places.now) (node - 1) empty_place).standing) }
+    ensures within { IsTrue result → (1 ≤ node) × (node - 1 < length places.now) }
 {
+    let index = index_of(node);
+    if node == 0 {
+        return false;
+    }
     if index >= places.len() {
         return false;
     }
@@ -43,7 +49,8 @@ fn step_at<P: NodePlace>(
 ) -> Result<Came, AllocError>
     requires within { index < length places.old.items }
     requires up { is_some (get_or (map P.shows places.old.items) index empty_place).standing ≡ true }
-    ensures { IfOk result (λ came. ComesAt (map P.shows places.old.items) (map P.shows places.new.items) index came.ended) }
+    ensures { IfOk result (λ came. ComesAt P.shows
+        (λ old new outcome. LeadsOn P.knows old new (λ node. Happened node (doing_of event) aim outcome)) places.old.items places.new.items index came) }
 {
     places[index].step(event, aim)
 }
@@ -54,23 +61,24 @@ fn start_at<P: NodePlace>(
     places: &mut Vec<P>,
     index: usize,
     node: u64,
-    voters: u32,
+    voters: VoterCount,
     aim: Aim,
 ) -> Result<Came, AllocError>
     requires within { index < length places.old.items }
     requires down { is_some (get_or (map P.shows places.old.items) index empty_place).standing ≡ false }
-    ensures comes { IfOk result (λ came. ComesAt (map P.shows places.old.items) (map P.shows places.new.items) index came.ended) }
+    ensures comes { IfOk result (λ came. ComesAt P.shows
+        (λ old new. StartsOn P.knows old new node voters aim) places.old.items places.new.items index came) }
     ensures count { length places.new.items ≡ length places.old.items }
 {
     places[index].start(node, voters, aim)
 }
 
-#[tactic(auto, using(crate::proofs::Placing::crashes_at))]
+#[tactic(auto, using(crate::proofs::Placing::up_at, crate::proofs::Placing::crashes_at))]
 /// The node at a place goes, and its disk takes the outcome of a pick.
 fn crash_at<P: NodePlace>(places: &mut Vec<P>, index: usize, pick: u32) -> Result<(), AllocError>
-    requires { index < length places.old.items }
-    ensures { OnOk result (map P.shows places.new.items
-        ≡ set (map P.shows places.old.items) index (place_after_crash (get_or (map P.shows places.old.items) index empty_place))) }
+    requires within { index < length places.old.items }
+    requires up { is_some (get_or (map P.shows places.old.items) index empty_place).standing ≡ true }
+    ensures { OnOk result (CrashesAt P.shows (λ old new. LeadsOn P.knows old new (λ node. Crashes node pick)) places.old.items places.new.items index) }
 {
     places[index].crash(pick)
 }
@@ -78,7 +86,7 @@ fn crash_at<P: NodePlace>(places: &mut Vec<P>, index: usize, pick: u32) -> Resul
 /// The nodes of a script by their numbers from 1, each at its place; and what there is beside them.
 #[derive(Drop)]
 pub struct Cluster<P: NodePlace> {
-    pub(crate) voters: u32,
+    pub(crate) voters: VoterCount,
     pub(crate) places: Vec<P>,
     pub(crate) outside: Outside,
 }
@@ -86,10 +94,16 @@ pub struct Cluster<P: NodePlace> {
 impl<P: NodePlace> Cluster<P> {
     #[tactic(auto, using(crate::proofs::Placing::none_held))]
     /// So many voters and further nodes, none of which runs, each at a place like this one.
-    pub fn new(alloc: Global, place: &P, voters: u32, spare: u32) -> Result<Cluster<P>, AllocError>
-        ensures { IfOk result (λ cluster. held P.shows cluster ≡ empty_held voters spare) }
+    pub fn new(
+        alloc: Global,
+        place: &P,
+        voters: VoterCount,
+        spare: u32,
+    ) -> Result<Cluster<P>, AllocError>
+        ensures holds { IfOk result (λ cluster. held P.shows cluster ≡ empty_held voters spare cluster.places.items) }
+        ensures knows { IfOk result (λ cluster. AllKnow P.knows voters cluster.places.items []) }
     {
-        let count = u64::from(voters) + u64::from(spare);
+        let count = u64::from(voters.number()) + u64::from(spare);
         let mut places = Vec::new(alloc);
         for _made in 0..count {
             places.push(place.empty()?)?;
@@ -175,13 +189,12 @@ impl<P: NodePlace> Cluster<P> {
         aim: Aim,
         said: &mut Vec<Said>,
     ) -> Result<(), EventFault>
-        ensures { Does (at_node node (doing_of event) aim) result (held P.shows self.old) (held P.shows self.new) said.old.items said.new.items }
+        ensures { Does P.knows (at_node node (doing_of event) aim) result (held P.shows self.old) (held P.shows self.new) said.old.items said.new.items }
     {
-        let index = index_of(node);
-        if !is_up_at(self.places.as_slice(), index) {
+        if !is_up_at(self.places.as_slice(), node) {
             return Ok(());
         }
-        let came = step_at(&mut self.places, index, event, aim)?;
+        let came = step_at(&mut self.places, index_of(node), event, aim)?;
         self.tell(node, aim, came, said)
     }
 
@@ -192,15 +205,14 @@ impl<P: NodePlace> Cluster<P> {
         aim: Aim,
         said: &mut Vec<Said>,
     ) -> Result<(), EventFault>
-        requires { node - 1 < length self.old.places.items }
-        ensures does { Does (starts node aim) result (held P.shows self.old) (held P.shows self.new) said.old.items said.new.items }
+        requires { (1 ≤ node) × (node - 1 < length self.old.places.items) }
+        ensures does { Does P.knows (starts node aim) result (held P.shows self.old) (held P.shows self.new) said.old.items said.new.items }
         ensures count { length self.new.places.items ≡ length self.old.places.items }
     {
-        let index = index_of(node);
-        if is_up_at(self.places.as_slice(), index) {
+        if is_up_at(self.places.as_slice(), node) {
             return Ok(());
         }
-        let came = start_at(&mut self.places, index, node, self.voters, aim)?;
+        let came = start_at(&mut self.places, index_of(node), node, self.voters, aim)?;
         self.tell(node, aim, came, said)
     }
 
@@ -211,13 +223,12 @@ impl<P: NodePlace> Cluster<P> {
         pick: u32,
         said: &mut Vec<Said>,
     ) -> Result<(), EventFault>
-        ensures { Does (crashes node pick) result (held P.shows self.old) (held P.shows self.new) said.old.items said.new.items }
+        ensures { Does P.knows (crashes node pick) result (held P.shows self.old) (held P.shows self.new) said.old.items said.new.items }
     {
-        let index = index_of(node);
-        if !is_up_at(self.places.as_slice(), index) {
+        if !is_up_at(self.places.as_slice(), node) {
             return Ok(());
         }
-        crash_at(&mut self.places, index, pick)?;
+        crash_at(&mut self.places, index_of(node), pick)?;
         self.outside.close_at(node, said)?;
         Ok(())
     }
@@ -230,10 +241,9 @@ impl<P: NodePlace> Cluster<P> {
         said: &mut Vec<Said>,
     ) -> Result<(), EventFault>
         requires { is_known self.old.outside.connections connection ≡ false }
-        ensures { Does (connects node connection) result (held P.shows self.old) (held P.shows self.new) said.old.items said.new.items }
+        ensures { Does P.knows (connects node connection) result (held P.shows self.old) (held P.shows self.new) said.old.items said.new.items }
     {
-        let index = index_of(node);
-        if !is_up_at(self.places.as_slice(), index) {
+        if !is_up_at(self.places.as_slice(), node) {
             self.outside.connections.make(connection, node, false)?;
             said.push(Said::Closed {
                 connection,
@@ -253,7 +263,7 @@ impl<P: NodePlace> Cluster<P> {
         aim: Aim,
         said: &mut Vec<Said>,
     ) -> Result<(), EventFault>
-        ensures { Does (λ (w : World). on_link (Hears connection bytes) aim w (node_of w.links connection))
+        ensures { Does P.knows (λ (w : World). on_link (Hears connection bytes) aim w (node_of w.links connection))
             result (held P.shows self.old) (held P.shows self.new) said.old.items said.new.items }
     {
         match self.outside.connections.node_of(connection) {
@@ -269,7 +279,7 @@ impl<P: NodePlace> Cluster<P> {
         aim: Aim,
         said: &mut Vec<Said>,
     ) -> Result<(), EventFault>
-        ensures { Does (hangs_up connection aim) result (held P.shows self.old) (held P.shows self.new) said.old.items said.new.items }
+        ensures { Does P.knows (hangs_up connection aim) result (held P.shows self.old) (held P.shows self.new) said.old.items said.new.items }
     {
         let node = self.outside.connections.node_of(connection);
         self.outside.connections.close(connection);

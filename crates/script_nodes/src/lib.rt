@@ -13,6 +13,7 @@ mod printing;
 mod said;
 mod settling;
 mod standing;
+mod voters;
 
 pub use cluster::Cluster;
 pub use journal::{ClusterJournal, JournalItem};
@@ -20,3 +21,4 @@ pub use laws::{scripts_play, scripts_run};
 pub use place::{Came, Ended, NodeEvent, NodeLine, NodePlace, Outs};
 pub use printing::line_for;
 pub use said::{DownCause, MessageKind, Said};
+pub use voters::VoterCount;

@@ -1,10 +1,11 @@
 //! The messages between nodes.
 
 ghost use Rattle.std.specs.Prelude.{◌≡◌, ◌≤◌, ◌<◌, ◌++◌, List, [], map, take, drop, length, min, slice_index, get_or, IfOk, IfSome, OnOk};
-ghost use Rattle.std.specs.List.{sum_by};
+ghost use Rattle.std.specs.List.{AllByRecursion, sum_by};
 ghost use Rattle.raft_vote.specs.declared.message.RaftMessage.{RaftMessage};
 ghost use Rattle.script_lines.specs.Usage.{with_messages};
 ghost use Rattle.script_nodes.specs.World.{Letter as Seen, bytes_in, letter_of, letters_of, wire_message};
+ghost use Rattle.script_nodes.specs.Knowing.{CanHold};
 ghost use Rattle.script_nodes.specs.Seen.{Arrives, HaveArrived, IsFirstWaiting, letter_seen};
 
 use dq_base::Items;
@@ -164,7 +165,8 @@ impl Mail {
 
 /// A new message as a letter, which has not arrived.
 fn letter_for(alloc: Global, message: &RaftMessage) -> Result<Letter, AllocError>
-    ensures { IfOk result (λ letter. letter_seen letter ≡ letter_of message.now) }
+    ensures letter { IfOk result (λ letter. letter_seen letter ≡ letter_of message.now) }
+    ensures hold { OnOk result (CanHold message.now) }
 {
     Ok(Letter {
         to: message.to,
@@ -175,7 +177,8 @@ fn letter_for(alloc: Global, message: &RaftMessage) -> Result<Letter, AllocError
 
 /// New messages as letters, none of which has arrived.
 pub(crate) fn written(alloc: Global, messages: &[RaftMessage]) -> Result<Vec<Letter>, AllocError>
-    ensures { IfOk result (λ letters. map letter_seen letters.items ≡ letters_of messages.now) }
+    ensures letters { IfOk result (λ letters. map letter_seen letters.items ≡ letters_of messages.now) }
+    ensures hold { OnOk result (AllByRecursion CanHold messages.now) }
 {
     let mut letters = Vec::with_capacity(alloc, messages.len())?;
     for message in messages {

@@ -1,5 +1,6 @@
 //! The places of nodes, as a script has them: what may happen at one, and what comes of it.
 
+use crate::voters::VoterCount;
 use client_connection::CloseReason;
 use dq_base::Bytes;
 use engine_journal::Journal;
@@ -77,17 +78,23 @@ pub struct NodeLine {
 
 /// The place of a node: its disk, and the node that runs over it with its engine, if one does.
 pub trait NodePlace: Drop {
-    ghost use Rattle.std.specs.Prelude.{◌≡◌, false, true, is_some, None, IfOk, OnOk};
+    ghost use Rattle.std.specs.Prelude.{◌≡◌, ℕ, false, true, is_some, None, List, IfOk, OnOk};
     ghost use Rattle.std.specs.Option.{option_map};
+    ghost use Rattle.script_nodes.specs.Outcomes.{Turn, Does, Crashes};
+    ghost use Rattle.script_nodes.specs.Knowing.{IsNew, LeadsOn, StartsOn};
     ghost use Rattle.script_nodes.specs.World.{Place, empty_place};
-    ghost use Rattle.script_nodes.specs.Places.{line_of, place_after_crash, IsStep, IsStart, Comes};
+    ghost use Rattle.script_nodes.specs.Places.{line_of, place_after_crash, doing_of, IsStep, IsStart, Comes};
 
     /// How the place stands.
     ghost shows: { Self → Place };
 
+    /// Which turns have led to the place: of the node of a number, in a cluster that was opened with so many voters.
+    ghost knows: { Self → ℕ → ℕ → List Turn → Type 0 };
+
     /// A disk without files, and no node. `Err` is want of memory.
     fn empty(&self) -> Result<Self, AllocError>
-        ensures { IfOk result (λ place. shows place ≡ empty_place) };
+        ensures shows { IfOk result (λ place. shows place ≡ empty_place) }
+        ensures knows { IfOk result (λ place. IsNew knows place) };
 
     /// Whether a node runs here. Takes no memory.
     fn is_up(&self) -> bool
@@ -102,17 +109,20 @@ pub trait NodePlace: Drop {
     /// memory.
     fn step(&mut self, event: NodeEvent, aim: Aim) -> Result<Came, AllocError>
         requires { is_some (shows self.old).standing ≡ true }
-        ensures comes { IfOk result (λ came. Comes (shows self.old) (shows self.new) came.ended) }
+        ensures comes { IfOk result (λ came. Comes (shows self.old) (shows self.new) came
+            (λ outcome. LeadsOn knows self.old self.new (λ node. Does node (doing_of event) aim outcome))) }
         ensures step { IfOk result (λ came. IsStep came.ended) };
 
     /// The node of this number starts over the disk of a place where none runs, in a cluster that was opened with so many voters, at
     /// the addresses `n1` and so on; with an engine that knows nothing. `Err` is want of memory.
-    fn start(&mut self, node: u64, voters: u32, aim: Aim) -> Result<Came, AllocError>
+    fn start(&mut self, node: u64, voters: VoterCount, aim: Aim) -> Result<Came, AllocError>
         requires { is_some (shows self.old).standing ≡ false }
-        ensures comes { IfOk result (λ came. Comes (shows self.old) (shows self.new) came.ended) }
+        ensures comes { IfOk result (λ came. Comes (shows self.old) (shows self.new) came (StartsOn knows self.old self.new node voters aim)) }
         ensures start { IfOk result (λ came. IsStart came.ended) };
 
-    /// The node goes, and its disk takes the outcome of a pick. `Err` is want of memory.
+    /// The node goes that runs here, and its disk takes the outcome of a pick. `Err` is want of memory.
     fn crash(&mut self, pick: u32) -> Result<(), AllocError>
-        ensures { OnOk result (shows self.new ≡ place_after_crash (shows self.old)) };
+        requires { is_some (shows self.old).standing ≡ true }
+        ensures stands { OnOk result (shows self.new ≡ place_after_crash (shows self.old)) }
+        ensures leads { OnOk result (LeadsOn knows self.old self.new (λ node. Crashes node pick)) };
 }

@@ -35,7 +35,7 @@ impl<P: NodePlace> Cluster<P> {
     /// range.
     fn deliver(&mut self, place: usize, aim: Aim, said: &mut Vec<Said>) -> Result<(), EventFault>
         requires { place < length self.old.outside.mail }
-        ensures { Does (delivers place aim) result (held P.shows self.old) (held P.shows self.new) said.old.items said.new.items }
+        ensures { Does P.knows (delivers place aim) result (held P.shows self.old) (held P.shows self.new) said.old.items said.new.items }
     {
         match self.outside.mail.arrive(place)? {
             None => Ok(()),
@@ -52,7 +52,7 @@ impl<P: NodePlace> Cluster<P> {
     /// The message at a place arrives, which is one event.
     fn deliver_next(&mut self, place: usize, said: &mut Vec<Said>) -> Result<(), EventFault>
         requires { place < length self.old.outside.mail }
-        ensures { Does (counted (delivers place Nothing)) result (held P.shows self.old) (held P.shows self.new) said.old.items said.new.items }
+        ensures { Does P.knows (counted (delivers place Nothing)) result (held P.shows self.old) (held P.shows self.new) said.old.items said.new.items }
     {
         if !self.count_event() {
             return Err(EventFault::TooMany);
@@ -62,7 +62,7 @@ impl<P: NodePlace> Cluster<P> {
 
     /// The first message that has never arrived does, again and again, until none is left or so many did. Each is one event.
     fn settle(&mut self, count: u32, said: &mut Vec<Said>) -> Result<(), EventFault>
-        ensures { Does (settles count) result (held P.shows self.old) (held P.shows self.new) said.old.items said.new.items }
+        ensures { Does P.knows (settles count) result (held P.shows self.old) (held P.shows self.new) said.old.items said.new.items }
     {
         for _arrived in 0..count {
             match self.outside.mail.first_waiting() {
@@ -79,7 +79,7 @@ impl<P: NodePlace> Cluster<P> {
     /// Has an event happen that was counted, names what is there and settles nothing.
     fn happen(&mut self, event: Event, aim: Aim, said: &mut Vec<Said>) -> Result<(), EventFault>
         requires { exists (world_now (held P.shows self.old)) event ≡ true }
-        ensures { Does (once event aim) result (held P.shows self.old) (held P.shows self.new) said.old.items said.new.items }
+        ensures { Does P.knows (once event aim) result (held P.shows self.old) (held P.shows self.new) said.old.items said.new.items }
     {
         match event {
             Event::Timeout { node } => self.at_node(u64::from(node), NodeEvent::Timeout, aim, said),
@@ -107,7 +107,7 @@ impl<P: NodePlace> Cluster<P> {
     ///   `settle`, what came of the messages that arrived before is said; of the event itself nothing is said or noted.
     /// - `NoMemory`: nothing is told of the cluster.
     pub fn take(&mut self, event: Event, aim: Aim, said: &mut Vec<Said>) -> Result<(), EventFault>
-        ensures { Does (λ (w : World). takes w event aim) result (held P.shows self.old) (held P.shows self.new) said.old.items said.new.items }
+        ensures { Does P.knows (λ (w : World). takes w event aim) result (held P.shows self.old) (held P.shows self.new) said.old.items said.new.items }
     {
         if !self.exists(&event) {
             return Err(EventFault::NotThere);
@@ -125,7 +125,7 @@ impl<P: NodePlace> Cluster<P> {
 
     /// All nodes start, one after another, where they are down, which is no event.
     pub fn start_all(&mut self, said: &mut Vec<Said>) -> Result<(), EventFault>
-        ensures { Does (all_start (length self.old.places.items) 1) result (held P.shows self.old) (held P.shows self.new) said.old.items said.new.items }
+        ensures { Does P.knows (all_start (length self.old.places.items) 1) result (held P.shows self.old) (held P.shows self.new) said.old.items said.new.items }
     {
         for index in 0..self.places.len() {
             match self.start(index as u64 + 1, Aim::Nothing, said) {

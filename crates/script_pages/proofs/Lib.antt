@@ -1,1 +1,4 @@
 pub mod Standings
+pub mod Elements
+pub mod Agreement
+pub mod Bounded

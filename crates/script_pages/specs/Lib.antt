@@ -1,2 +1,4 @@
 pub mod Holding
 pub mod Machines
+pub mod Printed
+pub mod Alike

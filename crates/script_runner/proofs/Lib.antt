@@ -1,5 +1,9 @@
 pub mod Lining
 pub mod Steps
+pub mod Scening
 pub mod Running
 pub mod Printed
 pub mod Finishing
+pub mod Agreement
+pub mod Likeness
+pub mod Growing

@@ -8,14 +8,17 @@ use Rattle.dq_base.proofs.ContentLaws.{Consumes-nothing, Consumes-then, Appends-
 use Rattle.script_lines.specs.ScriptSize.{line_limit, line_count_limit}
 use Rattle.script_lines.specs.Lines.{lines_of, Cursor, to_come, TakesLine}
 use Rattle.script_lines.specs.Grammar.{line_of}
-use Rattle.script_nodes.specs.declared.said.Said.{Said}
+use Rattle.script_nodes.specs.Knowing.{Knowing, Told}
 use Rattle.script_nodes.specs.Outcomes.{Outcome, Item, Turn}
-use Rattle.script_nodes.specs.Printed.{printed as text_of}
-use Rattle.script_nodes.specs.Run.{Stage, Next, Fault, Line, Large, Run, step, said_before, onward, ends_at, closing, journal_at, run_from, run, stops}
-use Rattle.script_runner.specs.Stages.{Stands, AtStart, AtNodes, stage_of, journal_of, closing_of, Goes, Ends, EndsAt}
-use Rattle.script_runner.specs.Ending.{MayFollow, Anything, IsRun, Reached, ReadWhole, Settles, StopsShort}
+use Rattle.script_nodes.specs.Run.{Fault, Line, Large}
+use Rattle.script_runner.specs.Run.{Said, Stage, Next, Run, step, said_before, onward, ends_at, closing, journal_at, turns_at, run_from, run, stops, text_of, OfNodes}
+use Rattle.script_runner.specs.Stages.{AtStart, AtNodes}
+use Rattle.script_runner.specs.Scenes.{Holds, Nodes, Machines, Known, stage_of, journal_of, closing_of, turns_of, Goes, Ends, EndsAt}
+use Rattle.script_runner.specs.Ending.{MayFollow, Anything, IsRun, BeginWith, Reached, ReadWhole, RanShort, Settles, StopsShort}
 use Rattle.script_runner.proofs.Lining.{lines_feed, lines_last, feed_first, last_first, line_begins, end_left, held, held_end, without_separator, some_line, starts, Consumes-none}
 use Rattle.script_runner.proofs.Printed.{text_of-append}
+use Rattle.script_runner.proofs.Scening.{none_told, told_at}
+use Rattle.script_runner.proofs.Growing.{run_grows, begin_then}
 
 -- ---- steps
 
@@ -28,11 +31,11 @@ run_step stage next number line lines said e = ap (λ (n : Next). onward (λ (s 
 onward_ends : (go : Stage → Run) (next : Next) (fault : Fault) → next.fault ≡ Some fault → onward go next next.fault ≡ ends_at next.stage next.said (Some fault)
 onward_ends go next fault e = ap (onward go next) e
 
-run_fault : (stage : Stage) (number : ℕ) (line : List ℕ) (lines : List (List ℕ)) (fault : Fault) (journal : List Item) (said : List Said) → EndsAt fault journal said (step stage number line)
-    → IsRun said (Some fault) journal (run_from stage number (line ∷ lines))
-run_fault stage number line lines fault journal said e =
+run_fault : (stage : Stage) (number : ℕ) (line : List ℕ) (lines : List (List ℕ)) (fault : Fault) (journal : List Item) (said : List Said) (turns : List Turn) → EndsAt fault journal said turns (step stage number line)
+    → IsRun said (Some fault) journal turns (run_from stage number (line ∷ lines))
+run_fault stage number line lines fault journal said turns e =
     let ends = onward_ends (λ (s : Stage). run_from s (suc number) lines) (step stage number line) fault e.fault_is in
-    subst (IsRun said (Some fault) journal) (sym ends) (record { said_is = e.said_is; fault_is = refl; journal_is = e.journal_is })
+    subst (IsRun said (Some fault) journal turns) (sym ends) (record { said_is = e.said_is; fault_is = refl; journal_is = e.journal_is; turns_are = e.turns_are })
 
 line_long : (line : List ℕ) → line_limit < length line → line_of line ≡ None
 unfolding line_of
@@ -48,25 +51,34 @@ step_past : (stage : Stage) (number : ℕ) (line : List ℕ) → line_count_limi
 unfolding step
 step_past stage number line past = rw (lt-leb number line_count_limit past) refl
 
-stops_so : (stage : Stage) (fault : Fault) (next : Next) → next ≡ stops stage fault → EndsAt fault (journal_at stage) [] next
-stops_so stage fault next e = subst (EndsAt fault (journal_at stage) []) (sym e) (record { fault_is = refl; said_is = refl; journal_is = refl })
+stops_so : (stage : Stage) (fault : Fault) (next : Next) → next ≡ stops stage fault → EndsAt fault (journal_at stage) [] (turns_at stage) next
+stops_so stage fault next e = subst (EndsAt fault (journal_at stage) [] (turns_at stage)) (sym e) (record { fault_is = refl; said_is = refl; journal_is = refl; turns_are = refl })
 
 said_twice : (a b : List Said) (r : Run) → said_before a (said_before b r) ≡ said_before (a ++ b) r
 said_twice a b r = ap (λ (s : List Said). record { said = s; fault = r.fault; turns = r.turns; journal = r.journal }) (sym (append_assoc a b r.said))
 
 -- what was said before stands in front
-run_behind : (a b : List Said) (fault : Option Fault) (journal : List Item) (r whole : Run) → whole ≡ said_before a r → IsRun b fault journal r → IsRun (a ++ b) fault journal whole
-run_behind a b fault journal r whole e is = subst (IsRun (a ++ b) fault journal) (sym e) (record { said_is = ap (λ (s : List Said). a ++ s) is.said_is; fault_is = is.fault_is; journal_is = is.journal_is })
+run_behind : (a b : List Said) (fault : Option Fault) (journal : List Item) (turns : List Turn) (r whole : Run) → whole ≡ said_before a r → IsRun b fault journal turns r → IsRun (a ++ b) fault journal turns whole
+run_behind a b fault journal turns r whole e is =
+    subst (IsRun (a ++ b) fault journal turns) (sym e) (record { said_is = ap (λ (s : List Said). a ++ s) is.said_is; fault_is = is.fault_is; journal_is = is.journal_is; turns_are = is.turns_are })
 
 -- what is noted at a stage is what is held of it
-journal_same : (at : Stands) (turns : List Turn) (later : List Outcome) → journal_at (stage_of at turns later) ≡ journal_of at
-journal_same AtStart turns later = refl
-journal_same (AtNodes h) turns later = refl
+journal_same : {P : Type 0} (at : Holds P) (turns : List Turn) (later : List Outcome) → journal_at (stage_of at turns later) ≡ journal_of at
+journal_same (Nodes AtStart) turns later = refl
+journal_same (Nodes (AtNodes h)) turns later = refl
+journal_same (Machines usage fleet) turns later = refl
+
+-- so are the turns there
+pub turns_same : {P : Type 0} (at : Holds P) (turns : List Turn) (later : List Outcome) → turns_at (stage_of at turns later) ≡ turns_of at turns
+turns_same (Nodes AtStart) turns later = refl
+turns_same (Nodes (AtNodes h)) turns later = refl
+turns_same (Machines usage fleet) turns later = refl
 
 -- how all stand is no matter of turns and of what is to come
-shown_same : (at : Stands) (turns : List Turn) (later : List Outcome) → closing (stage_of at turns later) ≡ closing_of at
-shown_same AtStart turns later = refl
-shown_same (AtNodes h) turns later = refl
+shown_same : {P : Type 0} (at : Holds P) (turns : List Turn) (later : List Outcome) → closing (stage_of at turns later) ≡ closing_of at
+shown_same (Nodes AtStart) turns later = refl
+shown_same (Nodes (AtNodes h)) turns later = refl
+shown_same (Machines usage fleet) turns later = refl
 
 -- what a line printed is a front of the text of the run from there on
 onward_front : (a b : Option (List ℕ)) (go : Stage → Run) (next : Next) (fault : Option Fault) → AppendsFront a b (text_of next.said) → AppendsFront a b (text_of (onward go next fault).said)
@@ -76,33 +88,43 @@ onward_front a b go next (Some fault) front = front
 step_front : (a b : Option (List ℕ)) (stage : Stage) (number : ℕ) (line : List ℕ) (lines : List (List ℕ)) → AppendsFront a b (text_of (step stage number line).said) → AppendsFront a b (text_of (run_from stage number (line ∷ lines)).said)
 step_front a b stage number line lines front = onward_front a b (λ (s : Stage). run_from s (suc number) lines) (step stage number line) (step stage number line).fault front
 
+-- the run of a line and of those behind it begins where the line has led
+onward_begins : (go : Stage → Run) (next : Next) (fault : Option Fault) (turns : List Turn) → ((s : Stage) → BeginWith (go s).turns (turns_at s)) → BeginWith (turns_at next.stage) turns → BeginWith (onward go next fault).turns turns
+onward_begins go next None turns grows b = begin_then (go next.stage).turns (turns_at next.stage) turns (grows next.stage) b
+onward_begins go next (Some fault) turns grows b = b
+
+step_begins : (stage : Stage) (number : ℕ) (line : List ℕ) (lines : List (List ℕ)) (turns : List Turn) → BeginWith (turns_at (step stage number line).stage) turns → BeginWith (run_from stage number (line ∷ lines)).turns turns
+step_begins stage number line lines turns b =
+    onward_begins (λ (s : Stage). run_from s (suc number) lines) (step stage number line) (step stage number line).fault turns (λ s. run_grows s (suc number) lines) b
+
 -- ---- the script so far
 
-pub reached_start : (left written : Option (List ℕ)) → Reached left (to_come (record { line = []; ahead = [] }) left) written written AtStart 1
-reached_start left written = record { read = []; outcomes = []; turns = []; said = []; taken = starts left; told = Appends-nothing written; goes_on = λ more later. refl }
+pub reached_start : {P : Type 0} (knows : Knowing P) (left written : Option (List ℕ)) → Reached knows left (to_come (record { line = []; ahead = [] }) left) written written (Nodes AtStart) 1
+reached_start knows left written = record { read = []; outcomes = []; turns = []; said = []; taken = starts left; told = Appends-nothing written; goes_on = λ more later. refl; know = tt }
 
-module _ (first now written printed_now : Option (List ℕ)) (at : Stands) (number : ℕ) (r : Reached first now written printed_now at number) where
+module _ {P : Type 0} (knows : Knowing P) (first now written printed_now : Option (List ℕ)) (at : Holds P) (number : ℕ) (r : Reached knows first now written printed_now at number) where
   -- what comes of later lines stands behind
   joined : (came later : List Outcome) (bytes : List ℕ) → run bytes ((r.outcomes ++ came) ++ later) ≡ run bytes (r.outcomes ++ (came ++ later))
   joined came later bytes = ap (run bytes) (append_assoc r.outcomes came later)
 
   -- A line that is in the grammar leads on.
-  pub reached_line : (later printed_later : Option (List ℕ)) (line : List ℕ) (next : Stands) (said : List Said) → TakesLine now later line (10 ∷ [])
-      → Goes (λ (s : Stage). step s number line) at next [] said → Appends printed_now printed_later (text_of said) → Reached first later written printed_later next (suc number)
+  pub reached_line : (later printed_later : Option (List ℕ)) (line : List ℕ) (next : Holds P) (said : List Said) → TakesLine now later line (10 ∷ [])
+      → Goes knows (λ (s : Stage). step s number line) at next said → Appends printed_now printed_later (text_of said) → Reached knows first later written printed_later next (suc number)
   reached_line later printed_later line next said t g a = record {
     read = r.read ++ (line ++ 10 ∷ []);
     outcomes = r.outcomes ++ g.outcomes;
     turns = g.turns r.turns;
-    said = r.said ++ g.more;
+    said = r.said ++ said;
     taken = Consumes-then first now later r.read (line ++ 10 ∷ []) r.taken t.taken;
-    told = rw (text_of-append r.said g.more) (Appends-then written printed_now printed_later (text_of r.said) (text_of g.more) r.told (subst (λ (s : List Said). Appends printed_now printed_later (text_of s)) g.says a));
+    told = rw (text_of-append r.said said) (Appends-then written printed_now printed_later (text_of r.said) (text_of said) r.told a);
     goes_on = λ more come.
         joined g.outcomes come ((r.read ++ (line ++ 10 ∷ [])) ++ more)
         ∙ ap (λ (bytes : List ℕ). run bytes (r.outcomes ++ (g.outcomes ++ come))) (append_assoc r.read (line ++ 10 ∷ []) more ∙ ap (λ (bytes : List ℕ). r.read ++ bytes) (append_assoc line (10 ∷ []) more))
         ∙ r.goes_on (line ++ 10 ∷ more) (g.outcomes ++ come)
         ∙ ap (λ (lines : List (List ℕ)). said_before r.said (run_from (stage_of at r.turns (g.outcomes ++ come)) number lines)) (lines_feed line more t.no_feed)
-        ∙ ap (said_before r.said) (run_step (stage_of at r.turns (g.outcomes ++ come)) (stage_of next (g.turns r.turns) come) number line (lines_of more) g.more (g.goes r.turns come))
-        ∙ said_twice r.said g.more (run_from (stage_of next (g.turns r.turns) come) (suc number) (lines_of more));
+        ∙ ap (said_before r.said) (run_step (stage_of at r.turns (g.outcomes ++ come)) (stage_of next (g.turns r.turns) come) number line (lines_of more) said (g.goes r.turns come))
+        ∙ said_twice r.said said (run_from (stage_of next (g.turns r.turns) come) (suc number) (lines_of more));
+    know = g.know r.turns r.know;
   }
 
   -- ---- what a reader holds
@@ -118,7 +140,7 @@ module _ (first now written printed_now : Option (List ℕ)) (at : Stands) (numb
   goes_behind bytes more later = ap (λ (b : List ℕ). run b (r.outcomes ++ later)) (append_assoc r.read bytes more) ∙ r.goes_on (bytes ++ more) later
 
   -- No line was left.
-  pub whole_none : (cursor : Cursor) (left : Option (List ℕ)) (line : List ℕ) → TakesLine now (to_come cursor left) line [] → IsAtEnd (to_come cursor left) → length line ≡ 0 → ReadWhole first left written printed_now at
+  pub whole_none : (cursor : Cursor) (left : Option (List ℕ)) (line : List ℕ) → TakesLine now (to_come cursor left) line [] → IsAtEnd (to_come cursor left) → length line ≡ 0 → ReadWhole knows first left written printed_now at
   whole_none cursor left line t end empty =
       let nil : line ≡ [] = nil_from_length line empty in
       record {
@@ -130,169 +152,210 @@ module _ (first now written printed_now : Option (List ℕ)) (at : Stands) (numb
         end = end_left cursor left end;
         told = r.told;
         runs = λ later. r.goes_on line later ∙ ap (λ (l : List ℕ). said_before r.said (run_from (stage_of at r.turns later) number (lines_of l))) nil ∙ ap (λ (s : List Said). said_before r.said (ends_at (stage_of at r.turns later) s None)) (shown_same at r.turns later);
+        know = r.know;
       }
 
   -- A last line that lacks its LF leads on.
-  pub whole_last : (printed_later : Option (List ℕ)) (cursor : Cursor) (left : Option (List ℕ)) (line : List ℕ) (next : Stands) (said : List Said) → TakesLine now (to_come cursor left) line [] → IsAtEnd (to_come cursor left)
-      → 0 < length line → Goes (λ (s : Stage). step s number line) at next [] said → Appends printed_now printed_later (text_of said) → ReadWhole first left written printed_later next
+  pub whole_last : (printed_later : Option (List ℕ)) (cursor : Cursor) (left : Option (List ℕ)) (line : List ℕ) (next : Holds P) (said : List Said) → TakesLine now (to_come cursor left) line [] → IsAtEnd (to_come cursor left)
+      → 0 < length line → Goes knows (λ (s : Stage). step s number line) at next said → Appends printed_now printed_later (text_of said) → ReadWhole knows first left written printed_later next
   whole_last printed_later cursor left [] next said t end some g a = absurd (omega arith)
   whole_last printed_later cursor left (b ∷ line) next said t end some g a = record {
     read = r.read ++ b ∷ line;
     outcomes = r.outcomes ++ g.outcomes;
     turns = g.turns r.turns;
-    said = r.said ++ g.more;
+    said = r.said ++ said;
     taken = taken_all cursor left (b ∷ line) t end;
     end = end_left cursor left end;
-    told = rw (text_of-append r.said g.more) (Appends-then written printed_now printed_later (text_of r.said) (text_of g.more) r.told (subst (λ (s : List Said). Appends printed_now printed_later (text_of s)) g.says a));
+    told = rw (text_of-append r.said said) (Appends-then written printed_now printed_later (text_of r.said) (text_of said) r.told a);
     runs = λ come.
         joined g.outcomes come (r.read ++ b ∷ line)
         ∙ r.goes_on (b ∷ line) (g.outcomes ++ come)
         ∙ ap (λ (lines : List (List ℕ)). said_before r.said (run_from (stage_of at r.turns (g.outcomes ++ come)) number lines)) (lines_last b line t.no_feed)
-        ∙ ap (said_before r.said) (run_step (stage_of at r.turns (g.outcomes ++ come)) (stage_of next (g.turns r.turns) come) number (b ∷ line) [] g.more (g.goes r.turns come))
-        ∙ said_twice r.said g.more (ends_at (stage_of next (g.turns r.turns) come) (closing (stage_of next (g.turns r.turns) come)) None)
-        ∙ ap (λ (s : List Said). said_before (r.said ++ g.more) (ends_at (stage_of next (g.turns r.turns) come) s None)) (shown_same next (g.turns r.turns) come);
+        ∙ ap (said_before r.said) (run_step (stage_of at r.turns (g.outcomes ++ come)) (stage_of next (g.turns r.turns) come) number (b ∷ line) [] said (g.goes r.turns come))
+        ∙ said_twice r.said said (ends_at (stage_of next (g.turns r.turns) come) (closing (stage_of next (g.turns r.turns) come)) None)
+        ∙ ap (λ (s : List Said). said_before (r.said ++ said) (ends_at (stage_of next (g.turns r.turns) come) s None)) (shown_same next (g.turns r.turns) come);
+    know = g.know r.turns r.know;
   }
 
   -- ---- how a script ends
 
-  settles : (left printed_later : Option (List ℕ)) (bytes : List ℕ) (fault : Fault) (journal : List Item) (came : List Outcome) (more_said : List Said) → Consumes first left (r.read ++ bytes)
-      → ((more : List ℕ) → MayFollow left more → (later : List Outcome) → IsRun more_said (Some fault) journal (run_from (stage_of at r.turns (came ++ later)) number (lines_of (bytes ++ more)))) → Appends printed_now printed_later (text_of more_said)
-      → Settles (Some fault) journal first left written printed_later
-  settles left printed_later bytes fault journal came more_said taken ends a = record {
+  settles : (left printed_later : Option (List ℕ)) (bytes : List ℕ) (fault : Fault) (journal : List Item) (turns : List Turn) (came : List Outcome) (more_said : List Said) → Consumes first left (r.read ++ bytes)
+      → ((more : List ℕ) → MayFollow left more → (later : List Outcome) → IsRun more_said (Some fault) journal turns (run_from (stage_of at r.turns (came ++ later)) number (lines_of (bytes ++ more)))) → Appends printed_now printed_later (text_of more_said)
+      → Told knows turns → Settles knows (Some fault) journal first left written printed_later
+  settles left printed_later bytes fault journal turns came more_said taken ends a led = record {
     read = r.read ++ bytes;
     outcomes = r.outcomes ++ came;
+    turns = turns;
     said = r.said ++ more_said;
     taken = taken;
     told = rw (text_of-append r.said more_said) (Appends-then written printed_now printed_later (text_of r.said) (text_of more_said) r.told a);
     runs = λ more may later.
-        run_behind r.said more_said (Some fault) journal (run_from (stage_of at r.turns (came ++ later)) number (lines_of (bytes ++ more))) _ (joined came later ((r.read ++ bytes) ++ more) ∙ goes_behind bytes more (came ++ later)) (ends more may later);
+        run_behind r.said more_said (Some fault) journal turns (run_from (stage_of at r.turns (came ++ later)) number (lines_of (bytes ++ more))) _ (joined came later ((r.read ++ bytes) ++ more) ∙ goes_behind bytes more (came ++ later)) (ends more may later);
+    led = led;
   }
 
   -- A line that ends with LF ends the script.
-  pub settles_feed : (printed_later : Option (List ℕ)) (cursor : Cursor) (left : Option (List ℕ)) (line : List ℕ) (fault : Fault) (next : Stands) (said : List Said) → TakesLine now (to_come cursor left) line (10 ∷ [])
-      → Ends (λ (s : Stage). step s number line) fault at next [] said → Appends printed_now printed_later (text_of said) → Settles (Some fault) (journal_of next) first left written printed_later
+  pub settles_feed : (printed_later : Option (List ℕ)) (cursor : Cursor) (left : Option (List ℕ)) (line : List ℕ) (fault : Fault) (next : Holds P) (said : List Said) → TakesLine now (to_come cursor left) line (10 ∷ [])
+      → Ends knows (λ (s : Stage). step s number line) fault at next said → Appends printed_now printed_later (text_of said) → Settles knows (Some fault) (journal_of next) first left written printed_later
   settles_feed printed_later cursor left line fault next said t e a =
-      settles left printed_later ((line ++ 10 ∷ []) ++ cursor.ahead) fault (journal_of next) e.outcomes e.more (taken_so cursor left (line ++ 10 ∷ []) t.taken)
+      settles left printed_later ((line ++ 10 ∷ []) ++ cursor.ahead) fault (journal_of next) (e.turns r.turns) e.outcomes said (taken_so cursor left (line ++ 10 ∷ []) t.taken)
       (λ more may later.
-      subst (λ (lines : List (List ℕ)). IsRun e.more (Some fault) (journal_of next) (run_from (stage_of at r.turns (e.outcomes ++ later)) number lines)) (sym (feed_first line cursor.ahead more t.no_feed))
-      (run_fault (stage_of at r.turns (e.outcomes ++ later)) number line (lines_of (cursor.ahead ++ more)) fault (journal_of next) e.more (e.ends r.turns later)))
-      (subst (λ (s : List Said). Appends printed_now printed_later (text_of s)) e.says a)
+      subst (λ (lines : List (List ℕ)). IsRun said (Some fault) (journal_of next) (e.turns r.turns) (run_from (stage_of at r.turns (e.outcomes ++ later)) number lines)) (sym (feed_first line cursor.ahead more t.no_feed))
+      (run_fault (stage_of at r.turns (e.outcomes ++ later)) number line (lines_of (cursor.ahead ++ more)) fault (journal_of next) said (e.turns r.turns) (e.ends r.turns later)))
+      a (e.told r.turns r.know)
 
   -- A last line that lacks its LF ends the script.
-  pub settles_last : (printed_later : Option (List ℕ)) (cursor : Cursor) (left : Option (List ℕ)) (line : List ℕ) (fault : Fault) (next : Stands) (said : List Said) → TakesLine now (to_come cursor left) line [] → IsAtEnd (to_come cursor left)
-      → 0 < length line → Ends (λ (s : Stage). step s number line) fault at next [] said → Appends printed_now printed_later (text_of said) → Settles (Some fault) (journal_of next) first left written printed_later
+  pub settles_last : (printed_later : Option (List ℕ)) (cursor : Cursor) (left : Option (List ℕ)) (line : List ℕ) (fault : Fault) (next : Holds P) (said : List Said) → TakesLine now (to_come cursor left) line [] → IsAtEnd (to_come cursor left)
+      → 0 < length line → Ends knows (λ (s : Stage). step s number line) fault at next said → Appends printed_now printed_later (text_of said) → Settles knows (Some fault) (journal_of next) first left written printed_later
   settles_last printed_later cursor left [] fault next said t end some e a = absurd (omega arith)
   settles_last printed_later cursor left (b ∷ line) fault next said t end some e a =
-      settles left printed_later (b ∷ line) fault (journal_of next) e.outcomes e.more (taken_all cursor left (b ∷ line) t end)
+      settles left printed_later (b ∷ line) fault (journal_of next) (e.turns r.turns) e.outcomes said (taken_all cursor left (b ∷ line) t end)
       (λ more may later.
-      subst (λ (lines : List (List ℕ)). IsRun e.more (Some fault) (journal_of next) (run_from (stage_of at r.turns (e.outcomes ++ later)) number lines)) (sym (last_first b line more t.no_feed (may (end_left cursor left end))))
-      (run_fault (stage_of at r.turns (e.outcomes ++ later)) number (b ∷ line) [] fault (journal_of next) e.more (e.ends r.turns later)))
-      (subst (λ (s : List Said). Appends printed_now printed_later (text_of s)) e.says a)
+      subst (λ (lines : List (List ℕ)). IsRun said (Some fault) (journal_of next) (e.turns r.turns) (run_from (stage_of at r.turns (e.outcomes ++ later)) number lines)) (sym (last_first b line more t.no_feed (may (end_left cursor left end))))
+      (run_fault (stage_of at r.turns (e.outcomes ++ later)) number (b ∷ line) [] fault (journal_of next) said (e.turns r.turns) (e.ends r.turns later)))
+      a (e.told r.turns r.know)
 
   -- A line is too long.
-  pub settles_long : (cursor : Cursor) (left : Option (List ℕ)) (line : List ℕ) → number ≤ line_count_limit → TakesLine now (to_come cursor left) line [] → line_limit < length line → Settles (Some (Line number)) (journal_of at) first left written printed_now
+  pub settles_long : (cursor : Cursor) (left : Option (List ℕ)) (line : List ℕ) → number ≤ line_count_limit → TakesLine now (to_come cursor left) line [] → line_limit < length line → Settles knows (Some (Line number)) (journal_of at) first left written printed_now
   settles_long cursor left [] few t long = absurd (omega arith)
   settles_long cursor left (b ∷ line) few t long =
-      settles left printed_now ((b ∷ line) ++ cursor.ahead) (Line number) (journal_of at) [] [] (taken_so cursor left (b ∷ line) (without_separator now (to_come cursor left) (b ∷ line) t))
+      settles left printed_now ((b ∷ line) ++ cursor.ahead) (Line number) (journal_of at) (turns_of at r.turns) [] [] (taken_so cursor left (b ∷ line) (without_separator now (to_come cursor left) (b ∷ line) t))
       (λ more may later.
       let w = line_begins b line (cursor.ahead ++ more) t.no_feed in
       let stage = stage_of at r.turns later in
       let same : lines_of (((b ∷ line) ++ cursor.ahead) ++ more) ≡ ((b ∷ line) ++ w.rest) ∷ w.others = ap lines_of (append_assoc (b ∷ line) cursor.ahead more) ∙ w.lines in
       let ends = stops_so stage (Line number) _ (step_long stage number ((b ∷ line) ++ w.rest) few (omega (arith, long, length-append (b ∷ line) w.rest))) in
-      subst (λ (lines : List (List ℕ)). IsRun [] (Some (Line number)) (journal_of at) (run_from stage number lines)) (sym same)
-      (subst (λ (journal : List Item). IsRun [] (Some (Line number)) journal (run_from stage number (((b ∷ line) ++ w.rest) ∷ w.others))) (journal_same at r.turns later)
-      (run_fault stage number ((b ∷ line) ++ w.rest) w.others (Line number) (journal_at stage) [] ends)))
-      (Appends-nothing printed_now)
+      let kept = run_fault stage number ((b ∷ line) ++ w.rest) w.others (Line number) (journal_at stage) [] (turns_at stage) ends in
+      subst (λ (lines : List (List ℕ)). IsRun [] (Some (Line number)) (journal_of at) (turns_of at r.turns) (run_from stage number lines)) (sym same)
+      (record { said_is = kept.said_is; fault_is = kept.fault_is; journal_is = kept.journal_is ∙ journal_same at r.turns later; turns_are = kept.turns_are ∙ turns_same at r.turns later }))
+      (Appends-nothing printed_now) (told_at knows at r.turns r.know)
 
   -- There is a line past the last that a script may have.
-  pub settles_past : (cursor : Cursor) (left : Option (List ℕ)) → Keeps now (to_come cursor left) → 0 < length cursor.ahead → line_count_limit < number → Settles (Some Large) (journal_of at) first left written printed_now
+  pub settles_past : (cursor : Cursor) (left : Option (List ℕ)) → Keeps now (to_come cursor left) → 0 < length cursor.ahead → line_count_limit < number → Settles knows (Some Large) (journal_of at) first left written printed_now
   settles_past cursor left kept some past =
-      settles left printed_now cursor.ahead Large (journal_of at) [] [] (taken_so cursor left [] (Consumes-none now (to_come cursor left) kept))
+      settles left printed_now cursor.ahead Large (journal_of at) (turns_of at r.turns) [] [] (taken_so cursor left [] (Consumes-none now (to_come cursor left) kept))
       (λ more may later.
       let w = some_line cursor.ahead more some in
       let stage = stage_of at r.turns later in
       let ends = stops_so stage Large _ (step_past stage number w.0 past) in
-      subst (λ (lines : List (List ℕ)). IsRun [] (Some Large) (journal_of at) (run_from stage number lines)) (sym w.2)
-      (subst (λ (journal : List Item). IsRun [] (Some Large) journal (run_from stage number (w.0 ∷ w.1))) (journal_same at r.turns later)
-      (run_fault stage number w.0 w.1 Large (journal_at stage) [] ends)))
-      (Appends-nothing printed_now)
+      let kept = run_fault stage number w.0 w.1 Large (journal_at stage) [] (turns_at stage) ends in
+      subst (λ (lines : List (List ℕ)). IsRun [] (Some Large) (journal_of at) (turns_of at r.turns) (run_from stage number lines)) (sym w.2)
+      (record { said_is = kept.said_is; fault_is = kept.fault_is; journal_is = kept.journal_is ∙ journal_same at r.turns later; turns_are = kept.turns_are ∙ turns_same at r.turns later }))
+      (Appends-nothing printed_now) (told_at knows at r.turns r.know)
 
   -- Nothing is left behind the last line that a script may have.
-  pub whole_past : (cursor : Cursor) (left : Option (List ℕ)) → Keeps now (to_come cursor left) → IsAtEnd (to_come cursor left) → ReadWhole first left written printed_now at
+  pub whole_past : (cursor : Cursor) (left : Option (List ℕ)) → Keeps now (to_come cursor left) → IsAtEnd (to_come cursor left) → ReadWhole knows first left written printed_now at
   whole_past cursor left kept end = whole_none cursor left [] (record { taken = Consumes-none now (to_come cursor left) kept; no_feed = tt }) end refl
 
   -- ---- a front
 
-  short : (follows : List ℕ → Type 0) (left printed_later : Option (List ℕ)) (bytes : List ℕ) (came : List Outcome) → Consumes first left (r.read ++ bytes)
+  short : (follows : List ℕ → Type 0) (left printed_later : Option (List ℕ)) (bytes : List ℕ) (came : List Outcome) (turns : List Turn) → Consumes first left (r.read ++ bytes)
       → ((more : List ℕ) → follows more → (later : List Outcome) → AppendsFront printed_now printed_later (text_of (run_from (stage_of at r.turns (came ++ later)) number (lines_of (bytes ++ more))).said))
-      → StopsShort follows first left written printed_later
-  short follows left printed_later bytes came taken front = record {
+      → ((more : List ℕ) → follows more → (later : List Outcome) → BeginWith (run_from (stage_of at r.turns (came ++ later)) number (lines_of (bytes ++ more))).turns turns)
+      → Told knows turns → StopsShort knows follows first left written printed_later
+  short follows left printed_later bytes came turns taken front begins led = record {
     read = r.read ++ bytes;
     outcomes = r.outcomes ++ came;
+    turns = turns;
     taken = taken;
     front = λ more may later.
         let said = (run_from (stage_of at r.turns (came ++ later)) number (lines_of (bytes ++ more))).said in
         let text : text_of (run ((r.read ++ bytes) ++ more) ((r.outcomes ++ came) ++ later)).said ≡ text_of r.said ++ text_of said =
         ap (λ (x : Run). text_of x.said) (joined came later ((r.read ++ bytes) ++ more) ∙ goes_behind bytes more (came ++ later)) ∙ text_of-append r.said said in
         rw text (AppendsFront-then written printed_now printed_later (text_of r.said) (text_of said) r.told (front more may later));
+    begins = λ more may later.
+        subst (λ (x : Run). BeginWith x.turns turns) (sym (joined came later ((r.read ++ bytes) ++ more) ∙ goes_behind bytes more (came ++ later))) (begins more may later);
+    led = led;
   }
 
+  -- what was known here is where the run from here begins
+  begins_here : (later : List Outcome) (lines : List (List ℕ)) → BeginWith (run_from (stage_of at r.turns later) number lines).turns (turns_of at r.turns)
+  begins_here later lines = subst (BeginWith (run_from (stage_of at r.turns later) number lines).turns) (turns_same at r.turns later) (run_grows (stage_of at r.turns later) number lines)
+
   -- Nothing more was printed.
-  pub short_reading : (follows : List ℕ → Type 0) (cursor : Cursor) (left : Option (List ℕ)) (line : List ℕ) → TakesLine now (to_come cursor left) line [] → StopsShort follows first left written printed_now
+  pub short_reading : (follows : List ℕ → Type 0) (cursor : Cursor) (left : Option (List ℕ)) (line : List ℕ) → TakesLine now (to_come cursor left) line [] → StopsShort knows follows first left written printed_now
   short_reading follows cursor left line t =
-      short follows left printed_now (line ++ cursor.ahead) [] (taken_so cursor left line (without_separator now (to_come cursor left) line t)) (λ more may later. AppendsFront-nothing printed_now _)
+      short follows left printed_now (line ++ cursor.ahead) [] (turns_of at r.turns) (taken_so cursor left line (without_separator now (to_come cursor left) line t)) (λ more may later. AppendsFront-nothing printed_now _)
+      (λ more may later. begins_here later _) (told_at knows at r.turns r.know)
 
-  pub short_past : (cursor : Cursor) (left : Option (List ℕ)) → Keeps now (to_come cursor left) → StopsShort Anything first left written printed_now
+  pub short_past : (cursor : Cursor) (left : Option (List ℕ)) → Keeps now (to_come cursor left) → StopsShort knows Anything first left written printed_now
   short_past cursor left kept =
-      short Anything left printed_now cursor.ahead [] (taken_so cursor left [] (Consumes-none now (to_come cursor left) kept)) (λ more may later. AppendsFront-nothing printed_now _)
+      short Anything left printed_now cursor.ahead [] (turns_of at r.turns) (taken_so cursor left [] (Consumes-none now (to_come cursor left) kept)) (λ more may later. AppendsFront-nothing printed_now _)
+      (λ more may later. begins_here later _) (told_at knows at r.turns r.know)
 
-  -- A line that ends with LF printed a front of what it says.
-  pub short_feed : (follows : List ℕ → Type 0) (printed_later : Option (List ℕ)) (cursor : Cursor) (left : Option (List ℕ)) (line : List ℕ) (came : List Outcome) → TakesLine now (to_come cursor left) line (10 ∷ [])
-      → ((earlier : List Turn) (later : List Outcome) → AppendsFront printed_now printed_later (text_of (step (stage_of at earlier (came ++ later)) number line).said)) → StopsShort follows first left written printed_later
-  short_feed follows printed_later cursor left line came t front =
-      short follows left printed_later ((line ++ 10 ∷ []) ++ cursor.ahead) came (taken_so cursor left (line ++ 10 ∷ []) t.taken)
+  -- A line printed a front of what it says.
+  short_line : (bytes : List ℕ) (came later : List Outcome) (turns : List Turn) (lines : List (List ℕ)) → BeginWith (turns_at (step (stage_of at r.turns (came ++ later)) number bytes).stage) turns
+      → BeginWith (run_from (stage_of at r.turns (came ++ later)) number (bytes ∷ lines)).turns turns
+  short_line bytes came later turns lines b = step_begins (stage_of at r.turns (came ++ later)) number bytes lines turns b
+
+  pub short_feed : (follows : List ℕ → Type 0) (printed_later : Option (List ℕ)) (cursor : Cursor) (left : Option (List ℕ)) (line : List ℕ) (x : RanShort knows (λ (s : Stage). step s number line) at printed_now printed_later)
+      → TakesLine now (to_come cursor left) line (10 ∷ []) → StopsShort knows follows first left written printed_later
+  short_feed follows printed_later cursor left line x t =
+      short follows left printed_later ((line ++ 10 ∷ []) ++ cursor.ahead) x.outcomes (x.turns r.turns) (taken_so cursor left (line ++ 10 ∷ []) t.taken)
       (λ more may later.
-      subst (λ (lines : List (List ℕ)). AppendsFront printed_now printed_later (text_of (run_from (stage_of at r.turns (came ++ later)) number lines).said)) (sym (feed_first line cursor.ahead more t.no_feed))
-      (step_front printed_now printed_later (stage_of at r.turns (came ++ later)) number line (lines_of (cursor.ahead ++ more)) (front r.turns later)))
+      subst (λ (lines : List (List ℕ)). AppendsFront printed_now printed_later (text_of (run_from (stage_of at r.turns (x.outcomes ++ later)) number lines).said)) (sym (feed_first line cursor.ahead more t.no_feed))
+      (step_front printed_now printed_later (stage_of at r.turns (x.outcomes ++ later)) number line (lines_of (cursor.ahead ++ more)) (x.front r.turns later)))
+      (λ more may later.
+      subst (λ (lines : List (List ℕ)). BeginWith (run_from (stage_of at r.turns (x.outcomes ++ later)) number lines).turns (x.turns r.turns)) (sym (feed_first line cursor.ahead more t.no_feed))
+      (short_line line x.outcomes later (x.turns r.turns) (lines_of (cursor.ahead ++ more)) (x.begins r.turns later)))
+      (x.led r.turns r.know)
 
   -- A last line that lacks its LF printed a front of what it says.
-  pub short_last : (printed_later : Option (List ℕ)) (cursor : Cursor) (left : Option (List ℕ)) (line : List ℕ) (came : List Outcome) → TakesLine now (to_come cursor left) line [] → IsAtEnd (to_come cursor left) → 0 < length line
-      → ((earlier : List Turn) (later : List Outcome) → AppendsFront printed_now printed_later (text_of (step (stage_of at earlier (came ++ later)) number line).said)) → StopsShort (MayFollow left) first left written printed_later
-  short_last printed_later cursor left [] came t end some front = absurd (omega arith)
-  short_last printed_later cursor left (b ∷ line) came t end some front =
-      short (MayFollow left) left printed_later (b ∷ line) came (taken_all cursor left (b ∷ line) t end)
+  pub short_last : (printed_later : Option (List ℕ)) (cursor : Cursor) (left : Option (List ℕ)) (line : List ℕ) (x : RanShort knows (λ (s : Stage). step s number line) at printed_now printed_later)
+      → TakesLine now (to_come cursor left) line [] → IsAtEnd (to_come cursor left) → 0 < length line → StopsShort knows (MayFollow left) first left written printed_later
+  short_last printed_later cursor left [] x t end some = absurd (omega arith)
+  short_last printed_later cursor left (b ∷ line) x t end some =
+      short (MayFollow left) left printed_later (b ∷ line) x.outcomes (x.turns r.turns) (taken_all cursor left (b ∷ line) t end)
       (λ more may later.
-      subst (λ (lines : List (List ℕ)). AppendsFront printed_now printed_later (text_of (run_from (stage_of at r.turns (came ++ later)) number lines).said)) (sym (last_first b line more t.no_feed (may (end_left cursor left end))))
-      (step_front printed_now printed_later (stage_of at r.turns (came ++ later)) number (b ∷ line) [] (front r.turns later)))
+      subst (λ (lines : List (List ℕ)). AppendsFront printed_now printed_later (text_of (run_from (stage_of at r.turns (x.outcomes ++ later)) number lines).said)) (sym (last_first b line more t.no_feed (may (end_left cursor left end))))
+      (step_front printed_now printed_later (stage_of at r.turns (x.outcomes ++ later)) number (b ∷ line) [] (x.front r.turns later)))
+      (λ more may later.
+      subst (λ (lines : List (List ℕ)). BeginWith (run_from (stage_of at r.turns (x.outcomes ++ later)) number lines).turns (x.turns r.turns)) (sym (last_first b line more t.no_feed (may (end_left cursor left end))))
+      (short_line (b ∷ line) x.outcomes later (x.turns r.turns) [] (x.begins r.turns later)))
+      (x.led r.turns r.know)
 
 -- ---- the end of a script
 
-module _ (first now written printed_now later : Option (List ℕ)) (at : Stands) (r : ReadWhole first now written printed_now at) where
+module _ {P : Type 0} (knows : Knowing P) (first now written printed_now later : Option (List ℕ)) (at : Holds P) (r : ReadWhole knows first now written printed_now at) where
   nothing_more : (more : List ℕ) (come : List Outcome) → more ≡ [] → run (r.read ++ more) (r.outcomes ++ come) ≡ said_before r.said (ends_at (stage_of at r.turns come) (closing_of at) None)
   nothing_more more come none = ap (λ (m : List ℕ). run (r.read ++ m) (r.outcomes ++ come)) none ∙ ap (λ (b : List ℕ). run b (r.outcomes ++ come)) (append-nil r.read) ∙ r.runs come
 
   -- All were shown at the end.
-  pub completes : Appends printed_now later (text_of (closing_of at)) → Settles None (journal_of at) first now written later
+  pub completes : Appends printed_now later (text_of (closing_of at)) → Settles knows None (journal_of at) first now written later
   completes a = record {
     read = r.read;
     outcomes = r.outcomes;
+    turns = turns_of at r.turns;
     said = r.said ++ closing_of at;
     taken = r.taken;
     told = rw (text_of-append r.said (closing_of at)) (Appends-then written printed_now later (text_of r.said) (text_of (closing_of at)) r.told a);
     runs = λ more may come.
-        subst (IsRun (r.said ++ closing_of at) None (journal_of at)) (sym (nothing_more more come (may r.end))) (record { said_is = refl; fault_is = refl; journal_is = journal_same at r.turns come });
+        subst (IsRun (r.said ++ closing_of at) None (journal_of at) (turns_of at r.turns)) (sym (nothing_more more come (may r.end)))
+        (record { said_is = refl; fault_is = refl; journal_is = journal_same at r.turns come; turns_are = turns_same at r.turns come });
+    led = told_at knows at r.turns r.know;
   }
 
   -- Showing them at the end stopped short.
-  pub short_closing : AppendsFront printed_now later (text_of (closing_of at)) → StopsShort (MayFollow now) first now written later
+  pub short_closing : AppendsFront printed_now later (text_of (closing_of at)) → StopsShort knows (MayFollow now) first now written later
   short_closing a = record {
     read = r.read;
     outcomes = r.outcomes;
+    turns = turns_of at r.turns;
     taken = r.taken;
     front = λ more may come.
         rw (ap (λ (x : Run). text_of x.said) (nothing_more more come (may r.end)) ∙ text_of-append r.said (closing_of at)) (AppendsFront-then written printed_now later (text_of r.said) (text_of (closing_of at)) r.told a);
+    begins = λ more may come. ([], ap (λ (x : Run). x.turns) (nothing_more more come (may r.end)) ∙ turns_same at r.turns come ∙ sym (append-nil (turns_of at r.turns)));
+    led = told_at knows at r.turns r.know;
   }
 
 -- A script that was not begun.
-pub short_start : (left written : Option (List ℕ)) → StopsShort (MayFollow left) left left written written
-short_start left written = record { read = []; outcomes = []; taken = Consumes-nothing left; front = λ more may later. AppendsFront-nothing written _ }
+pub short_start : {P : Type 0} (knows : Knowing P) (left written : Option (List ℕ)) → StopsShort knows (MayFollow left) left left written written
+short_start knows left written = record {
+  read = [];
+  outcomes = [];
+  turns = [];
+  taken = Consumes-nothing left;
+  front = λ more may later. AppendsFront-nothing written _;
+  begins = λ more may later. (_, refl);
+  led = none_told knows;
+}

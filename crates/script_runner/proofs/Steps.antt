@@ -1,9 +1,7 @@
 -- What a line does, from what the cluster did.
 use Rattle.std.proofs.Common.{◌≡◌, ℕ, ◌+◌, ◌≤◌, zero, suc, Bool, cond, List, [], ◌∷◌, ◌++◌, length, map, Option, Some, None, Result, Ok, Err, refl, sym, ap, subst, ◌∙◌}
 use Rattle.std.specs.Option.{option_map}
-use Rattle.std.proofs.lemmas.Bool.{le-leb}
 use Rattle.std.proofs.lemmas.List.{append-nil, length-map}
-use Rattle.script_lines.specs.ScriptSize.{line_count_limit}
 use Rattle.script_lines.specs.Grammar.{line_of}
 use Rattle.script_lines.specs.declared.events.Event.{Event}
 use Rattle.script_lines.specs.declared.faults.EventFault.{EventFault}
@@ -16,88 +14,94 @@ use Rattle.script_nodes.specs.Outcomes.{Outcome, Item, Turn}
 use Rattle.script_nodes.specs.World.{Place, World, Went, Halt, NotThere, TooMany, takes, opened, all_start, empty_places, shown}
 use Rattle.script_nodes.specs.Holding.{Held, world_of, Leads, Halts, HaltsAt, Does}
 use Rattle.script_nodes.specs.Clusters.{empty_held, held, world_now}
-use Rattle.script_nodes.specs.Run.{Stage, Within, Next, Line, Large, line_step, said_step, step, next_by, fault_by, stays, stops, shows, journal_at}
+use Rattle.script_nodes.specs.Run.{Stage, Within, Next, Line, Large, line_step, next_by, fault_by, stays, stops, shows, journal_at, turns_at}
 use Rattle.script_nodes.specs.declared.cluster.Cluster.{Cluster}
 use Rattle.script_runner.specs.declared.stage.Stage.{Stage as CodeStage}
 use Rattle.script_runner.specs.declared.stage.Stage.TheVariants as stage
-use Rattle.script_runner.specs.Stages.{Stands, AtStart, AtNodes, stands, stage_of, journal_of, Goes, Ends, EndsAt, DoesLine}
+use Rattle.script_lines.proofs.SpelledLines.{line_spelled}
+use Rattle.script_nodes.specs.Knowing.{Knowing, KnowsAt, AllKnow, Told, node_at}
+use Rattle.script_runner.specs.Stages.{Stands, AtStart, AtNodes, Known, stands, stage_of, journal_of, Goes, Ends, EndsAt, DoesLine, MayOpen}
 
--- the same of another way to say it
-pub does_as : {T : Type 0} (number : ℕ) (go way : Stage → Next) (result : Result T EventFault) (old new : Stands) (before now : List Said) → ((s : Stage) → go s ≡ way s) → DoesLine number way result old new before now
-    → DoesLine number go result old new before now
-does_as number go way (Ok x) old new before now same d = record {
-  outcomes = d.outcomes;
-  turns = d.turns;
-  more = d.more;
-  goes = λ earlier later. same _ ∙ d.goes earlier later;
-  says = d.says;
-}
-does_as number go way (Err faults.NotThere) old new before now same d = record {
-  outcomes = d.outcomes;
-  more = d.more;
-  ends = λ earlier later. subst (EndsAt (Line number) (journal_of new) d.more) (sym (same _)) (d.ends earlier later);
-  says = d.says;
-}
-does_as number go way (Err faults.TooMany) old new before now same d = record {
-  outcomes = d.outcomes;
-  more = d.more;
-  ends = λ earlier later. subst (EndsAt Large (journal_of new) d.more) (sym (same _)) (d.ends earlier later);
-  says = d.says;
-}
-does_as number go way (Err faults.NoMemory) old new before now same d = tt
-
-journal_same : (at : Stands) (turns : List Turn) (later : List Outcome) → journal_at (stage_of at turns later) ≡ journal_of at
+journal_same : {P : Type 0} (at : Stands P) (turns : List Turn) (later : List Outcome) → journal_at (stage_of at turns later) ≡ journal_of at
 journal_same AtStart turns later = refl
 journal_same (AtNodes h) turns later = refl
 
+-- the turns of a run that is here, behind these
+abbrev pub turns_of : {P : Type 0} → Stands P → List Turn → List Turn
+turns_of at earlier = turns_at (stage_of at earlier [])
+
+turns_same : {P : Type 0} (at : Stands P) (earlier : List Turn) (later : List Outcome) → turns_at (stage_of at earlier later) ≡ turns_of at earlier
+turns_same AtStart earlier later = refl
+turns_same (AtNodes h) earlier later = refl
+
+no_turns : {P : Type 0} (knows : Knowing P) (voters node : ℕ) → KnowsAt knows voters node [] (node_at [] node)
+no_turns knows voters zero = refl
+no_turns knows voters (suc n) = refl
+
+pub no_places : {P : Type 0} (knows : Knowing P) (voters : ℕ) → AllKnow knows voters [] []
+no_places knows voters = (no_turns knows voters, tt)
+
+-- places that are known are there; before the mode line none need be
+pub told_at : {P : Type 0} (knows : Knowing P) (at : Stands P) (earlier : List Turn) → Known knows at earlier → Told knows (turns_of at earlier)
+told_at knows AtStart earlier known = record { voters = 1; places = []; know = no_places knows 1 }
+told_at knows (AtNodes h) earlier known = record { voters = h.voters; places = h.nodes; know = known }
+
 -- nothing happens
-pub stays_so : (go : Stage → Next) (at : Stands) (said : List Said) → ((earlier : List Turn) (later : List Outcome) → go (stage_of at earlier later) ≡ stays (stage_of at earlier later) []) → Goes go at at said said
-stays_so go at said same = record { outcomes = []; turns = λ earlier. earlier; more = []; goes = same; says = sym (append-nil said) }
+pub stays_so : {P : Type 0} (knows : Knowing P) (go : Stage → Next) (at : Stands P) (said : List Said) → ((earlier : List Turn) (later : List Outcome) → go (stage_of at earlier later) ≡ stays (stage_of at earlier later) []) → Goes knows go at at said said
+stays_so knows go at said same = record { outcomes = []; turns = λ earlier. earlier; more = []; goes = same; says = sym (append-nil said); know = λ earlier k. k }
 
 -- one thing is shown
-pub shows_so : (go : Stage → Next) (at : Stands) (said new : List Said) (say : Said) → ((earlier : List Turn) (later : List Outcome) → go (stage_of at earlier later) ≡ stays (stage_of at earlier later) (say ∷ [])) → new ≡ said ++ say ∷ [] → Goes go at at said new
-shows_so go at said new say same told = record { outcomes = []; turns = λ earlier. earlier; more = say ∷ []; goes = same; says = told }
+pub shows_so : {P : Type 0} (knows : Knowing P) (go : Stage → Next) (at : Stands P) (said new : List Said) (say : Said) → ((earlier : List Turn) (later : List Outcome) → go (stage_of at earlier later) ≡ stays (stage_of at earlier later) (say ∷ [])) → new ≡ said ++ say ∷ [] → Goes knows go at at said new
+shows_so knows go at said new say same told = record { outcomes = []; turns = λ earlier. earlier; more = say ∷ []; goes = same; says = told; know = λ earlier k. k }
 
 -- the line isn't in the grammar there
-pub stops_so : (number : ℕ) (go : Stage → Next) (at : Stands) (said : List Said) → ((earlier : List Turn) (later : List Outcome) → go (stage_of at earlier later) ≡ stops (stage_of at earlier later) (Line number)) → Ends go (Line number) at at said said
-stops_so number go at said same = record {
+pub stops_so : {P : Type 0} (knows : Knowing P) (number : ℕ) (go : Stage → Next) (at : Stands P) (said : List Said) → ((earlier : List Turn) (later : List Outcome) → go (stage_of at earlier later) ≡ stops (stage_of at earlier later) (Line number)) → Ends knows go (Line number) at at said said
+stops_so knows number go at said same = record {
   outcomes = [];
+  turns = turns_of at;
   more = [];
-  ends = λ earlier later. subst (EndsAt (Line number) (journal_of at) []) (sym (same earlier later)) (record { fault_is = refl; said_is = refl; journal_is = journal_same at earlier later });
+  ends = λ earlier later.
+      subst (EndsAt (Line number) (journal_of at) [] (turns_of at earlier)) (sym (same earlier later))
+      (record { fault_is = refl; said_is = refl; journal_is = journal_same at earlier later; turns_are = turns_same at earlier later });
   says = sym (append-nil said);
+  told = told_at knows at;
 }
 
 -- ---- events
 
-halts_so : (number : ℕ) (why : Halt) (journal : List Item) (said : List Said) (went : Went) → HaltsAt why journal said went → EndsAt (fault_by number why) journal said (next_by number went)
-halts_so number why journal said went at = record { fault_is = ap (option_map (fault_by number)) at.halt; said_is = at.said_is; journal_is = at.journal_is }
+halts_so : (number : ℕ) (why : Halt) (journal : List Item) (said : List Said) (turns : List Turn) (went : Went) → HaltsAt why journal said turns went → EndsAt (fault_by number why) journal said turns (next_by number went)
+halts_so number why journal said turns went at =
+    record { fault_is = ap (option_map (fault_by number)) at.halt; said_is = at.said_is; journal_is = at.journal_is; turns_are = at.turns_are }
 
-event_goes : (number : ℕ) (e : Event) (aim : Aim) (h new : Held) (before now : List Said) → Leads (λ (w : World). takes w e aim) h new before now → Goes (λ (s : Stage). line_step s number (says.Event e aim)) (AtNodes h) (AtNodes new) before now
+event_goes : {P : Type 0} (knows : Knowing P) (number : ℕ) (e : Event) (aim : Aim) (h new : Held P) (before now : List Said) → Leads knows (λ (w : World). takes w e aim) h new before now → Goes knows (λ (s : Stage). line_step s number (says.Event e aim)) (AtNodes h) (AtNodes new) before now
 unfolding line_step
-event_goes number e aim h new before now l = record {
+event_goes knows number e aim h new before now l = record {
   outcomes = l.outcomes;
   turns = λ earlier. earlier ++ l.turns;
   more = l.more;
   goes = λ earlier later. ap (next_by number) (l.goes earlier later);
   says = l.says;
+  know = l.know;
 }
 
-event_ends : (number : ℕ) (why : Halt) (e : Event) (aim : Aim) (h new : Held) (before now : List Said) → Halts (λ (w : World). takes w e aim) why h new before now
-    → Ends (λ (s : Stage). line_step s number (says.Event e aim)) (fault_by number why) (AtNodes h) (AtNodes new) before now
+event_ends : {P : Type 0} (knows : Knowing P) (number : ℕ) (why : Halt) (e : Event) (aim : Aim) (h new : Held P) (before now : List Said) → Halts knows (λ (w : World). takes w e aim) why h new before now
+    → Ends knows (λ (s : Stage). line_step s number (says.Event e aim)) (fault_by number why) (AtNodes h) (AtNodes new) before now
 unfolding line_step
-event_ends number why e aim h new before now l = record {
+event_ends knows number why e aim h new before now l = record {
   outcomes = l.outcomes;
+  turns = λ earlier. earlier ++ l.turns;
   more = l.more;
-  ends = λ earlier later. halts_so number why new.journal l.more (takes (world_of h earlier (l.outcomes ++ later)) e aim) (l.halts earlier later);
+  ends = λ earlier later. halts_so number why new.journal l.more (earlier ++ l.turns) (takes (world_of h earlier (l.outcomes ++ later)) e aim) (l.halts earlier later);
   says = l.says;
+  told = λ earlier k. record { voters = new.voters; places = l.nodes; know = l.know earlier k };
 }
 
-pub event_does : {T : Type 0} (number : ℕ) (e : Event) (aim : Aim) (h new : Held) (result : Result T EventFault) (before now : List Said) → Does (λ (w : World). takes w e aim) result h new before now
-    → DoesLine number (λ (s : Stage). line_step s number (says.Event e aim)) result (AtNodes h) (AtNodes new) before now
-event_does number e aim h new (Ok x) before now d = event_goes number e aim h new before now d
-event_does number e aim h new (Err faults.NotThere) before now d = event_ends number NotThere e aim h new before now d
-event_does number e aim h new (Err faults.TooMany) before now d = event_ends number TooMany e aim h new before now d
-event_does number e aim h new (Err faults.NoMemory) before now d = tt
+pub event_does : {P T : Type 0} (knows : Knowing P) (number : ℕ) (e : Event) (aim : Aim) (h new : Held P) (result : Result T EventFault) (before now : List Said) → Does knows (λ (w : World). takes w e aim) result h new before now
+    → DoesLine knows number (λ (s : Stage). line_step s number (says.Event e aim)) result (AtNodes h) (AtNodes new) before now
+event_does knows number e aim h new (Ok x) before now d = event_goes knows number e aim h new before now d
+event_does knows number e aim h new (Err faults.NotThere) before now d = event_ends knows number NotThere e aim h new before now d
+event_does knows number e aim h new (Err faults.TooMany) before now d = event_ends knows number TooMany e aim h new before now d
+event_does knows number e aim h new (Err faults.NoMemory) before now d = tt
 
 -- ---- the mode line
 
@@ -105,118 +109,116 @@ so_many : (n : ℕ) → length (empty_places n) ≡ n
 so_many zero = refl
 so_many (suc n) = ap suc (so_many n)
 
-nodes_go : (number voters spare : ℕ) (new : Held) (before now : List Said) → Leads (all_start (voters + spare) 1) (empty_held voters spare) new before now → Goes (λ (s : Stage). line_step s number (says.Nodes voters spare)) AtStart (AtNodes new) before now
+nodes_go : {P : Type 0} (knows : Knowing P) (number voters spare : ℕ) (nodes : List P) (new : Held P) (before now : List Said) → AllKnow knows voters nodes [] → Leads knows (all_start (voters + spare) 1) (empty_held voters spare nodes) new before now → Goes knows (λ (s : Stage). line_step s number (says.Nodes voters spare)) AtStart (AtNodes new) before now
 unfolding line_step opened
-nodes_go number voters spare new before now l = record {
+nodes_go knows number voters spare nodes new before now new_ones l = record {
   outcomes = l.outcomes;
   turns = λ earlier. l.turns;
   more = l.more;
   goes = λ earlier later. ap (next_by number) (l.goes [] later);
   says = l.says;
+  know = λ earlier k. l.know [] new_ones;
 }
 
-nodes_end : (number : ℕ) (why : Halt) (voters spare : ℕ) (new : Held) (before now : List Said) → Halts (all_start (voters + spare) 1) why (empty_held voters spare) new before now
-    → Ends (λ (s : Stage). line_step s number (says.Nodes voters spare)) (fault_by number why) AtStart (AtNodes new) before now
+nodes_end : {P : Type 0} (knows : Knowing P) (number : ℕ) (why : Halt) (voters spare : ℕ) (nodes : List P) (new : Held P) (before now : List Said) → AllKnow knows voters nodes [] → Halts knows (all_start (voters + spare) 1) why (empty_held voters spare nodes) new before now
+    → Ends knows (λ (s : Stage). line_step s number (says.Nodes voters spare)) (fault_by number why) AtStart (AtNodes new) before now
 unfolding line_step opened
-nodes_end number why voters spare new before now l = record {
+nodes_end knows number why voters spare nodes new before now new_ones l = record {
   outcomes = l.outcomes;
+  turns = λ earlier. l.turns;
   more = l.more;
-  ends = λ earlier later. halts_so number why new.journal l.more (all_start (voters + spare) 1 (world_of (empty_held voters spare) [] (l.outcomes ++ later))) (l.halts [] later);
+  ends = λ earlier later. halts_so number why new.journal l.more l.turns (all_start (voters + spare) 1 (world_of (empty_held voters spare nodes) [] (l.outcomes ++ later))) (l.halts [] later);
   says = l.says;
+  told = λ earlier k. record { voters = new.voters; places = l.nodes; know = l.know [] new_ones };
 }
 
-nodes_do : {T : Type 0} (number voters spare : ℕ) (new : Held) (result : Result T EventFault) (before now : List Said) → Does (all_start (voters + spare) 1) result (empty_held voters spare) new before now
-    → DoesLine number (λ (s : Stage). line_step s number (says.Nodes voters spare)) result AtStart (AtNodes new) before now
-nodes_do number voters spare new (Ok x) before now d = nodes_go number voters spare new before now d
-nodes_do number voters spare new (Err faults.NotThere) before now d = nodes_end number NotThere voters spare new before now d
-nodes_do number voters spare new (Err faults.TooMany) before now d = nodes_end number TooMany voters spare new before now d
-nodes_do number voters spare new (Err faults.NoMemory) before now d = tt
+nodes_do : {P T : Type 0} (knows : Knowing P) (number voters spare : ℕ) (nodes : List P) (new : Held P) (result : Result T EventFault) (before now : List Said) → AllKnow knows voters nodes [] → Does knows (all_start (voters + spare) 1) result (empty_held voters spare nodes) new before now
+    → DoesLine knows number (λ (s : Stage). line_step s number (says.Nodes voters spare)) result AtStart (AtNodes new) before now
+nodes_do knows number voters spare nodes new (Ok x) before now news d = nodes_go knows number voters spare nodes new before now news d
+nodes_do knows number voters spare nodes new (Err faults.NotThere) before now news d = nodes_end knows number NotThere voters spare nodes new before now news d
+nodes_do knows number voters spare nodes new (Err faults.TooMany) before now news d = nodes_end knows number TooMany voters spare nodes new before now news d
+nodes_do knows number voters spare nodes new (Err faults.NoMemory) before now news d = tt
 
-pub nodes_open : {P T : Type 0} (number voters spare : ℕ) (shows : P → Place) (places : List P) (h new : Held) (result : Result T EventFault) (before now : List Said) → h ≡ empty_held voters spare → h.places ≡ map shows places
-    → Does (all_start (length places) 1) result h new before now → DoesLine number (λ (s : Stage). line_step s number (says.Nodes voters spare)) result AtStart (AtNodes new) before now
-nodes_open {P} {T} number voters spare shows places h new result before now empty are d =
-    let count : length places ≡ voters + spare = sym (length-map places shows) ∙ ap (λ (ps : List Place). length ps) (sym are ∙ ap (λ (k : Held). k.places) empty) ∙ so_many (voters + spare) in
-    nodes_do number voters spare new result before now
-    (subst (λ (k : Held). Does (all_start (voters + spare) 1) result k new before now) empty (subst (λ (n : ℕ). Does (all_start n 1) result h new before now) count d))
+pub nodes_open : {P T : Type 0} (knows : Knowing P) (number voters spare : ℕ) (shows : P → Place) (places : List P) (h new : Held P) (result : Result T EventFault) (before now : List Said)
+    → h ≡ empty_held voters spare places → h.places ≡ map shows places → AllKnow knows voters places []
+    → Does knows (all_start (length places) 1) result h new before now → DoesLine knows number (λ (s : Stage). line_step s number (says.Nodes voters spare)) result AtStart (AtNodes new) before now
+nodes_open {P} {T} knows number voters spare shows places h new result before now empty are news d =
+    let count : length places ≡ voters + spare = sym (length-map places shows) ∙ ap (λ (ps : List Place). length ps) (sym are ∙ ap (λ (k : Held P). k.places) empty) ∙ so_many (voters + spare) in
+    nodes_do knows number voters spare places new result before now news
+    (subst (λ (k : Held P). Does knows (all_start (voters + spare) 1) result k new before now) empty (subst (λ (n : ℕ). Does knows (all_start n 1) result h new before now) count d))
 
--- ---- the bytes of a line
-
-step_of : (s : Stage) (number : ℕ) (line : List ℕ) → number ≤ line_count_limit → step s number line ≡ said_step s number (line_of line)
-unfolding step
-step_of s number line few = ap (λ (b : Bool). cond b (said_step s number (line_of line)) (stops s Large)) (le-leb number line_count_limit few)
-
-pub line_does : {T : Type 0} (number : ℕ) (bytes : List ℕ) (line : ScriptLine) (result : Result T EventFault) (old new : Stands) (before now : List Said) → number ≤ line_count_limit → Some line ≡ line_of bytes
-    → DoesLine number (λ (s : Stage). line_step s number line) result old new before now → DoesLine number (λ (s : Stage). step s number bytes) result old new before now
-line_does number bytes line result old new before now few is d =
-    does_as number (λ (s : Stage). step s number bytes) (λ (s : Stage). line_step s number line) result old new before now (λ s. step_of s number bytes few ∙ ap (said_step s number) (sym is)) d
-
-pub no_line : (number : ℕ) (bytes : List ℕ) (at : Stands) (said : List Said) → number ≤ line_count_limit → None ≡ line_of bytes → Ends (λ (s : Stage). step s number bytes) (Line number) at at said said
-no_line number bytes at said few is = stops_so number (λ (s : Stage). step s number bytes) at said (λ earlier later. step_of (stage_of at earlier later) number bytes few ∙ ap (said_step (stage_of at earlier later) number) (sym is))
+-- a mode line of nodes that is in the grammar has from 1 to 7 voters
+pub may_open : (line : ScriptLine) (bytes : List ℕ) → Some line ≡ line_of bytes → MayOpen line
+may_open says.Blank bytes is = tt
+may_open (says.Nodes voters spare) bytes is = let spelled = line_spelled (says.Nodes voters spare) bytes (sym is) in (spelled.text.some, spelled.text.few)
+may_open (says.Pages machines) bytes is = tt
+may_open (says.Show number) bytes is = tt
+may_open (says.Event event aim) bytes is = tt
 
 -- ---- at what the code holds
 
-module _ {P : Type 0} (see : P → Place) (x : CodeStage P) where
+module _ {P : Type 0} (see : P → Place) (knows : Knowing P) (x : CodeStage P) where
   pub event_refused : (place : P) (number : ℕ) (e : Event) (aim : Aim) (said : List Said) → x ≡ stage.Opening place
-      → Ends (λ (s : Stage). line_step s number (says.Event e aim)) (Line number) (stands see x) (stands see x) said said
+      → Ends knows (λ (s : Stage). line_step s number (says.Event e aim)) (Line number) (stands see x) (stands see x) said said
   unfolding line_step
   event_refused place number e aim said is =
-      subst (λ (at : Stands). Ends (λ (s : Stage). line_step s number (says.Event e aim)) (Line number) at at said said) (sym (ap (stands see) is))
-      (stops_so number (λ (s : Stage). line_step s number (says.Event e aim)) AtStart said (λ earlier later. refl))
+      subst (λ (at : Stands P). Ends knows (λ (s : Stage). line_step s number (says.Event e aim)) (Line number) at at said said) (sym (ap (stands see) is))
+      (stops_so knows number (λ (s : Stage). line_step s number (says.Event e aim)) AtStart said (λ earlier later. refl))
 
-  pub event_in : {T : Type 0} (cluster : Cluster P) (number : ℕ) (e : Event) (aim : Aim) (new : Held) (result : Result T EventFault) (before now : List Said) → x ≡ stage.Within cluster
-      → Does (λ (w : World). takes w e aim) result (held see cluster) new before now → DoesLine number (λ (s : Stage). line_step s number (says.Event e aim)) result (stands see x) (AtNodes new) before now
+  pub event_in : {T : Type 0} (cluster : Cluster P) (number : ℕ) (e : Event) (aim : Aim) (new : Held P) (result : Result T EventFault) (before now : List Said) → x ≡ stage.Within cluster
+      → Does knows (λ (w : World). takes w e aim) result (held see cluster) new before now → DoesLine knows number (λ (s : Stage). line_step s number (says.Event e aim)) result (stands see x) (AtNodes new) before now
   event_in cluster number e aim new result before now is d =
-      subst (λ (at : Stands). DoesLine number (λ (s : Stage). line_step s number (says.Event e aim)) result at (AtNodes new) before now) (sym (ap (stands see) is)) (event_does number e aim (held see cluster) new result before now d)
+      subst (λ (at : Stands P). DoesLine knows number (λ (s : Stage). line_step s number (says.Event e aim)) result at (AtNodes new) before now) (sym (ap (stands see) is)) (event_does knows number e aim (held see cluster) new result before now d)
 
-  pub show_refused : (place : P) (number node : ℕ) (said : List Said) → x ≡ stage.Opening place → Ends (λ (s : Stage). line_step s number (says.Show node)) (Line number) (stands see x) (stands see x) said said
+  pub show_refused : (place : P) (number node : ℕ) (said : List Said) → x ≡ stage.Opening place → Ends knows (λ (s : Stage). line_step s number (says.Show node)) (Line number) (stands see x) (stands see x) said said
   unfolding line_step
   show_refused place number node said is =
-      subst (λ (at : Stands). Ends (λ (s : Stage). line_step s number (says.Show node)) (Line number) at at said said) (sym (ap (stands see) is))
-      (stops_so number (λ (s : Stage). line_step s number (says.Show node)) AtStart said (λ earlier later. refl))
+      subst (λ (at : Stands P). Ends knows (λ (s : Stage). line_step s number (says.Show node)) (Line number) at at said said) (sym (ap (stands see) is))
+      (stops_so knows number (λ (s : Stage). line_step s number (says.Show node)) AtStart said (λ earlier later. refl))
 
   pub show_one : (cluster : Cluster P) (number node : ℕ) (found : Option Said) (say : Said) (said new : List Said) → x ≡ stage.Within cluster → found ≡ shown (world_now (held see cluster)) node → found ≡ Some say → new ≡ said ++ say ∷ []
-      → Goes (λ (s : Stage). line_step s number (says.Show node)) (stands see x) (stands see x) said new
+      → Goes knows (λ (s : Stage). line_step s number (says.Show node)) (stands see x) (stands see x) said new
   unfolding line_step
   show_one cluster number node found say said new is known some told =
-      subst (λ (at : Stands). Goes (λ (s : Stage). line_step s number (says.Show node)) at at said new) (sym (ap (stands see) is))
-      (shows_so (λ (s : Stage). line_step s number (says.Show node)) (AtNodes (held see cluster)) said new say
+      subst (λ (at : Stands P). Goes knows (λ (s : Stage). line_step s number (says.Show node)) at at said new) (sym (ap (stands see) is))
+      (shows_so knows (λ (s : Stage). line_step s number (says.Show node)) (AtNodes (held see cluster)) said new say
       (λ earlier later. ap (shows (Within (world_of (held see cluster) earlier later)) number) (sym known ∙ some)) told)
 
   pub show_none : (cluster : Cluster P) (number node : ℕ) (found : Option Said) (said : List Said) → x ≡ stage.Within cluster → found ≡ shown (world_now (held see cluster)) node → found ≡ None
-      → Ends (λ (s : Stage). line_step s number (says.Show node)) (Line number) (stands see x) (stands see x) said said
+      → Ends knows (λ (s : Stage). line_step s number (says.Show node)) (Line number) (stands see x) (stands see x) said said
   unfolding line_step
   show_none cluster number node found said is known none =
-      subst (λ (at : Stands). Ends (λ (s : Stage). line_step s number (says.Show node)) (Line number) at at said said) (sym (ap (stands see) is))
-      (stops_so number (λ (s : Stage). line_step s number (says.Show node)) (AtNodes (held see cluster)) said
+      subst (λ (at : Stands P). Ends knows (λ (s : Stage). line_step s number (says.Show node)) (Line number) at at said said) (sym (ap (stands see) is))
+      (stops_so knows number (λ (s : Stage). line_step s number (says.Show node)) (AtNodes (held see cluster)) said
       (λ earlier later. ap (shows (Within (world_of (held see cluster) earlier later)) number) (sym known ∙ none)))
 
   pub nodes_refused : (cluster : Cluster P) (number voters spare : ℕ) (said : List Said) → x ≡ stage.Within cluster
-      → Ends (λ (s : Stage). line_step s number (says.Nodes voters spare)) (Line number) (stands see x) (stands see x) said said
+      → Ends knows (λ (s : Stage). line_step s number (says.Nodes voters spare)) (Line number) (stands see x) (stands see x) said said
   unfolding line_step
   nodes_refused cluster number voters spare said is =
-      subst (λ (at : Stands). Ends (λ (s : Stage). line_step s number (says.Nodes voters spare)) (Line number) at at said said) (sym (ap (stands see) is))
-      (stops_so number (λ (s : Stage). line_step s number (says.Nodes voters spare)) (AtNodes (held see cluster)) said (λ earlier later. refl))
+      subst (λ (at : Stands P). Ends knows (λ (s : Stage). line_step s number (says.Nodes voters spare)) (Line number) at at said said) (sym (ap (stands see) is))
+      (stops_so knows number (λ (s : Stage). line_step s number (says.Nodes voters spare)) (AtNodes (held see cluster)) said (λ earlier later. refl))
 
-  pub nodes_in : {T : Type 0} (place : P) (cluster : Cluster P) (number voters spare : ℕ) (new : Held) (result : Result T EventFault) (before now : List Said) → x ≡ stage.Opening place → held see cluster ≡ empty_held voters spare
-      → Does (all_start (length cluster.places.items) 1) result (held see cluster) new before now → DoesLine number (λ (s : Stage). line_step s number (says.Nodes voters spare)) result (stands see x) (AtNodes new) before now
-  nodes_in place cluster number voters spare new result before now is empty d =
-      subst (λ (at : Stands). DoesLine number (λ (s : Stage). line_step s number (says.Nodes voters spare)) result at (AtNodes new) before now) (sym (ap (stands see) is))
-      (nodes_open number voters spare see cluster.places.items (held see cluster) new result before now empty refl d)
+  pub nodes_in : {T : Type 0} (place : P) (cluster : Cluster P) (number voters spare : ℕ) (new : Held P) (result : Result T EventFault) (before now : List Said) → x ≡ stage.Opening place → held see cluster ≡ empty_held voters spare cluster.places.items → AllKnow knows voters cluster.places.items []
+      → Does knows (all_start (length cluster.places.items) 1) result (held see cluster) new before now → DoesLine knows number (λ (s : Stage). line_step s number (says.Nodes voters spare)) result (stands see x) (AtNodes new) before now
+  nodes_in place cluster number voters spare new result before now is empty news d =
+      subst (λ (at : Stands P). DoesLine knows number (λ (s : Stage). line_step s number (says.Nodes voters spare)) result at (AtNodes new) before now) (sym (ap (stands see) is))
+      (nodes_open knows number voters spare see cluster.places.items (held see cluster) new result before now empty refl news d)
 
-blank_step : (at : Stands) (number : ℕ) (earlier : List Turn) (later : List Outcome) → line_step (stage_of at earlier later) number says.Blank ≡ stays (stage_of at earlier later) []
+blank_step : {P : Type 0} (at : Stands P) (number : ℕ) (earlier : List Turn) (later : List Outcome) → line_step (stage_of at earlier later) number says.Blank ≡ stays (stage_of at earlier later) []
 unfolding line_step
 blank_step AtStart number earlier later = refl
 blank_step (AtNodes h) number earlier later = refl
 
-pages_step : (at : Stands) (number machines : ℕ) (earlier : List Turn) (later : List Outcome) → line_step (stage_of at earlier later) number (says.Pages machines) ≡ stops (stage_of at earlier later) (Line number)
+pages_step : {P : Type 0} (at : Stands P) (number machines : ℕ) (earlier : List Turn) (later : List Outcome) → line_step (stage_of at earlier later) number (says.Pages machines) ≡ stops (stage_of at earlier later) (Line number)
 unfolding line_step
 pages_step AtStart number machines earlier later = refl
 pages_step (AtNodes h) number machines earlier later = refl
 
-pub blank_goes : (at : Stands) (number : ℕ) (line : ScriptLine) (said : List Said) → line ≡ says.Blank → Goes (λ (s : Stage). line_step s number line) at at said said
-blank_goes at number line said is =
-    stays_so (λ (s : Stage). line_step s number line) at said (λ earlier later. ap (line_step (stage_of at earlier later) number) is ∙ blank_step at number earlier later)
+pub blank_goes : {P : Type 0} (knows : Knowing P) (at : Stands P) (number : ℕ) (line : ScriptLine) (said : List Said) → line ≡ says.Blank → Goes knows (λ (s : Stage). line_step s number line) at at said said
+blank_goes knows at number line said is =
+    stays_so knows (λ (s : Stage). line_step s number line) at said (λ earlier later. ap (line_step (stage_of at earlier later) number) is ∙ blank_step at number earlier later)
 
-pub pages_refused : (at : Stands) (number machines : ℕ) (line : ScriptLine) (said : List Said) → line ≡ says.Pages machines → Ends (λ (s : Stage). line_step s number line) (Line number) at at said said
-pages_refused at number machines line said is =
-    stops_so number (λ (s : Stage). line_step s number line) at said (λ earlier later. ap (line_step (stage_of at earlier later) number) is ∙ pages_step at number machines earlier later)
+pub pages_refused : {P : Type 0} (knows : Knowing P) (at : Stands P) (number machines : ℕ) (line : ScriptLine) (said : List Said) → line ≡ says.Pages machines → Ends knows (λ (s : Stage). line_step s number line) (Line number) at at said said
+pages_refused knows at number machines line said is =
+    stops_so knows number (λ (s : Stage). line_step s number line) at said (λ earlier later. ap (line_step (stage_of at earlier later) number) is ∙ pages_step at number machines earlier later)

@@ -5,15 +5,15 @@ use Rattle.dq_base.specs.Sink.{AppendsFront}
 use Rattle.script_lines.specs.Lines.{lines_of}
 use Rattle.script_lines.specs.declared.lines.LineFault.{LineFault}
 use Rattle.script_lines.specs.declared.lines.LineFault.TheVariants as line
-use Rattle.script_nodes.specs.declared.said.Said.{Said}
+use Rattle.script_nodes.specs.Knowing.{Knowing, Told}
 use Rattle.script_nodes.specs.Outcomes.{Outcome as Came, Item, Turn}
-use Rattle.script_nodes.specs.Printed.{printed as text_of}
-use Rattle.script_nodes.specs.Run.{Fault, Line, Large, Run, Stage, Next, run, run_from, said_before, ends_at, fault_text, printed}
+use Rattle.script_nodes.specs.Run.{Fault, Line, Large, fault_text}
 use Rattle.script_runner.specs.declared.printing.PrintFault.{PrintFault}
 use Rattle.script_runner.specs.declared.printing.PrintFault.TheVariants as print
 use Rattle.script_runner.specs.declared.run.Outcome.{Outcome}
 use Rattle.script_runner.specs.declared.run.Outcome.TheVariants as outcome
-use Rattle.script_runner.specs.Stages.{Stands, Goes, Ends, stage_of, closing_of}
+use Rattle.script_runner.specs.Run.{Said, Run, Stage, Next, run, run_from, said_before, ends_at, turns_at, text_of, printed}
+use Rattle.script_runner.specs.Scenes.{Holds, Known, Goes, Ends, stage_of, closing_of, turns_of}
 
 -- These bytes may follow those that were read: none where the source is at its end or tells nothing.
 abbrev pub MayFollow : Option (List ℕ) → List ℕ → Type 0
@@ -23,16 +23,22 @@ MayFollow left more = IsAtEnd left → more ≡ []
 abbrev pub Anything : List ℕ → Type 0
 Anything more = ⊤
 
--- a run that said this, ended so, and noted this
-pub record IsRun (said : List Said) (fault : Option Fault) (journal : List Item) (r : Run) : Type 0 where
+-- a run that said this, ended so, noted this, and has these turns
+pub record IsRun (said : List Said) (fault : Option Fault) (journal : List Item) (turns : List Turn) (r : Run) : Type 0 where
   pub said_is : r.said ≡ said
   pub fault_is : r.fault ≡ fault
   pub journal_is : r.journal ≡ journal
+  pub turns_are : r.turns ≡ turns
+
+-- these turns begin with those
+abbrev pub BeginWith : List Turn → List Turn → Type 0
+BeginWith turns front = (rest : List Turn) × (turns ≡ front ++ rest)
 
 -- ---- on the way
 
--- The bytes read so far led here with these outcomes, having said this, and what was said was printed.
-pub record Reached (first now written printed_now : Option (List ℕ)) (at : Stands) (number : ℕ) : Type 0 where
+-- The bytes read so far led here with these outcomes, having said this, and what was said was printed; the places there were led to by
+-- the turns of their nodes.
+pub record Reached {P : Type 0} (knows : Knowing P) (first now written printed_now : Option (List ℕ)) (at : Holds P) (number : ℕ) : Type 0 where
   pub read : List ℕ
   pub outcomes : List Came
   pub turns : List Turn
@@ -41,9 +47,10 @@ pub record Reached (first now written printed_now : Option (List ℕ)) (at : Sta
   pub told : Appends written printed_now (text_of said)
   pub goes_on : (more : List ℕ) (later : List Came) → run (read ++ more) (outcomes ++ later)
       ≡ said_before said (run_from (stage_of at turns later) number (lines_of more))
+  pub know : Known knows at turns
 
 -- The script was read to its end and led here, having said this, and what was said was printed.
-pub record ReadWhole (first now written printed_now : Option (List ℕ)) (at : Stands) : Type 0 where
+pub record ReadWhole {P : Type 0} (knows : Knowing P) (first now written printed_now : Option (List ℕ)) (at : Holds P) : Type 0 where
   pub read : List ℕ
   pub outcomes : List Came
   pub turns : List Turn
@@ -52,87 +59,104 @@ pub record ReadWhole (first now written printed_now : Option (List ℕ)) (at : S
   pub end : IsAtEnd now
   pub told : Appends written printed_now (text_of said)
   pub runs : (later : List Came) → run read (outcomes ++ later) ≡ said_before said (ends_at (stage_of at turns later) (closing_of at) None)
+  pub know : Known knows at turns
 
 -- ---- the end
 
--- Whatever may follow the bytes read, and whatever comes of later events: the run says this, ends so and notes this; and what it says
--- was printed.
-pub record Settles (fault : Option Fault) (journal : List Item) (left left' written written' : Option (List ℕ)) : Type 0 where
+-- Whatever may follow the bytes read, and whatever comes of later events: the run says this, ends so, notes this and has these turns; what
+-- it says was printed; and places were led to by the turns of their nodes.
+pub record Settles {P : Type 0} (knows : Knowing P) (fault : Option Fault) (journal : List Item) (left left' written written' : Option (List ℕ)) : Type 0 where
   pub read : List ℕ
   pub outcomes : List Came
+  pub turns : List Turn
   pub said : List Said
   pub taken : Consumes left left' read
   pub told : Appends written written' (text_of said)
-  pub runs : (more : List ℕ) → MayFollow left' more → (later : List Came) → IsRun said fault journal (run (read ++ more) (outcomes ++ later))
+  pub runs : (more : List ℕ) → MayFollow left' more → (later : List Came) → IsRun said fault journal turns (run (read ++ more) (outcomes ++ later))
+  pub led : Told knows turns
 
 -- Whichever bytes of `follows` stand behind those read, a front of what the run says was printed: so nothing of a line that was read
--- in part.
-pub record StopsShort (follows : List ℕ → Type 0) (left left' written written' : Option (List ℕ)) : Type 0 where
+-- in part. The run begins with these turns, by which places were led to.
+pub record StopsShort {P : Type 0} (knows : Knowing P) (follows : List ℕ → Type 0) (left left' written written' : Option (List ℕ)) : Type 0 where
   pub read : List ℕ
   pub outcomes : List Came
+  pub turns : List Turn
   pub taken : Consumes left left' read
   pub front : (more : List ℕ) → follows more → (later : List Came) → AppendsFront written written' (text_of (run (read ++ more) (outcomes ++ later)).said)
+  pub begins : (more : List ℕ) → follows more → (later : List Came) → BeginWith (run (read ++ more) (outcomes ++ later)).turns turns
+  pub led : Told knows turns
 
 -- what running the lines of a script to this outcome did
-abbrev pub Stopped : Outcome → List Item → Option (List ℕ) → Option (List ℕ) → Option (List ℕ) → Option (List ℕ) → Type 0
-Stopped outcome.Done journal left left' written written' = Settles None journal left left' written written' × IsAtEnd left'
-Stopped (outcome.Script line) journal left left' written written' = Settles (Some (Line line)) journal left left' written written'
-Stopped outcome.Large journal left left' written written' = Settles (Some Large) journal left left' written written'
-Stopped outcome.ReadFault journal left left' written written' = StopsShort Anything left left' written written'
-Stopped outcome.WriteFault journal left left' written written' = StopsShort (MayFollow left') left left' written written'
-Stopped outcome.NoMemory journal left left' written written' = StopsShort (MayFollow left') left left' written written'
+abbrev pub Stopped : {P : Type 0} → Knowing P → Outcome → List Item → Option (List ℕ) → Option (List ℕ) → Option (List ℕ) → Option (List ℕ) → Type 0
+Stopped knows outcome.Done journal left left' written written' = Settles knows None journal left left' written written' × IsAtEnd left'
+Stopped knows (outcome.Script line) journal left left' written written' = Settles knows (Some (Line line)) journal left left' written written'
+Stopped knows outcome.Large journal left left' written written' = Settles knows (Some Large) journal left left' written written'
+Stopped knows outcome.ReadFault journal left left' written written' = StopsShort knows Anything left left' written written'
+Stopped knows outcome.WriteFault journal left left' written written' = StopsShort knows (MayFollow left') left left' written written'
+Stopped knows outcome.NoMemory journal left left' written written' = StopsShort knows (MayFollow left') left left' written written'
 
--- Whatever may follow the bytes read, and whatever comes of later events: the run ends so and notes this, and its text was printed.
-pub record Prints (fault : Option Fault) (journal : List Item) (left left' written written' : Option (List ℕ)) : Type 0 where
+-- Whatever may follow the bytes read, and whatever comes of later events: the run ends so, notes this and has these turns, by which places
+-- were led to; and its text was printed.
+pub record Prints {P : Type 0} (knows : Knowing P) (fault : Option Fault) (journal : List Item) (left left' written written' : Option (List ℕ)) : Type 0 where
   pub read : List ℕ
   pub outcomes : List Came
+  pub turns : List Turn
   pub taken : Consumes left left' read
   pub ends : (more : List ℕ) → MayFollow left' more → (later : List Came) → (run (read ++ more) (outcomes ++ later)).fault ≡ fault
   pub text : (more : List ℕ) → MayFollow left' more → (later : List Came) → Appends written written' (printed (run (read ++ more) (outcomes ++ later)))
   pub notes : (more : List ℕ) → MayFollow left' more → (later : List Came) → (run (read ++ more) (outcomes ++ later)).journal ≡ journal
+  pub has : (more : List ℕ) → MayFollow left' more → (later : List Came) → (run (read ++ more) (outcomes ++ later)).turns ≡ turns
+  pub led : Told knows turns
 
--- Whichever bytes of `follows` stand behind those read, a front of the run's text was printed.
-pub record PrintsFront (follows : List ℕ → Type 0) (left left' written written' : Option (List ℕ)) : Type 0 where
+-- Whichever bytes of `follows` stand behind those read, a front of the run's text was printed; and the run begins with these turns, by which
+-- places were led to.
+pub record PrintsFront {P : Type 0} (knows : Knowing P) (follows : List ℕ → Type 0) (left left' written written' : Option (List ℕ)) : Type 0 where
   pub read : List ℕ
   pub outcomes : List Came
+  pub turns : List Turn
   pub taken : Consumes left left' read
   pub front : (more : List ℕ) → follows more → (later : List Came) → AppendsFront written written' (printed (run (read ++ more) (outcomes ++ later)))
+  pub begins : (more : List ℕ) → follows more → (later : List Came) → BeginWith (run (read ++ more) (outcomes ++ later)).turns turns
+  pub led : Told knows turns
 
 -- what running a script to this outcome did, by the journal that it left
-abbrev pub Ended : Outcome → List Item → Option (List ℕ) → Option (List ℕ) → Option (List ℕ) → Option (List ℕ) → Type 0
-Ended outcome.Done journal left left' written written' = Prints None journal left left' written written' × IsAtEnd left'
-Ended (outcome.Script line) journal left left' written written' = Prints (Some (Line line)) journal left left' written written'
-Ended outcome.Large journal left left' written written' = Prints (Some Large) journal left left' written written'
-Ended outcome.ReadFault journal left left' written written' = PrintsFront Anything left left' written written'
-Ended outcome.WriteFault journal left left' written written' = PrintsFront (MayFollow left') left left' written written'
-Ended outcome.NoMemory journal left left' written written' = PrintsFront (MayFollow left') left left' written written'
+abbrev pub Ended : {P : Type 0} → Knowing P → Outcome → List Item → Option (List ℕ) → Option (List ℕ) → Option (List ℕ) → Option (List ℕ) → Type 0
+Ended knows outcome.Done journal left left' written written' = Prints knows None journal left left' written written' × IsAtEnd left'
+Ended knows (outcome.Script line) journal left left' written written' = Prints knows (Some (Line line)) journal left left' written written'
+Ended knows outcome.Large journal left left' written written' = Prints knows (Some Large) journal left left' written written'
+Ended knows outcome.ReadFault journal left left' written written' = PrintsFront knows Anything left left' written written'
+Ended knows outcome.WriteFault journal left left' written written' = PrintsFront knows (MayFollow left') left left' written written'
+Ended knows outcome.NoMemory journal left left' written written' = PrintsFront knows (MayFollow left') left left' written written'
 
 -- ---- one line
 
 -- a line led on, and what it said was printed
-pub record Ran (go : Stage → Next) (old new : Stands) (written written' : Option (List ℕ)) : Type 0 where
+pub record Ran {P : Type 0} (knows : Knowing P) (go : Stage → Next) (old new : Holds P) (written written' : Option (List ℕ)) : Type 0 where
   pub said : List Said
-  pub goes : Goes go old new [] said
+  pub goes : Goes knows go old new said
   pub told : Appends written written' (text_of said)
 
 -- a line ended the script for this fault, and what it said was printed
-pub record RanOut (go : Stage → Next) (fault : Fault) (old new : Stands) (written written' : Option (List ℕ)) : Type 0 where
+pub record RanOut {P : Type 0} (knows : Knowing P) (go : Stage → Next) (fault : Fault) (old new : Holds P) (written written' : Option (List ℕ)) : Type 0 where
   pub said : List Said
-  pub ends : Ends go fault old new [] said
+  pub ends : Ends knows go fault old new said
   pub told : Appends written written' (text_of said)
 
--- a front of what a line says was printed
-pub record RanShort (go : Stage → Next) (old : Stands) (written written' : Option (List ℕ)) : Type 0 where
+-- A front of what a line says was printed. With it the run begins with these turns, by which places were led to.
+pub record RanShort {P : Type 0} (knows : Knowing P) (go : Stage → Next) (old : Holds P) (written written' : Option (List ℕ)) : Type 0 where
   pub outcomes : List Came
+  pub turns : List Turn → List Turn
   pub front : (earlier : List Turn) (later : List Came) → AppendsFront written written' (text_of (go (stage_of old earlier (outcomes ++ later))).said)
+  pub begins : (earlier : List Turn) (later : List Came) → BeginWith (turns_at (go (stage_of old earlier (outcomes ++ later))).stage) (turns earlier)
+  pub led : (earlier : List Turn) → Known knows old earlier → Told knows (turns earlier)
 
-abbrev pub Breaks : Outcome → ℕ → (Stage → Next) → Stands → Stands → Option (List ℕ) → Option (List ℕ) → Type 0
-Breaks outcome.Done number go old new written written' = ⊥
-Breaks (outcome.Script line) number go old new written written' = (line ≡ number) × RanOut go (Line line) old new written written'
-Breaks outcome.Large number go old new written written' = RanOut go Large old new written written'
-Breaks outcome.ReadFault number go old new written written' = ⊥
-Breaks outcome.WriteFault number go old new written written' = RanShort go old written written'
-Breaks outcome.NoMemory number go old new written written' = RanShort go old written written'
+abbrev pub Breaks : {P : Type 0} → Knowing P → Outcome → ℕ → (Stage → Next) → Holds P → Holds P → Option (List ℕ) → Option (List ℕ) → Type 0
+Breaks knows outcome.Done number go old new written written' = ⊥
+Breaks knows (outcome.Script line) number go old new written written' = (line ≡ number) × RanOut knows go (Line line) old new written written'
+Breaks knows outcome.Large number go old new written written' = RanOut knows go Large old new written written'
+Breaks knows outcome.ReadFault number go old new written written' = ⊥
+Breaks knows outcome.WriteFault number go old new written written' = RanShort knows go old written written'
+Breaks knows outcome.NoMemory number go old new written written' = RanShort knows go old written written'
 
 -- ---- outcomes of faults
 

@@ -1,2 +1,5 @@
 pub mod Stages
+pub mod Run
+pub mod Scenes
 pub mod Ending
+pub mod Alike

@@ -4,10 +4,15 @@ ghost use Rattle.std.specs.Prelude.{◌≡◌, ◌≤◌, OnOk, OnErr, Err};
 ghost use Rattle.std.specs.Io.KnownBytes.{Appends};
 ghost use Rattle.dq_base.specs.Faults.{Rose};
 ghost use Rattle.dq_base.specs.Sink.{AppendsFront};
-ghost use Rattle.script_nodes.specs.Printed.{printed};
+ghost use Rattle.script_nodes.specs.Printed.{printed as nodes_text};
+ghost use Rattle.script_pages.specs.Printed.{printed as machines_text};
+ghost use Rattle.script_runner.specs.Run.{text_of};
+ghost use Rattle.script_runner.specs.Scenes.{said_in};
 
+use crate::said::LineSaid;
 use dq_base::{Failed, Sink};
-use script_nodes::{Said, line_for};
+use script_nodes::Said as NodeSaid;
+use script_pages::Said as MachineSaid;
 use std::alloc::{AllocError, Global};
 
 /// Why something could not be printed.
@@ -41,16 +46,48 @@ impl From<AllocError> for PrintFault {
     }
 }
 
-/// Prints a line for each, in order. After `Err` a front of their text is printed.
-pub(crate) fn print<K: Sink>(alloc: Global, said: &[Said], sink: &mut K) -> Result<(), PrintFault>
-    ensures ok { OnOk result (Appends (K.written sink.old) (K.written sink.new) (printed said.now)) }
-    ensures err { OnErr result (AppendsFront (K.written sink.old) (K.written sink.new) (printed said.now)) }
+/// Prints a line for each thing that nodes said, in order. After `Err` a front of their text is printed.
+fn print_nodes<K: Sink>(alloc: Global, said: &[NodeSaid], sink: &mut K) -> Result<(), PrintFault>
+    ensures ok { OnOk result (Appends (K.written sink.old) (K.written sink.new) (nodes_text said.now)) }
+    ensures err { OnErr result (AppendsFront (K.written sink.old) (K.written sink.new) (nodes_text said.now)) }
     ensures count { K.faults sink.old ≤ K.faults sink.new }
     ensures cause { result ≡ Err PrintFault.Sink → Rose (K.faults sink.old) (K.faults sink.new) }
 {
     for say in said {
-        let line = line_for(alloc, say)?;
+        let line = script_nodes::line_for(alloc, say)?;
         sink.write_all(line.as_bytes())?;
     }
     Ok(())
+}
+
+/// The same of machines.
+fn print_machines<K: Sink>(
+    alloc: Global,
+    said: &[MachineSaid],
+    sink: &mut K,
+) -> Result<(), PrintFault>
+    ensures ok { OnOk result (Appends (K.written sink.old) (K.written sink.new) (machines_text said.now)) }
+    ensures err { OnErr result (AppendsFront (K.written sink.old) (K.written sink.new) (machines_text said.now)) }
+    ensures count { K.faults sink.old ≤ K.faults sink.new }
+    ensures cause { result ≡ Err PrintFault.Sink → Rose (K.faults sink.old) (K.faults sink.new) }
+{
+    for say in said {
+        let line = script_pages::line_for(alloc, say)?;
+        sink.write_all(line.as_bytes())?;
+    }
+    Ok(())
+}
+
+/// Prints what was said by a line of a script. After `Err` a front of its text is printed.
+#[tactic(auto, using(crate::proofs::Printed::nodes_printed, crate::proofs::Printed::machines_printed))]
+pub(crate) fn print<K: Sink>(alloc: Global, said: &LineSaid, sink: &mut K) -> Result<(), PrintFault>
+    ensures ok { OnOk result (Appends (K.written sink.old) (K.written sink.new) (text_of (said_in said.now))) }
+    ensures err { OnErr result (AppendsFront (K.written sink.old) (K.written sink.new) (text_of (said_in said.now))) }
+    ensures count { K.faults sink.old ≤ K.faults sink.new }
+    ensures cause { result ≡ Err PrintFault.Sink → Rose (K.faults sink.old) (K.faults sink.new) }
+{
+    match said {
+        LineSaid::Nodes(said) => print_nodes(alloc, said.as_slice(), sink),
+        LineSaid::Machines(said) => print_machines(alloc, said.as_slice(), sink),
+    }
 }

@@ -6,12 +6,13 @@ ghost use Rattle.dq_base.specs.Faults.{Rose};
 ghost use Rattle.dq_base.specs.Sink.{AppendsFront};
 ghost use Rattle.script_lines.specs.ScriptSize.{line_count_limit};
 ghost use Rattle.script_lines.specs.Lines.{to_come};
-ghost use Rattle.script_nodes.specs.Printed.{printed as text_of};
-ghost use Rattle.script_nodes.specs.Run.{Stage as Shown, step};
-ghost use Rattle.script_runner.specs.Stages.{Stands, closing_of, journal_of, stands};
+ghost use Rattle.script_runner.specs.Run.{Stage as Shown, step, text_of};
+ghost use Rattle.script_runner.specs.Scenes.{closing_of, holds, journal_of};
 ghost use Rattle.script_runner.specs.Ending.{Breaks, Ended, Ran, Reached, ReadWhole, Stopped, HasLine, fault_line};
 
 use crate::printing::{PrintFault, print};
+use crate::said::LineSaid;
+use crate::scene::Scene;
 use crate::stage::Stage;
 use dq_base::{Failed, Sink, Source};
 use script_lines::{EventFault, LINE_COUNT_LIMIT, LineEnd, LineFault, LineReader};
@@ -75,31 +76,31 @@ impl From<AllocError> for Outcome {
 /// Does what the line of this number says, and prints what was said then.
 fn run_line<P: NodePlace, K: Sink>(
     alloc: Global,
-    stage: &mut Stage<P>,
+    scene: &mut Scene<P>,
     number: u64,
     line: &[u8],
     sink: &mut K,
 ) -> Result<(), Outcome>
     requires { number ≤ line_count_limit }
-    ensures ok { OnOk result (Ran (λ (s : Shown). step s number line.now)
-        (stands P.shows stage.old) (stands P.shows stage.new) (K.written sink.old) (K.written sink.new)) }
-    ensures err { IfErr result (λ outcome. Breaks outcome number (λ (s : Shown). step s number line.now)
-        (stands P.shows stage.old) (stands P.shows stage.new) (K.written sink.old) (K.written sink.new)) }
+    ensures ok { OnOk result (Ran P.knows (λ (s : Shown). step s number line.now)
+        (holds P.shows scene.old) (holds P.shows scene.new) (K.written sink.old) (K.written sink.new)) }
+    ensures err { IfErr result (λ outcome. Breaks P.knows outcome number (λ (s : Shown). step s number line.now)
+        (holds P.shows scene.old) (holds P.shows scene.new) (K.written sink.old) (K.written sink.new)) }
     ensures write { IsErrOf result Outcome.WriteFault → Rose (K.faults sink.old) (K.faults sink.new) }
     ensures count { K.faults sink.old ≤ K.faults sink.new }
 {
-    let mut said = Vec::new(alloc);
-    match stage.take(alloc, line, &mut said) {
+    let mut said = LineSaid::nothing(alloc);
+    match scene.take(alloc, line, &mut said) {
         Ok(()) => {
-            print(alloc, said.as_slice(), sink)?;
+            print(alloc, &said, sink)?;
             Ok(())
         }
         Err(EventFault::NotThere) => {
-            print(alloc, said.as_slice(), sink)?;
+            print(alloc, &said, sink)?;
             Err(Outcome::Script(number))
         }
         Err(EventFault::TooMany) => {
-            print(alloc, said.as_slice(), sink)?;
+            print(alloc, &said, sink)?;
             Err(Outcome::Large)
         }
         Err(EventFault::NoMemory) => Err(Outcome::NoMemory),
@@ -110,7 +111,7 @@ fn run_line<P: NodePlace, K: Sink>(
 fn run_next<P: NodePlace, S: Source, K: Sink>(
     alloc: Global,
     lines: &mut LineReader,
-    stage: &mut Stage<P>,
+    scene: &mut Scene<P>,
     number: u64,
     source: &mut S,
     sink: &mut K,
@@ -118,12 +119,12 @@ fn run_next<P: NodePlace, S: Source, K: Sink>(
     requires { number ≤ line_count_limit }
     // From wherever the script came, it comes one line further, or it ends.
     ensures goes { (first written : Option (List ℕ)) →
-        Reached first (to_come lines.old (S.left source.old)) written (K.written sink.old) (stands P.shows stage.old) number →
+        Reached P.knows first (to_come lines.old (S.left source.old)) written (K.written sink.old) (holds P.shows scene.old) number →
         MatchResult result
         (λ more. MatchBool more
-        (Reached first (to_come lines.new (S.left source.new)) written (K.written sink.new) (stands P.shows stage.new) (number + 1))
-        (ReadWhole first (S.left source.new) written (K.written sink.new) (stands P.shows stage.new)))
-        (λ outcome. Stopped outcome (journal_of (stands P.shows stage.new)) first (S.left source.new) written (K.written sink.new)) }
+        (Reached P.knows first (to_come lines.new (S.left source.new)) written (K.written sink.new) (holds P.shows scene.new) (number + 1))
+        (ReadWhole P.knows first (S.left source.new) written (K.written sink.new) (holds P.shows scene.new)))
+        (λ outcome. Stopped P.knows outcome (journal_of (holds P.shows scene.new)) first (S.left source.new) written (K.written sink.new)) }
     ensures read { IsErrOf result Outcome.ReadFault → Rose (S.faults source.old) (S.faults source.new) }
     ensures write { IsErrOf result Outcome.WriteFault → Rose (K.faults sink.old) (K.faults sink.new) }
     ensures source_count { S.faults source.old ≤ S.faults source.new }
@@ -131,13 +132,13 @@ fn run_next<P: NodePlace, S: Source, K: Sink>(
 {
     match lines.next_line(source)? {
         LineEnd::Feed => {
-            run_line(alloc, stage, number, lines.line(), sink)?;
+            run_line(alloc, scene, number, lines.line(), sink)?;
             Ok(true)
         }
         LineEnd::Input => {
             let line = lines.line();
             if !line.is_empty() {
-                run_line(alloc, stage, number, line, sink)?;
+                run_line(alloc, scene, number, line, sink)?;
             }
             Ok(false)
         }
@@ -146,12 +147,12 @@ fn run_next<P: NodePlace, S: Source, K: Sink>(
 }
 
 /// Reads what stands behind the last line that a script may have: nothing may.
-fn run_past<S: Source>(lines: &mut LineReader, source: &mut S) -> Result<(), Outcome>
-    ensures goes { (first written printed : Option (List ℕ)) (at : Stands) →
-        Reached first (to_come lines.old (S.left source.old)) written printed at (line_count_limit + 1) →
+fn run_past<P: NodePlace, S: Source>(lines: &mut LineReader, source: &mut S) -> Result<(), Outcome>
+    ensures goes { (first written printed : Option (List ℕ)) (at : _) →
+        Reached P.knows first (to_come lines.old (S.left source.old)) written printed at (line_count_limit + 1) →
         MatchResult result
-        (λ _. ReadWhole first (S.left source.new) written printed at)
-        (λ outcome. Stopped outcome (journal_of at) first (S.left source.new) written printed) }
+        (λ _. ReadWhole P.knows first (S.left source.new) written printed at)
+        (λ outcome. Stopped P.knows outcome (journal_of at) first (S.left source.new) written printed) }
     ensures read { IsErrOf result Outcome.ReadFault → Rose (S.faults source.old) (S.faults source.new) }
     ensures write { IsErrOf result Outcome.WriteFault → ⊥ }
     ensures source_count { S.faults source.old ≤ S.faults source.new }
@@ -167,61 +168,61 @@ fn run_past<S: Source>(lines: &mut LineReader, source: &mut S) -> Result<(), Out
 fn run_lines<P: NodePlace, S: Source, K: Sink>(
     alloc: Global,
     lines: &mut LineReader,
-    stage: &mut Stage<P>,
+    scene: &mut Scene<P>,
     source: &mut S,
     sink: &mut K,
 ) -> Result<(), Outcome>
     ensures goes { (first written : Option (List ℕ)) →
-        Reached first (to_come lines.old (S.left source.old)) written (K.written sink.old) (stands P.shows stage.old) 1 →
+        Reached P.knows first (to_come lines.old (S.left source.old)) written (K.written sink.old) (holds P.shows scene.old) 1 →
         MatchResult result
-        (λ _. ReadWhole first (S.left source.new) written (K.written sink.new) (stands P.shows stage.new))
-        (λ outcome. Stopped outcome (journal_of (stands P.shows stage.new)) first (S.left source.new) written (K.written sink.new)) }
+        (λ _. ReadWhole P.knows first (S.left source.new) written (K.written sink.new) (holds P.shows scene.new))
+        (λ outcome. Stopped P.knows outcome (journal_of (holds P.shows scene.new)) first (S.left source.new) written (K.written sink.new)) }
     ensures read { IsErrOf result Outcome.ReadFault → Rose (S.faults source.old) (S.faults source.new) }
     ensures write { IsErrOf result Outcome.WriteFault → Rose (K.faults sink.old) (K.faults sink.new) }
     ensures source_count { S.faults source.old ≤ S.faults source.new }
     ensures sink_count { K.faults sink.old ≤ K.faults sink.new }
 {
     for number in 1..=LINE_COUNT_LIMIT {
-        if !run_next(alloc, lines, stage, number, source, sink)? {
+        if !run_next(alloc, lines, scene, number, source, sink)? {
             return Ok(());
         }
     }
-    run_past(lines, source)
+    run_past::<P, S>(lines, source)
 }
 
 /// Shows how all stand, at the end of a script.
 fn close<P: NodePlace, K: Sink>(
     alloc: Global,
-    stage: &Stage<P>,
+    scene: &Scene<P>,
     sink: &mut K,
 ) -> Result<(), PrintFault>
-    ensures ok { OnOk result (Appends (K.written sink.old) (K.written sink.new) (text_of (closing_of (stands P.shows stage.now)))) }
-    ensures err { OnErr result (AppendsFront (K.written sink.old) (K.written sink.new) (text_of (closing_of (stands P.shows stage.now)))) }
+    ensures ok { OnOk result (Appends (K.written sink.old) (K.written sink.new) (text_of (closing_of (holds P.shows scene.now)))) }
+    ensures err { OnErr result (AppendsFront (K.written sink.old) (K.written sink.new) (text_of (closing_of (holds P.shows scene.now)))) }
     ensures write { IsErrOf result PrintFault.Sink → Rose (K.faults sink.old) (K.faults sink.new) }
     ensures count { K.faults sink.old ≤ K.faults sink.new }
 {
-    let said = stage.closing(alloc)?;
-    print(alloc, said.as_slice(), sink)
+    let said = scene.closing(alloc)?;
+    print(alloc, &said, sink)
 }
 
 /// Runs the lines of a script in order, and shows how all stand at its end.
 fn run_whole<P: NodePlace, S: Source, K: Sink>(
     alloc: Global,
     lines: &mut LineReader,
-    stage: &mut Stage<P>,
+    scene: &mut Scene<P>,
     source: &mut S,
     sink: &mut K,
 ) -> Outcome
     ensures goes { (first written : Option (List ℕ)) →
-        Reached first (to_come lines.old (S.left source.old)) written (K.written sink.old) (stands P.shows stage.old) 1 →
-        Stopped result (journal_of (stands P.shows stage.new)) first (S.left source.new) written (K.written sink.new) }
+        Reached P.knows first (to_come lines.old (S.left source.old)) written (K.written sink.old) (holds P.shows scene.old) 1 →
+        Stopped P.knows result (journal_of (holds P.shows scene.new)) first (S.left source.new) written (K.written sink.new) }
     ensures read { result ≡ Outcome.ReadFault → Rose (S.faults source.old) (S.faults source.new) }
     ensures write { result ≡ Outcome.WriteFault → Rose (K.faults sink.old) (K.faults sink.new) }
     ensures source_count { S.faults source.old ≤ S.faults source.new }
     ensures sink_count { K.faults sink.old ≤ K.faults sink.new }
 {
-    match run_lines(alloc, lines, stage, source, sink) {
-        Ok(()) => match close(alloc, stage, sink) {
+    match run_lines(alloc, lines, scene, source, sink) {
+        Ok(()) => match close(alloc, scene, sink) {
             Ok(()) => Outcome::Done,
             Err(PrintFault::Sink) => Outcome::WriteFault,
             Err(PrintFault::NoMemory) => Outcome::NoMemory,
@@ -252,8 +253,8 @@ fn print_fault<K: Sink>(alloc: Global, outcome: Outcome, sink: &mut K) -> Result
     }
 }
 
-/// Runs the script of nodes that the source gives, over nodes at places like this one, and prints to the sink what the script's run
-/// says. The journal is that of this run afterwards; what it held before is dropped.
+/// Runs the script that the source gives, over nodes at places like this one or over machines, and prints to the sink what the script's
+/// run says. The journal is that of this run afterwards; what it held before is dropped.
 ///
 /// The input is read in pieces. Held are one piece, one line, and what the script makes. It returns on every input, as far as the calls
 /// of the source, the sink and the places return.
@@ -275,7 +276,7 @@ pub fn run_script<P: NodePlace, S: Source, K: Sink>(
     sink: &mut K,
     journal: &mut ClusterJournal,
 ) -> Outcome
-    ensures ended { Ended result journal.new (S.left source.old) (S.left source.new) (K.written sink.old) (K.written sink.new) }
+    ensures ended { Ended P.knows result journal.new (S.left source.old) (S.left source.new) (K.written sink.old) (K.written sink.new) }
     ensures read_fault { result ≡ Outcome.ReadFault → Rose (S.faults source.old) (S.faults source.new) }
     ensures write_fault { result ≡ Outcome.WriteFault → Rose (K.faults sink.old) (K.faults sink.new) }
     ensures source_count { S.faults source.old ≤ S.faults source.new }
@@ -285,9 +286,9 @@ pub fn run_script<P: NodePlace, S: Source, K: Sink>(
         Ok(lines) => lines,
         Err(AllocError) => return Outcome::NoMemory,
     };
-    let mut stage = Stage::Opening { place };
-    let outcome = run_whole(alloc, &mut lines, &mut stage, source, sink);
-    *journal = stage.into_journal(alloc);
+    let mut scene = Scene::Nodes(Stage::Opening { place });
+    let outcome = run_whole(alloc, &mut lines, &mut scene, source, sink);
+    *journal = scene.into_journal(alloc);
     match print_fault(alloc, outcome, sink) {
         Ok(()) => outcome,
         Err(PrintFault::Sink) => Outcome::WriteFault,

@@ -1,11 +1,12 @@
 //! Where a script is, and what its lines do there.
 
-ghost use Rattle.std.specs.Prelude.{◌≡◌, ◌≤◌, ℕ, IfOk};
-ghost use Rattle.script_lines.specs.ScriptSize.{line_count_limit};
+ghost use Rattle.std.specs.Prelude.{◌≡◌, ℕ, IfOk};
 ghost use Rattle.script_nodes.specs.Run.{Stage as Shown};
+ghost use Rattle.script_nodes.specs.Voters.{IsVoterCount};
+ghost use Rattle.script_runner.specs.Stages.{MayOpen};
 
-use script_lines::{Aim, Event, EventFault, ScriptLine, line_in};
-use script_nodes::{Cluster, ClusterJournal, NodePlace, Said};
+use script_lines::{Aim, Event, EventFault, ScriptLine};
+use script_nodes::{Cluster, ClusterJournal, NodePlace, Said, VoterCount};
 use std::alloc::{AllocError, Global};
 
 /// Where a script is.
@@ -18,8 +19,18 @@ pub(crate) enum Stage<P: NodePlace> {
 }
 
 impl<P: NodePlace> Stage<P> {
-    ghost use Rattle.script_nodes.specs.Run.{line_step, step};
-    ghost use Rattle.script_runner.specs.Stages.{DoesLine, closing_of, journal_of, stands};
+    ghost use Rattle.script_nodes.specs.Run.{line_step};
+    ghost use Rattle.script_runner.specs.Stages.{DoesLine, is_opening, closing_of, journal_of, stands};
+
+    /// Whether no mode line has come yet.
+    pub(crate) fn is_opening(&self) -> bool
+        ensures { result ≡ is_opening (stands P.shows self.now) }
+    {
+        match self {
+            Stage::Opening { .. } => true,
+            Stage::Within(_) => false,
+        }
+    }
 
     /// Opens a cluster of so many voters and further nodes, all of which start.
     fn open_nodes(
@@ -29,13 +40,14 @@ impl<P: NodePlace> Stage<P> {
         spare: u32,
         said: &mut Vec<Said>,
     ) -> Result<(), EventFault>
-        ensures { (number : ℕ) → DoesLine number (λ (s : Shown). line_step s number (ScriptLine.Nodes voters spare))
+        requires { IsVoterCount voters }
+        ensures { (number : ℕ) → DoesLine P.knows number (λ (s : Shown). line_step s number (ScriptLine.Nodes voters spare))
             result (stands P.shows self.old) (stands P.shows self.new) said.old.items said.new.items }
     {
         let Stage::Opening { place } = self else {
             return Err(EventFault::NotThere);
         };
-        let mut cluster = Cluster::new(alloc, &*place, voters, spare)?;
+        let mut cluster = Cluster::new(alloc, &*place, VoterCount::new(voters), spare)?;
         let started = cluster.start_all(said);
         *self = Stage::Within(cluster);
         started
@@ -43,7 +55,7 @@ impl<P: NodePlace> Stage<P> {
 
     /// Has an event happen.
     fn happen(&mut self, event: Event, aim: Aim, said: &mut Vec<Said>) -> Result<(), EventFault>
-        ensures { (number : ℕ) → DoesLine number (λ (s : Shown). line_step s number (ScriptLine.Event event aim))
+        ensures { (number : ℕ) → DoesLine P.knows number (λ (s : Shown). line_step s number (ScriptLine.Event event aim))
             result (stands P.shows self.old) (stands P.shows self.new) said.old.items said.new.items }
     {
         match self {
@@ -54,7 +66,7 @@ impl<P: NodePlace> Stage<P> {
 
     /// Shows a node.
     fn show(&self, node: u32, said: &mut Vec<Said>) -> Result<(), EventFault>
-        ensures { (number : ℕ) → DoesLine number (λ (s : Shown). line_step s number (ScriptLine.Show node))
+        ensures { (number : ℕ) → DoesLine P.knows number (λ (s : Shown). line_step s number (ScriptLine.Show node))
             result (stands P.shows self.now) (stands P.shows self.now) said.old.items said.new.items }
     {
         let Stage::Within(cluster) = self else {
@@ -70,13 +82,14 @@ impl<P: NodePlace> Stage<P> {
     }
 
     /// Does what a line says, and puts what is said behind the rest. A fault ends the script.
-    fn take_line(
+    pub(crate) fn take_line(
         &mut self,
         alloc: Global,
         line: ScriptLine,
         said: &mut Vec<Said>,
     ) -> Result<(), EventFault>
-        ensures { (number : ℕ) → DoesLine number (λ (s : Shown). line_step s number (line))
+        requires { MayOpen line }
+        ensures { (number : ℕ) → DoesLine P.knows number (λ (s : Shown). line_step s number (line))
             result (stands P.shows self.old) (stands P.shows self.new) said.old.items said.new.items }
     {
         match line {
@@ -85,22 +98,6 @@ impl<P: NodePlace> Stage<P> {
             ScriptLine::Pages { .. } => Err(EventFault::NotThere),
             ScriptLine::Show { number } => self.show(number, said),
             ScriptLine::Event { event, aim } => self.happen(event, aim, said),
-        }
-    }
-
-    /// Does what the bytes of a line say, and puts what is said behind the rest. A fault ends the script.
-    pub(crate) fn take(
-        &mut self,
-        alloc: Global,
-        line: &[u8],
-        said: &mut Vec<Said>,
-    ) -> Result<(), EventFault>
-        ensures { (number : ℕ) → number ≤ line_count_limit → DoesLine number (λ (s : Shown). step s number line.now)
-            result (stands P.shows self.old) (stands P.shows self.new) said.old.items said.new.items }
-    {
-        match line_in(alloc, line)? {
-            Some(line) => self.take_line(alloc, line, said),
-            None => Err(EventFault::NotThere),
         }
     }
 

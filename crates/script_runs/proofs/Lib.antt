@@ -1,10 +1,11 @@
 mod Answering
 mod Mailing
-mod Running
-mod Placing
+pub mod Running
+pub mod Placing
 mod Worlds
-mod Scripts
+pub mod Scripts
 mod Contents
 mod Showing
 mod Bringing
 mod Brought
+pub mod Completing

@@ -81,11 +81,10 @@ module _ (m : Meaning) (kind : EngineKind) where
       stands_weaker _ _ (folder e) (λ kept h. path_on m kind setup n _ (Rests kept) (Rests kept) turns _ h (no_start m kind setup n ending is answers kept)) (fails (IsLeft _) d d e why p (as_it_is d fair) leaves)
 
   pub finds_on_hold : FindsOn m kind
-  finds_on_hold setup n turns d e old doing event aim answers ending p fall is finds shows =
+  finds_on_hold setup n turns d e old doing event aim answers ending p fall is finds =
       falls_on_hold setup n turns d e old doing aim answers ending p fall (record {
         crash = λ g left fair.
             let l = finds.crash g left fair in
-            let s = shows l.kept l.holds in
-            subst (IsLeft (StopDone m kind setup old doing)) (sym l.is) (record { event = event; is = is; stops = l.holds; voters = s.0; alone = s.1 });
+            subst (IsLeft (StopDone m kind setup old doing)) (sym l.is) (record { event = event; is = is; stops = l.holds });
         seen = finds.seen;
       })

@@ -15,7 +15,7 @@ use Rattle.cluster_world.specs.Clusters.{Act as RuleAct}
 use Rattle.node_rules.specs.Steps.{Letter, StartStopsSo}
 use Rattle.node_core.specs.declared.event.Event as core
 use Rattle.node_core.specs.declared.running.Running.{Running}
-use Rattle.node_core.specs.Account.{Sends, Begin, Happens, Comes, Compacts, IsMore, AreOf}
+use Rattle.node_core.specs.Account.{Sends, Begin, Happens, Comes, Compacts, IsMore, AreOf, IsAlone}
 use Rattle.node_core.specs.Values.{seen}
 use Rattle.node_world.specs.Acts.{RunIs}
 use Rattle.node_world.specs.Runs.{Place, Up, Down, Run, Event, Starts as Boots, StartFails, Crashes as Halts, kept_at, nothing_kept, happens, first_run, run_from, AllHold}
@@ -27,16 +27,16 @@ use Rattle.node_runs.specs.Steps.{Leads, used_in, AreAmong, StopRuns}
 use Rattle.node_runs.proofs.Stepping.{step_at, stop_at}
 use Rattle.node_runs.proofs.Starting.{leads_by}
 use Rattle.script_nodes.specs.Outcomes.{Standing, Outs, Ending, Steps, Starts, Stops, Fails, Unreadable, Doing, Timeout, Beat, Connect, Bytes, Hangup, Receive, Start, Turn, Does, Crashes}
-use Rattle.script_runs.specs.Seats.{Seat, Runs, Rests, EventIs, IsAlone, StepDone, StopDone, StartDone, EndsSo, CrashesSo, TurnSo, PathSo}
+use Rattle.script_runs.specs.Seats.{Seat, Runs, Rests, EventIs, StepDone, StopDone, StartDone, EndsSo, CrashesSo, TurnSo, PathSo}
 use Rattle.script_runs.specs.Turns.{actor, turns_at, messages_of, messages_in, WasSent, SentTo, AllSentTo, IsDown, EndShows, TurnRuns, AreRun, events_of}
 use Rattle.script_runs.specs.Laws.{TurnsAreRuns, RunsHold, NodesAreSafe, LatersAreSafe}
 use Rattle.script_runs.proofs.Bringing.{Brought, true_false, brought, by_doing}
 use Rattle.script_runs.proofs.Answering.{told_are}
 use Rattle.script_runs.proofs.Mailing.{among_none, among_join}
 
--- the run's place is this seat
+-- the run's place is this seat, of a node without links
 SeatIs : ℕ → Seat → Place → Type 0
-SeatIs n (Runs node) place = (place ≡ Up (seen node)) × ((seen node).raft.id ≡ n)
+SeatIs n (Runs node) place = (place ≡ Up (seen node)) × ((seen node).raft.id ≡ n) × (node.has_links ≡ false)
 SeatIs n (Rests kept) place = place ≡ Down kept
 
 module _ (m : Meaning) (kind : EngineKind) (setup : Setup) (r : Run) (n : ℕ) where
@@ -80,10 +80,10 @@ module _ (m : Meaning) (kind : EngineKind) (setup : Setup) (r : Run) (n : ℕ) w
         pub says : AreAmong (messages_of ending) letters
         pub brings : Brought n doing leads.events
 
-      steps_so : (old new : Running) (doing : Doing) (answers : List Answer) (outs : Outs) (standing : Standing) → r.places n ≡ Up (seen old) → (seen old).raft.id ≡ n → WasSent sent n doing → StepDone m kind setup old new doing answers outs standing → Done doing answers (Steps outs standing) (Runs new)
+      steps_so : (old new : Running) (doing : Doing) (answers : List Answer) (outs : Outs) (standing : Standing) → r.places n ≡ Up (seen old) → (seen old).raft.id ≡ n → old.has_links ≡ false → WasSent sent n doing → StepDone m kind setup old new doing answers outs standing → Done doing answers (Steps outs standing) (Runs new)
       unfolding SeatIs
-      steps_so old new doing answers outs standing up id sent_so d =
-          let s = step_at m kind setup r acts was n old up id d.event new d.said _ _ d.steps d.voters (all_arrive doing d.event d.steps.begins d.is sent_so d.steps.are d.alone) in
+      steps_so old new doing answers outs standing up id none sent_so d =
+          let s = step_at m kind setup r acts was n old up id d.event new d.said _ _ d.steps (all_arrive doing d.event d.steps.begins d.is sent_so d.steps.are (d.steps.alone none)) in
           let among_them : AreAmong outs.messages s.letters = subst (λ (o : Outs). AreAmong o.messages s.letters) (sym d.outs_are) s.messages in
           record {
             place = Up (seen new);
@@ -98,14 +98,14 @@ module _ (m : Meaning) (kind : EngineKind) (setup : Setup) (r : Run) (n : ℕ) w
               tells = subst (λ (o : Outs). Sends s.replies o.replies) (sym d.outs_are) s.tells;
               answers_are = told_are d.before (used_in m kind setup r s.leads.events s.leads.hold) answers s.heard;
             };
-            seat = (refl, s.id);
+            seat = (refl, s.id, d.steps.links ∙ none);
             says = among_them;
             brings = brought n doing d.event d.steps.begins s.leads.events d.is d.steps.are s.stays;
           }
 
-      stops_so : (old : Running) (doing : Doing) (kept : Kept) → r.places n ≡ Up (seen old) → (seen old).raft.id ≡ n → WasSent sent n doing → (d : StopDone m kind setup old doing kept) → StopRuns m kind setup r n (d.stops.begins ++ d.stops.last ∷ []) kept
-      stops_so old doing kept up id sent_so d =
-          stop_at m kind setup r acts was n old up id d.event kept d.stops d.voters (all_arrive doing d.event (d.stops.begins ++ d.stops.last ∷ []) d.is sent_so d.stops.are d.alone)
+      stops_so : (old : Running) (doing : Doing) (kept : Kept) → r.places n ≡ Up (seen old) → (seen old).raft.id ≡ n → old.has_links ≡ false → WasSent sent n doing → (d : StopDone m kind setup old doing kept) → StopRuns m kind setup r n (d.stops.begins ++ d.stops.last ∷ []) kept
+      stops_so old doing kept up id none sent_so d =
+          stop_at m kind setup r acts was n old up id d.event kept d.stops (all_arrive doing d.event (d.stops.begins ++ d.stops.last ∷ []) d.is sent_so d.stops.are (d.stops.alone none))
 
       -- an event after which the node is down
       down_so : (doing : Doing) (answers : List Answer) (ending : Ending) (kept : Kept) (letters : List Letter) (replies : List (ℕ × Reply)) (l : Leads m kind setup r n (Down kept) letters replies) → Brought n doing l.events →
@@ -130,7 +130,7 @@ module _ (m : Meaning) (kind : EngineKind) (setup : Setup) (r : Run) (n : ℕ) w
         replies = [];
         leads = leads_by m kind setup r n (Up (seen new)) (Boots n d.servers (seen new)) (kept, down, d.starts) refl;
         shows = record { node = seen new; up = refl; stands = d.stands };
-        seat = (refl, d.id);
+        seat = (refl, d.id, d.links);
         says = among_none [];
         brings = record { starts = λ k none. ((λ at. true_false (none at)), tt); joined = λ k conn none. tt; asks = λ k conn none. refl };
       }
@@ -157,12 +157,12 @@ module _ (m : Meaning) (kind : EngineKind) (setup : Setup) (r : Run) (n : ℕ) w
 
       ends_so : (old : Seat) (doing : Doing) (answers : List Answer) (ending : Ending) (new : Seat) → SeatIs n old (r.places n) → WasSent sent n doing → EndsSo m kind setup n old doing answers ending new → Done doing answers ending new
       unfolding SeatIs
-      ends_so (Runs old) doing answers (Steps outs standing) (Runs new) seat was_sent h = steps_so old new doing answers outs standing seat.0 seat.1 was_sent h
+      ends_so (Runs old) doing answers (Steps outs standing) (Runs new) seat was_sent h = steps_so old new doing answers outs standing seat.0 seat.1 seat.2 was_sent h
       ends_so (Runs old) doing answers (Stops keeps) (Rests kept) seat was_sent h =
-          let s = stops_so old doing kept seat.0 seat.1 was_sent h in
+          let s = stops_so old doing kept seat.0 seat.1 seat.2 was_sent h in
           down_so doing answers (Stops keeps) kept s.letters s.replies s.leads (brought n doing h.event (h.stops.begins ++ h.stops.last ∷ []) s.leads.events h.is h.stops.are s.stays) (λ place used d. d) refl
       ends_so (Runs old) doing answers (Fails keeps) (Rests kept) seat was_sent h =
-          let s = stops_so old doing kept seat.0 seat.1 was_sent h in
+          let s = stops_so old doing kept seat.0 seat.1 seat.2 was_sent h in
           down_so doing answers (Fails keeps) kept s.letters s.replies s.leads (brought n doing h.event (h.stops.begins ++ h.stops.last ∷ []) s.leads.events h.is h.stops.are s.stays) (λ place used d. d) refl
       ends_so (Rests kept) doing answers (Starts loaded standing) (Runs new) seat was_sent h = subst (λ z. Done z answers (Starts loaded standing) (Runs new)) (sym h.0) (begins_so kept loaded new answers standing seat h.1)
       ends_so (Rests kept) doing answers (Stops keeps) (Rests left) seat was_sent h = down_so doing answers (Stops keeps) left [] [] (fails_so kept left seat h.1) (fails_bring doing left) (λ place used d. d) refl

@@ -1,5 +1,5 @@
 -- In a script's world a message that arrives was sent.
-use Rattle.std.proofs.Common.{◌≡◌, ℕ, zero, suc, Bool, true, false, List, [], ◌∷◌, ◌++◌, map, refl, sym, ap, ◌∙◌, subst, append-nil, append_assoc}
+use Rattle.std.proofs.Common.{◌≡◌, ◌⊎◌, inl, inr, ℕ, zero, suc, Bool, true, false, List, [], ◌∷◌, ◌++◌, map, refl, sym, ap, ◌∙◌, subst, append-nil, append_assoc}
 use Rattle.std.specs.Prelude.{◌-◌, ◌+◌, Option, Some, None, Result, Ok, Err, slice_get, nat_le, if◌then◌else◌}
 use Rattle.std.specs.List.{AllByRecursion}
 use Rattle.std.proofs.lemmas.List.{map-append}
@@ -136,23 +136,58 @@ found (x ∷ mail) (m ∷ ms) (suc place) l e is =
 
 -- ---- worlds
 
+-- in any front of turns only what was sent has arrived
+abbrev FrontsSent : List Turn → Type 0
+FrontsSent turns = (front rest : List Turn) → turns ≡ front ++ rest → AllCanHold front → AllSentTo [] front
+
 -- its mail is what was said in its turns, and in these only what was sent has arrived
 record Mailed (w : World) : Type 0 where
   pub mail : map strip w.mail ≡ map written (sent_in w.turns)
-  pub sent : AllCanHold w.turns → AllSentTo [] w.turns
+  pub sent : FrontsSent w.turns
 
 same_mail : (w v : World) → map strip v.mail ≡ map strip w.mail → v.turns ≡ w.turns → Mailed w → Mailed v
 same_mail w v mail turns h = record {
   mail = mail ∙ h.mail ∙ ap (λ (t : List Turn). map written (sent_in t)) (sym turns);
-  sent = λ r. subst (AllSentTo []) (sym turns) (h.sent (subst AllCanHold turns r));
+  sent = subst FrontsSent (sym turns) h.sent;
 }
+
+-- a front of turns and of one more is all of them, or a front of the turns
+front_parts : (turns : List Turn) (turn : Turn) (front rest : List Turn) → turns ++ turn ∷ [] ≡ front ++ rest → (front ≡ turns ++ turn ∷ []) ⊎ ((more : List Turn) × (turns ≡ front ++ more))
+front_parts turns turn [] rest e = inr (turns, refl)
+front_parts [] turn (f ∷ front) rest e = inl (ap (λ (t : Turn). t ∷ front) (sym (head_is turn f [] (front ++ rest) e)) ∙ ap (λ (l : List Turn). turn ∷ l) (none front rest (sym (tail_is turn f [] (front ++ rest) e))))
+  where
+    head_is : (a b : Turn) (xs ys : List Turn) → a ∷ xs ≡ b ∷ ys → a ≡ b
+    head_is a b xs ys e = cc
+
+    tail_is : (a b : Turn) (xs ys : List Turn) → a ∷ xs ≡ b ∷ ys → xs ≡ ys
+    tail_is a b xs ys e = cc
+
+    none : (xs ys : List Turn) → xs ++ ys ≡ [] → xs ≡ []
+    none [] ys e = refl
+    none (x ∷ xs) ys e = absurd cc
+front_parts (t ∷ turns) turn (f ∷ front) rest e =
+    let same : t ≡ f = head_is t f (turns ++ turn ∷ []) (front ++ rest) e in
+    elim (front_parts turns turn front rest (tail_is t f (turns ++ turn ∷ []) (front ++ rest) e)) [
+      | inl all ↦ inl (ap (λ (u : Turn). u ∷ front) (sym same) ∙ ap (λ (l : List Turn). t ∷ l) all)
+      | inr some ↦ inr (some.0, ap (λ (u : Turn). u ∷ turns) same ∙ ap (λ (l : List Turn). f ∷ l) some.1)
+    ]
+  where
+    head_is : (a b : Turn) (xs ys : List Turn) → a ∷ xs ≡ b ∷ ys → a ≡ b
+    head_is a b xs ys e = cc
+
+    tail_is : (a b : Turn) (xs ys : List Turn) → a ∷ xs ≡ b ∷ ys → xs ≡ ys
+    tail_is a b xs ys e = cc
 
 turned : (w v : World) (turn : Turn) → Mailed w → v.turns ≡ w.turns ++ turn ∷ [] → map strip v.mail ≡ map strip w.mail ++ map written (messages_in turn) → (AllCanHold w.turns → SentTo (sent_in w.turns) turn) → Mailed v
 turned w v turn h turns mail came = record {
   mail = mail ∙ ap (λ z. z ++ map written (messages_in turn)) h.mail ∙ sym (map-append written (sent_in w.turns) (messages_in turn)) ∙ ap (map written) (sym (sent_more w.turns turn)) ∙ ap (λ (t : List Turn). map written (sent_in t)) (sym turns);
-  sent = λ r.
-      let before = read_before w.turns turn (subst AllCanHold turns r) in
-      subst (AllSentTo []) (sym turns) (all_more [] w.turns turn (h.sent before) (came before));
+  sent = λ front rest e r.
+      elim (front_parts w.turns turn front rest (sym turns ∙ e)) [
+        | inl all ↦
+            let before = read_before w.turns turn (subst AllCanHold all r) in
+            subst (AllSentTo []) (sym all) (all_more [] w.turns turn (h.sent w.turns [] (sym (append-nil w.turns)) before) (came before))
+        | inr some ↦ h.sent front some.0 some.1 r
+      ];
 }
 
 -- what goes on from such worlds leads to such worlds
@@ -286,9 +321,13 @@ all_start_mailed : (count n : ℕ) → Goes (all_start count n)
 all_start_mailed zero n w h = h
 all_start_mailed (suc count) n w h = then_mailed (all_start count (suc n)) (starts n Nothing w) (all_start_mailed count (suc n)) (starts_mailed n Nothing w h)
 
+none_sent : FrontsSent []
+none_sent [] rest e r = tt
+none_sent (f ∷ front) rest e r = absurd cc
+
 opened_mailed : (voters spare : ℕ) (outcomes : List Outcome) → Mailed (opened voters spare outcomes).world
 unfolding opened
-opened_mailed voters spare outcomes = all_start_mailed (voters + spare) 1 (empty_world voters spare outcomes) (record { mail = refl; sent = λ r. tt })
+opened_mailed voters spare outcomes = all_start_mailed (voters + spare) 1 (empty_world voters spare outcomes) (record { mail = refl; sent = none_sent })
 
 -- ---- lines
 
@@ -325,10 +364,10 @@ unfolding step
 step_mailed s number line h = stop_or (nat_le number line_count_limit) s (said_step s number (line_of line)) _ (said_mailed s number (line_of line) h) h
 
 abbrev RunSent : runs.Run → Type 0
-RunSent r = AllCanHold r.turns → AllSentTo [] r.turns
+RunSent r = FrontsSent r.turns
 
 ends_sent : (s : Stage) (said : List Said) (fault : Option Fault) → StageMailed s → RunSent (runs.ends_at s said fault)
-ends_sent (Opening outcomes) said fault h = λ r. tt
+ends_sent (Opening outcomes) said fault h = none_sent
 ends_sent (Within w) said fault h = h.sent
 
 onward_sent : (go : Stage → runs.Run) (next : Next) (o : Option Fault) → ((s : Stage) → StageMailed s → RunSent (go s)) → StageMailed next.stage → RunSent (runs.onward go next o)

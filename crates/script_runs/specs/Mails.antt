@@ -1,30 +1,22 @@
 -- Each message that arrives in a script was sent.
-use Rattle.std.specs.Prelude.{ℕ, List, [], ◌∷◌}
-use Rattle.std.specs.List.{AllByRecursion}
+use Rattle.std.specs.Prelude.{◌≡◌, ℕ, List, [], ◌++◌}
 use Rattle.sql_engine.specs.declared.kind.EngineKind.{EngineKind}
 use Rattle.sql_engine.specs.Meanings.{Meaning}
-use Rattle.raft_vote.specs.declared.message.RaftMessage.{RaftMessage}
-use Rattle.raft_vote.specs.Messages.{message_fields, AllHold}
 use Rattle.raft_world.specs.Members.{Setup}
 use Rattle.node_world.specs.Runs.{nothing_kept}
 use Rattle.script_nodes.specs.Outcomes.{Outcome, Turn}
 use Rattle.script_nodes.specs.Run.{run}
+pub use Rattle.script_nodes.specs.Knowing.{CanHold, AllCanHold}
 use Rattle.script_runs.specs.Laws.{IsSafe}
 use Rattle.script_runs.specs.Seats.{Seat, Rests, PathSo}
-use Rattle.script_runs.specs.Turns.{turns_at, messages_in, AllSentTo}
+use Rattle.script_runs.specs.Turns.{turns_at, AllSentTo}
 
--- The wire can hold the message: its numbers and sizes are of 64 bits.
-abbrev pub CanHold : RaftMessage → Type 0
-CanHold m = AllHold (message_fields m)
-
--- so each message that a step says
-abbrev pub AllCanHold : List Turn → Type 0
-AllCanHold [] = Unit {0}
-AllCanHold (turn ∷ turns) = AllByRecursion CanHold (messages_in turn) × AllCanHold turns
-
--- In a script, whatever came of its events, a node receives only messages that were sent to it.
+-- In a script, whatever came of its events, a node receives only messages that were sent to it; up to any moment, where the wire could
+-- hold what was sent until then.
 abbrev pub MailIsSent : Type 0
-MailIsSent = (script : List ℕ) (outcomes : List Outcome) → AllCanHold (run script outcomes).turns → AllSentTo [] (run script outcomes).turns
+MailIsSent =
+    (script : List ℕ) (outcomes : List Outcome) (front rest : List Turn) → (run script outcomes).turns ≡ front ++ rest → AllCanHold front →
+    AllSentTo [] front
 
 -- What came of a script's events is what whole nodes do, each at its place.
 pub record ByNodes (m : Meaning) (kind : EngineKind) (setup : Setup) (turns : List Turn) : Type 0 where
@@ -32,8 +24,8 @@ pub record ByNodes (m : Meaning) (kind : EngineKind) (setup : Setup) (turns : Li
   pub paths : (n : ℕ) → PathSo m kind setup n (Rests nothing_kept) (turns_at n turns) (ends n)
   pub hold : AllCanHold turns
 
--- So each script is safe.
+-- So each script is safe, up to any moment until which its nodes did so.
 abbrev pub ScriptsAreSafe : Meaning → EngineKind → Type 0
 ScriptsAreSafe m kind =
-    (setup : Setup) (script : List ℕ) (outcomes : List Outcome) → ByNodes m kind setup (run script outcomes).turns →
-    IsSafe m kind setup (run script outcomes).turns
+    (setup : Setup) (script : List ℕ) (outcomes : List Outcome) (front rest : List Turn) → (run script outcomes).turns ≡ front ++ rest →
+    ByNodes m kind setup front → IsSafe m kind setup front

@@ -1,6 +1,5 @@
 -- The place of a script's node with its disk: what its turns so far have led to, and that each call of a node leads on.
 use Rattle.std.specs.Prelude.{ℕ, List, [], ◌∷◌, ◌++◌, Option, Some, None, Ok, Err}
-use Rattle.std.specs.List.{AllByRecursion}
 use Rattle.sql_engine.specs.declared.kind.EngineKind.{EngineKind}
 use Rattle.sql_engine.specs.Meanings.{Meaning}
 use Rattle.session_rules.specs.Engines.{Answer}
@@ -23,10 +22,9 @@ use Rattle.node_core.specs.Finding.{FindsIn}
 use Rattle.node_core.specs.Starting.{StartLeaves}
 use Rattle.node_core.specs.Values.{kept_by}
 use Rattle.node_world.specs.Runs.{nothing_kept}
-use Rattle.node_runs.specs.Steps.{StopTellsVoters}
 use Rattle.script_lines.specs.declared.grammar.Aim.{Aim}
 use Rattle.script_nodes.specs.Outcomes.{Standing, Outs, Ending, Steps, Starts, Stops, Fails, Unreadable, Doing, Start, Turn, Does, Crashes}
-use Rattle.script_runs.specs.Seats.{Seat, Runs, Rests, EventIs, IsAlone, StepDone, StopDone, StartDone, PathSo}
+use Rattle.script_runs.specs.Seats.{Seat, Runs, Rests, EventIs, StepDone, StopDone, StartDone, PathSo}
 
 -- ---- a place
 
@@ -119,10 +117,9 @@ StartsFail m kind =
 
 -- ---- what `Node::step` says of the disk where it failed
 
--- A load finds what the step may have left, where each of these was told its voters and took no message on a connection.
+-- A load finds what the step may have left.
 abbrev pub FindsOn : Meaning → EngineKind → Type 0
 FindsOn m kind =
     (setup : Setup) (n : ℕ) (turns : List Turn) (d e : Disk Text) (old : Running) (doing : Doing) (event : core.Event) (aim : Aim) (answers : List Answer)
     (ending : Ending) → IsPlaced m kind setup n turns d (Some old) → IsFall ending → EventIs doing event → FindsIn (StopsBy m kind setup old event) (folder e) →
-    ((kept : Kept) (s : StopsBy m kind setup old event kept) → StopTellsVoters m kind setup old event kept s × AllByRecursion IsAlone (s.begins ++ s.last ∷ [])) →
     IsPlaced m kind setup n (turns ++ does n doing aim answers ending ∷ []) e None

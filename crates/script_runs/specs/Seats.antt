@@ -1,7 +1,5 @@
 -- What whole nodes do in the turns of a script, each at its place.
-use Rattle.std.specs.Prelude.{◌≡◌, ℕ, zero, suc, false, List, [], ◌∷◌, ◌++◌, codes, Option, Some}
-use Rattle.std.specs.List.{AllByRecursion}
-use Rattle.std.specs.Fmt.{decimal}
+use Rattle.std.specs.Prelude.{◌≡◌, ℕ, false, List, [], ◌∷◌, ◌++◌, Option, Some}
 use Rattle.sql_engine.specs.declared.kind.EngineKind.{EngineKind}
 use Rattle.sql_engine.specs.Meanings.{Meaning, Told}
 use Rattle.session_rules.specs.Engines.{Answer}
@@ -17,18 +15,14 @@ use Rattle.node_core.specs.declared.event.Event as core
 use Rattle.node_core.specs.declared.event.Event.TheVariants as events
 use Rattle.node_core.specs.declared.outs.Outs as core_outs
 use Rattle.node_core.specs.declared.running.Running.{Running}
-use Rattle.node_core.specs.Account.{Begin, Happens, Comes, Compacts, StepsBy, StopsBy}
+use Rattle.node_core.specs.Account.{StepsBy, StopsBy}
 use Rattle.node_core.specs.Values.{seen}
-use Rattle.node_runs.specs.Steps.{AllTellVoters, StopTellsVoters}
+use Rattle.script_nodes.specs.Voters.{voters_from}
 use Rattle.script_nodes.specs.Outcomes.{Standing, Outs, Ending, Steps, Starts, Stops, Fails, Unreadable, Doing, Timeout, Beat, Connect, Bytes, Hangup, Receive, Start, Turn, Does, Crashes}
 
 -- ---- the cluster of a script
 
--- so many voters, the first of which has this number, each at the address of its number
-abbrev pub voters_from : ℕ → ℕ → List Server
-voters_from zero n = []
-voters_from (suc count) n = record { id = n; address = codes "n" ++ decimal n; role = 0 } ∷ voters_from count (suc n)
-
+-- so many voters, those of the lowest numbers, each at the address of its number
 abbrev pub setup_of : ℕ → Setup
 setup_of voters = read_setup (voters_from voters 1)
 
@@ -56,12 +50,6 @@ EventIs (Hangup conn) event = event ≡ events.Hangup conn
 EventIs (Receive message) event = event ≡ events.Peer message
 EventIs Start event = ⊥
 
--- no message of a peer came on a connection, as a script's connections are clients' alone
-abbrev pub IsAlone : Begin → Type 0
-IsAlone (Happens event) = Unit {0}
-IsAlone (Comes message) = ⊥
-IsAlone (Compacts index) = Unit {0}
-
 -- an engine that keeps its answers has kept these, and lost none
 abbrev pub has_told : List Answer → Option Told
 has_told answers = Some (record { answers = answers; cut = false })
@@ -77,8 +65,6 @@ pub record StepDone (m : Meaning) (kind : EngineKind) (setup : Setup) (old new :
   pub said : core_outs.Outs
   pub before : List Answer
   pub steps : StepsBy m kind setup old new event said (has_told before) (has_told (before ++ answers))
-  pub voters : AllTellVoters m kind setup old new steps.begins steps.made steps.acts
-  pub alone : AllByRecursion IsAlone steps.begins
   pub outs_are : outs ≡ outs_of said
   pub stands : StandsSo (seen new) standing
 
@@ -87,15 +73,14 @@ pub record StopDone (m : Meaning) (kind : EngineKind) (setup : Setup) (old : Run
   pub event : core.Event
   pub is : EventIs doing event
   pub stops : StopsBy m kind setup old event kept
-  pub voters : StopTellsVoters m kind setup old event kept stops
-  pub alone : AllByRecursion IsAlone (stops.begins ++ stops.last ∷ [])
 
--- A start ended well, over what was kept.
+-- A start ended well, over what was kept, of a node without links, as a script's connections are clients' alone.
 pub record StartDone (setup : Setup) (n : ℕ) (kept loaded : Kept) (new : Running) (standing : Standing) : Type 0 where
   pub loads : loaded ≡ kept
   pub servers : List Server
   pub starts : StartsSo setup kept (seen new) servers
   pub id : (seen new).raft.id ≡ n
+  pub links : new.has_links ≡ false
   pub stands : StandsSo (seen new) standing
 
 -- What a node did at its place, and how that ended.

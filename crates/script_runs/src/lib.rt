@@ -2,6 +2,7 @@
 //! and it holds under every engine.
 #![tactic(auto)]
 
+ghost use Rattle.script_runs.specs.Complete.{ScriptsAreComplete};
 ghost use Rattle.script_runs.specs.Laws.{LatersAreSafe, NodesAreSafe, RunsHold, TurnsAreRuns, TurnsBring};
 ghost use Rattle.script_runs.specs.Mails.{MailIsSent, ScriptsAreSafe};
 ghost use Rattle.script_runs.specs.Places.{CrashesOn, DisksCrashOn, FallsOn, FindsOn, PlacesBegin, StartsFail, StartsOn, StepsOn};
@@ -36,7 +37,8 @@ pub fn places_lead_on<E: Engine>()
 {}
 
 /// In a script, whatever came of its events, a node receives only messages that were sent to it, as bytes that are read back; the wire has
-/// to be able to hold what is sent. So each script is safe whose nodes do at their places what whole nodes do.
+/// to be able to hold what is sent. So each script is safe whose nodes do at their places what whole nodes do; and up to any moment, where
+/// they did so until then.
 pub fn scripts_are_safe<E: Engine>()
     ensures mail { MailIsSent }
     ensures safe { (kind : _) → ScriptsAreSafe (E.meaning kind) kind }
@@ -46,4 +48,10 @@ pub fn scripts_are_safe<E: Engine>()
 /// same.
 pub fn nodes_are_shown_alike<E: Engine>()
     ensures { (kind : _) → ShownAlike (E.meaning kind) kind }
+{}
+
+/// In a script that is safe each request of a connection that stays open is answered once, and in its order: by the call that handles it, or
+/// by the one in which its node, still leading that term, applies the last entry of what it proposed.
+pub fn requests_are_answered<E: Engine>()
+    ensures { (kind : _) → ScriptsAreComplete (E.meaning kind) kind }
 {}

@@ -3,7 +3,7 @@ use Rattle.std.proofs.Common.{◌≡◌, ◌≤◌, ℕ, List, [], ◌∷◌, re
 use Rattle.std.specs.Prelude.{Option}
 use Rattle.node_edge.specs.declared.event.Event.{Event}
 use Rattle.node_edge.specs.declared.looping.LoopEnd.{LoopEnd}
-use Rattle.node_edge.specs.declared.looping.LoopEnd.TheVariants.{Closed, DiskFault, Spent, NoMemory}
+use Rattle.node_edge.specs.declared.looping.LoopEnd.TheVariants.{Closed, DiskFault, Spent, NoMemory, Unfit}
 use Rattle.node_edge.specs.Stepping.{Steps}
 use Rattle.node_edge.specs.Looping.{Taken, Broke, Ends, Loops}
 use Rattle.sql_engine.specs.Meanings.{Stays}
@@ -48,6 +48,7 @@ ends_seen see breaks seen each last now before after events budget Closed ends =
 ends_seen see breaks seen each last now before after events budget (Spent count) ends = (ends.0, ap see ends.1, ends.2, ends.3)
 ends_seen see breaks seen each last now before after events budget DiskFault ends = broke_seen see breaks seen each last now before after events ends
 ends_seen see breaks seen each last now before after events budget NoMemory ends = broke_seen see breaks seen each last now before after events ends
+ends_seen see breaks seen each last now before after events budget Unfit ends = broke_seen see breaks seen each last now before after events ends
 
 -- a loop of the same steps, seen otherwise
 pub loops_seen : {S R T O : Type 0} (see : S → R) (makes : S → Event T → O → S → Type 0) (breaks : S → Event T → S → Type 0)
@@ -74,6 +75,7 @@ ends_keep breaks kept none each last now before after events budget Closed ends 
 ends_keep breaks kept none each last now before after events budget (Spent count) ends = subst (λ s. kept last s) (sym ends.1) (none last)
 ends_keep breaks kept none each last now before after events budget DiskFault ends = each last now ends.event ends.broken
 ends_keep breaks kept none each last now before after events budget NoMemory ends = each last now ends.event ends.broken
+ends_keep breaks kept none each last now before after events budget Unfit ends = each last now ends.event ends.broken
 
 -- what is lent stays so, where nothing is done, and in one step behind another
 lent_same : {A B : Type 0} (a : Lent A B) → StaysLent a a

@@ -23,4 +23,5 @@ event_of (loops.ReadDone conn read) = happens.ReadDone conn read
 abbrev pub fault_of : NodeFault → StepFault
 fault_of node.DiskFault = step.DiskFault
 fault_of node.NoMemory = step.NoMemory
+fault_of node.Unfit = step.Unfit
 fault_of node.Down = step.NoMemory

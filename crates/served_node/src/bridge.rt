@@ -31,6 +31,7 @@ pub(crate) fn fault_of(fault: NodeFault) -> StepFault
     match fault {
         NodeFault::DiskFault => StepFault::DiskFault,
         NodeFault::NoMemory => StepFault::NoMemory,
+        NodeFault::Unfit => StepFault::Unfit,
         NodeFault::Down => unreachable!(),
     }
 }

@@ -1,7 +1,7 @@
 use Rattle.std.proofs.Common.{◌≡◌, ℕ, subst, arith}
 use Rattle.std.proofs.lemmas.Result.{err_from_is_err_and}
 use Rattle.script_lines.specs.Lines.{to_come}
-use Rattle.script_runner.specs.Stages.{stands}
+use Rattle.script_runner.specs.Scenes.{holds}
 use Rattle.script_runner.specs.Ending.{Reached}
 use Rattle.script_runner.proofs.run.run_lines.Goals as goal
 
@@ -29,5 +29,5 @@ returns-clause-goes g c = λ first written r.
     let number : c.loop-number.number ≡ 1000001 = omega arith in
     let now = to_come c.loop-number.lines (g.S.Source.left c.loop-number.source) in
     let printed = g.K.Sink.written c.loop-number.sink in
-    let at = stands g.P.NodePlace.shows c.loop-number.stage in
-    c.run_past.ensures.goes first written printed at (subst (λ (n : ℕ). Reached first now written printed at n) number (c.loop-number.invariant.reached first written r))
+    let at = holds g.P.NodePlace.shows c.loop-number.scene in
+    c.run_past.ensures.goes first written printed at (subst (λ (n : ℕ). Reached g.P.NodePlace.knows first now written printed at n) number (c.loop-number.invariant.reached first written r))

@@ -5,10 +5,11 @@ use Rattle.node_replica.specs.Replicas.{ReplicaValue, IsKept}
 use Rattle.node_rules.specs.Accounts.{MayEnd}
 use Rattle.node_core.specs.declared.running.Running.{Running}
 use Rattle.node_core.specs.Account.{moment_of, AtRest, Underway}
+use Rattle.raft_rules.specs.Node.{Local, Snapped}
+use Rattle.node_core.proofs.Besides.{may_plain}
 use Rattle.node_core.proofs.Causes.{always_ok}
 use Rattle.node_core.proofs.Led.{led_closes}
 use Rattle.node_core.proofs.Looping.{on_ok_then, further_at, letter_at, closed_at, compacts, ends_closed, ends_behind}
-use Rattle.store_laws.specs.Store.{Kept}
 use Rattle.node_core.proofs.Finding.{more, kept_finds}
 use Rattle.node_core.specs.Account.{StopsBy}
 use Rattle.node_core.specs.Finding.{StopsCompacting, StopsLetter}
@@ -148,7 +149,8 @@ returns-in_err-compact-clause-stops g c = λ opening start event told u has.
     c.take_message.ensures.index (c.in_ok-take_message.ensures.none c.if-branch-2.false) (c.in_ok-take_message.ensures.turns c.if-branch-2.false) (c.in_ok-run_due.ensures.run c.if-branch.false)
     (c.in_ok-take_message.ensures.sessions c.if-branch-2.false) in
     more g.D.Disk.tells (g.D.Disk.states c.compact.new.disk) (StopsCompacting setup [] c.take_message.new.self) P
-    (λ kept s. stopped_compacting law m kind setup start event c.take_message.new.self behind kept ends.0 c.in_ok-take_message.ensures.going.holds.replica.id ends.1 s) (c.in_err-compact.ensures.stops opening [] (subst (λ (r : ReplicaValue). IsKept g.D.Disk.tells (g.D.Disk.states c.args.disk.now) r) (sym (c.take_message.ensures.replica ∙ c.run_due.ensures.replica)) has))
+    (λ kept s. stopped_compacting law m kind setup start event c.take_message.new.self behind kept ends.0 c.in_ok-take_message.ensures.going.holds.replica.id ends.1
+    (may_plain opening [] c.take_message.new.self (Local (Snapped c.take_message.new.self.applied.index)) tt) s) (c.in_err-compact.ensures.stops opening [] (subst (λ (r : ReplicaValue). IsKept g.D.Disk.tells (g.D.Disk.states c.args.disk.now) r) (sym (c.take_message.ensures.replica ∙ c.run_due.ensures.replica)) has))
     )
 
 pub returns-in_err-take_letter-clause-stops : goal.returns-in_err-take_letter-clause-stops

@@ -1,4 +1,4 @@
-use Rattle.std.proofs.Common.{ℕ, List, refl, sym, subst}
+use Rattle.std.proofs.Common.{ℕ, List, sym, subst}
 use Rattle.raft_core.specs.declared.event.RaftEvent.TheVariants as raft_events
 use Rattle.raft_member.specs.Members.{read_setup}
 use Rattle.node_replica.specs.Replicas.{ReplicaValue, IsKept}
@@ -8,7 +8,6 @@ use Rattle.node_core.specs.Account.{Happens, SoFar}
 use Rattle.node_core.specs.Performing.{HearsSo}
 use Rattle.node_core.proofs.Beginning.{begins_raft, with_timeout, with_beat, with_peer, begins_connect, begins_hangup, begins_bytes}
 use Rattle.node_core.proofs.Led.{led_comes, led_goes, led_hears}
-use Rattle.store_laws.specs.Store.{Kept}
 use Rattle.node_core.proofs.Finding.{more, kept_finds}
 use Rattle.node_replica.specs.Replicas.{kept_of}
 use Rattle.node_core.specs.Account.{Stopped}

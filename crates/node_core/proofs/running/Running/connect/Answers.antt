@@ -20,5 +20,5 @@ returns-in-Joined c =
       wants = tt;
       agrees = λ known a. c.in_ok-connect.ensures.agrees known machine a;
       goes = comes_so c.args.self.now new c.args.conn (record { replica = refl; index = refl; serving = refl; due = refl; machine = c.databases_stand.ensures; files = refl }) going.holds.clients.sound joined;
-      quiet = record { mail = refl; replies = refl; reads = refl };
+      quiet = record { mail = refl; replies = refl; reads = refl; members = refl; links = refl };
     }

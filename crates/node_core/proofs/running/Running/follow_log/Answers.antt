@@ -2,7 +2,9 @@ use Rattle.std.proofs.Common.{sym, ap, subst}
 use Rattle.node_replica.specs.Replicas.{ReplicaValue, IsKept}
 use Rattle.node_core.specs.declared.running.Running.{Running}
 use Rattle.raft_member.specs.Members.{read_setup}
-use Rattle.std.proofs.lemmas.Result.{on_err_weaker}
+use Rattle.std.proofs.lemmas.Result.{on_ok_weaker, on_err_weaker}
+use Rattle.node_core.specs.Posting.{same_members}
+use Rattle.node_core.proofs.Followed.{ok_both, tells_behind, follows_behind}
 use Rattle.node_core.specs.Finding.{StopsBehind, StopsTelling}
 use Rattle.node_core.proofs.Finding.{failed, kept_finds, more}
 use Rattle.node_core.proofs.StopsOfTurns.{telling_from, untold_behind}
@@ -27,3 +29,13 @@ returns-clause-stops g c = λ opening came has.
     (λ kept s. telling_from (read_setup opening) came c.args.self.now c.follow_members.new.self kept c.follow_members.ensures.is s))
     (c.tell_servers.ensures.stops opening came
     (subst (λ (r : ReplicaValue). IsKept g.D.Disk.tells (g.D.Disk.states c.args.disk.now) r) (sym (ap (λ (n : Running). n.replica) c.follow_members.ensures.is)) has))
+
+pub returns-then-not-branch-clause-tells : goal.returns-then-not-branch-clause-tells
+returns-then-not-branch-clause-tells g c = same_members (c.in_ok-follow_members.ensures.stays c.if-not-branch.true)
+
+pub returns-clause-tells : goal.returns-clause-tells
+returns-clause-tells g c = ok_both c.tell_servers.result (tells_behind c.args.self.now c.follow_members.new.self c.tell_servers.new.self c.follow_members.ensures.is) c.tell_servers.ensures.told c.tell_servers.ensures.tells
+
+pub returns-clause-follows : goal.returns-clause-follows
+returns-clause-follows g c =
+    on_ok_weaker c.tell_servers.result (λ t. follows_behind c.args.self.now c.follow_members.new.self c.tell_servers.new.self c.args.batch t c.in_ok-follow_members.ensures.follows) c.tell_servers.ensures.told

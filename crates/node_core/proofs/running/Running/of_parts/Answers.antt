@@ -1,4 +1,5 @@
-use Rattle.std.proofs.Common.{refl}
+use Rattle.std.proofs.Common.{refl, ap}
+use Rattle.session_rules.specs.Sessions.{View}
 use Rattle.node_core.proofs.running.Running.of_parts.Goals as goal
 
 pub returns : goal.returns
@@ -17,4 +18,5 @@ returns c = record {
     heard = refl;
     quiet = record { mail = c.new-5.ensures; replies = c.new-4.ensures.replies; closed = c.new-4.ensures.closed; messages = c.new-4.ensures.messages; reads = c.new-4.ensures.reads };
   };
+  links = ap (λ (v : View). v.links) c.view.view_is;
 }

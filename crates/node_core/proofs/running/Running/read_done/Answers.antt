@@ -12,7 +12,7 @@ pub returns-then-gives_back-clause-begun : goal.returns-then-gives_back-clause-b
 returns-then-gives_back-clause-begun g c = λ setup.
     let kind = g.E.Engine.kind c.args.engine.now in
     begins_given_back (g.E.Engine.meaning kind) kind setup c.args.self.now c.take_back.new.self c.args.conn c.args.read c.take_back.ensures.rest c.run_later.new.self
-    (c.in_ok-run_later.ensures.goes setup [] None).turns c.in_ok-run_later.ensures.replica
+    (c.in_ok-run_later.ensures.goes setup [] None) c.in_ok-run_later.ensures.replica
 
 pub returns-clause-begun : goal.returns-clause-begun
 returns-clause-begun g c = λ setup.

@@ -1,6 +1,5 @@
 use Rattle.node_core.proofs.Turning.{turned_on, under_kind}
 use Rattle.raft_member.specs.Members.{read_setup}
-use Rattle.store_laws.specs.Store.{Kept}
 use Rattle.node_core.proofs.Finding.{more, kept_finds}
 use Rattle.node_core.specs.Account.{StopsBy, Underway}
 use Rattle.node_core.proofs.StopsOfStep.{stopped_here}

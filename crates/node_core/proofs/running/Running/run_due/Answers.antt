@@ -6,4 +6,4 @@ use Rattle.node_core.proofs.running.Running.run_due.Goals as goal
 pub returns-in_default-clause-goes : goal.returns-in_default-clause-goes
 returns-in_default-clause-goes g c = λ setup bytes joins.
     let kind = g.E.Engine.kind c.args.engine.now in
-    turns_kept (g.E.Engine.meaning kind) kind setup bytes joins c.args.self.now c.args.self.now refl (nothing_turns (g.E.Engine.meaning kind) kind (c.stretches_join.ensures.nothing kind) setup bytes joins c.args.self.now)
+    turns_kept (g.E.Engine.meaning kind) kind setup bytes joins c.args.self.now c.args.self.now refl refl refl (nothing_turns (g.E.Engine.meaning kind) kind (c.stretches_join.ensures.nothing kind) setup bytes joins c.args.self.now)

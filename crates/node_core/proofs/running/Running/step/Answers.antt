@@ -10,7 +10,6 @@ use Rattle.node_core.proofs.Going.{counted_anew}
 use Rattle.node_core.proofs.Led.{led_same}
 use Rattle.node_core.proofs.Looping.{at_rest, steps_said}
 use Rattle.node_core.proofs.Turning.{under_kind}
-use Rattle.store_laws.specs.Store.{Kept}
 use Rattle.node_core.proofs.Finding.{more, kept_finds}
 use Rattle.node_core.specs.Account.{StopsBy, Stopped, Happens, Between, Underway}
 use Rattle.node_core.proofs.StopsOfStep.{always_err, first_stopped, stopped_here}
@@ -35,7 +34,7 @@ returns-clause-acts g c = λ opening.
     let counted = ap (λ (r : ReplicaValue). record old { replica = r }) c.count_keeps.ensures in
     let going = counted_anew old from c.requires.rests.going counted in
     let rest = at_rest from going (c.requires.rests.applied ∙ ap (λ (n : Running). n.replica.raft.commit) (sym counted)) c.requires.rests.idle in
-    let started = underway_starts m kind setup old from c.begin.new.self c.args.event (record { same = ap seen counted; mail = refl; replies = refl; reads = refl }) rest (c.in_ok-begin.ensures.begun opening) in
+    let started = underway_starts m kind setup old from c.begin.new.self c.args.event (record { same = ap seen counted; links = refl; mail = refl; replies = refl; reads = refl }) rest (c.in_ok-begin.ensures.begun opening) in
     let ran = under_kind g.E.Engine.meaning kind (g.E.Engine.kind c.begin.new.engine) setup old c.begin.new.self c.run.new.self c.args.event c.begin.ensures.engine.kind (c.in_ok-run.ensures.on opening old c.args.event (g.E.Engine.told c.args.engine.now)) started in
     steps_said m kind setup old c.run.new.self c.take_outs.new.self c.args.event c.take_outs.result ran c.in_ok-run.ensures.ends c.in_ok-run.ensures.going.holds.replica.id c.requires.rests.quiet c.take_outs.ensures.rest
     c.take_outs.ensures.said c.take_outs.ensures.messages c.take_outs.ensures.reads
@@ -52,7 +51,7 @@ returns-in_err-begin-clause-stops g c = λ opening has.
     let counted = ap (λ (r : ReplicaValue). record old { replica = r }) c.count_keeps.ensures in
     let going = counted_anew old from c.requires.rests.going counted in
     let rest = at_rest from going (c.requires.rests.applied ∙ ap (λ (n : Running). n.replica.raft.commit) (sym counted)) c.requires.rests.idle in
-    let between : Between old from = record { same = ap seen counted; mail = refl; replies = refl; reads = refl } in
+    let between : Between old from = record { same = ap seen counted; links = refl; mail = refl; replies = refl; reads = refl } in
     let P = StopsBy m kind setup old c.args.event in
     more g.D.Disk.tells (g.D.Disk.states c.begin.new.disk) (Stopped m kind setup from (Happens c.args.event)) P
     (λ kept s. first_stopped m kind setup old from c.args.event kept between s) (c.in_err-begin.ensures.stops opening rest (subst (λ (r : ReplicaValue). IsKept g.D.Disk.tells (g.D.Disk.states c.args.disk.now) r) (sym c.count_keeps.ensures) has))
@@ -70,7 +69,7 @@ returns-in_err-run-clause-stops g c = λ opening has.
     let counted = ap (λ (r : ReplicaValue). record old { replica = r }) c.count_keeps.ensures in
     let going = counted_anew old from c.requires.rests.going counted in
     let rest = at_rest from going (c.requires.rests.applied ∙ ap (λ (n : Running). n.replica.raft.commit) (sym counted)) c.requires.rests.idle in
-    let between : Between old from = record { same = ap seen counted; mail = refl; replies = refl; reads = refl } in
+    let between : Between old from = record { same = ap seen counted; links = refl; mail = refl; replies = refl; reads = refl } in
     let P = StopsBy m kind setup old c.args.event in
     let started = underway_starts m kind setup old from c.begin.new.self c.args.event between rest (c.in_ok-begin.ensures.begun opening) in
     let same = c.begin.ensures.engine.kind in
@@ -92,7 +91,7 @@ returns-clause-stops g c = λ opening has.
     let counted = ap (λ (r : ReplicaValue). record old { replica = r }) c.count_keeps.ensures in
     let going = counted_anew old from c.requires.rests.going counted in
     let rest = at_rest from going (c.requires.rests.applied ∙ ap (λ (n : Running). n.replica.raft.commit) (sym counted)) c.requires.rests.idle in
-    let between : Between old from = record { same = ap seen counted; mail = refl; replies = refl; reads = refl } in
+    let between : Between old from = record { same = ap seen counted; links = refl; mail = refl; replies = refl; reads = refl } in
     let P = StopsBy m kind setup old c.args.event in
     let started = underway_starts m kind setup old from c.begin.new.self c.args.event between rest (c.in_ok-begin.ensures.begun opening) in
     let same = c.begin.ensures.engine.kind in

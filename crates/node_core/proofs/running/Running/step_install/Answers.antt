@@ -2,7 +2,8 @@ use Rattle.std.proofs.Common.{sym, ap, subst, ◌∙◌}
 use Rattle.node_replica.specs.Replicas.{ReplicaValue, IsKept, kept_of}
 use Rattle.node_core.specs.declared.running.Running.{Running}
 use Rattle.node_core.specs.Waiting.{HasTurns}
-use Rattle.node_core.proofs.Installed.{installs_so, installs_on, installed_led, placed_clients, brings_intake}
+use Rattle.node_core.proofs.Followed.{tells_or, beside_installed}
+use Rattle.node_core.proofs.Installed.{installs_so, installs_on, installed_led, placed_clients, brings_intake, follows_behind_snapshot}
 use Rattle.node_core.proofs.Installing.{holds_installed}
 use Rattle.raft_member.specs.Members.{read_setup}
 use Rattle.raft_core.specs.Events.{input_of}
@@ -32,7 +33,7 @@ returns-clause-led g c =
     c.requires.brings c.in_ok-keep_step.ensures.stepped c.in_ok-keep_step.ensures.serves c.in_ok-lose.ensures.loses c.lose.ensures.rest c.lose.ensures.replica c.lose.ensures.office c.in_ok-replace.ensures.is
     (placed_clients c.lose.new.self c.replace.new.self c.args.applied c.in_ok-replace.ensures.is c.in_ok-replace.ensures.applied
     (c.clients_change_databases.ensures.clients c.lose.new.self.clients c.lose.new.self.applied.machine c.args.applied.machine c.in_ok-lose.ensures.unmarked c.in_ok-lose.ensures.stand))
-    c.in_ok-tell_servers.ensures.told c.in_ok-tell_servers.ensures.tells c.look_at_servers.ensures.rest c.look_at_servers.ensures.serving
+    c.in_ok-tell_servers.ensures.told (tells_or c.replace.new.self c.tell_servers.new.self c.in_ok-tell_servers.ensures.tells) c.look_at_servers.ensures.rest c.look_at_servers.ensures.serving
 
 pub returns-clause-began : goal.returns-clause-began
 returns-clause-began g c = λ opening.
@@ -42,7 +43,17 @@ returns-clause-began g c = λ opening.
     c.in_ok-replace.ensures.is c.in_ok-replace.ensures.applied c.in_ok-replace.ensures.machine
     (placed_clients c.lose.new.self c.replace.new.self c.args.applied c.in_ok-replace.ensures.is c.in_ok-replace.ensures.applied
     (c.clients_change_databases.ensures.clients c.lose.new.self.clients c.lose.new.self.applied.machine c.args.applied.machine c.in_ok-lose.ensures.unmarked c.in_ok-lose.ensures.stand)))
-    c.in_ok-tell_servers.ensures.tells c.look_at_servers.ensures.rest c.look_at_servers.ensures.serving
+    (tells_or c.replace.new.self c.tell_servers.new.self c.in_ok-tell_servers.ensures.tells)
+    (beside_installed opening c.args.self.now c.keep_step.new.self c.lose.new.self c.replace.new.self c.tell_servers.new.self c.args.event c.in_ok-keep_step.field-0 c.args.applied c.requires.going c.requires.brings
+    c.in_ok-keep_step.ensures.stepped c.lose.ensures.replica c.lose.ensures.rest.links c.in_ok-replace.ensures.is c.in_ok-replace.ensures.from
+    (installs_so opening c.args.self.now c.keep_step.new.self c.lose.new.self c.replace.new.self c.args.event c.in_ok-keep_step.field-0 c.args.applied c.requires.going c.requires.led c.requires.idle c.requires.brings
+    c.in_ok-keep_step.ensures.stepped c.in_ok-keep_step.ensures.posts c.in_ok-keep_step.ensures.offices c.in_ok-lose.ensures.loses c.lose.ensures.rest c.lose.ensures.replica c.lose.ensures.mail c.lose.ensures.office.1
+    c.in_ok-replace.ensures.is c.in_ok-replace.ensures.applied c.in_ok-replace.ensures.machine
+    (placed_clients c.lose.new.self c.replace.new.self c.args.applied c.in_ok-replace.ensures.is c.in_ok-replace.ensures.applied
+    (c.clients_change_databases.ensures.clients c.lose.new.self.clients c.lose.new.self.applied.machine c.args.applied.machine c.in_ok-lose.ensures.unmarked c.in_ok-lose.ensures.stand)))
+    (follows_behind_snapshot c.args.self.now c.keep_step.new.self c.args.event c.args.applied c.requires.going c.requires.brings c.in_ok-keep_step.ensures.stepped.node)
+    c.in_ok-tell_servers.ensures.told c.in_ok-tell_servers.ensures.tells)
+    c.look_at_servers.ensures.rest c.look_at_servers.ensures.serving
 
 pub returns-in_err-keep_step-clause-stops : goal.returns-in_err-keep_step-clause-stops
 returns-in_err-keep_step-clause-stops g c = λ opening has.
@@ -94,6 +105,6 @@ returns-in_err-look_at_servers-clause-stops g c = λ opening has.
     (c.clients_change_databases.ensures.clients c.lose.new.self.clients c.lose.new.self.applied.machine c.args.applied.machine c.in_ok-lose.ensures.unmarked c.in_ok-lose.ensures.stand)))
     (subst (λ (r : ReplicaValue). StopsIn (read_setup opening) (bytes_with c.args.event) c.args.self.now (input_of c.args.event) (kept_of r)) (sym (ap (λ (n : Running). n.replica) c.in_ok-replace.ensures.is ∙ c.lose.ensures.replica))
     (made_left (read_setup opening) c.args.self.now c.keep_step.new.self.replica c.args.event c.requires.going.holds.replica (brings_intake c.args.self.now.replica c.args.event c.args.applied c.requires.brings)
-    c.in_ok-keep_step.ensures.stepped.node c.in_ok-keep_step.ensures.stepped.bytes)) c.in_ok-tell_servers.ensures.tells)
+    c.in_ok-keep_step.ensures.stepped.node c.in_ok-keep_step.ensures.stepped.bytes)) (tells_or c.replace.new.self c.tell_servers.new.self c.in_ok-tell_servers.ensures.tells))
     (c.in_ok-tell_servers.ensures.stored
     (subst (λ (r : ReplicaValue). IsKept g.D.Disk.tells (g.D.Disk.states c.keep_step.new.disk) r) (sym (ap (λ (n : Running). n.replica) c.in_ok-replace.ensures.is ∙ c.lose.ensures.replica)) (c.in_ok-keep_step.ensures.stored has))))

@@ -1,6 +1,7 @@
 use Rattle.std.proofs.Common.{sym, ap, subst, ◌∙◌}
 use Rattle.node_replica.specs.Replicas.{ReplicaValue, IsKept}
 use Rattle.node_core.specs.declared.running.Running.{Running}
+use Rattle.node_core.proofs.Followed.{told_or, beside_followed}
 use Rattle.node_core.proofs.Stepped.{began_so, fresh_won, follows_step}
 use Rattle.raft_member.specs.Members.{read_setup}
 use Rattle.raft_core.specs.Events.{input_of}
@@ -13,7 +14,9 @@ use Rattle.node_core.proofs.running.Running.step_raft.Goals as goal
 pub returns-clause-began : goal.returns-clause-began
 returns-clause-began g c =
     began_so c.args.self.now c.keep_step.new.self c.follow_log.new.self c.look.new.self c.args.event _ c.requires.going c.requires.comes c.requires.none c.requires.idle c.in_ok-batch.ensures.stepped c.in_ok-batch.ensures.posts
-    c.in_ok-batch.ensures.offices c.in_ok-follow_log.ensures.tells (fresh_won c.follow_log.new.self c.note_win.new.self c.look.new.self c.note_win.ensures.is c.look.ensures.rest c.look.ensures.serving)
+    c.in_ok-batch.ensures.offices (told_or c.keep_step.new.self c.follow_log.new.self c.in_ok-follow_log.ensures.tells)
+    (beside_followed c.twins_keep_alike.ensures.follow c.args.self.now c.keep_step.new.self c.follow_log.new.self c.args.event _ c.requires.going c.requires.comes c.requires.none c.in_ok-batch.ensures.stepped c.in_ok-batch.ensures.posts
+    c.in_ok-follow_log.ensures.followed c.in_ok-follow_log.ensures.follows c.in_ok-follow_log.ensures.tells) (fresh_won c.follow_log.new.self c.note_win.new.self c.look.new.self c.note_win.ensures.is c.look.ensures.rest c.look.ensures.serving)
 
 pub returns-clause-stored : goal.returns-clause-stored
 returns-clause-stored g c = λ has.
@@ -40,4 +43,4 @@ returns-in_err-look-clause-stops g c = λ opening has.
     (kept_finds g.D.Disk.tells (g.D.Disk.states c.follow_log.new.disk) c.follow_log.new.self.replica (StopsFollowing (read_setup opening) c.args.self.now c.args.event)
     (behind_following (read_setup opening) c.args.self.now _ c.follow_log.new.self c.args.event
     (follows_step c.args.self.now c.keep_step.new.self c.args.event _ c.requires.going c.requires.comes c.requires.none c.requires.idle c.in_ok-batch.ensures.stepped c.in_ok-batch.ensures.posts c.in_ok-batch.ensures.offices
-    c.follow_log.new.self.members) c.in_ok-follow_log.ensures.tells) (c.in_ok-follow_log.ensures.stored (c.in_ok-batch.ensures.stored has)))
+    c.follow_log.new.self.members) (told_or c.keep_step.new.self c.follow_log.new.self c.in_ok-follow_log.ensures.tells)) (c.in_ok-follow_log.ensures.stored (c.in_ok-batch.ensures.stored has)))

@@ -2,7 +2,6 @@ use Rattle.std.proofs.Common.{refl}
 use Rattle.node_core.specs.declared.running.Running.{Running}
 use Rattle.node_core.specs.Taking.{came, none_came}
 use Rattle.node_core.proofs.Led.{led_same}
-use Rattle.store_laws.specs.Store.{Kept}
 use Rattle.node_core.proofs.Finding.{more, kept_finds}
 use Rattle.node_core.specs.Finding.{BeganStops, StopsLetter, letter_stopped, no_letter}
 use Rattle.raft_member.specs.Members.{read_setup}
@@ -16,18 +15,18 @@ take_raft-requires-clause-led g c = led_same c.args.self.now (record c.args.self
 pub returns-in_ok-take_raft-in-Some-Message-clause-letter :
     goal.returns-in_ok-take_raft-in-Some-Message-clause-letter
 returns-in_ok-take_raft-in-Some-Message-clause-letter g c = λ opening.
-    came c.in-Some-Message.message (record c.args.self.now { links = c.next.new.self }) refl (c.in_ok-take_raft-in-Some-Message.ensures.began opening)
+    came c.in-Some-Message.message (record c.args.self.now { links = c.next.new.self }) c.if-not-self.false refl (c.in_ok-take_raft-in-Some-Message.ensures.began opening)
 
 pub returns-in_ok-push-in-Some-Wrong-clause-letter :
     goal.returns-in_ok-push-in-Some-Wrong-clause-letter
-returns-in_ok-push-in-Some-Wrong-clause-letter g c = λ opening. none_came (record { moment = refl; mail = refl; replies = refl; reads = refl; kept = refl; id = refl }) refl
+returns-in_ok-push-in-Some-Wrong-clause-letter g c = λ opening. none_came (record { moment = refl; mail = refl; replies = refl; reads = refl; kept = refl; id = refl; links = refl }) refl
 
 pub returns-in_ok-push-in-Some-Wrong-clause-led :
     goal.returns-in_ok-push-in-Some-Wrong-clause-led
 returns-in_ok-push-in-Some-Wrong-clause-led g c = led_same c.args.self.now _ c.requires.led refl refl
 
 pub returns-in-None-clause-letter : goal.returns-in-None-clause-letter
-returns-in-None-clause-letter g c = λ opening. none_came (record { moment = refl; mail = refl; replies = refl; reads = refl; kept = refl; id = refl }) refl
+returns-in-None-clause-letter g c = λ opening. none_came (record { moment = refl; mail = refl; replies = refl; reads = refl; kept = refl; id = refl; links = refl }) refl
 
 pub returns-in-None-clause-led : goal.returns-in-None-clause-led
 returns-in-None-clause-led g c = led_same c.args.self.now _ c.requires.led refl refl
@@ -53,5 +52,8 @@ returns-in_err-take_raft-in-Some-Message-clause-stops g c = λ opening has.
     let mid : Running = record c.args.self.now { links = c.next.new.self } in
     let event = raft_events.Message c.in-Some-Message.message in
     more g.D.Disk.tells (g.D.Disk.states c.take_raft.new.disk) (BeganStops (g.E.Engine.meaning (g.E.Engine.kind c.args.engine.now)) (g.E.Engine.kind c.args.engine.now) (read_setup opening) mid event) (StopsLetter (g.E.Engine.meaning (g.E.Engine.kind c.args.engine.now)) (g.E.Engine.kind c.args.engine.now) (read_setup opening) c.args.self.now)
-    (λ kept s. letter_stopped c.in-Some-Message.message mid refl s) (c.in_err-take_raft-in-Some-Message.ensures.stops opening has)
+    (λ kept s. letter_stopped c.in-Some-Message.message mid c.if-not-self.false refl s) (c.in_err-take_raft-in-Some-Message.ensures.stops opening has)
     )
+
+pub returns-then-not-self-clause-letter : goal.returns-then-not-self-clause-letter
+returns-then-not-self-clause-letter g c = λ opening. none_came (record { moment = refl; mail = refl; replies = refl; reads = refl; kept = refl; id = refl; links = refl }) refl

@@ -7,7 +7,7 @@ use Rattle.node_core.proofs.running.Running.take_message.Goals as goal
 pub returns-in_ok-perform-in-Some-clause-goes : goal.returns-in_ok-perform-in-Some-clause-goes
 returns-in_ok-perform-in-Some-clause-goes g c = λ setup bytes joins.
     let kind = g.E.Engine.kind c.args.engine.now in
-    turns_kept (g.E.Engine.meaning kind) kind setup bytes joins c.args.self.now c.perform.new.self c.perform.ensures.replica
+    turns_kept (g.E.Engine.meaning kind) kind setup bytes joins c.args.self.now c.perform.new.self c.perform.ensures.replica c.in_ok-perform-in-Some.ensures.performed.members c.in_ok-perform-in-Some.ensures.performed.links
     (took_turns_on (g.E.Engine.meaning kind) kind (c.stretches_join.ensures.on kind) (c.clients_turn.ensures.stays kind) (c.clients_turn.ensures.leaves kind) setup bytes joins
     (c.clients_turn.ensures.handles kind) (c.clients_turn.ensures.resumes kind) c.args.self.now _ c.requires.going c.requires.idle refl c.databases_stand.ensures c.in_ok-act.ensures.files _ _ _ _
     c.in-Some.act c.perform.new.self c.in_ok-act.act c.in_ok-act.ensures.turn c.in-Some.is c.in_ok-perform-in-Some.ensures.performed)
@@ -21,7 +21,7 @@ returns-in_ok-perform-in-Some-clause-led g c =
 pub returns-in-None-clause-goes : goal.returns-in-None-clause-goes
 returns-in-None-clause-goes g c = λ setup bytes joins.
     let kind = g.E.Engine.kind c.args.engine.now in
-    turns_kept (g.E.Engine.meaning kind) kind setup bytes joins c.args.self.now _ refl
+    turns_kept (g.E.Engine.meaning kind) kind setup bytes joins c.args.self.now _ refl refl refl
     (idle_turns_on (g.E.Engine.meaning kind) kind (c.stretches_join.ensures.on kind) (c.clients_turn.ensures.stays kind) (c.clients_turn.ensures.leaves kind) setup bytes joins
     c.args.self.now _ _ _ refl c.databases_stand.ensures c.in_ok-act.ensures.files _ _ c.in_ok-act.act c.in_ok-act.ensures.turn c.in-None.is)
 

@@ -1,7 +1,8 @@
 use Rattle.std.proofs.lemmas.Result.{on_ok_weaker, on_err_weaker}
 use Rattle.sql_engine.specs.Meanings.{Told}
 use Rattle.raft_member.specs.Members.{read_setup}
-use Rattle.node_core.specs.Taking.{BeganBy}
+use Rattle.node_core.specs.Taking.{BeganBy, bytes_with}
+use Rattle.node_core.proofs.Besides.{may_outside}
 use Rattle.node_core.proofs.RaftAccounts.{began_following, began_installing}
 use Rattle.std.proofs.Common.{Option, refl, sym, subst}
 use Rattle.node_rules.specs.RaftTurns.{at_first}
@@ -13,7 +14,7 @@ use Rattle.node_core.proofs.running.Running.take_raft.Goals as goal
 pub returns-in-Nothing-clause-began : goal.returns-in-Nothing-clause-began
 returns-in-Nothing-clause-began g c = λ opening.
     on_ok_weaker c.step_raft.result
-    (began_following (g.E.Engine.meaning (g.E.Engine.kind c.args.engine.now)) (g.E.Engine.kind c.args.engine.now) (read_setup opening) c.args.self.now c.step_raft.new.self c.args.event)
+    (began_following (g.E.Engine.meaning (g.E.Engine.kind c.args.engine.now)) (g.E.Engine.kind c.args.engine.now) opening c.args.self.now c.step_raft.new.self c.args.event)
     c.step_raft.ensures.began
 
 pub returns-in_ok-step_install-in-Snapshot-clause-began : goal.returns-in_ok-step_install-in-Snapshot-clause-began
@@ -26,16 +27,16 @@ returns-in_ok-step_install-in-Snapshot-clause-began g c = λ opening.
 pub returns-in_err-offered-clause-stops : goal.returns-in_err-offered-clause-stops
 returns-in_err-offered-clause-stops g c = λ opening has.
     failed c.from_residual.result
-    (kept_finds g.D.Disk.tells (g.D.Disk.states c.args.disk.now) c.args.self.now.replica (BeganStops (g.E.Engine.meaning (g.E.Engine.kind c.args.engine.now)) (g.E.Engine.kind c.args.engine.now) (read_setup opening) c.args.self.now c.args.event) (at_once (at_first refl)) has)
+    (kept_finds g.D.Disk.tells (g.D.Disk.states c.args.disk.now) c.args.self.now.replica (BeganStops (g.E.Engine.meaning (g.E.Engine.kind c.args.engine.now)) (g.E.Engine.kind c.args.engine.now) (read_setup opening) c.args.self.now c.args.event) (at_once (may_outside opening (bytes_with c.args.event) c.args.self.now c.args.event c.requires.comes) (at_first refl)) has)
 
 pub returns-in_err-step_install-in-Snapshot-clause-stops : goal.returns-in_err-step_install-in-Snapshot-clause-stops
 returns-in_err-step_install-in-Snapshot-clause-stops g c = λ opening has.
     failed c.from_residual-in_err-step_install-in-Snapshot.result
     (more g.D.Disk.tells (g.D.Disk.states c.step_install.new.disk) (StopsInstalling (read_setup opening) c.args.self.now c.args.event) (BeganStops (g.E.Engine.meaning (g.E.Engine.kind c.args.engine.now)) (g.E.Engine.kind c.args.engine.now) (read_setup opening) c.args.self.now c.args.event)
-    (installing_stops (g.E.Engine.meaning (g.E.Engine.kind c.args.engine.now)) (g.E.Engine.kind c.args.engine.now) (read_setup opening) c.args.self.now c.args.event) (c.in_err-step_install-in-Snapshot.ensures.stops opening has))
+    (λ kept s. installing_stops (g.E.Engine.meaning (g.E.Engine.kind c.args.engine.now)) (g.E.Engine.kind c.args.engine.now) opening c.args.self.now c.args.event kept c.requires.comes s) (c.in_err-step_install-in-Snapshot.ensures.stops opening has))
 
 pub returns-in-Nothing-clause-stops : goal.returns-in-Nothing-clause-stops
 returns-in-Nothing-clause-stops g c = λ opening has.
     on_err_weaker c.step_raft.result
     (more g.D.Disk.tells (g.D.Disk.states c.step_raft.new.disk) (StopsFollowing (read_setup opening) c.args.self.now c.args.event) (BeganStops (g.E.Engine.meaning (g.E.Engine.kind c.args.engine.now)) (g.E.Engine.kind c.args.engine.now) (read_setup opening) c.args.self.now c.args.event)
-    (following_stops (g.E.Engine.meaning (g.E.Engine.kind c.args.engine.now)) (g.E.Engine.kind c.args.engine.now) (read_setup opening) c.args.self.now c.args.event)) (c.step_raft.ensures.stops opening has)
+    (λ kept s. following_stops (g.E.Engine.meaning (g.E.Engine.kind c.args.engine.now)) (g.E.Engine.kind c.args.engine.now) opening c.args.self.now c.args.event kept c.requires.comes s)) (c.step_raft.ensures.stops opening has)

@@ -1,14 +1,17 @@
 use Rattle.std.proofs.lemmas.Result.{on_ok_weaker, on_err_weaker}
-use Rattle.node_core.specs.Posting.{told_servers}
+use Rattle.node_core.specs.Posting.{LeavesSo, tells_current}
 use Rattle.raft_member.specs.Members.{read_setup}
-use Rattle.raft_rules.specs.Node.{Local, UseServers}
-use Rattle.std.proofs.Common.{refl}
+use Rattle.raft_rules.specs.Node.{Server, Local, UseServers}
+use Rattle.std.proofs.Common.{List, refl, subst, ◌∙◌}
 use Rattle.node_core.specs.Finding.{StopsIn, StopsTelling, untold_yet, in_telling}
 use Rattle.node_core.proofs.Finding.{failed, kept_finds, more}
 use Rattle.node_core.proofs.running.Running.tell_servers.Goals as goal
 
 pub returns-clause-tells : goal.returns-clause-tells
-returns-clause-tells g c = on_ok_weaker c.tell.result (λ l. told_servers c.in_ok-servers.servers l) c.tell.ensures.tells
+returns-clause-tells g c =
+    on_ok_weaker c.tell.result
+    (λ l. tells_current (subst (λ (servers : List Server). LeavesSo c.args.self.now c.tell.new.self (Local (UseServers servers))) (c.in_ok-servers.ensures ∙ c.current.ensures.value) l))
+    c.tell.ensures.tells
 
 pub returns-in_err-servers-clause-stops : goal.returns-in_err-servers-clause-stops
 returns-in_err-servers-clause-stops g c = λ opening came has.

@@ -3,7 +3,6 @@ use Rattle.raft_member.specs.Members.{read_setup}
 use Rattle.node_replica.specs.Replicas.{ReplicaValue, IsKept}
 use Rattle.node_core.proofs.Looping.{goes_further, had_none}
 use Rattle.node_core.proofs.RaftAccounts.{owns_turns}
-use Rattle.store_laws.specs.Store.{Kept}
 use Rattle.node_core.proofs.Finding.{more, kept_finds}
 use Rattle.node_core.specs.Account.{StopsBy}
 use Rattle.node_core.specs.Finding.{StopsOwn}
@@ -15,7 +14,7 @@ pub returns-then-branch-clause-on : goal.returns-then-branch-clause-on
 returns-then-branch-clause-on g c = λ opening start event told u.
     let kind = g.E.Engine.kind c.args.engine.now in
     goes_further (g.E.Engine.meaning kind) kind (read_setup opening) start event told c.args.self.now c.take_due.new.self u
-    (λ bytes joins. owns_turns (g.E.Engine.meaning kind) kind (read_setup opening) bytes joins c.args.self.now c.take_due.new.self (c.in_ok-take_due.ensures.goes c.if-branch.true))
+    (λ bytes joins. owns_turns (g.E.Engine.meaning kind) kind opening bytes joins c.args.self.now c.take_due.new.self (c.in_ok-take_due.ensures.goes c.if-branch.true))
 
 pub returns-then-self-view-clause-stored : goal.returns-then-self-view-clause-stored
 returns-then-self-view-clause-stored g c = λ has.

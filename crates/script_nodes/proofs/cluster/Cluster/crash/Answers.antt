@@ -1,4 +1,3 @@
-use Rattle.std.proofs.Common.{map}
 use Rattle.script_nodes.specs.Clusters.{held}
 use Rattle.script_nodes.proofs.Placing.{at_rest}
 use Rattle.script_nodes.proofs.Doing.{crash_down}
@@ -7,12 +6,12 @@ use Rattle.script_nodes.proofs.cluster.Cluster.crash.Goals as goal
 
 pub returns-then-not-is_up_at : goal.returns-then-not-is_up_at
 returns-then-not-is_up_at g c =
-    crash_down c.args.node c.args.pick (held g.P.NodePlace.shows c.args.self.now) c.args.said.now.items
-    (at_rest g.P.NodePlace.shows _ c.args.self.now.places.items c.args.node _ _ _ c.is_up_at.ensures.up c.as_slice.ensures.value c.index_of-index.ensures c.if-not-is_up_at.true)
+    crash_down g.P.NodePlace.knows c.args.node c.args.pick (held g.P.NodePlace.shows c.args.self.now) c.args.said.now.items
+    (at_rest g.P.NodePlace.shows _ c.args.self.now.places.items c.args.node _ _ c.is_up_at.ensures.up c.as_slice.ensures.value c.if-not-is_up_at.true)
 
 pub returns : goal.returns
 returns g c =
-    crash_tells c.args.node c.args.pick c.args.self.now.voters (map g.P.NodePlace.shows c.args.self.now.places.items) (map g.P.NodePlace.shows c.crash_at.new.places.items) c.args.self.now.outside c.close_at.new.self
-    c.args.said.now.items c.close_at.new.said.items c.index_of-index.result
-    (at_rest g.P.NodePlace.shows _ c.args.self.now.places.items c.args.node _ _ _ c.is_up_at.ensures.up c.as_slice.ensures.value c.index_of-index.ensures c.if-not-is_up_at.false)
-    c.index_of-index.ensures c.in_ok-crash_at.ensures c.in_ok-close_at.ensures.closes c.in_ok-close_at.ensures.says
+    crash_tells g.P.NodePlace.shows g.P.NodePlace.knows c.args.node c.args.pick c.args.self.now.voters c.args.self.now.places.items c.crash_at.new.places.items c.args.self.now.outside c.close_at.new.self
+    c.args.said.now.items c.close_at.new.said.items c.index_of.result
+    (at_rest g.P.NodePlace.shows _ c.args.self.now.places.items c.args.node _ _ c.is_up_at.ensures.up c.as_slice.ensures.value c.if-not-is_up_at.false)
+    c.index_of.ensures c.in_ok-crash_at.ensures c.in_ok-close_at.ensures.closes c.in_ok-close_at.ensures.says

@@ -6,9 +6,9 @@ use Rattle.script_nodes.proofs.cluster.Cluster.deliver_next.Goals as goal
 
 pub returns-then-not-count_event : goal.returns-then-not-count_event
 returns-then-not-count_event g c =
-    counts_not (delivers c.args.place Nothing) (held g.P.NodePlace.shows c.args.self.now) (held g.P.NodePlace.shows c.count_event.new.self) c.count_event.result c.args.said.now.items c.count_event.ensures c.if-not-count_event.true
+    counts_not g.P.NodePlace.knows (delivers c.args.place Nothing) (held g.P.NodePlace.shows c.args.self.now) (held g.P.NodePlace.shows c.count_event.new.self) c.count_event.result c.args.said.now.items c.count_event.ensures c.if-not-count_event.true
 
 pub returns : goal.returns
 returns g c =
-    counts_then (delivers c.args.place Nothing) (held g.P.NodePlace.shows c.args.self.now) (held g.P.NodePlace.shows c.count_event.new.self) (held g.P.NodePlace.shows c.deliver.new.self) c.count_event.result c.deliver.result c.args.said.now.items c.deliver.new.said.items
+    counts_then g.P.NodePlace.knows (delivers c.args.place Nothing) (held g.P.NodePlace.shows c.args.self.now) (held g.P.NodePlace.shows c.count_event.new.self) (held g.P.NodePlace.shows c.deliver.new.self) c.count_event.result c.deliver.result c.args.said.now.items c.deliver.new.said.items
     c.count_event.ensures c.if-not-count_event.false c.deliver.ensures

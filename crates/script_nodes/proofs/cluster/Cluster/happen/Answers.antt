@@ -8,9 +8,9 @@ pub returns : goal.returns
 returns g c =
     let h = held g.P.NodePlace.shows c.args.self.now in
     elim c.in-Settle.is [
-      | inl s ↦ never_once c.args.event c.args.aim h c.args.said.now.items (ap (λ (x : Event). once x c.args.aim) s.1)
+      | inl s ↦ never_once g.P.NodePlace.knows c.args.event c.args.aim h c.args.said.now.items (ap (λ (x : Event). once x c.args.aim) s.1)
       | inr r ↦ elim r [
-        | inl s ↦ never_once c.args.event c.args.aim h c.args.said.now.items (ap (λ (x : Event). once x c.args.aim) s.1)
-        | inr s ↦ never_once c.args.event c.args.aim h c.args.said.now.items (ap (λ (x : Event). once x c.args.aim) s.1)
+        | inl s ↦ never_once g.P.NodePlace.knows c.args.event c.args.aim h c.args.said.now.items (ap (λ (x : Event). once x c.args.aim) s.1)
+        | inr s ↦ never_once g.P.NodePlace.knows c.args.event c.args.aim h c.args.said.now.items (ap (λ (x : Event). once x c.args.aim) s.1)
       ]
     ]

@@ -5,4 +5,4 @@ use Rattle.script_nodes.proofs.cluster.Cluster.start_all.Given as goal
 
 abbrev pub invariant-loop-index : goal.invariant-loop-index
 invariant-loop-index g l = (length l.self.places.items ≡ length l.initial.self.places.items)
-    × Started (length l.initial.self.places.items) (length l.initial.self.places.items - l.index) (l.index + 1) (held g.P.NodePlace.shows l.initial.self) l.initial.said.items (held g.P.NodePlace.shows l.self) l.said.items
+    × Started g.P.NodePlace.knows (length l.initial.self.places.items) (length l.initial.self.places.items - l.index) (l.index + 1) (held g.P.NodePlace.shows l.initial.self) l.initial.said.items (held g.P.NodePlace.shows l.self) l.said.items

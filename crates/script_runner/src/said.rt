@@ -1,0 +1,26 @@
+//! What a line of a script has said.
+
+use script_nodes::Said as NodeSaid;
+use script_pages::Said as MachineSaid;
+use std::alloc::Global;
+
+/// What was said by a line.
+#[derive(Drop)]
+pub(crate) enum LineSaid {
+    /// By nodes, and to their clients.
+    Nodes(Vec<NodeSaid>),
+    /// By machines.
+    Machines(Vec<MachineSaid>),
+}
+
+impl LineSaid {
+    ghost use Rattle.std.specs.Prelude.{◌≡◌, []};
+    ghost use Rattle.script_runner.specs.Scenes.{said_in};
+
+    /// Nothing was said so far. Takes no memory.
+    pub(crate) fn nothing(alloc: Global) -> LineSaid
+        ensures { said_in result ≡ [] }
+    {
+        LineSaid::Nodes(Vec::new(alloc))
+    }
+}
