@@ -14,7 +14,7 @@ pub enum ServeEnd {
     DiskFault,
     /// The host failed, and has counted it: it could not listen, or have a worker, or no event came any more.
     HostFault,
-    /// There was not enough memory to go on.
+    /// There was not enough memory to go on; or a change of servers may not be proposed, which isn't shown never to come.
     NoMemory,
     /// As many events were taken as were asked for.
     Spent,
@@ -51,5 +51,6 @@ pub(crate) fn end_of_loop(end: LoopEnd) -> ServeEnd
         LoopEnd::DiskFault => ServeEnd::DiskFault,
         LoopEnd::Spent(_) => ServeEnd::Spent,
         LoopEnd::NoMemory => ServeEnd::NoMemory,
+        LoopEnd::Unfit => ServeEnd::NoMemory,
     }
 }
