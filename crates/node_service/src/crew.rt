@@ -14,8 +14,8 @@ use crossbeam_channel::{Sender, unbounded};
 use gateway::{Read, ReadJob};
 use node_edge::Door;
 use node_server::{
-    ClientQueue, Heard, Host, KEEPERS, Keeper, Lent, Peer as PeerWorker, PeerQueue, Queues,
-    ReaderWorker, Ticker, Worker, Writer, beside, write_queue,
+    ClientQueue, CommonRoom, Heard, Host, KEEPERS, Keeper, Lent, Peer as PeerWorker, PeerQueue,
+    Queues, ReaderWorker, Ticker, Worker, Writer, beside, write_queue_in,
 };
 use program_words::{Peer, Serve};
 use sql_engine::Engine;
@@ -27,13 +27,15 @@ const READERS: u64 = 4;
 /// The link of a host's door.
 pub(crate) type LinkOf<H> = <<H as Host<Read>>::Door as Door>::Link;
 
-/// Has a keeper and a writer work at a place, and answers the writer's queue. The keeper accepts at this door.
+/// Has a keeper and a writer work at a place, and answers the writer's queue. The keeper accepts at this door, and what waits at the
+/// place beyond its own share takes of the common room.
 #[tactic(auto, using(crate::proofs::Hiring::no_host, crate::proofs::Hiring::hires_then))]
 fn keep<E: Engine + Send + Drop + 'static, H: Host<Read>>(
     alloc: Global,
     host: &mut H,
     door: H::Door,
     place: u64,
+    common: &CommonRoom,
 ) -> Result<ClientQueue<LinkOf<H>>, CrewFault>
     requires place { place < 72 }
     ensures done { OnOk result (Hires 2 (H.done host.old) (H.done host.new)) }
@@ -43,7 +45,7 @@ fn keep<E: Engine + Send + Drop + 'static, H: Host<Read>>(
     ensures cause { IfErr result (λ f. f ≡ crew.Host → Rose (H.faults host.old) (H.faults host.new)) }
 {
     let rt = host.rt();
-    let (queue, writes) = write_queue(alloc)?;
+    let (queue, writes) = write_queue_in(alloc, common)?;
     let keeper: Worker<H::Rt, H::Door, QueryReader<E>> = Worker::Keeper(Keeper {
         alloc,
         rt,
@@ -72,10 +74,11 @@ fn keep_all<E: Engine + Send + Drop + 'static, H: Host<Read>>(
     ensures faults { H.faults host.old ≤ H.faults host.new }
     ensures cause { IfErr result (λ f. f ≡ crew.Host → Rose (H.faults host.old) (H.faults host.new)) }
 {
+    let common = CommonRoom::new(alloc)?;
     let mut writers = Vec::with_capacity(alloc, KEEPERS as usize)?;
     for place in 0..KEEPERS {
         let twin = host.twin(door)?;
-        writers.push(keep::<E, H>(alloc, host, twin, place)?)?;
+        writers.push(keep::<E, H>(alloc, host, twin, place, &common)?)?;
     }
     Ok(writers)
 }
