@@ -4,11 +4,11 @@ use Rattle.disk_model.specs.Disk.{Disk}
 use Rattle.disk_model.specs.Trait.{Text}
 use Rattle.session_decisions.specs.declared.job.Read.{Read}
 use Rattle.sqlite_engine.specs.declared.any.AnyEngine.{AnyEngine}
-use Rattle.sqlite_engine.specs.Any.{any_kind, any_refused, any_known}
+use Rattle.sqlite_engine.specs.Any.{any_meaning, any_kind, any_refused, any_known}
 use Rattle.program_words.specs.declared.asked.Serve.{Serve}
 use Rattle.node_edge.specs.Looping.{Taken}
 use Rattle.node_server.specs.declared.done.Done.{Done}
-use Rattle.served_node.specs.Serving.{Runs}
+use Rattle.served_node.specs.Serving.{RunsByRules}
 use Rattle.node_service.specs.declared.end.ServeEnd.{ServeEnd}
 use Rattle.node_service.specs.declared.end.ServeEnd.TheVariants as ends
 use Rattle.node_service.specs.Serving.{Serves, workers_of}
@@ -34,8 +34,8 @@ pub record ServedBy {D H : Type 0} (tells : Bool) (states : D → Disk Text → 
   pub is_new : any_known engine ≡ []
   pub end : ServeEnd
   pub code_is : code ≡ status_code (serve_status end)
-  pub serves : Serves (workers_of served) done states (λ started node. Runs tells states faults any_kind any_refused node started disk_after engine engine_after
-      events events_after None None served.events) host (record { disk = disk; engine = engine; events = events })
+  pub serves : Serves (workers_of served) done states (λ started node. RunsByRules tells states faults any_meaning any_kind (λ known. None) any_refused node started disk_after
+      engine engine_after events events_after None None served.events) host (record { disk = disk; engine = engine; events = events })
       (record { disk = disk_after; engine = engine_after; events = events_after }) end
 
 -- there was not enough memory to read the words, and nothing was done

@@ -4,6 +4,7 @@ use Rattle.dq_base.specs.Faults.{Rose, one_more}
 use Rattle.disk_model.specs.Disk.{Disk}
 use Rattle.disk_model.specs.Trait.{Text}
 use Rattle.sql_engine.specs.declared.kind.EngineKind.{EngineKind}
+use Rattle.sql_engine.specs.Meanings.{Meaning, Told}
 use Rattle.session_decisions.specs.declared.job.Read.{Read}
 use Rattle.node_edge.specs.declared.event.Event.{Event}
 use Rattle.node_edge.specs.declared.looping.LoopEnd.{LoopEnd}
@@ -12,7 +13,7 @@ use Rattle.node_edge.specs.Looping.{Taken}
 use Rattle.node_core.specs.declared.node.Node.{Node}
 use Rattle.node_core.specs.declared.fault.StartFault.{StartFault}
 use Rattle.node_core.specs.declared.fault.StartFault.TheVariants as start
-use Rattle.served_node.specs.Serving.{Runs}
+use Rattle.served_node.specs.Serving.{RunsByRules}
 use Rattle.node_service.specs.declared.fault.CrewFault.{CrewFault}
 use Rattle.node_service.specs.declared.fault.CrewFault.TheVariants as crew
 use Rattle.node_service.specs.declared.end.ServeEnd.{ServeEnd}
@@ -65,19 +66,19 @@ loop_host loops.NoMemory end e host = let bad : ends.NoMemory ≡ ends.HostFault
 loop_host loops.Unfit end e host = let bad : ends.NoMemory ≡ ends.HostFault = sym e ∙ host in absurd cc
 
 -- as many events as the budget says
-pub loop_spent : {D E : Type 0} (tells : Bool) (states : D → Disk Text → Type 0) (faults : D → ℕ) (kind : E → EngineKind) (refused : E → ℕ)
+pub loop_spent : {D E : Type 0} (tells : Bool) (states : D → Disk Text → Type 0) (faults : D → ℕ) (meaning : EngineKind → Meaning) (kind : E → EngineKind) (told : E → Option Told) (refused : E → ℕ)
     (node : Node) (disk disk_after : D) (engine engine_after : E) (before after : Taken Read) (budget : ℕ) (l : LoopEnd) (end : ServeEnd)
-    → Runs tells states faults kind refused node disk disk_after engine engine_after before after None None budget l
+    → RunsByRules tells states faults meaning kind told refused node disk disk_after engine engine_after before after None None budget l
     → end ≡ end_of_loop l → end ≡ ends.Spent → after.count ≡ before.count + budget
-loop_spent tells states faults kind refused node disk disk_after engine engine_after before after budget loops.Closed end h e spent =
+loop_spent tells states faults meaning kind told refused node disk disk_after engine engine_after before after budget loops.Closed end h e spent =
     let bad : ends.HostFault ≡ ends.Spent = sym e ∙ spent in absurd cc
-loop_spent tells states faults kind refused node disk disk_after engine engine_after before after budget loops.DiskFault end h e spent =
+loop_spent tells states faults meaning kind told refused node disk disk_after engine engine_after before after budget loops.DiskFault end h e spent =
     let bad : ends.DiskFault ≡ ends.Spent = sym e ∙ spent in absurd cc
-loop_spent tells states faults kind refused node disk disk_after engine engine_after before after budget loops.NoMemory end h e spent =
+loop_spent tells states faults meaning kind told refused node disk disk_after engine engine_after before after budget loops.NoMemory end h e spent =
     let bad : ends.NoMemory ≡ ends.Spent = sym e ∙ spent in absurd cc
-loop_spent tells states faults kind refused node disk disk_after engine engine_after before after budget loops.Unfit end h e spent =
+loop_spent tells states faults meaning kind told refused node disk disk_after engine engine_after before after budget loops.Unfit end h e spent =
     let bad : ends.NoMemory ≡ ends.Spent = sym e ∙ spent in absurd cc
-loop_spent tells states faults kind refused node disk disk_after engine engine_after before after budget (loops.Spent count) end h e spent =
+loop_spent tells states faults meaning kind told refused node disk disk_after engine engine_after before after budget (loops.Spent count) end h e spent =
     let taken : after.count ≡ before.count + length h.loops.events = h.loops.ends.0.count in
     let all : length h.loops.events ≡ budget = h.loops.ends.3 in
     omega arith

@@ -6,7 +6,7 @@ ghost use Rattle.program_words.specs.Serving.{IsServable};
 ghost use Rattle.raft_vote.specs.Servers.{IsConfiguration};
 ghost use Rattle.node_core.specs.Starting.{StartsOver};
 ghost use Rattle.node_core.specs.Faults.{StartCause};
-ghost use Rattle.served_node.specs.Serving.{CanStep, Runs};
+ghost use Rattle.served_node.specs.Serving.{CanStep, RunsByRules};
 ghost use Rattle.node_service.specs.declared.fault.CrewFault.TheVariants as crew;
 ghost use Rattle.node_service.specs.Crew.{HasBegun};
 ghost use Rattle.node_edge.specs.declared.looping.LoopEnd.TheVariants as loops;
@@ -89,8 +89,8 @@ fn step_on<H: Host<Read>, D: Disk, E: Engine, W: Notes>(
     notes: &mut W,
 ) -> LoopEnd
     requires { CanStep (E.known engine.old) node }
-    ensures runs { Runs D.tells D.states D.faults E.kind E.refused_openings node disk.old disk.new engine.old engine.new
-        (record { left = H.left host.old; count = H.taken host.old }) (record { left = H.left host.new; count = H.taken host.new }) None None words.now.events result }
+    ensures runs { RunsByRules D.tells D.states D.faults E.meaning E.kind E.told E.refused_openings node disk.old disk.new
+        engine.old engine.new (record { left = H.left host.old; count = H.taken host.old }) (record { left = H.left host.new; count = H.taken host.new }) None None words.now.events result }
     ensures closed { result ≡ loops.Closed → Rose (H.faults host.old) (H.faults host.new) }
     ensures disk { result ≡ loops.DiskFault → Rose (D.faults disk.old) (D.faults disk.new) }
     ensures count { D.faults disk.old ≤ D.faults disk.new }
@@ -111,7 +111,8 @@ fn go_on<H: Host<Read>, D: Disk, E: Engine + Send + Drop + 'static, W: Notes>(
 ) -> ServeEnd
     requires servable { IsServable words.now }
     requires can_step { CanStep (E.known engine.old) node }
-    ensures goes { GoesOn (workers_of words.now) H.done (Runs D.tells D.states D.faults E.kind E.refused_openings node disk.old disk.new engine.old engine.new
+    ensures goes { GoesOn (workers_of words.now) H.done (RunsByRules D.tells D.states D.faults E.meaning E.kind E.told E.refused_openings
+        node disk.old disk.new engine.old engine.new
         (record { left = H.left host.old; count = H.taken host.old }) (record { left = H.left host.new; count = H.taken host.new }) None None words.now.events)
         host.old (record { disk = disk.old; engine = engine.old; events = record { left = H.left host.old; count = H.taken host.old } })
         (record { disk = disk.new; engine = engine.new; events = record { left = H.left host.new; count = H.taken host.new } }) result }
@@ -147,8 +148,9 @@ fn serve_with<H: Host<Read>, D: Disk, E: Engine + Send + Drop + 'static, W: Note
     requires servable { IsServable words.now }
     requires servers { IsConfiguration servers }
     requires new { E.known engine.old ≡ [] }
-    ensures served { Started (workers_of words.now) H.done D.states (λ started node. Runs D.tells D.states D.faults E.kind E.refused_openings node started disk.new
-        engine.old engine.new (record { left = H.left host.old; count = H.taken host.old }) (record { left = H.left host.new; count = H.taken host.new })
+    ensures served { Started (workers_of words.now) H.done D.states (λ started node.
+        RunsByRules D.tells D.states D.faults E.meaning E.kind E.told E.refused_openings node started disk.new engine.old engine.new
+        (record { left = H.left host.old; count = H.taken host.old }) (record { left = H.left host.new; count = H.taken host.new })
         None None words.now.events) host.old (record { disk = disk.old; engine = engine.old; events = record { left = H.left host.old; count = H.taken host.old } })
         (record { disk = disk.new; engine = engine.new; events = record { left = H.left host.new; count = H.taken host.new } }) result }
     ensures disk_fault { result ≡ ends.DiskFault → Rose (D.faults disk.old) (D.faults disk.new) }
@@ -181,8 +183,9 @@ pub fn serve<H: Host<Read>, D: Disk, E: Engine + Send + Drop + 'static, W: Notes
     requires servable { IsServable words.now }
     requires new { E.known engine.old ≡ [] }
     // The node was started over the disk, and made a step for each event that was taken.
-    ensures serves { Serves (workers_of words.now) H.done D.states (λ started node. Runs D.tells D.states D.faults E.kind E.refused_openings node started disk.new
-        engine.old engine.new (record { left = H.left host.old; count = H.taken host.old }) (record { left = H.left host.new; count = H.taken host.new })
+    ensures serves { Serves (workers_of words.now) H.done D.states (λ started node.
+        RunsByRules D.tells D.states D.faults E.meaning E.kind E.told E.refused_openings node started disk.new engine.old engine.new
+        (record { left = H.left host.old; count = H.taken host.old }) (record { left = H.left host.new; count = H.taken host.new })
         None None words.now.events) host.old (record { disk = disk.old; engine = engine.old; events = record { left = H.left host.old; count = H.taken host.old } })
         (record { disk = disk.new; engine = engine.new; events = record { left = H.left host.new; count = H.taken host.new } }) result }
     ensures disk_fault { result ≡ ends.DiskFault → Rose (D.faults disk.old) (D.faults disk.new) }

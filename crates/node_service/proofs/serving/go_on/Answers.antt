@@ -1,7 +1,7 @@
 use Rattle.std.proofs.Common.{◌≡◌, ◌+◌, inl, inr, refl, subst}
 use Rattle.std.specs.Prelude.{None}
 use Rattle.dq_base.proofs.FaultLaws.{Rose-earlier}
-use Rattle.served_node.specs.Serving.{Runs}
+use Rattle.served_node.specs.Serving.{RunsByRules}
 use Rattle.node_service.proofs.Ends.{crew_ends, crew_no_files, crew_no_disk, crew_not_spent, crew_host, loop_no_files, loop_disk, loop_host, loop_spent, from_begun}
 use Rattle.node_service.proofs.serving.go_on.Goals as goal
 
@@ -29,7 +29,7 @@ returns-in-Ok-clause-goes g c = inr (record {
   has_begun = c.in-Ok.ensures.done;
   loop_end = c.step_on.result;
   end_is = c.end_of_loop.ensures;
-  ran = from_begun (λ left count. Runs g.D.Disk.tells g.D.Disk.states g.D.Disk.faults g.E.Engine.kind g.E.Engine.refused_openings c.args.node c.args.disk.now c.step_on.new.disk
+  ran = from_begun (λ left count. RunsByRules g.D.Disk.tells g.D.Disk.states g.D.Disk.faults g.E.Engine.meaning g.E.Engine.kind g.E.Engine.told g.E.Engine.refused_openings c.args.node c.args.disk.now c.step_on.new.disk
       c.args.engine.now c.step_on.new.engine (record { left = left; count = count })
       (record { left = g.H.Inbox.left c.step_on.new.host; count = g.H.Inbox.taken c.step_on.new.host }) None None c.args.words.now.events c.step_on.result)
       _ _ _ _ c.begin.ensures.left c.begin.ensures.events c.step_on.ensures.runs;
@@ -46,4 +46,4 @@ returns-in-Ok-clause-host_fault g c = λ e. Rose-earlier _ _ _ c.begin.ensures.f
 
 pub returns-in-Ok-clause-spent : goal.returns-in-Ok-clause-spent
 returns-in-Ok-clause-spent g c = λ e. subst (λ n. g.H.Inbox.taken c.step_on.new.host ≡ n + c.args.words.now.events) c.begin.ensures.events
-    (loop_spent _ _ _ _ _ _ _ _ _ _ _ _ _ _ _ c.step_on.ensures.runs c.end_of_loop.ensures e)
+    (loop_spent _ _ _ _ _ _ _ _ _ _ _ _ _ _ _ _ _ c.step_on.ensures.runs c.end_of_loop.ensures e)
