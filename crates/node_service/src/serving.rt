@@ -90,7 +90,8 @@ fn step_on<H: Host<Read>, D: Disk, E: Engine, W: Notes>(
 ) -> LoopEnd
     requires { CanStep (E.known engine.old) node }
     ensures runs { RunsByRules D.tells D.states D.faults E.meaning E.kind E.told E.refused_openings node disk.old disk.new
-        engine.old engine.new (record { left = H.left host.old; count = H.taken host.old }) (record { left = H.left host.new; count = H.taken host.new }) None None words.now.events result }
+        engine.old engine.new (record { left = H.left host.old; count = H.taken host.old })
+        (record { left = H.left host.new; count = H.taken host.new }) None None words.now.events result }
     ensures closed { result ≡ loops.Closed → Rose (H.faults host.old) (H.faults host.new) }
     ensures disk { result ≡ loops.DiskFault → Rose (D.faults disk.old) (D.faults disk.new) }
     ensures count { D.faults disk.old ≤ D.faults disk.new }
@@ -151,7 +152,8 @@ fn serve_with<H: Host<Read>, D: Disk, E: Engine + Send + Drop + 'static, W: Note
     ensures served { Started (workers_of words.now) H.done D.states (λ started node.
         RunsByRules D.tells D.states D.faults E.meaning E.kind E.told E.refused_openings node started disk.new engine.old engine.new
         (record { left = H.left host.old; count = H.taken host.old }) (record { left = H.left host.new; count = H.taken host.new })
-        None None words.now.events) host.old (record { disk = disk.old; engine = engine.old; events = record { left = H.left host.old; count = H.taken host.old } })
+        None None words.now.events) host.old
+        (record { disk = disk.old; engine = engine.old; events = record { left = H.left host.old; count = H.taken host.old } })
         (record { disk = disk.new; engine = engine.new; events = record { left = H.left host.new; count = H.taken host.new } }) result }
     ensures disk_fault { result ≡ ends.DiskFault → Rose (D.faults disk.old) (D.faults disk.new) }
     ensures host_fault { result ≡ ends.HostFault → Rose (H.faults host.old) (H.faults host.new) }
@@ -186,7 +188,8 @@ pub fn serve<H: Host<Read>, D: Disk, E: Engine + Send + Drop + 'static, W: Notes
     ensures serves { Serves (workers_of words.now) H.done D.states (λ started node.
         RunsByRules D.tells D.states D.faults E.meaning E.kind E.told E.refused_openings node started disk.new engine.old engine.new
         (record { left = H.left host.old; count = H.taken host.old }) (record { left = H.left host.new; count = H.taken host.new })
-        None None words.now.events) host.old (record { disk = disk.old; engine = engine.old; events = record { left = H.left host.old; count = H.taken host.old } })
+        None None words.now.events) host.old
+        (record { disk = disk.old; engine = engine.old; events = record { left = H.left host.old; count = H.taken host.old } })
         (record { disk = disk.new; engine = engine.new; events = record { left = H.left host.new; count = H.taken host.new } }) result }
     ensures disk_fault { result ≡ ends.DiskFault → Rose (D.faults disk.old) (D.faults disk.new) }
     ensures host_fault { result ≡ ends.HostFault → Rose (H.faults host.old) (H.faults host.new) }
