@@ -4,3 +4,4 @@ pub mod Telling
 pub mod Idle
 pub mod Made
 pub mod Generated
+pub mod ServeEnds

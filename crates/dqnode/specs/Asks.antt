@@ -5,6 +5,7 @@ use Rattle.sql_engine.specs.declared.kind.EngineKind.{EngineKind}
 use Rattle.program_words.specs.declared.asked.Asked.{Asked}
 use Rattle.program_words.specs.declared.asked.Asked.TheVariants as asks
 use Rattle.program_words.specs.declared.asked.Statement.{Statement}
+use Rattle.program_words.specs.declared.asked.Serve.{Serve}
 use Rattle.program_words.specs.Asking.{asked_of}
 
 -- what the words behind the program's name ask for, if they ask for something
@@ -27,6 +28,10 @@ ForGenerated number writes asked = asked ≡ Some (asks.Generate number writes f
 abbrev pub ForRun : ℕ → ℕ → Option Asked → Type 0
 ForRun number writes asked = asked ≡ Some (asks.Generate number writes true)
 
+-- for this node to be served
+abbrev pub ForServed : Serve → Option Asked → Type 0
+ForServed served asked = asked ≡ Some (asks.Serve served)
+
 abbrev pub IsScript : Option Asked → Type 0
 IsScript asked = (kind : EngineKind) × ForScript kind asked
 
@@ -35,6 +40,9 @@ IsRun asked = (number writes : ℕ) × ForRun number writes asked
 
 abbrev pub IsStatement : Option Asked → Type 0
 IsStatement asked = (statement : Statement) × ForStatement statement asked
+
+abbrev pub IsServed : Option Asked → Type 0
+IsServed asked = (served : Serve) × ForServed served asked
 
 abbrev pub IsCheck : Option Asked → Type 0
 IsCheck asked = asked ≡ Some asks.Check

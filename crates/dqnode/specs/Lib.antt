@@ -4,3 +4,4 @@ pub mod Status
 pub mod Statements
 pub mod Checks
 pub mod Generating
+pub mod Serving

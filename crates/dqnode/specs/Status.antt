@@ -8,7 +8,7 @@ use Rattle.script_runner.specs.declared.run.Outcome.TheVariants as outcome
 use Rattle.script_runner.specs.Ending.{MayFollow, Anything}
 use Rattle.dqnode.specs.Program.{Gives, Completes, BreaksOff}
 use Rattle.dqnode.specs.declared.status.Status.{Status}
-use Rattle.dqnode.specs.declared.status.Status.TheVariants.{Done, Words, Script, ReadFault, WriteFault, DiskFault, NoMemory, Files, Large, Refused, NoLeader, Unknown}
+use Rattle.dqnode.specs.declared.status.Status.TheVariants.{Done, Words, Script, ReadFault, WriteFault, DiskFault, HostFault, NoMemory, Files, Large, Spent, Refused, NoLeader, Unknown}
 
 abbrev pub status_code : Status → ℕ
 status_code Done = 0
@@ -17,14 +17,16 @@ status_code Script = 2
 status_code ReadFault = 3
 status_code WriteFault = 4
 status_code DiskFault = 5
+status_code HostFault = 6
 status_code NoMemory = 7
 status_code Files = 8
 status_code Large = 9
+status_code Spent = 10
 status_code Refused = 11
 status_code NoLeader = 12
 status_code Unknown = 13
 
--- those of a script, of a statement, and of a check
+-- those of a script, of a statement, of a check, and of a node that is served
 abbrev pub IsScriptCode : ℕ → Type 0
 IsScriptCode code = (code ≡ 0) ⊎ (code ≡ 2) ⊎ (code ≡ 3) ⊎ (code ≡ 4) ⊎ (code ≡ 7) ⊎ (code ≡ 9)
 
@@ -34,9 +36,12 @@ IsStatementCode code = (code ≡ 0) ⊎ (code ≡ 4) ⊎ (code ≡ 7) ⊎ (code 
 abbrev pub IsCheckCode : ℕ → Type 0
 IsCheckCode code = (code ≡ 0) ⊎ (code ≡ 4) ⊎ (code ≡ 5) ⊎ (code ≡ 7) ⊎ (code ≡ 8)
 
+abbrev pub IsServeCode : ℕ → Type 0
+IsServeCode code = (code ≡ 5) ⊎ (code ≡ 6) ⊎ (code ≡ 7) ⊎ (code ≡ 8) ⊎ (code ≡ 10)
+
 -- the statuses that there are
 abbrev pub IsStatus : ℕ → Type 0
-IsStatus code = (code ≡ 1) ⊎ IsScriptCode code ⊎ IsStatementCode code ⊎ IsCheckCode code
+IsStatus code = (code ≡ 1) ⊎ IsScriptCode code ⊎ IsStatementCode code ⊎ IsCheckCode code ⊎ IsServeCode code
 
 -- those of a fault of the output, and of want of memory
 abbrev pub IsBroken : ℕ → Type 0
@@ -65,7 +70,9 @@ abbrev pub ScriptEnds : EngineKind → List Item → Status → Option (List ℕ
 ScriptEnds kind journal Done left left' written written' = Completes kind journal left left' written written'
 ScriptEnds kind journal Words left left' written written' = ⊥
 ScriptEnds kind journal DiskFault left left' written written' = ⊥
+ScriptEnds kind journal HostFault left left' written written' = ⊥
 ScriptEnds kind journal Files left left' written written' = ⊥
+ScriptEnds kind journal Spent left left' written written' = ⊥
 ScriptEnds kind journal Refused left left' written written' = ⊥
 ScriptEnds kind journal NoLeader left left' written written' = ⊥
 ScriptEnds kind journal Unknown left left' written written' = ⊥

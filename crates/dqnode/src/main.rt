@@ -1,44 +1,117 @@
-//! `dqnode` runs scripts, has the leader of a cluster run statements, and tells what the files of a stopped node stand for. A script
-//! drives a whole cluster of dqlite, which is SQLite replicated over a Raft cluster, or machines that apply one list of replicated commands.
+//! `dqnode` runs scripts, serves a node, has the leader of a cluster run statements, and tells what the files of a stopped node stand
+//! for. A script drives a whole cluster of dqlite, which is SQLite replicated over a Raft cluster, or machines that apply one list of
+//! replicated commands.
 #![tactic(auto)]
 
 mod checks;
+mod error_stream;
+mod founding;
 mod generating;
+mod network;
 mod program;
 mod script_bytes;
 mod scripts;
+mod serving;
 mod statements;
 mod status;
 mod words;
 
 use dir_disk::DirDisk;
+use disk_model::DiskFault;
 use dq_base::{ReadSource, WriteSink};
+use error_stream::{ErrorStream, tell_disk, tell_host, tell_memory, tell_owner};
+use founding::{Owner, owner_of};
+use gateway::Read;
+pub use network::Network;
 pub use program::dqnode;
+use program_words::{Asked, Serve, read_words};
 use script_nodes::ClusterJournal;
+use server_hosts::TcpHost;
 pub use status::Status;
+use std::alloc::AllocError;
 use std::io;
 use std::process::ExitCode;
+use std::sync::Wait;
 use tcp_dialer::TcpDialer;
 
+/// The node that the words name, where they ask for one to be served.
+fn served(rt: &HostRuntime, words: &[String]) -> Option<Serve> {
+    match read_words(rt.alloc(), words) {
+        Ok(Some(Asked::Serve(words))) => Some(words),
+        _ => None,
+    }
+}
+
+/// Takes the folder for the node that the words name. Where it is another node's, or the disk fails, that is told, and the disk is
+/// refused, so that the node doesn't start. `Err` is want of memory.
+fn take_folder(
+    rt: &HostRuntime,
+    words: &Serve,
+    disk: &mut DirDisk<HostRuntime>,
+) -> Result<(), AllocError> {
+    match owner_of(rt.alloc(), words, disk) {
+        Ok(Owner::Ours) => return Ok(()),
+        Ok(Owner::Another(held)) => tell_owner(rt, held.as_str()),
+        Err(DiskFault::Failed) => tell_disk(rt, disk),
+        Err(DiskFault::NoMemory) => return Err(AllocError),
+    }
+    disk.refuse();
+    Ok(())
+}
+
+/// Says why a served node ends, where that wasn't told.
+fn tell_end<R: Wait + Copy + Drop>(
+    rt: &HostRuntime,
+    code: u8,
+    disk: &DirDisk<HostRuntime>,
+    host: &TcpHost<R, Read>,
+) {
+    match code {
+        5 if !disk.is_refused() => tell_disk(rt, disk),
+        6 => tell_host(rt, host),
+        7 => tell_memory(rt),
+        _ => {}
+    }
+}
+
 fn main(rt: HostRuntime) -> ExitCode {
+    let no_memory = ExitCode::from(Status::NoMemory.code());
     let Ok(all) = words::given(&rt) else {
-        return ExitCode::from(Status::NoMemory.code());
+        return no_memory;
     };
     let Ok(mut disk) = DirDisk::new(rt) else {
-        return ExitCode::from(Status::NoMemory.code());
+        return no_memory;
+    };
+    let Ok(host) = TcpHost::<HostRuntime, Read>::new(rt, rt, rt.alloc()) else {
+        return no_memory;
     };
     let words = words::behind_name(all.as_slice());
+    let served = served(&rt, words);
+    if let Some(words) = &served {
+        if take_folder(&rt, words, &mut disk).is_err() {
+            tell_memory(&rt);
+            return no_memory;
+        }
+    }
     let mut input = ReadSource::new(rt.stdin());
     let mut output = WriteSink::new(io::writer(&rt));
     let mut journal = ClusterJournal::new(rt.alloc());
-    let mut dialer = TcpDialer::new(rt);
-    ExitCode::from(dqnode(
+    let mut network = Network {
+        dialer: TcpDialer::new(rt),
+        host,
+        notes: ErrorStream::new(rt),
+    };
+    let code = dqnode(
         rt.alloc(),
         words,
         &mut input,
         &mut output,
         &mut journal,
         &mut disk,
-        &mut dialer,
-    ))
+        &mut network,
+    );
+    if served.is_some() {
+        tell_end(&rt, code, &disk, &network.host);
+    }
+    ExitCode::from(code)
 }

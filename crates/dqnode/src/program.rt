@@ -1,6 +1,6 @@
 //! All that the program does.
 
-ghost use Rattle.std.specs.Prelude.{◌≡◌, ◌≢◌, ◌≤◌, ◌⊎◌, ◌*◌, ℕ, List, [], Some, length};
+ghost use Rattle.std.specs.Prelude.{◌≡◌, ◌≢◌, ◌≤◌, ◌⊎◌, ◌+◌, ◌*◌, ℕ, List, [], Some, length};
 ghost use Rattle.std.specs.Io.KnownBytes.{Appends, Keeps};
 ghost use Rattle.dq_base.specs.Faults.{Rose};
 ghost use Rattle.dq_base.specs.Sink.{AppendsFront};
@@ -10,23 +10,30 @@ ghost use Rattle.dq_client.specs.Net.{HaveFailed};
 ghost use Rattle.dq_client.specs.Running.{HaveDialled};
 ghost use Rattle.script_runner.specs.Alike.{KeepsAlike};
 ghost use Rattle.script_runner.specs.Ending.{MayFollow, Anything};
+ghost use Rattle.program_words.specs.declared.asked.Serve.{Serve};
 ghost use Rattle.program_words.specs.declared.asked.Statement.{Statement};
 ghost use Rattle.program_words.specs.Asking.{IsAskable};
-ghost use Rattle.dqnode.specs.Asks.{asks_for, ForStatement, ForGenerated, ForRun, IsScript, IsRun, IsStatement, IsCheck, IsNothing, RunsWith};
+ghost use Rattle.dqnode.specs.Asks.{asks_for, ForStatement, ForGenerated, ForRun, ForServed, IsScript, IsRun, IsStatement, IsServed, IsCheck, IsNothing, RunsWith};
 ghost use Rattle.dqnode.specs.Program.{words_error, Gives, Completes, BreaksOff, RunsSafely, RunsAreSafe};
-ghost use Rattle.dqnode.specs.Status.{IsStatus, IsBroken};
+ghost use Rattle.dqnode.specs.Status.{IsStatus, IsBroken, IsServeCode};
 ghost use Rattle.dqnode.specs.Statements.{StatementEnds, IsAnswered, IsOfStatement, HasLinked};
 ghost use Rattle.dqnode.specs.Checks.{CheckEnds};
 ghost use Rattle.dqnode.specs.Generating.{GenerateEnds, RunEnds};
+ghost use Rattle.dqnode.specs.Serving.{ServedBy, NotServed};
 
 use crate::checks::tell;
 use crate::generating::{make_script, run_made};
+use crate::network::Network;
 use crate::scripts::script;
+use crate::serving::serve_node;
 use crate::statements::ask;
 use crate::status::Status;
 use disk_model::Disk;
 use dq_base::{Sink, Source};
 use dq_client::Dialer;
+use gateway::Read;
+use node_server::Host;
+use node_service::Notes;
 use program_words::{Asked, read_words};
 use script_nodes::ClusterJournal;
 use std::alloc::Global;
@@ -55,15 +62,15 @@ fn give_up(alloc: Global, journal: &mut ClusterJournal) -> Status
 }
 
 /// Does what is asked for.
-#[tactic(auto, using(crate::proofs::Asked::ends_for, crate::proofs::Asked::unled_for, crate::proofs::Asked::statement_linked, crate::proofs::Asked::statement_code, crate::proofs::Idle::no_call, crate::proofs::Generated::generated_for, crate::proofs::Generated::generated_code, crate::proofs::Generated::made_for, crate::proofs::Generated::made_code))]
-fn run<S: Source, K: Sink, D: Disk, N: Dialer>(
+#[tactic(auto, using(crate::proofs::Asked::ends_for, crate::proofs::Asked::unled_for, crate::proofs::Asked::statement_linked, crate::proofs::Asked::statement_code, crate::proofs::Idle::no_call, crate::proofs::Generated::generated_for, crate::proofs::Generated::generated_code, crate::proofs::Generated::made_for, crate::proofs::Generated::made_code, crate::proofs::ServeEnds::served_for, crate::proofs::ServeEnds::spent_for))]
+fn run<S: Source, K: Sink, D: Disk, N: Dialer, H: Host<Read>, W: Notes>(
     alloc: Global,
     asked: Option<Asked>,
     input: &mut S,
     output: &mut K,
     journal: &mut ClusterJournal,
     disk: &mut D,
-    dialer: &mut N,
+    network: &mut Network<N, H, W>,
 ) -> u8
     requires { IsAskable asked }
     ensures done { IsScript asked → result ≡ 0 → RunsWith asked (λ kind. Completes kind journal.new (S.left input.old) (S.left input.new)
@@ -85,19 +92,26 @@ fn run<S: Source, K: Sink, D: Disk, N: Dialer>(
     ensures broken { IsScript asked → IsBroken result → RunsWith asked (λ kind. BreaksOff kind (MayFollow (S.left input.new))
         (S.left input.old) (S.left input.new) (K.written output.old) (K.written output.new)) }
     ensures words_broken { IsNothing asked → IsBroken result → AppendsFront (K.written output.old) (K.written output.new) words_error }
-    ensures statement { (statement : Statement) → ForStatement statement asked → StatementEnds statement (N.net dialer.old) (N.net dialer.new)
+    ensures statement { (statement : Statement) → ForStatement statement asked → StatementEnds statement (N.net network.old.dialer) (N.net network.new.dialer)
         (K.written output.old) (K.written output.new) result }
-    ensures linked { IsStatement asked → IsAnswered result → HasLinked (N.net dialer.old) (N.net dialer.new) }
-    ensures no_leader { (statement : Statement) → ForStatement statement asked → result ≡ 12 → HaveDialled (N.net dialer.old) (N.net dialer.new)
+    ensures linked { IsStatement asked → IsAnswered result → HasLinked (N.net network.old.dialer) (N.net network.new.dialer) }
+    ensures no_leader { (statement : Statement) → ForStatement statement asked → result ≡ 12 → HaveDialled (N.net network.old.dialer) (N.net network.new.dialer)
         (3 * length statement.addresses) }
     ensures of_statement { IsOfStatement result → IsStatement asked }
-    ensures dial_faults { HaveFailed (N.net dialer.old) (N.net dialer.new) }
-    ensures dialer { ¬ (IsStatement asked) → dialer.new ≡ dialer.old }
+    ensures dial_faults { HaveFailed (N.net network.old.dialer) (N.net network.new.dialer) }
+    ensures dialer { ¬ (IsStatement asked) → network.new.dialer ≡ network.old.dialer }
     ensures check { IsCheck asked → CheckEnds (D.states disk.old) (D.states disk.new) (K.written output.old) (K.written output.new) result }
-    ensures of_check { result ≡ 8 → IsCheck asked }
-    ensures disk_fault { result ≡ 5 → IsCheck asked × Rose (D.faults disk.old) (D.faults disk.new) }
+    ensures of_check { result ≡ 8 → IsCheck asked ⊎ IsServed asked }
+    ensures disk_fault { result ≡ 5 → (IsCheck asked ⊎ IsServed asked) × Rose (D.faults disk.old) (D.faults disk.new) }
     ensures unprinted { IsCheck asked → (result ≡ 5) ⊎ (result ≡ 7) → output.new ≡ output.old }
-    ensures disk { ¬ (IsCheck asked) → disk.new ≡ disk.old }
+    ensures disk { ¬ (IsCheck asked) → ¬ (IsServed asked) → disk.new ≡ disk.old }
+    ensures serve_codes { IsServed asked → IsServeCode result }
+    ensures host_fault { result ≡ 6 → IsServed asked × Rose (H.faults network.old.host) (H.faults network.new.host) }
+    ensures of_spent { result ≡ 10 → IsServed asked }
+    ensures serves { (served : Serve) → ForServed served asked → ServedBy D.tells D.states D.faults H.done served network.old.host disk.old disk.new
+        (record { left = H.left network.old.host; count = H.taken network.old.host }) (record { left = H.left network.new.host; count = H.taken network.new.host }) result }
+    ensures spent { (served : Serve) → ForServed served asked → result ≡ 10 → H.taken network.new.host ≡ H.taken network.old.host + served.events }
+    ensures host { ¬ (IsServed asked) → network.new.host ≡ network.old.host }
     ensures generated { (number writes : ℕ) → ForGenerated number writes asked → GenerateEnds number writes (K.written output.old) (K.written output.new) result }
     ensures made { (number writes : ℕ) → ForRun number writes asked → RunEnds number writes journal.new (K.written output.old) (K.written output.new) result }
     ensures known { IsStatus result }
@@ -107,7 +121,7 @@ fn run<S: Source, K: Sink, D: Disk, N: Dialer>(
 {
     let status = match asked {
         Some(Asked::Script(engine)) => script(alloc, engine, input, output, journal),
-        Some(Asked::Statement(statement)) => ask(alloc, statement, output, dialer),
+        Some(Asked::Statement(statement)) => ask(alloc, statement, output, &mut network.dialer),
         Some(Asked::Check) => tell(alloc, output, disk),
         Some(
             Asked::Generate {
@@ -123,6 +137,9 @@ fn run<S: Source, K: Sink, D: Disk, N: Dialer>(
                 run: true,
             },
         ) => run_made(alloc, number, count, output, journal),
+        Some(Asked::Serve(words)) => {
+            serve_node(alloc, words, disk, &mut network.host, &mut network.notes)
+        }
         None => refuse_words(output),
     };
     status.code()
@@ -159,17 +176,21 @@ fn run<S: Source, K: Sink, D: Disk, N: Dialer>(
 /// A check: 0 with the lines of what the files stand for; 8 where they have a fault, with its line alone: `damaged S AT`, `gap A B`,
 /// `no metadata`, or `bad snapshot I`; 5 is a fault of the disk. No file is changed.
 ///
-/// After words that ask for no script the input is as it was; so is the dialer where no statement is asked for, and the disk where no
-/// check is.
-#[tactic(auto, using(crate::proofs::Endings::unread_breaks, crate::proofs::Endings::unread_safely, crate::proofs::Idle::unasked, crate::proofs::Idle::unchecked, crate::proofs::Idle::no_call, crate::proofs::Idle::nothing_written, crate::proofs::Generated::ungenerated, crate::proofs::Made::unrun))]
-pub fn dqnode<S: Source, K: Sink, D: Disk, N: Dialer>(
+/// A node that is served: it is started over the disk and makes a step for each event that the host brings. 10 comes after as many
+/// events as the words say, 6 where the host failed, 5 where the disk did, 7 where memory ran out, and 8 where the files aren't those of
+/// a node.
+///
+/// After words that ask for no script the input is as it was; so is the dialer where no statement is asked for, the disk where neither a
+/// check nor a node is, and the host where no node is.
+#[tactic(auto, using(crate::proofs::Endings::unread_breaks, crate::proofs::Endings::unread_safely, crate::proofs::Idle::unasked, crate::proofs::Idle::unchecked, crate::proofs::Idle::no_call, crate::proofs::Idle::nothing_written, crate::proofs::Generated::ungenerated, crate::proofs::Made::unrun, crate::proofs::ServeEnds::unserved))]
+pub fn dqnode<S: Source, K: Sink, D: Disk, N: Dialer, H: Host<Read>, W: Notes>(
     alloc: Global,
     words: &[String],
     input: &mut S,
     output: &mut K,
     journal: &mut ClusterJournal,
     disk: &mut D,
-    dialer: &mut N,
+    network: &mut Network<N, H, W>,
 ) -> u8
     // The script was read to its end, it has no fault, and all that its run prints was written; the journal is what the run notes.
     ensures done { IsScript (asks_for words.now) → result ≡ 0 → RunsWith (asks_for words.now) (λ kind. Completes kind journal.new
@@ -209,24 +230,37 @@ pub fn dqnode<S: Source, K: Sink, D: Disk, N: Dialer>(
     ensures words_broken { IsNothing (asks_for words.now) → IsBroken result → AppendsFront (K.written output.old) (K.written output.new) words_error }
     // A statement: the client that finds the leader and has it run that came to an end, which the status tells and which was printed,
     // unless the output failed or memory ran out.
-    ensures statement { (statement : Statement) → ForStatement statement (asks_for words.now) → StatementEnds statement (N.net dialer.old) (N.net dialer.new)
+    ensures statement { (statement : Statement) → ForStatement statement (asks_for words.now) → StatementEnds statement (N.net network.old.dialer) (N.net network.new.dialer)
         (K.written output.old) (K.written output.new) result }
     // An answer comes only where an address was dialled; that there is no leader, only where three dials were made for each address.
-    ensures linked { IsStatement (asks_for words.now) → IsAnswered result → HasLinked (N.net dialer.old) (N.net dialer.new) }
-    ensures no_leader { (statement : Statement) → ForStatement statement (asks_for words.now) → result ≡ 12 → HaveDialled (N.net dialer.old)
-        (N.net dialer.new) (3 * length statement.addresses) }
+    ensures linked { IsStatement (asks_for words.now) → IsAnswered result → HasLinked (N.net network.old.dialer) (N.net network.new.dialer) }
+    ensures no_leader { (statement : Statement) → ForStatement statement (asks_for words.now) → result ≡ 12 → HaveDialled (N.net network.old.dialer)
+        (N.net network.new.dialer) (3 * length statement.addresses) }
     ensures of_statement { IsOfStatement result → IsStatement (asks_for words.now) }
     // Each dial and each call of the dialer that failed is counted; and it makes none where no statement is asked for.
-    ensures dial_faults { HaveFailed (N.net dialer.old) (N.net dialer.new) }
-    ensures dialer { ¬ (IsStatement (asks_for words.now)) → dialer.new ≡ dialer.old }
+    ensures dial_faults { HaveFailed (N.net network.old.dialer) (N.net network.new.dialer) }
+    ensures dialer { ¬ (IsStatement (asks_for words.now)) → network.new.dialer ≡ network.old.dialer }
     // A check: every file stays as it is, and the lines of what they stand for were printed, or the line of their fault.
     ensures check { IsCheck (asks_for words.now) → CheckEnds (D.states disk.old) (D.states disk.new) (K.written output.old) (K.written output.new) result }
-    ensures of_check { result ≡ 8 → IsCheck (asks_for words.now) }
+    ensures of_check { result ≡ 8 → IsCheck (asks_for words.now) ⊎ IsServed (asks_for words.now) }
     // The disk failed in this call; then, and where there is not enough memory, nothing was printed.
-    ensures disk_fault { result ≡ 5 → IsCheck (asks_for words.now) × Rose (D.faults disk.old) (D.faults disk.new) }
+    ensures disk_fault { result ≡ 5 → (IsCheck (asks_for words.now) ⊎ IsServed (asks_for words.now)) × Rose (D.faults disk.old) (D.faults disk.new) }
     ensures unprinted { IsCheck (asks_for words.now) → (result ≡ 5) ⊎ (result ≡ 7) → output.new ≡ output.old }
     // Nothing else looks at the disk.
-    ensures disk { ¬ (IsCheck (asks_for words.now)) → disk.new ≡ disk.old }
+    ensures disk { ¬ (IsCheck (asks_for words.now)) → ¬ (IsServed (asks_for words.now)) → disk.new ≡ disk.old }
+    // A node that is served: there is no status but 5 to 8 and 10; 6 only where the host's count of faults rose, 10 only after as many
+    // events as the words say. Nothing else touches the host.
+    ensures serve_codes { IsServed (asks_for words.now) → IsServeCode result }
+    ensures host_fault { result ≡ 6 → IsServed (asks_for words.now) × Rose (H.faults network.old.host) (H.faults network.new.host) }
+    ensures of_spent { result ≡ 10 → IsServed (asks_for words.now) }
+    // With an engine of the kind that is named, which knew no image, the node that the words name was started over the disk, behind that the
+    // host listened and took all workers, and the node made a step for each event that the host gave; where there is not enough memory to
+    // read the words, nothing was done.
+    ensures serves { (served : Serve) → ForServed served (asks_for words.now) → ServedBy D.tells D.states D.faults H.done served network.old.host disk.old disk.new
+        (record { left = H.left network.old.host; count = H.taken network.old.host }) (record { left = H.left network.new.host; count = H.taken network.new.host }) result
+        ⊎ NotServed disk.old disk.new network.old.host network.new.host result }
+    ensures spent { (served : Serve) → ForServed served (asks_for words.now) → result ≡ 10 → H.taken network.new.host ≡ H.taken network.old.host + served.events }
+    ensures host { ¬ (IsServed (asks_for words.now)) → network.new.host ≡ network.old.host }
     // The script of a number and a count of writes: with 0 it was written whole and nothing else; with 4 and 7, and there is no other
     // status, a front of it.
     ensures generated { (number writes : ℕ) → ForGenerated number writes (asks_for words.now) → GenerateEnds number writes (K.written output.old)
@@ -241,7 +275,7 @@ pub fn dqnode<S: Source, K: Sink, D: Disk, N: Dialer>(
     ensures disk_count { D.faults disk.old ≤ D.faults disk.new }
 {
     match read_words(alloc, words) {
-        Ok(asked) => run(alloc, asked, input, output, journal, disk, dialer),
+        Ok(asked) => run(alloc, asked, input, output, journal, disk, network),
         Err(_) => give_up(alloc, journal).code(),
     }
 }

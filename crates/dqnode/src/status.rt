@@ -18,12 +18,16 @@ pub enum Status {
     WriteFault,
     /// The folder failed.
     DiskFault,
+    /// The host failed: it could not listen or start a thread, or brought no event any more.
+    HostFault,
     /// There is not enough memory.
     NoMemory,
     /// The files of the folder have a fault.
     Files,
     /// The script has too many lines or events.
     Large,
+    /// A served node took as many events as were asked for.
+    Spent,
     /// A server refused the statement.
     Refused,
     /// No leader was found.
@@ -46,9 +50,11 @@ impl Status {
             Status::ReadFault => 3,
             Status::WriteFault => 4,
             Status::DiskFault => 5,
+            Status::HostFault => 6,
             Status::NoMemory => 7,
             Status::Files => 8,
             Status::Large => 9,
+            Status::Spent => 10,
             Status::Refused => 11,
             Status::NoLeader => 12,
             Status::Unknown => 13,

@@ -1,6 +1,6 @@
 -- What is read of words.
 use Rattle.std.proofs.Common.{◌≡◌, ◌≢◌, inl, inr, ◌≤◌, ◌&&◌, ℕ, Bool, true, false, not, cond, List, [], ◌∷◌, length, codes, Option, Some, None, Result, Ok, Err, IfOk, refl, sym, ap, subst, ◌∙◌, arith}
-use Rattle.std.specs.Prelude.{nat_le, option_map}
+use Rattle.std.specs.Prelude.{nat_le, option_map, IfSome}
 use Rattle.std.proofs.lemmas.Bool.{leb-true}
 use Rattle.std.specs.declared.alloc.AllocError.{AllocError}
 use Rattle.dq_base.specs.Names.{has_nul}
@@ -11,9 +11,13 @@ use Rattle.clap.specs.declared.error.Error.{Error}
 use Rattle.clap.specs.declared.error.kind.ErrorKind.{ErrorKind}
 use Rattle.clap.specs.declared.error.kind.ErrorKind.TheVariants as kind
 use Rattle.clap.specs.declared.parser.matches.ArgMatches.{ArgMatches}
-use Rattle.program_words.specs.Commands.{script_app, statement_app, check_app, generate_app, unless_refused, read_by}
-use Rattle.program_words.specs.Asking.{engine_named, are_addresses, is_askable, statement_with, script_found, statement_found, check_found, number_in, is_set, generate_with, generate_found, asked_by, CanBeSent, IsAskable}
+use Rattle.program_words.specs.Commands.{script_app, statement_app, check_app, generate_app, serve_app, unless_refused, read_by}
+use Rattle.program_words.specs.Values.{engine_named, number_in}
+use Rattle.program_words.specs.Asking.{are_addresses, is_askable, statement_with, script_found, statement_found, check_found, is_set, generate_with, generate_found, asked_by, CanBeSent, IsAskable}
 use Rattle.program_words.specs.declared.asked.Asked.{Asked}
+use Rattle.program_words.specs.declared.asked.Serve.{Serve}
+use Rattle.program_words.specs.Serving.{serve_found, IsServable}
+use Rattle.program_words.proofs.Servable.{serve_fits}
 use Rattle.program_words.specs.declared.asked.Asked.TheVariants as asks
 use Rattle.program_words.specs.declared.reading.Line.{Line}
 use Rattle.program_words.specs.declared.reading.Line.TheVariants as line
@@ -28,6 +32,9 @@ statement_simple app e = subst (λ (a : App). is_simple_and_free a ≡ true) (sy
 
 pub check_simple : (app : App) → app ≡ check_app → is_simple_and_free app ≡ true
 check_simple app e = subst (λ (a : App). is_simple_and_free a ≡ true) (sym e) refl
+
+pub serve_simple : (app : App) → app ≡ serve_app → is_simple_and_free app ≡ true
+serve_simple app e = subst (λ (a : App). is_simple_and_free a ≡ true) (sym e) refl
 
 first_holds : (a b : Bool) → (a && b) ≡ true → a ≡ true
 first_holds true b e = refl
@@ -117,6 +124,10 @@ check_fits : (o : Option (List Row)) → IsAskable (check_found o)
 check_fits None = tt
 check_fits (Some rows) = tt
 
+served_askable : (o : Option Serve) → IfSome o IsServable → IsAskable (option_map (λ (served : Serve). asks.Serve served) o)
+served_askable None h = tt
+served_askable (Some served) h = h
+
 fits : (l : Option Line) (words : List Text) → IsAskable (asked_by l words)
 fits None words = tt
 fits (Some line.Script) words = script_fits (read_by script_app words)
@@ -124,6 +135,7 @@ fits (Some line.Exec) words = statement_fits false (read_by statement_app words)
 fits (Some line.Query) words = statement_fits true (read_by statement_app words)
 fits (Some line.Check) words = check_fits (read_by check_app words)
 fits (Some line.Generate) words = generate_fits (read_by generate_app words)
+fits (Some line.Serve) words = served_askable (serve_found (read_by serve_app words)) (serve_fits (read_by serve_app words))
 
 pub askable : (l : Option Line) (words : List Text) (r : Result (Option Asked) AllocError) → IfOk r (λ (asked : Option Asked). asked ≡ asked_by l words) → IfOk r IsAskable
 askable l words (Err f) h = tt

@@ -1,1 +1,2 @@
+pub mod Servable
 pub mod Found

@@ -5,29 +5,19 @@ use Rattle.std.specs.Option.{option_map}
 use Rattle.std.specs.Str.{bytes_eq}
 use Rattle.clap.specs.Walk.{Row, Text, first_of, all_of}
 use Rattle.dq_base.specs.Names.{has_nul}
-use Rattle.dq_base.specs.Decimal.{number_below}
 use Rattle.wire_words.specs.Items.{HasNoNul}
-use Rattle.sql_engine.specs.declared.kind.EngineKind.{EngineKind}
-use Rattle.sql_engine.specs.declared.kind.EngineKind.TheVariants.{Sqlite, Cells}
 use Rattle.program_words.specs.declared.asked.Asked.{Asked}
 use Rattle.program_words.specs.declared.asked.Asked.TheVariants as asks
 use Rattle.program_words.specs.declared.asked.Statement.{Statement as StatementAsked}
+use Rattle.program_words.specs.Values.{engine_named, is_address, number_in}
+use Rattle.program_words.specs.Serving.{serve_found, IsServable}
 use Rattle.program_words.specs.declared.reading.Line.{Line}
 use Rattle.program_words.specs.declared.reading.Line.TheVariants as line
-use Rattle.program_words.specs.Commands.{script_app, statement_app, check_app, generate_app, read_by}
-
--- the kind of engine of a name; SQLite's, where none is named
-abbrev pub engine_named : Option Text → Option EngineKind
-engine_named None = Some Sqlite
-engine_named (Some name) = cond (bytes_eq name (codes "sqlite")) (Some Sqlite) (cond (bytes_eq name (codes "cells")) (Some Cells) None)
+use Rattle.program_words.specs.Commands.{script_app, statement_app, check_app, generate_app, serve_app, read_by}
 
 -- behind `script`
 abbrev pub script_in : List Row → Option Asked
 script_in rows = option_map (λ kind. asks.Script kind) (engine_named (first_of (codes "engine") rows))
-
--- an address is a text of 1 to 255 bytes
-abbrev pub is_address : Text → Bool
-is_address text = nat_le 1 (length text) && (nat_le (length text) 255 && not (has_nul text))
 
 -- 1 to 9 addresses
 abbrev pub are_addresses : List Text → Bool
@@ -44,18 +34,6 @@ statement_with query name sql addresses = None
 -- behind `exec` and `query`
 abbrev pub statement_in : Bool → List Row → Option Asked
 statement_in query rows = statement_with query (first_of (codes "NAME") rows) (first_of (codes "SQL") rows) (all_of (codes "ADDRESS") rows)
-
-abbrev pub is_within : ℕ → ℕ → ℕ → Bool
-is_within least most number = nat_le least number && nat_le number most
-
-abbrev pub within : ℕ → ℕ → Option ℕ → Option ℕ
-within least most None = None
-within least most (Some number) = cond (is_within least most number) (Some number) None
-
--- a number in decimal, not less than the one and not more than the other
-abbrev pub number_in : ℕ → ℕ → Option Text → Option ℕ
-number_in least most None = None
-number_in least most (Some word) = within least most (number_below (2 ^ 32) word)
 
 -- an option without a value is there
 abbrev pub is_set : Option Text → Bool
@@ -95,7 +73,8 @@ line_of word =
     (cond (bytes_eq word (codes "exec")) (Some line.Exec)
     (cond (bytes_eq word (codes "query")) (Some line.Query)
     (cond (bytes_eq word (codes "check")) (Some line.Check)
-    (cond (bytes_eq word (codes "gen")) (Some line.Generate) None))))
+    (cond (bytes_eq word (codes "gen")) (Some line.Generate)
+    (cond (bytes_eq word (codes "serve")) (Some line.Serve) None)))))
 
 abbrev pub asked_by : Option Line → List Text → Option Asked
 asked_by None words = None
@@ -104,6 +83,7 @@ asked_by (Some line.Exec) words = statement_found false (read_by statement_app w
 asked_by (Some line.Query) words = statement_found true (read_by statement_app words)
 asked_by (Some line.Check) words = check_found (read_by check_app words)
 asked_by (Some line.Generate) words = generate_found (read_by generate_app words)
+asked_by (Some line.Serve) words = option_map (λ served. asks.Serve served) (serve_found (read_by serve_app words))
 
 -- what the words behind the program's name ask for, if they ask for something
 unfoldable pub asked_of : List Text → Option Asked
@@ -119,4 +99,5 @@ pub record CanBeSent (statement : StatementAsked) : Type 0 where
 
 abbrev pub IsAskable : Option Asked → Type 0
 IsAskable (Some (asks.Statement statement)) = CanBeSent statement
+IsAskable (Some (asks.Serve served)) = IsServable served
 IsAskable asked = Unit {0}

@@ -26,6 +26,10 @@ one_rule name = record (new_rule name) { required = true; action = Some Set }
 abbrev pub several_rule : Text → Rule
 several_rule name = record (new_rule name) { required = true; action = Some Append }
 
+-- all words behind those before, of which there may be none
+abbrev pub any_rule : Text → Rule
+any_rule name = record (new_rule name) { action = Some Append }
+
 -- [--engine E]
 abbrev pub script_app : App
 script_app = plain_app (codes "script") (option_rule (codes "engine") ∷ [])
@@ -41,6 +45,15 @@ check_app = plain_app (codes "check") []
 -- NUMBER COUNT [--run]
 abbrev pub generate_app : App
 generate_app = plain_app (codes "gen") (one_rule (codes "NUMBER") ∷ one_rule (codes "COUNT") ∷ flag_rule (codes "run") ∷ [])
+
+-- [--engine E] [--events K]
+abbrev pub served_options_app : App
+served_options_app = plain_app (codes "serve") (option_rule (codes "engine") ∷ option_rule (codes "events") ∷ [])
+
+-- [--engine E] [--events K] ID LISTEN [PEER]..
+abbrev pub serve_app : App
+serve_app = plain_app (codes "serve")
+    (option_rule (codes "engine") ∷ option_rule (codes "events") ∷ one_rule (codes "ID") ∷ one_rule (codes "LISTEN") ∷ any_rule (codes "PEER") ∷ [])
 
 -- what was found, unless there is a reason to refuse
 abbrev pub unless_refused : Kinds → List Row → Option (List Row)

@@ -1,2 +1,4 @@
 pub mod Commands
+pub mod Values
+pub mod Serving
 pub mod Asking

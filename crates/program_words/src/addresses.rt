@@ -2,14 +2,15 @@
 
 ghost use Rattle.std.specs.Prelude.{◌≡◌, map, IfOk};
 ghost use Rattle.std.specs.List.{list_all};
-ghost use Rattle.program_words.specs.Asking.{is_address, are_addresses, is_askable};
+ghost use Rattle.program_words.specs.Values.{is_address};
+ghost use Rattle.program_words.specs.Asking.{are_addresses, is_askable};
 
 use crate::asked::Statement;
 use std::alloc::{AllocError, Global};
 use wire_words::WireText;
 
 /// Whether a text is an address.
-fn is_address(text: &WireText) -> bool
+pub(crate) fn is_address(text: &WireText) -> bool
     ensures { result ≡ is_address text.now }
 {
     let word = text.as_str();

@@ -3,7 +3,7 @@
 ghost use Rattle.std.specs.Prelude.{◌≡◌, ◌≢◌, [], true, false, None, IfOk, map, string_bytes};
 ghost use Rattle.std.specs.Option.{option_map};
 ghost use Rattle.clap.specs.Words.{app_of, rule_of, found_of, rows_of, first_of, all_of, is_simple_and_free, kind_of};
-ghost use Rattle.program_words.specs.Commands.{plain_app, option_rule, flag_rule, one_rule, several_rule, script_app, statement_app, check_app, generate_app, read_by};
+ghost use Rattle.program_words.specs.Commands.{plain_app, option_rule, flag_rule, one_rule, several_rule, any_rule, script_app, statement_app, check_app, generate_app, served_options_app, serve_app, read_by};
 
 use clap::error::ErrorKind;
 use clap::{Arg, ArgAction, ArgMatches, Command, Error};
@@ -52,6 +52,14 @@ fn several<'a>(alloc: Global, name: &'a str) -> Arg<'a>
         .action(ArgAction::Append)
 }
 
+/// All words behind those before, of which there may be none.
+fn any<'a>(alloc: Global, name: &'a str) -> Arg<'a>
+    ensures rule { rule_of result ≡ any_rule name.entry.now }
+    ensures local { result.global ≡ false }
+{
+    Arg::new(alloc, name).action(ArgAction::Append)
+}
+
 /// The command of the words behind `script`.
 pub(crate) fn script_command<'a>(alloc: Global) -> Result<Command<'a>, AllocError>
     ensures { IfOk result (λ command. app_of command ≡ script_app) }
@@ -84,6 +92,25 @@ pub(crate) fn generate_command<'a>(alloc: Global) -> Result<Command<'a>, AllocEr
         .arg(one(alloc, "NUMBER"))?
         .arg(one(alloc, "COUNT"))?
         .arg(flag(alloc, "run"))
+}
+
+/// The options of the words behind `serve`.
+fn served_options<'a>(alloc: Global) -> Result<Command<'a>, AllocError>
+    ensures { IfOk result (λ command. app_of command ≡ served_options_app) }
+{
+    plain(alloc, "serve")
+        .arg(option(alloc, "engine"))?
+        .arg(option(alloc, "events"))
+}
+
+/// The command of the words behind `serve`.
+pub(crate) fn serve_command<'a>(alloc: Global) -> Result<Command<'a>, AllocError>
+    ensures { IfOk result (λ command. app_of command ≡ serve_app) }
+{
+    served_options(alloc)?
+        .arg(one(alloc, "ID"))?
+        .arg(one(alloc, "LISTEN"))?
+        .arg(any(alloc, "PEER"))
 }
 
 /// Nothing where an error refuses the words. `Err` where it is want of memory.

@@ -5,6 +5,8 @@ mod addresses;
 mod asked;
 mod commands;
 mod reading;
+mod serving;
 
-pub use asked::{Asked, Statement};
+pub use asked::{Asked, Peer, Serve, Statement};
 pub use reading::read_words;
+pub use serving::read_serve;

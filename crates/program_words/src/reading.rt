@@ -1,14 +1,18 @@
 ghost use Rattle.std.specs.Prelude.{◌≡◌, Some, IfOk, map, string_bytes, codes};
 ghost use Rattle.std.specs.Option.{option_map};
 ghost use Rattle.clap.specs.Words.{found_of, rows_of};
-ghost use Rattle.program_words.specs.Commands.{script_app, statement_app, check_app, generate_app, read_by};
-ghost use Rattle.program_words.specs.Asking.{engine_named, script_in, statement_with, statement_in, script_found, statement_found, check_found, is_within, number_in, is_set, generate_in, generate_found, line_of, asked_by, asked_of, IsAskable};
+ghost use Rattle.program_words.specs.Commands.{script_app, statement_app, check_app, generate_app, serve_app, read_by};
+ghost use Rattle.program_words.specs.declared.asked.Asked.TheVariants as asks;
+ghost use Rattle.program_words.specs.Serving.{serve_found};
+ghost use Rattle.program_words.specs.Values.{engine_named, is_within, number_in};
+ghost use Rattle.program_words.specs.Asking.{script_in, statement_with, statement_in, script_found, statement_found, check_found, is_set, generate_in, generate_found, line_of, asked_by, asked_of, IsAskable};
 
 use crate::addresses::{is_askable, text, texts};
 use crate::asked::{Asked, Statement};
 use crate::commands::{
     check_command, generate_command, matches_by, script_command, statement_command, value, values,
 };
+use crate::serving::read_serve;
 use clap::ArgMatches;
 use dq_base::{Items, decimal_u32};
 use sql_engine::EngineKind;
@@ -22,6 +26,7 @@ pub(crate) enum Line {
     Query,
     Check,
     Generate,
+    Serve,
 }
 
 fn line_of(word: &str) -> Option<Line>
@@ -42,11 +47,14 @@ fn line_of(word: &str) -> Option<Line>
     if word == "gen" {
         return Some(Line::Generate);
     }
+    if word == "serve" {
+        return Some(Line::Serve);
+    }
     None
 }
 
 /// The kind of engine of a name.
-fn engine_named(name: Option<&str>) -> Option<EngineKind>
+pub(crate) fn engine_named(name: Option<&str>) -> Option<EngineKind>
     ensures { result ≡ engine_named (option_map (λ word. word.now) name.entry) }
 {
     let Some(name) = name else {
@@ -157,7 +165,7 @@ fn is_within(least: u32, most: u32, number: u32) -> bool
 }
 
 /// The number that a word is in decimal, without sign or leading zeros, if it is not less than the one and not more than the other.
-fn number_in(least: u32, most: u32, word: Option<&str>) -> Option<u32>
+pub(crate) fn number_in(least: u32, most: u32, word: Option<&str>) -> Option<u32>
     ensures { result ≡ number_in least most (option_map (λ word. word.now) word.entry) }
 {
     let Some(word) = word else {
@@ -201,6 +209,16 @@ fn read_generate(alloc: Global, words: &[String]) -> Result<Option<Asked>, Alloc
     }
 }
 
+/// The words behind `serve`.
+fn read_served(alloc: Global, words: &[String]) -> Result<Option<Asked>, AllocError>
+    ensures { IfOk result (λ asked. asked ≡ option_map (λ served. asks.Serve served) (serve_found (read_by serve_app (map string_bytes words.now)))) }
+{
+    match read_serve(alloc, words)? {
+        Some(served) => Ok(Some(Asked::Serve(served))),
+        None => Ok(None),
+    }
+}
+
 /// The words behind the first, by what that says.
 fn read_by(alloc: Global, line: Line, words: &[String]) -> Result<Option<Asked>, AllocError>
     ensures { IfOk result (λ asked. asked ≡ asked_by (Some line) (map string_bytes words.now)) }
@@ -211,18 +229,19 @@ fn read_by(alloc: Global, line: Line, words: &[String]) -> Result<Option<Asked>,
         Line::Query => read_statement(alloc, true, words),
         Line::Check => read_check(alloc, words),
         Line::Generate => read_generate(alloc, words),
+        Line::Serve => read_served(alloc, words),
     }
 }
 
 /// Reads what the words behind the program's name ask for; nothing where they ask for nothing that the program does. `Err` is want
 /// of memory.
 ///
-/// The first word is `script`, `exec`, `query`, `check` or `gen`. Behind `script` an engine may be named once, as `--engine E` or
+/// The first word is `script`, `exec`, `query`, `check`, `gen` or `serve`. Behind `script` an engine may be named once, as `--engine E` or
 /// `--engine=E`, where E is `sqlite`, which is taken where none is named, or `cells`. Behind `exec` and `query` stand the name of a
 /// database, a text of SQL and 1 to 9 addresses of 1 to 255 bytes. Behind `check` stands nothing. Behind `gen`
 /// stand a number of 0 to 2,147,483,647 and one of 1 to 2,000, in decimal without sign or leading zeros, and `--run` where the script is
-/// to be run. No text may hold a NUL. The word `--` ends the options, and before it a longer word that begins with `-` is an option;
-/// there is no help.
+/// to be run. What stands behind `serve` is told at `read_serve`. No text may hold a NUL. The word `--` ends the options, and before it a
+/// longer word that begins with `-` is an option; there is no help.
 #[tactic(auto, unfolding(crate::specs::Asking::asked_of))]
 pub fn read_words(alloc: Global, words: &[String]) -> Result<Option<Asked>, AllocError>
     ensures asked { IfOk result (λ asked. asked ≡ asked_of (map string_bytes words.now)) }

@@ -1,6 +1,7 @@
-use Rattle.std.proofs.Common.{◌∙◌, subst}
+use Rattle.std.proofs.Common.{◌⊎◌, inl, Option, ◌∙◌, sym, subst}
+use Rattle.program_words.specs.declared.asked.Asked.{Asked}
 use Rattle.script_runner.proofs.Agreement.{keeps_alike}
-use Rattle.dqnode.specs.Asks.{IsScript, IsRun}
+use Rattle.dqnode.specs.Asks.{IsScript, IsRun, IsStatement, IsCheck, IsServed}
 use Rattle.dqnode.proofs.Endings.{runs_are_safe}
 use Rattle.dqnode.proofs.program.dqnode.Goals as goal
 
@@ -16,6 +17,30 @@ returns-in-Ok-clause-generated g c = λ number writes asked. c.run.ensures.gener
 
 pub returns-in-Ok-clause-made : goal.returns-in-Ok-clause-made
 returns-in-Ok-clause-made g c = λ number writes asked. c.run.ensures.made number writes (c.in-Ok.ensures.asked ∙ asked)
+
+pub returns-in-Ok-clause-dialer : goal.returns-in-Ok-clause-dialer
+returns-in-Ok-clause-dialer g c = λ other. c.run.ensures.dialer (λ (s : IsStatement c.in-Ok.asked). other (subst IsStatement c.in-Ok.ensures.asked s))
+
+pub returns-in-Ok-clause-of_check : goal.returns-in-Ok-clause-of_check
+returns-in-Ok-clause-of_check g c = λ e. subst (λ (a : Option Asked). IsCheck a ⊎ IsServed a) c.in-Ok.ensures.asked (c.run.ensures.of_check e)
+
+pub returns-in-Ok-clause-disk_fault : goal.returns-in-Ok-clause-disk_fault
+returns-in-Ok-clause-disk_fault g c = λ e.
+    let fault = c.run.ensures.disk_fault e in
+    (subst (λ (a : Option Asked). IsCheck a ⊎ IsServed a) c.in-Ok.ensures.asked fault.0, fault.1)
+
+pub returns-in-Ok-clause-disk : goal.returns-in-Ok-clause-disk
+returns-in-Ok-clause-disk g c = λ checks serves. c.run.ensures.disk (λ (s : IsCheck c.in-Ok.asked). checks (subst IsCheck c.in-Ok.ensures.asked s))
+    (λ (s : IsServed c.in-Ok.asked). serves (subst IsServed c.in-Ok.ensures.asked s))
+
+pub returns-in-Ok-clause-serve_codes : goal.returns-in-Ok-clause-serve_codes
+returns-in-Ok-clause-serve_codes g c = λ s. c.run.ensures.serve_codes (subst IsServed (sym c.in-Ok.ensures.asked) s)
+
+pub returns-in-Ok-clause-spent : goal.returns-in-Ok-clause-spent
+returns-in-Ok-clause-spent g c = λ served asked. c.run.ensures.spent served (c.in-Ok.ensures.asked ∙ asked)
+
+pub returns-in-Ok-clause-serves : goal.returns-in-Ok-clause-serves
+returns-in-Ok-clause-serves g c = λ served asked. inl (c.run.ensures.serves served (c.in-Ok.ensures.asked ∙ asked))
 
 pub returns-in-Ok-clause-always_safe : goal.returns-in-Ok-clause-always_safe
 returns-in-Ok-clause-always_safe g c = runs_are_safe

@@ -1,0 +1,126 @@
+-- How it ends where a node is served.
+use Rattle.std.proofs.Common.{◌≡◌, ◌+◌, ◌⊎◌, inl, inr, ℕ, Bool, Option, Some, refl, sym, ap, subst, ◌∙◌}
+use Rattle.disk_model.specs.Disk.{Disk}
+use Rattle.disk_model.specs.Trait.{Text}
+use Rattle.session_decisions.specs.declared.job.Read.{Read}
+use Rattle.node_edge.specs.Looping.{Taken}
+use Rattle.node_server.specs.declared.done.Done.{Done}
+use Rattle.program_words.specs.declared.asked.Asked.{Asked}
+use Rattle.program_words.specs.declared.asked.Asked.TheVariants as asks
+use Rattle.program_words.specs.declared.asked.Serve.{Serve}
+use Rattle.node_service.specs.declared.end.ServeEnd.{ServeEnd}
+use Rattle.node_service.specs.declared.end.ServeEnd.TheVariants as ends
+use Rattle.dqnode.specs.declared.status.Status.{Status}
+use Rattle.dqnode.specs.declared.status.Status.TheVariants as status
+use Rattle.dqnode.specs.Status.{status_code, IsScriptCode, IsStatementCode, IsCheckCode, IsServeCode}
+use Rattle.dqnode.specs.Asks.{ForServed}
+use Rattle.dqnode.specs.Serving.{serve_status, ServedBy, NotServed}
+
+-- the node that was asked for
+served_in : Serve → Option Asked → Serve
+served_in other (Some (asks.Serve served)) = served
+served_in other asked = other
+
+same_served : (one other : Serve) → ForServed other (Some (asks.Serve one)) → one ≡ other
+unfolding served_in
+same_served one other e = ap (served_in one) e
+
+pub served_for : {D H : Type 0} (tells : Bool) (states : D → Disk Text → Type 0) (faults : D → ℕ) (done : H → Done) (one : Serve)
+    (host : H) (disk disk_after : D) (events events_after : Taken Read) (code : ℕ) → ServedBy tells states faults done one host disk disk_after events events_after code
+    → (served : Serve) → ForServed served (Some (asks.Serve one)) → ServedBy tells states faults done served host disk disk_after events events_after code
+served_for tells states faults done one host disk disk_after events events_after code h served e =
+    subst (λ (s : Serve). ServedBy tells states faults done s host disk disk_after events events_after code) (same_served one served e) h
+
+spent_status : (s : Status) → status_code s ≡ 10 → s ≡ status.Spent
+spent_status status.Spent e = refl
+spent_status status.Done e = absurd cc
+spent_status status.Words e = absurd cc
+spent_status status.Script e = absurd cc
+spent_status status.ReadFault e = absurd cc
+spent_status status.WriteFault e = absurd cc
+spent_status status.DiskFault e = absurd cc
+spent_status status.HostFault e = absurd cc
+spent_status status.NoMemory e = absurd cc
+spent_status status.Files e = absurd cc
+spent_status status.Large e = absurd cc
+spent_status status.Refused e = absurd cc
+spent_status status.NoLeader e = absurd cc
+spent_status status.Unknown e = absurd cc
+
+-- as many events were taken as the words say
+pub spent_for : (was now : ℕ) (one : Serve) (s : Status) → (s ≡ status.Spent → now ≡ was + one.events)
+    → (served : Serve) → ForServed served (Some (asks.Serve one)) → status_code s ≡ 10 → now ≡ was + served.events
+spent_for was now one s h served e code = subst (λ (x : Serve). now ≡ was + x.events) (same_served one served e) (h (spent_status s code))
+
+-- where nothing is done, as there is not enough memory to read the words
+pub unserved : {D H : Type 0} (tells : Bool) (states : D → Disk Text → Type 0) (faults : D → ℕ) (done : H → Done) (served : Serve)
+    (host : H) (disk : D) (events : Taken Read) → ServedBy tells states faults done served host disk disk events events 7 ⊎ NotServed disk disk host host 7
+unserved tells states faults done served host disk events = inr (record { code_is = refl; disk_is = refl; host_is = refl })
+
+-- ---- the end of a served node, by its status
+
+end_code : (end : ServeEnd) → IsServeCode (status_code (serve_status end))
+end_code ends.Files = inr (inr (inr (inl refl)))
+end_code ends.DiskFault = inl refl
+end_code ends.HostFault = inr (inl refl)
+end_code ends.NoMemory = inr (inr (inl refl))
+end_code ends.Spent = inr (inr (inr (inr refl)))
+
+pub serve_code : (end : ServeEnd) (s : Status) → s ≡ serve_status end → IsServeCode (status_code s)
+serve_code end s is = subst (λ (x : Status). IsServeCode (status_code x)) (sym is) (end_code end)
+
+pub end_disk : (end : ServeEnd) (s : Status) → s ≡ serve_status end → s ≡ status.DiskFault → end ≡ ends.DiskFault
+end_disk ends.Files s is e = let bad : status.Files ≡ status.DiskFault = sym is ∙ e in absurd cc
+end_disk ends.DiskFault s is e = refl
+end_disk ends.HostFault s is e = let bad : status.HostFault ≡ status.DiskFault = sym is ∙ e in absurd cc
+end_disk ends.NoMemory s is e = let bad : status.NoMemory ≡ status.DiskFault = sym is ∙ e in absurd cc
+end_disk ends.Spent s is e = let bad : status.Spent ≡ status.DiskFault = sym is ∙ e in absurd cc
+
+pub end_host : (end : ServeEnd) (s : Status) → s ≡ serve_status end → s ≡ status.HostFault → end ≡ ends.HostFault
+end_host ends.Files s is e = let bad : status.Files ≡ status.HostFault = sym is ∙ e in absurd cc
+end_host ends.DiskFault s is e = let bad : status.DiskFault ≡ status.HostFault = sym is ∙ e in absurd cc
+end_host ends.HostFault s is e = refl
+end_host ends.NoMemory s is e = let bad : status.NoMemory ≡ status.HostFault = sym is ∙ e in absurd cc
+end_host ends.Spent s is e = let bad : status.Spent ≡ status.HostFault = sym is ∙ e in absurd cc
+
+pub end_spent : (end : ServeEnd) (s : Status) → s ≡ serve_status end → s ≡ status.Spent → end ≡ ends.Spent
+end_spent ends.Files s is e = let bad : status.Files ≡ status.Spent = sym is ∙ e in absurd cc
+end_spent ends.DiskFault s is e = let bad : status.DiskFault ≡ status.Spent = sym is ∙ e in absurd cc
+end_spent ends.HostFault s is e = let bad : status.HostFault ≡ status.Spent = sym is ∙ e in absurd cc
+end_spent ends.NoMemory s is e = let bad : status.NoMemory ≡ status.Spent = sym is ∙ e in absurd cc
+end_spent ends.Spent s is e = refl
+
+-- ---- only a served node ends with 10
+
+pub script_not_ten : (code : ℕ) → IsScriptCode code → code ≡ 10 → ⊥
+script_not_ten code (inl a) e = let bad : 0 ≡ 10 = sym a ∙ e in cc
+script_not_ten code (inr (inl a)) e = let bad : 2 ≡ 10 = sym a ∙ e in cc
+script_not_ten code (inr (inr (inl a))) e = let bad : 3 ≡ 10 = sym a ∙ e in cc
+script_not_ten code (inr (inr (inr (inl a)))) e = let bad : 4 ≡ 10 = sym a ∙ e in cc
+script_not_ten code (inr (inr (inr (inr (inl a))))) e = let bad : 7 ≡ 10 = sym a ∙ e in cc
+script_not_ten code (inr (inr (inr (inr (inr a))))) e = let bad : 9 ≡ 10 = sym a ∙ e in cc
+
+pub statement_not_ten : (code : ℕ) → IsStatementCode code → code ≡ 10 → ⊥
+statement_not_ten code (inl a) e = let bad : 0 ≡ 10 = sym a ∙ e in cc
+statement_not_ten code (inr (inl a)) e = let bad : 4 ≡ 10 = sym a ∙ e in cc
+statement_not_ten code (inr (inr (inl a))) e = let bad : 7 ≡ 10 = sym a ∙ e in cc
+statement_not_ten code (inr (inr (inr (inl a)))) e = let bad : 11 ≡ 10 = sym a ∙ e in cc
+statement_not_ten code (inr (inr (inr (inr (inl a))))) e = let bad : 12 ≡ 10 = sym a ∙ e in cc
+statement_not_ten code (inr (inr (inr (inr (inr a))))) e = let bad : 13 ≡ 10 = sym a ∙ e in cc
+
+pub check_not_ten : (code : ℕ) → IsCheckCode code → code ≡ 10 → ⊥
+check_not_ten code (inl a) e = let bad : 0 ≡ 10 = sym a ∙ e in cc
+check_not_ten code (inr (inl a)) e = let bad : 4 ≡ 10 = sym a ∙ e in cc
+check_not_ten code (inr (inr (inl a))) e = let bad : 5 ≡ 10 = sym a ∙ e in cc
+check_not_ten code (inr (inr (inr (inl a)))) e = let bad : 7 ≡ 10 = sym a ∙ e in cc
+check_not_ten code (inr (inr (inr (inr a)))) e = let bad : 8 ≡ 10 = sym a ∙ e in cc
+
+pub words_not_ten : (s : Status) → (s ≡ status.Words) ⊎ (s ≡ status.WriteFault) → status_code s ≡ 10 → ⊥
+words_not_ten s (inl a) e = let bad : 1 ≡ 10 = sym (ap status_code a) ∙ e in cc
+words_not_ten s (inr a) e = let bad : 4 ≡ 10 = sym (ap status_code a) ∙ e in cc
+
+-- what holds of a disk, a network and a status, holds of the same by other names
+pub moved : {D N : Type 0} (disk disk_then : D) (network network_then : N) (s t : Status) (code : ℕ) → disk ≡ disk_then → network ≡ network_then → s ≡ t → code ≡ status_code s
+    → (P : D → N → ℕ → Type 0) → P disk_then network_then (status_code t) → P disk network code
+moved disk disk_then network network_then s t code disk_is network_is status_is code_is P h =
+    subst (λ d. P d network code) (sym disk_is) (subst (λ n. P disk_then n code) (sym network_is) (subst (λ k. P disk_then network_then k) (sym (code_is ∙ ap status_code status_is)) h))

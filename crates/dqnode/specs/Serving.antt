@@ -1,0 +1,45 @@
+-- How the program ends where a node is served.
+use Rattle.std.specs.Prelude.{◌≡◌, ℕ, Bool, List, [], None}
+use Rattle.disk_model.specs.Disk.{Disk}
+use Rattle.disk_model.specs.Trait.{Text}
+use Rattle.session_decisions.specs.declared.job.Read.{Read}
+use Rattle.sqlite_engine.specs.declared.any.AnyEngine.{AnyEngine}
+use Rattle.sqlite_engine.specs.Any.{any_meaning, any_kind, any_refused, any_known}
+use Rattle.program_words.specs.declared.asked.Serve.{Serve}
+use Rattle.node_edge.specs.Looping.{Taken}
+use Rattle.node_server.specs.declared.done.Done.{Done}
+use Rattle.served_node.specs.Serving.{RunsByRules}
+use Rattle.node_service.specs.declared.end.ServeEnd.{ServeEnd}
+use Rattle.node_service.specs.declared.end.ServeEnd.TheVariants as ends
+use Rattle.node_service.specs.Serving.{Serves, workers_of}
+use Rattle.dqnode.specs.declared.status.Status.{Status}
+use Rattle.dqnode.specs.declared.status.Status.TheVariants as status
+use Rattle.dqnode.specs.Status.{status_code}
+
+-- the status for the end of a served node
+abbrev pub serve_status : ServeEnd → Status
+serve_status ends.Files = status.Files
+serve_status ends.DiskFault = status.DiskFault
+serve_status ends.HostFault = status.HostFault
+serve_status ends.NoMemory = status.NoMemory
+serve_status ends.Spent = status.Spent
+
+-- By an engine of the kind that the words name, which knew no image, the node was served over this disk, with the events of this host,
+-- and came to an end for which this status stands.
+pub record ServedBy {D H : Type 0} (tells : Bool) (states : D → Disk Text → Type 0) (faults : D → ℕ) (done : H → Done) (served : Serve)
+    (host : H) (disk disk_after : D) (events events_after : Taken Read) (code : ℕ) : Type 0 where
+  pub engine : AnyEngine
+  pub engine_after : AnyEngine
+  pub kind_is : any_kind engine ≡ served.engine
+  pub is_new : any_known engine ≡ []
+  pub end : ServeEnd
+  pub code_is : code ≡ status_code (serve_status end)
+  pub serves : Serves (workers_of served) done states (λ started node. RunsByRules tells states faults any_meaning any_kind (λ known. None) any_refused node started disk_after
+      engine engine_after events events_after None None served.events) host (record { disk = disk; engine = engine; events = events })
+      (record { disk = disk_after; engine = engine_after; events = events_after }) end
+
+-- there was not enough memory to read the words, and nothing was done
+pub record NotServed {D H : Type 0} (disk disk_after : D) (host host_after : H) (code : ℕ) : Type 0 where
+  pub code_is : code ≡ 7
+  pub disk_is : disk_after ≡ disk
+  pub host_is : host_after ≡ host

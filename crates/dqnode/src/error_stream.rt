@@ -1,0 +1,71 @@
+//! Lines on the error stream.
+
+use dir_disk::DirDisk;
+use gateway::Read;
+use node_service::{Note, Notes};
+use server_hosts::{HostFault, TcpHost};
+use std::io::ErrorKind;
+use std::sync::Wait;
+
+/// Writes a line on the error stream for each note. A line that can't be written is lost.
+#[derive(Drop)]
+pub struct ErrorStream {
+    rt: HostRuntime,
+}
+
+impl ErrorStream {
+    /// The error stream of the process.
+    pub fn new(rt: HostRuntime) -> ErrorStream {
+        ErrorStream { rt }
+    }
+}
+
+impl Notes for ErrorStream {
+    fn note(&mut self, note: Note<'_>) {
+        let rt = self.rt;
+        let _ = match note {
+            Note::Listens { id, address } => eprintln!(rt; "listening on {address} as node {id}"),
+            Note::Leads { term } => eprintln!(rt; "term {term}: leader"),
+            Note::Follows { term, leader } => eprintln!(rt; "term {term}: follower of {leader}"),
+            Note::FillsUp { last } => {
+                eprintln!(rt; "the log has {last} entries of at most 4294900000")
+            }
+            Note::Unread { fault } => eprintln!(rt; "status 8: {fault}"),
+        };
+    }
+}
+
+/// Says that the folder is another node's, by what its file says.
+pub fn tell_owner(rt: &HostRuntime, held: &str) {
+    let held = held.trim_end();
+    let _ = eprintln!(rt;
+        "status 5: the words name another node or other voters than the folder's file `node`, which says: {held}"
+    );
+}
+
+/// Says that the disk failed, with the call that failed last and the system's error.
+pub fn tell_disk(rt: &HostRuntime, disk: &DirDisk<HostRuntime>) {
+    if let Some(fault) = disk.last_fault() {
+        let _ = if fault.error.kind() == ErrorKind::WouldBlock {
+            eprintln!(rt; "status 5: {}: another process has the folder", fault.call)
+        } else {
+            eprintln!(rt; "status 5: {}: {}", fault.call, fault.error)
+        };
+    }
+}
+
+/// Says that the host failed, with the call that failed last and the system's error, where there is one.
+pub fn tell_host<R: Wait + Copy + Drop>(rt: &HostRuntime, host: &TcpHost<R, Read>) {
+    let Some(HostFault { call, error }) = host.last_fault() else {
+        return;
+    };
+    let _ = match error {
+        Some(error) => eprintln!(rt; "status 6: {call}: {error}"),
+        None => eprintln!(rt; "status 6: {call}"),
+    };
+}
+
+/// Says that memory ran out.
+pub fn tell_memory(rt: &HostRuntime) {
+    let _ = eprintln!(rt; "status 7: out of memory");
+}

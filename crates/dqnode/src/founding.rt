@@ -1,0 +1,85 @@
+//! Which node a folder is of.
+
+ghost use Rattle.std.specs.Prelude.{◌≡◌, vec_len, IfOk};
+
+use disk_model::{Disk, DiskFault};
+use program_words::Serve;
+use std::alloc::{AllocError, Global};
+
+/// The name of the file that tells it.
+const FILE: &str = "node";
+
+/// How many bytes of it are read: more than any such file has.
+const ROOM: usize = 4_096;
+
+/// Whose a folder is.
+#[derive(Drop)]
+pub enum Owner {
+    /// The node's that the words name, or nobody's so far.
+    Ours,
+    /// Another node's, or that of a node with other voters: what its file says.
+    Another(String),
+}
+
+/// The address of a node of the words, by its id, if it is one of them.
+fn address_of(words: &Serve, id: u64) -> Option<&str> {
+    if words.id == id {
+        return Some(words.listen.as_str());
+    }
+    for peer in words.peers.as_slice() {
+        if peer.id == id {
+            return Some(peer.address.as_str());
+        }
+    }
+    None
+}
+
+/// What the file of a node says: its id, and all voters with their addresses, ascending by id.
+fn text_of(alloc: Global, words: &Serve) -> Result<String, AllocError> {
+    let mut text = format!(in alloc; "node {} of", words.id)?;
+    for before in 0..9 {
+        let id = before + 1;
+        if let Some(address) = address_of(words, id) {
+            let voter = format!(in alloc; " {id}={address}")?;
+            text.push_str(voter.as_str())?;
+        }
+    }
+    text.push('\n')?;
+    Ok(text)
+}
+
+/// Room for so many bytes.
+fn room_for(alloc: Global, size: usize) -> Result<Vec<u8>, AllocError>
+    ensures { IfOk result (λ room. vec_len room ≡ size) }
+{
+    vec![in alloc; 0; size]
+}
+
+/// What the file says; nothing where it isn't there.
+fn held<D: Disk>(alloc: Global, disk: &mut D) -> Result<Vec<u8>, DiskFault> {
+    let mut room = room_for(alloc, ROOM)?;
+    let count = disk.read_at(FILE, 0, room.as_mut_slice())?;
+    room.truncate(count);
+    Ok(room)
+}
+
+/// Writes the file, for good.
+fn write<D: Disk>(disk: &mut D, text: &str) -> Result<(), DiskFault> {
+    disk.write_at(FILE, 0, text.as_bytes())?;
+    disk.sync(FILE)?;
+    disk.sync_names()
+}
+
+/// Looks whose a folder is. Where its file isn't there, or was begun and not ended, it is written.
+pub fn owner_of<D: Disk>(alloc: Global, words: &Serve, disk: &mut D) -> Result<Owner, DiskFault> {
+    let text = text_of(alloc, words)?;
+    let held = held(alloc, disk)?;
+    if held.as_slice() == text.as_bytes() {
+        return Ok(Owner::Ours);
+    }
+    if text.as_bytes().starts_with(held.as_slice()) {
+        write(disk, text.as_str())?;
+        return Ok(Owner::Ours);
+    }
+    Ok(Owner::Another(String::from_utf8_lossy(alloc, held.as_slice())?))
+}

@@ -1,0 +1,15 @@
+use dq_client::Dialer;
+use gateway::Read;
+use node_server::Host;
+use node_service::Notes;
+
+/// What the program has of the world beside its input, its output and its disk.
+#[derive(Drop)]
+pub struct Network<N: Dialer, H: Host<Read>, W: Notes> {
+    /// What dials servers, for a statement.
+    pub dialer: N,
+    /// Where a served node listens, and what works beside it.
+    pub host: H,
+    /// Where it goes what is told of a served node.
+    pub notes: W,
+}

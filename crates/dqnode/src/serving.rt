@@ -1,0 +1,63 @@
+//! Serving: a node over sockets.
+
+ghost use Rattle.std.specs.Prelude.{◌≡◌, ◌≤◌, ◌+◌, []};
+ghost use Rattle.dq_base.specs.Faults.{Rose};
+ghost use Rattle.program_words.specs.Serving.{IsServable};
+ghost use Rattle.sqlite_engine.specs.Any.{any_kind, any_known};
+ghost use Rattle.dqnode.specs.Serving.{serve_status, ServedBy};
+ghost use Rattle.dqnode.specs.Status.{IsServeCode, status_code};
+
+use crate::status::Status;
+use disk_model::Disk;
+use gateway::Read;
+use node_server::Host;
+use node_service::{Notes, ServeEnd, serve};
+use program_words::Serve;
+use sql_engine::{CellEngine, EngineKind};
+use sqlite_engine::{AnyEngine, SqliteEngine};
+use std::alloc::Global;
+
+/// An engine of a kind, which knows no image.
+fn engine_of(alloc: Global, kind: EngineKind) -> AnyEngine
+    ensures is_new { any_known result ≡ [] }
+    ensures kind { any_kind result ≡ kind }
+{
+    match kind {
+        EngineKind::Sqlite => AnyEngine::Sqlite(SqliteEngine::new(alloc)),
+        EngineKind::Cells => AnyEngine::Cells(CellEngine::new(alloc)),
+    }
+}
+
+/// The status for the end of a served node.
+fn status_of(end: ServeEnd) -> Status
+    ensures { result ≡ serve_status end }
+{
+    match end {
+        ServeEnd::Files => Status::Files,
+        ServeEnd::DiskFault => Status::DiskFault,
+        ServeEnd::HostFault => Status::HostFault,
+        ServeEnd::NoMemory => Status::NoMemory,
+        ServeEnd::Spent => Status::Spent,
+    }
+}
+
+/// Serves the node that the words name, over the disk.
+pub(crate) fn serve_node<D: Disk, H: Host<Read>, W: Notes>(
+    alloc: Global,
+    words: Serve,
+    disk: &mut D,
+    host: &mut H,
+    notes: &mut W,
+) -> Status
+    requires { IsServable words }
+    ensures served { ServedBy D.tells D.states D.faults H.done words host.old disk.old disk.new (record { left = H.left host.old; count = H.taken host.old })
+        (record { left = H.left host.new; count = H.taken host.new }) (status_code result) }
+    ensures codes { IsServeCode (status_code result) }
+    ensures disk_fault { result ≡ Status.DiskFault → Rose (D.faults disk.old) (D.faults disk.new) }
+    ensures host_fault { result ≡ Status.HostFault → Rose (H.faults host.old) (H.faults host.new) }
+    ensures spent { result ≡ Status.Spent → H.taken host.new ≡ H.taken host.old + words.events }
+    ensures count { D.faults disk.old ≤ D.faults disk.new }
+{
+    let mut engine = engine_of(alloc, words.engine);
+    status_of(serve(alloc, &words, host, disk, &mut engine, notes))
+}

@@ -1,0 +1,4 @@
+pub mod Crew
+pub mod Named
+pub mod Ending
+pub mod Serving

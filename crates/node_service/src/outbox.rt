@@ -1,0 +1,109 @@
+//! Where it goes what a served node says.
+
+use crate::notes::{Note, Notes};
+use gateway::ReadJob;
+use node_core::{NodeState, Outs};
+use node_edge::Outbox;
+use node_server::Queues;
+use raft_core::RaftRole;
+use served_node::Said;
+use std::sync::Wait;
+
+/// Nine tenths of the last index that a log may have, 4,294,900,000.
+const NEARLY_FULL: u64 = 3_865_410_000;
+
+/// Hands what a node says to those that carry it, and notes how it stands where that is new.
+#[derive(Drop)]
+pub(crate) struct Mouth<'a, R: Wait + Copy + Drop, L: Drop, W: Notes> {
+    queues: Queues<R, L, ReadJob>,
+    notes: &'a mut W,
+    noted: Option<(u64, u64)>,
+    is_full_noted: bool,
+    id: u64,
+}
+
+/// Who leads in the node's term, if it knows one; the node itself where it leads.
+fn leader_of(state: &NodeState, id: u64) -> Option<u64> {
+    match state.role {
+        RaftRole::Leader => Some(id),
+        RaftRole::Follower | RaftRole::Candidate => state.leader,
+    }
+}
+
+impl<'a, R: Wait + Copy + Drop, L: Drop, W: Notes> Mouth<'a, R, L, W> {
+    /// Nothing was said so far by the node of this id.
+    pub(crate) fn new(
+        queues: Queues<R, L, ReadJob>,
+        notes: &'a mut W,
+        id: u64,
+    ) -> Mouth<'a, R, L, W> {
+        Mouth {
+            queues,
+            notes,
+            noted: None,
+            is_full_noted: false,
+            id,
+        }
+    }
+
+    /// Hands on what a step says. A connection is closed behind its replies.
+    fn hand_on(&mut self, outs: Outs) {
+        let Outs {
+            replies,
+            closed,
+            messages,
+            reads,
+        } = outs;
+        for (conn, bytes) in replies {
+            self.queues.reply(conn, bytes);
+        }
+        for (conn, _reason) in closed {
+            self.queues.close(conn);
+        }
+        for message in messages {
+            self.queues.send(message);
+        }
+        for (conn, job) in reads {
+            self.queues.lend(conn, job);
+        }
+    }
+
+    /// Notes who leads, where that is new.
+    fn note_leader(&mut self, state: &NodeState) {
+        let Some(leader) = leader_of(state, self.id) else {
+            return;
+        };
+        let term = state.term;
+        if self.noted == Some((term, leader)) {
+            return;
+        }
+        self.noted = Some((term, leader));
+        if leader == self.id {
+            self.notes.note(Note::Leads { term });
+        } else {
+            self.notes.note(Note::Follows { term, leader });
+        }
+    }
+
+    /// Notes once that the log fills up.
+    fn note_end(&mut self, last: u64) {
+        if last < NEARLY_FULL || self.is_full_noted {
+            return;
+        }
+        self.is_full_noted = true;
+        self.notes.note(Note::FillsUp { last });
+    }
+}
+
+impl<'a, R: Wait + Copy + Drop, L: Drop, W: Notes> Outbox<Said> for Mouth<'a, R, L, W> {
+    ghost use Rattle.std.specs.Prelude.{None};
+
+    ghost said = { λ _. None };
+
+    fn put(&mut self, said: Said) {
+        let Said { outs, state } = said;
+        self.hand_on(outs);
+        self.note_leader(&state);
+        self.note_end(state.last);
+    }
+}

@@ -1,0 +1,19 @@
+//! How many steps statements may take.
+
+use gateway::StepLimits;
+
+/// The limits of steps of a served node. An engine visits some 1,000 to 2,000 rows in a millisecond, each of which is a step, and keeps
+/// some 30 bytes for one where it has to.
+///
+/// - A query that a reader can take over has 40,000, some 20 milliseconds: so long all other clients wait at most for a query that is then
+///   run anew at a reader.
+/// - What has to run at the node has 2,000,000, some second and 100 MiB. A follower stands for election after one to two seconds without a
+///   heartbeat, which a leader sends between two steps.
+/// - A query at a reader has 20,000,000, some ten seconds and 600 MiB, which is as long as a client waits.
+pub fn step_limits() -> StepLimits {
+    StepLimits {
+        query: Some(40_000),
+        statement: Some(2_000_000),
+        reader: Some(20_000_000),
+    }
+}
