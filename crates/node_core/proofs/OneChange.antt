@@ -17,7 +17,7 @@ use Rattle.raft_core.specs.Events.{input_of}
 use Rattle.raft_member.specs.Members.{AllStand, last_index, configuration_in, read_setup}
 use Rattle.node_replica.specs.Replicas.{IsWhole}
 use Rattle.node_rules.specs.Changes.{are_near}
-use Rattle.node_rules.specs.Voting.{IsPlain, OwnsCommit, MayChange}
+use Rattle.node_rules.specs.Voting.{IsPlain, MayChange}
 use Rattle.node_rules.proofs.VoterTurns.{change_stops}
 use Rattle.node_core.specs.declared.running.Running.{Running}
 use Rattle.node_core.specs.Posting.{MayChangeTo, MayOrNot, HoldsCommit, MayTake, IsUnfit, has_change}

@@ -1,6 +1,6 @@
 use Rattle.std.proofs.Common.{◌≡◌, true, false, nat_eq, refl, ap, subst}
 use Rattle.raft_rules.specs.Log.{Entry}
-use Rattle.node_core.proofs.OneChange.{owns_so, owns_not, owns_none}
+use Rattle.node_core.proofs.OneChange.{owns_so, owns_not}
 use Rattle.node_core.proofs.running.Running.owns_commit.Goals as goal
 
 pub returns-in-Some-clause-owns : goal.returns-in-Some-clause-owns
