@@ -1,28 +1,28 @@
 -- A leader's change of servers: what its entry and its voters show.
 use Rattle.std.proofs.Common.{◌≡◌, ◌≢◌, ◌≤◌, ◌<◌, ◌+◌, ◌-◌, ℕ, zero, suc, add-one, Bool, true, false, cond, List, [], ◌∷◌, ◌++◌, length, take, drop, slice_index_or, refl, sym, ap, subst, ◌∙◌, arith}
-use Rattle.std.specs.Prelude.{◌&&◌, ◌||◌, ◌==◌, Some}
+use Rattle.std.specs.Prelude.{◌&&◌, ◌||◌, ◌==◌, min, Option, Some}
 use Rattle.std.specs.List.{AllByRecursion}
-use Rattle.std.proofs.lemmas.Bool.{cond_both, eq-eqb, eqb-true}
-use Rattle.std.proofs.lemmas.List.{length-replicate, length-append, length-drop}
+use Rattle.std.proofs.lemmas.Bool.{cond_both, and_parts, eq-eqb, eqb-true}
+use Rattle.std.proofs.lemmas.List.{length-replicate, length-append, length-take, length-drop}
 use Rattle.raft_rules.specs.Compaction.{compacted}
 use Rattle.raft_rules.specs.Log.{Entry, nth_term, term_at}
 use Rattle.raft_rules.specs.Node as raft
-use Rattle.raft_rules.specs.Node.{Server, is_leader}
-use Rattle.raft_rules.specs.NodeValues.{NodeValue, node_of}
+use Rattle.raft_rules.specs.Node.{Server, voters}
+use Rattle.raft_rules.specs.NodeValues.{NodeValue, IsCoherent, node_of}
 use Rattle.raft_vote.specs.Servers.{configuration_of}
 use Rattle.raft_world.specs.Members.{is_change, reads, any_change, same_ids, one_more}
 use Rattle.raft_core.specs.declared.event.RaftEvent.{RaftEvent}
 use Rattle.raft_core.specs.declared.event.RaftEvent.TheVariants as events
 use Rattle.raft_core.specs.Events.{input_of}
-use Rattle.raft_member.specs.Members.{AllStand, configuration_in, read_setup}
+use Rattle.raft_member.specs.Members.{AllStand, last_index, configuration_in, read_setup}
 use Rattle.node_replica.specs.Replicas.{IsWhole}
 use Rattle.node_rules.specs.Changes.{are_near}
-use Rattle.node_rules.specs.Voting.{IsPlain, OwnsCommit, MayChange}
+use Rattle.node_rules.specs.Voting.{IsPlain, MayChange}
 use Rattle.node_rules.proofs.VoterTurns.{change_stops}
 use Rattle.node_core.specs.declared.running.Running.{Running}
-use Rattle.node_core.specs.Posting.{MayChangeTo, MayTake, has_change, ProposesChange}
+use Rattle.node_core.specs.Posting.{MayChangeTo, MayOrNot, HoldsCommit, MayTake, IsUnfit, has_change}
 use Rattle.node_core.specs.Values.{seen}
-use Rattle.node_core.specs.Voters.{MayBe}
+use Rattle.node_core.specs.Voters.{MayBe, LacksAt}
 use Rattle.node_core.specs.Whole.{IsOwnDue}
 
 -- ---- entries without a change
@@ -61,9 +61,6 @@ change_here (x ∷ xs) (suc i) e lt is change = or_later (is_change x.kind) (cha
     or_later true q = refl
     or_later false q = q
 
-pub proposed_change : (event : RaftEvent) (entries slice : List Entry) → event ≡ events.Propose entries → slice ≡ entries → has_change slice ≡ true → ProposesChange event
-proposed_change event entries slice is same change = subst ProposesChange (sym is) (subst (λ (es : List Entry). has_change es ≡ true) same change)
-
 -- ---- voters that are nearly the same
 
 same_self : (ids : List ℕ) → same_ids ids ids ≡ true
@@ -80,7 +77,7 @@ heads e = cc
 tails : {x y : ℕ} {xs ys : List ℕ} → x ∷ xs ≡ y ∷ ys → xs ≡ ys
 tails e = cc
 
-pub lacks : (i : ℕ) (xs ys : List ℕ) → take i xs ≡ take i ys → drop i xs ≡ drop (suc i) ys → i < length ys → one_more xs ys ≡ true
+lacks : (i : ℕ) (xs ys : List ℕ) → take i xs ≡ take i ys → drop i xs ≡ drop (suc i) ys → i < length ys → one_more xs ys ≡ true
 lacks i xs [] front back lt = absurd (omega (arith, lt))
 lacks zero xs (y ∷ ys) front back lt = ap (λ l. one_more l (y ∷ ys)) back ∙ self_more y ys
 lacks (suc i) [] (y ∷ ys) front back lt = absurd (by front)
@@ -90,31 +87,108 @@ lacks (suc i) [] (y ∷ ys) front back lt = absurd (by front)
 lacks (suc i) (x ∷ xs) (y ∷ ys) front back lt =
     (λ j. cond (eq-eqb x y (heads front) j) (one_more xs ys) (same_ids (x ∷ xs) ys)) ∙ lacks i xs ys (tails front) back (omega (arith, lt))
 
--- the same of two slices each
-pub lacks_parts : (i : ℕ) (xs ys : List ℕ) → take i xs ≡ take i ys → take (length xs - i) (drop i xs) ≡ take (length ys - (i + 1)) (drop (i + 1) ys) → i < length ys → one_more xs ys ≡ true
-lacks_parts i xs ys front back lt =
-    let one = all_taken (length xs - i) (drop i xs) (let l : length (drop i xs) ≡ length xs - i = length-drop i xs in omega (arith, l)) in
-    let other = all_taken (length ys - (i + 1)) (drop (i + 1) ys) (let l : length (drop (i + 1) ys) ≡ length ys - (i + 1) = length-drop (i + 1) ys in omega (arith, l)) in
-    lacks i xs ys front (sym one ∙ back ∙ other ∙ ap (λ (n : ℕ). drop n ys) (add-one i)) lt
+pub lacks_more : (i : ℕ) (xs ys : List ℕ) → i < length ys → LacksAt i xs ys → true ≡ one_more xs ys
+lacks_more i xs ys lt l = sym (lacks i xs ys l.front l.back lt)
 
-pub alike_near : (xs ys : List ℕ) → xs ≡ ys → are_near xs ys ≡ true
-alike_near xs ys e = subst (λ (l : List ℕ). are_near xs l ≡ true) e (ap (λ b. b || one_more xs xs || one_more xs xs) (same_self xs))
+-- two slices each
+rest_of : (i : ℕ) (xs : List ℕ) → take (length xs - i) (drop i xs) ≡ drop i xs
+rest_of i xs = all_taken (length xs - i) (drop i xs) (let l : length (drop i xs) ≡ length xs - i = length-drop i xs in omega (arith, l))
+
+pub lacks_parts : (i : ℕ) (xs ys : List ℕ) → take i xs ≡ take i ys → take (length xs - i) (drop i xs) ≡ take (length ys - (i + 1)) (drop (i + 1) ys) → LacksAt i xs ys
+lacks_parts i xs ys front back = record { front = front; back = sym (rest_of i xs) ∙ back ∙ rest_of (i + 1) ys ∙ ap (λ (n : ℕ). drop n ys) (add-one i) }
+
+pub back_parts : (i : ℕ) (xs ys : List ℕ) → LacksAt i xs ys → take (length xs - i) (drop i xs) ≡ take (length ys - (i + 1)) (drop (i + 1) ys)
+back_parts i xs ys l = rest_of i xs ∙ l.back ∙ sym (ap (λ (n : ℕ). drop n ys) (add-one i)) ∙ sym (rest_of (i + 1) ys)
+
+-- lists of ids that the test finds the same
+same_true : (xs ys : List ℕ) → same_ids xs ys ≡ true → xs ≡ ys
+same_true [] [] e = refl
+same_true [] (w ∷ ys) e = absurd cc
+same_true (v ∷ xs) [] e = absurd cc
+same_true (v ∷ xs) (w ∷ ys) e =
+    let p = and_parts (v == w) (same_ids xs ys) e in
+    let first : v ≡ w = eqb-true v w p.0 in
+    let rest : xs ≡ ys = same_true xs ys p.1 in
+    λ i. first i ∷ rest i
+
+false_of : (b : Bool) → (b ≡ true → ⊥) → b ≡ false
+false_of true never = absurd (never refl)
+false_of false never = refl
+
+-- a place without which the second is the first
+record Place (xs ys : List ℕ) : Type 0 where
+  at : ℕ
+  within : at < length ys
+  lacks_it : LacksAt at xs ys
+
+place_of : (xs ys : List ℕ) → one_more xs ys ≡ true → Place xs ys
+place_of xs [] e = absurd (by xs e)
+  where
+    by : (l : List ℕ) → one_more l [] ≡ true → ⊥
+    by [] e = cc
+    by (x ∷ l) e = cc
+place_of [] (w ∷ ws) e = record { at = 0; within = omega arith; lacks_it = record { front = refl; back = same_true [] ws e } }
+place_of (v ∷ xs) (w ∷ ws) e = by (v == w) refl (λ f. place_of xs ws f) e
+  where
+    by : (b : Bool) → (v == w) ≡ b → (one_more xs ws ≡ true → Place xs ws) → cond b (one_more xs ws) (same_ids (v ∷ xs) ws) ≡ true → Place (v ∷ xs) (w ∷ ws)
+    by true q rest e =
+        let r = rest e in
+        let lt : r.at < length ws = r.within in
+        let first : v ≡ w = eqb-true v w q in
+        record { at = suc r.at; within = omega (arith, lt); lacks_it = record { front = λ i. first i ∷ r.lacks_it.front i; back = r.lacks_it.back } }
+    by false q rest e = record { at = 0; within = omega arith; lacks_it = record { front = refl; back = same_true (v ∷ xs) ws e } }
+
+pub lacks_none : (xs ys : List ℕ) → ((i : ℕ) → i < length ys → LacksAt i xs ys → ⊥) → false ≡ one_more xs ys
+lacks_none xs ys none = sym (false_of (one_more xs ys) (λ e. let p = place_of xs ys e in none p.at p.within p.lacks_it))
+
+-- at no place up to one more
+pub none_further : (xs ys : List ℕ) (n : ℕ) → ((i : ℕ) → i < n → LacksAt i xs ys → ⊥) → (LacksAt n xs ys → ⊥) → (i : ℕ) → i < n + 1 → LacksAt i xs ys → ⊥
+none_further xs ys n none here i lt l = by (i == n) refl
+  where
+    by : (b : Bool) → (i == n) ≡ b → ⊥
+    by true e = here (subst (λ (k : ℕ). LacksAt k xs ys) (eqb-true i n e) l)
+    by false e = none i (let d : i ≡ n → ⊥ = λ q. apart (sym e ∙ eq-eqb i n q) in omega (arith, lt, d)) l
+      where
+        apart : false ≡ true → ⊥
+        apart q = cc
+
+-- whose lengths don't differ by one
+length_more : (xs ys : List ℕ) → one_more xs ys ≡ true → suc (length xs) ≡ length ys
+length_more xs ys e =
+    let p = place_of xs ys e in
+    let n : ℕ = p.at in
+    let lt : n < length ys = p.within in
+    let front : length (take n xs) ≡ length (take n ys) = ap length p.lacks_it.front in
+    let back : length (drop n xs) ≡ length (drop (suc n) ys) = ap length p.lacks_it.back in
+    let a = length-take n xs in
+    let b = length-take n ys in
+    let c : length (drop n xs) ≡ length xs - n = length-drop n xs in
+    let d : length (drop (suc n) ys) ≡ length ys - suc n = length-drop (suc n) ys in
+    by (length xs) (length ys) n lt (sym a ∙ front ∙ b) (sym c ∙ back ∙ d)
+  where
+    by : (k m n : ℕ) → n < m → min n k ≡ min n m → k - n ≡ m - suc n → suc k ≡ m
+    by k m n lt one two = omega (arith, lt, one, two)
+
+pub other_length : (xs ys : List ℕ) → (suc (length xs) ≡ length ys → ⊥) → false ≡ one_more xs ys
+other_length xs ys never = sym (false_of (one_more xs ys) (λ e. never (length_more xs ys e)))
+
+-- ---- voters that are near
+
+pub alike_near : (xs ys : List ℕ) → xs ≡ ys → true ≡ are_near xs ys
+alike_near xs ys e = sym (subst (λ (l : List ℕ). are_near xs l ≡ true) e (ap (λ b. b || one_more xs xs || one_more xs xs) (same_self xs)))
 
 either_true : (a b c : Bool) → b ≡ true → (a || b || c) ≡ true
 either_true true b c e = refl
 either_true false true c e = refl
 either_true false false c e = absurd cc
 
-last_true : (a b c : Bool) → c ≡ true → (a || b || c) ≡ true
-last_true true b c e = refl
-last_true false true c e = refl
-last_true false false c e = e
+pub more_near : (xs ys : List ℕ) → one_more xs ys ≡ true → true ≡ are_near xs ys
+more_near xs ys e = sym (either_true (same_ids xs ys) (one_more xs ys) (one_more ys xs) e)
 
-pub more_near : (xs ys : List ℕ) → one_more xs ys ≡ true → are_near xs ys ≡ true
-more_near xs ys e = either_true (same_ids xs ys) (one_more xs ys) (one_more ys xs) e
-
-pub less_near : (xs ys : List ℕ) → one_more ys xs ≡ true → are_near xs ys ≡ true
-less_near xs ys e = last_true (same_ids xs ys) (one_more xs ys) (one_more ys xs) e
+pub last_near : (xs ys : List ℕ) (b : Bool) → (xs ≡ ys → ⊥) → one_more xs ys ≡ false → b ≡ one_more ys xs → b ≡ are_near xs ys
+last_near xs ys b differ none is =
+    let same : same_ids xs ys ≡ false = false_of (same_ids xs ys) (λ e. differ (same_true xs ys e)) in
+    is ∙ sym (λ i. same i || none i || one_more ys xs)
 
 -- ---- the term at the commit index
 
@@ -135,14 +209,33 @@ term_held h (suc index) e low high is =
     let cut : length (compacted h.snapshot h.base) ≡ h.base = length-replicate h.base _ in
     nth_behind (compacted h.snapshot h.base) h.entries index (suc index - h.base - 1) (omega (arith, cut, low)) ∙ nth_at h.entries (suc index - h.base - 1) e (omega (arith, low, high)) is
 
--- the entry that is held at the commit index is of the node's term
-pub owns_so : (h : NodeValue) (commit term : ℕ) (e : Entry) → commit ≡ h.commit → term ≡ h.term → (h.base < commit) × (commit ≤ length (node_of h).log) → e ≡ slice_index_or h.entries (commit - h.base - 1) e → (e.term == term) ≡ true → OwnsCommit h
-owns_so h commit term e at now held is same =
+-- the entry that is held at the commit index
+module _ (h : NodeValue) (commit term : ℕ) (e : Entry) (at : commit ≡ h.commit) (now : term ≡ h.term) (held : (h.base < commit) × (commit ≤ length (node_of h).log)) (is : e ≡ slice_index_or h.entries (commit - h.base - 1) e) where
+  own_term : term_at (node_of h).log h.commit ≡ e.term
+  own_term =
+      let long : length (node_of h).log ≡ length (compacted h.snapshot h.base) + length h.entries = length-append (compacted h.snapshot h.base) h.entries in
+      let cut : length (compacted h.snapshot h.base) ≡ h.base = length-replicate h.base _ in
+      let low : h.base < commit = held.0 in
+      let high : commit ≤ length (node_of h).log = held.1 in
+      subst (λ (n : ℕ). term_at (node_of h).log n ≡ e.term) at (term_held h commit e low (omega (arith, long, cut, high)) is)
+
+  pub owns_so : (e.term == term) ≡ true → HoldsCommit h
+  owns_so same = (subst (λ (n : ℕ). h.base < n) at held.0, own_term ∙ eqb-true e.term term same ∙ now)
+
+  pub owns_not : (e.term == term) ≡ false → HoldsCommit h → ⊥
+  owns_not other holds = wrong (sym other ∙ eq-eqb e.term term (sym own_term ∙ holds.1 ∙ sym now))
+    where
+      wrong : false ≡ true → ⊥
+      wrong q = cc
+
+-- none is held there
+pub owns_none : (h : NodeValue) (commit : ℕ) → IsCoherent h → commit ≡ h.commit → ((h.base < commit) × (commit ≤ length (node_of h).log) → ⊥) → HoldsCommit h → ⊥
+owns_none h commit co at none holds =
     let long : length (node_of h).log ≡ length (compacted h.snapshot h.base) + length h.entries = length-append (compacted h.snapshot h.base) h.entries in
     let cut : length (compacted h.snapshot h.base) ≡ h.base = length-replicate h.base _ in
-    let low : h.base < commit = held.0 in
-    let high : commit ≤ length (node_of h).log = held.1 in
-    subst (λ (n : ℕ). term_at (node_of h).log n ≡ h.term) at (term_held h commit e low (omega (arith, long, cut, high)) is ∙ eqb-true e.term term same ∙ now)
+    let low : h.base < h.commit = holds.0 in
+    let within : h.commit ≤ h.base + length h.entries = co.within in
+    none (omega (arith, at, low), omega (arith, at, long, cut, within))
 
 -- ---- what may be proposed
 
@@ -182,3 +275,54 @@ may_so n event entry servers whole stand is takes reads room = record {
 -- and Raft may be told its servers
 pub may_tell : (opening : List Server) (came : List ℕ) (n : Running) (entry : Entry) (servers : List Server) → MayChange (seen n) entry servers → MayBe (read_setup opening) n came (raft.Local (raft.UseServers servers) ∷ [])
 may_tell opening came n entry servers may = (change_stops opening n.replica.id came (seen n) entry servers may).0
+
+-- what a look at it answers
+pub may_by : (n : Running) (servers : List Server) (b : Bool) → n.members.at ≡ n.replica.raft.commit → last_index n.members ≡ n.members.at → HoldsCommit n.replica.raft → b ≡ are_near (voters n.members.servers) (voters servers) → MayOrNot b n servers
+may_by n servers true at none holds near = record { at = at; none = none; held = holds.0; barrier = holds.1; near = sym near }
+may_by n servers false at none holds near = λ room. wrong (near ∙ room.near)
+  where
+    wrong : false ≡ true → ⊥
+    wrong q = cc
+
+-- ---- what may not be proposed
+
+-- the proposal of an event that has a change
+unfit_by : (n : Running) (event : RaftEvent) (entries slice : List Entry) → event ≡ events.Propose entries → slice ≡ entries → has_change slice ≡ true →
+    ((entry : Entry) (servers : List Server) → entries ≡ entry ∷ [] → configuration_in entry ≡ Some servers → MayChangeTo n servers → ⊥) → IsUnfit n event
+unfit_by n event entries slice is same change none = subst (IsUnfit n) (sym is) (subst (λ (es : List Entry). has_change es ≡ true) same change, none)
+
+-- which has no entry, or further ones
+pub unfit_few : (n : Running) (event : RaftEvent) (entries slice other : List Entry) → event ≡ events.Propose entries → slice ≡ entries → has_change slice ≡ true → other ≡ entries → length other < 1 → IsUnfit n event
+unfit_few n event entries slice other is same change alike low =
+    unfit_by n event entries slice is same change (λ entry servers one reads may. let l : length other ≡ 1 = ap length (alike ∙ one) in omega (arith, low, l))
+
+pub unfit_many : (n : Running) (event : RaftEvent) (entries slice other : List Entry) → event ≡ events.Propose entries → slice ≡ entries → has_change slice ≡ true → other ≡ entries → 2 ≤ length other → IsUnfit n event
+unfit_many n event entries slice other is same change alike high =
+    unfit_by n event entries slice is same change (λ entry servers one reads may. let l : length other ≡ 1 = ap length (alike ∙ one) in omega (arith, high, l))
+
+-- its one entry
+the_entry : (entries slice : List Entry) (e entry : Entry) → slice ≡ entries → e ≡ slice_index_or slice 0 e → entries ≡ entry ∷ [] → e ≡ entry
+the_entry entries slice e entry same at one = by slice (same ∙ one) at
+  where
+    by : (l : List Entry) → l ≡ entry ∷ [] → e ≡ slice_index_or l 0 e → e ≡ entry
+    by [] q at = absurd cc
+    by (x ∷ l) q at = at ∙ head q
+      where
+        head : x ∷ l ≡ entry ∷ [] → x ≡ entry
+        head q = cc
+
+-- which is none that reads
+pub unfit_unread : (n : Running) (event : RaftEvent) (entries slice other : List Entry) (e : Entry) (read : Option (List Server)) → event ≡ events.Propose entries → slice ≡ entries → has_change slice ≡ true → other ≡ entries → e ≡ slice_index_or other 0 e →
+    read ≡ configuration_in e → ((servers : List Server) → read ≡ Some servers → ⊥) → IsUnfit n event
+unfit_unread n event entries slice other e read is same change alike at reads none =
+    unfit_by n event entries slice is same change (λ entry servers one some may. none servers (reads ∙ ap configuration_in (the_entry entries other e entry alike at one) ∙ some))
+
+-- or one that may not be proposed
+pub unfit_not : (n : Running) (event : RaftEvent) (entries slice other : List Entry) (e : Entry) (servers seen_servers : List Server) → event ≡ events.Propose entries → slice ≡ entries → has_change slice ≡ true → other ≡ entries →
+    e ≡ slice_index_or other 0 e → Some servers ≡ configuration_in e → seen_servers ≡ servers → (MayChangeTo n seen_servers → ⊥) → IsUnfit n event
+unfit_not n event entries slice other e servers seen_servers is same change alike at reads looked none =
+    unfit_by n event entries slice is same change
+    (λ entry found one some may. none (subst (MayChangeTo n) (inside (sym some ∙ sym (ap configuration_in (the_entry entries other e entry alike at one)) ∙ sym reads) ∙ sym looked) may))
+  where
+    inside : {x y : List Server} → Some x ≡ Some y → x ≡ y
+    inside q = cc

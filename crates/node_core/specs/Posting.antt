@@ -1,5 +1,5 @@
 -- A step of Raft within a turn: what it leaves is kept, what it says is posted, and sessions follow its office.
-use Rattle.std.specs.Prelude.{◌≡◌, ◌≢◌, ℕ, Bool, true, false, not, ◌&&◌, ◌||◌, ◌==◌, List, [], ◌∷◌, ◌++◌, map, Option, Some, None}
+use Rattle.std.specs.Prelude.{◌≡◌, ◌≢◌, ◌<◌, ℕ, Bool, true, false, not, ◌&&◌, ◌||◌, ◌==◌, List, [], ◌∷◌, ◌++◌, map, Option, Some, None}
 use Rattle.page_apply.specs.Machines.{IsMachine}
 use Rattle.session_rules.specs.Machine.{machine_of}
 use Rattle.session_rules.specs.Sessions.{Reply}
@@ -12,7 +12,7 @@ use Rattle.raft_vote.specs.Messages.{message_value}
 use Rattle.raft_core.specs.declared.event.RaftEvent.{RaftEvent}
 use Rattle.raft_core.specs.declared.event.RaftEvent.TheVariants as events
 use Rattle.raft_core.specs.Events.{input_of}
-use Rattle.raft_member.specs.Members.{last_index, last_servers}
+use Rattle.raft_member.specs.Members.{configuration_in, last_index, last_servers}
 use Rattle.raft_world.specs.Members.{Setup, is_change}
 use Rattle.client_sessions.specs.Calls.{lost_all, told_all_lost}
 use Rattle.node_state.specs.declared.office.Office.{Office as Held}
@@ -69,23 +69,35 @@ pub data TellsCurrent (old new : Running) : Type 0 where
   stays_own : new ≡ old → old.replica.raft.role ≢ raft.Follower → TellsCurrent old new
   tells_current : LeavesSo old new (raft.Local (raft.UseServers (last_servers old.members))) → TellsCurrent old new
 
--- A change to these servers may be proposed: the node has applied all that is committed, the last of it of its own term, and each change of
--- its log; and their voters are those of the applied configuration, or one more or less.
+-- the entry at the commit index is held, and of the node's own term
+abbrev pub HoldsCommit : NodeValue → Type 0
+HoldsCommit h = (h.base < h.commit) × OwnsCommit h
+
+-- A change to these servers may be proposed: the node has applied all that is committed, the last of it held and of its own term, and each
+-- change of its log; and their voters are those of the applied configuration, or one more or less.
 pub record MayChangeTo (n : Running) (servers : List raft.Server) : Type 0 where
   pub at : n.members.at ≡ n.replica.raft.commit
   pub none : last_index n.members ≡ n.members.at
+  pub held : n.replica.raft.base < n.replica.raft.commit
   pub barrier : OwnsCommit n.replica.raft
   pub near : are_near (voters n.members.servers) (voters servers) ≡ true
+
+-- what a look at that answers
+abbrev pub MayOrNot : Bool → Running → List raft.Server → Type 0
+MayOrNot true n servers = MayChangeTo n servers
+MayOrNot false n servers = MayChangeTo n servers → ⊥
 
 -- one of these entries is of the kind that changes servers
 abbrev pub has_change : List Entry → Bool
 has_change [] = false
 has_change (e ∷ es) = is_change e.kind || has_change es
 
--- the event proposes such an entry
-abbrev pub ProposesChange : RaftEvent → Type 0
-ProposesChange (events.Propose entries) = has_change entries ≡ true
-ProposesChange event = ⊥
+-- The event proposes such an entry, and it isn't one change alone that may be proposed now.
+abbrev pub IsUnfit : Running → RaftEvent → Type 0
+IsUnfit n (events.Propose entries) =
+    (has_change entries ≡ true)
+    × ((entry : Entry) (servers : List raft.Server) → entries ≡ entry ∷ [] → configuration_in entry ≡ Some servers → MayChangeTo n servers → ⊥)
+IsUnfit n event = ⊥
 
 -- Before an own step: it is none of a change, and nothing has changed; or a leader may propose its change, of which Raft was told the servers.
 pub data ToldChange (old new : Running) (event : RaftEvent) : Type 0 where

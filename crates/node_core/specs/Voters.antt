@@ -38,3 +38,8 @@ FollowsBy old new held None = new ≡ old
 FollowsBy old new held (Some first) =
     (opening : List Server) (log : List Entry) → IsOf (read_setup opening) log old → first ≤ suc (length log) →
     IsOf (read_setup opening) (take (first - 1) log ++ drop (first - 1) held) new
+
+-- these ids are those without the one at a place
+pub record LacksAt (place : ℕ) (fewer more : List ℕ) : Type 0 where
+  pub front : take place fewer ≡ take place more
+  pub back : drop place fewer ≡ drop (suc place) more

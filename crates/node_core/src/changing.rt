@@ -8,11 +8,10 @@ ghost use Rattle.raft_rules.specs.NodeValues.{node_of};
 ghost use Rattle.raft_world.specs.Members.{any_change, is_change};
 ghost use Rattle.raft_member.specs.Members.{AllStand, read_setup};
 ghost use Rattle.node_replica.specs.Replicas.{IsWhole};
-ghost use Rattle.node_rules.specs.Voting.{OwnsCommit};
 ghost use Rattle.node_core.specs.declared.fault.NodeFault.TheVariants as fault;
 ghost use Rattle.node_core.specs.Faults.{StepCause};
 ghost use Rattle.node_core.specs.Finding.{LeavesBy, StopsChanging};
-ghost use Rattle.node_core.specs.Posting.{MayChangeTo, MayTake, ProposesChange, ToldChange, has_change};
+ghost use Rattle.node_core.specs.Posting.{HoldsCommit, IsUnfit, MayOrNot, MayTake, ToldChange, has_change};
 ghost use Rattle.node_core.specs.Stepping.{HasTold, StaysStored};
 ghost use Rattle.node_core.specs.Whole.{IsOwnDue};
 
@@ -73,8 +72,8 @@ fn voters_of(alloc: Global, servers: &[Server]) -> Result<Vec<u64>, AllocError>
 impl Running {
     /// A leader that proposes a change tells Raft its servers first, so that its entry is counted by them.
     ///
-    /// `Unfit` comes only where the proposal has a change of servers. It comes where that stands among other entries, where its
-    /// bytes are no servers, where the node has not applied each earlier change and an entry of the leader's own term, and where
+    /// `Unfit` comes only where the proposal has a change of servers and isn't one that may be made now: it stands among other
+    /// entries, its bytes are no servers, the node has not applied each earlier change and an entry of the leader's own term, or
     /// its voters differ from those before it in more than one. Nothing is told then.
     pub(crate) fn tell_change<D: Disk>(
         &mut self,
@@ -93,7 +92,7 @@ impl Running {
         ensures stops { (opening : List ServerValue) (came : List ℕ) → LeavesBy D.tells (D.states disk.old) (D.states disk.new) self.old.replica result
             (StopsChanging (read_setup opening) came self.old) }
         ensures cause { StepCause (D.faults disk.old) (D.faults disk.new) result }
-        ensures unfit { result ≡ Err fault.Unfit → ProposesChange event.now }
+        ensures unfit { result ≡ Err fault.Unfit → IsUnfit self.old event.now }
         ensures runs { result ≢ Err fault.Down }
     {
         let RaftEvent::Propose(entries) = event else {
@@ -116,7 +115,8 @@ impl Running {
 
     /// Whether a leader may propose a change to these servers now.
     fn may_change_to(&self, servers: &[Server]) -> Result<bool, AllocError>
-        ensures { IfOk result (λ may. may ≡ true → MayChangeTo self.now servers.now) }
+        requires { IsWhole self.now.replica }
+        ensures { IfOk result (λ may. MayOrNot may self.now servers.now) }
     {
         let applied = self.members.applied_index();
         if applied != self.replica.view().commit {
@@ -135,7 +135,9 @@ impl Running {
 
     /// Whether the entry at the commit index is held, and of the node's own term.
     fn owns_commit(&self) -> bool
-        ensures { result ≡ true → OwnsCommit self.now.replica.raft }
+        requires { IsWhole self.now.replica }
+        ensures owns { result ≡ true → HoldsCommit self.now.replica.raft }
+        ensures not { result ≡ false → HoldsCommit self.now.replica.raft → ⊥ }
     {
         let raft = self.replica.view();
         match self.replica.entry(raft.commit) {

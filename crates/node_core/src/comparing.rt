@@ -1,8 +1,9 @@
 //! Whether servers are the same, and whether voters are nearly so.
 
-ghost use Rattle.std.specs.Prelude.{◌≡◌, ◌<◌, true, suc, length};
+ghost use Rattle.std.specs.Prelude.{◌≡◌, ◌≢◌, ◌<◌, true, false, suc, length};
 ghost use Rattle.raft_world.specs.Members.{one_more};
 ghost use Rattle.node_rules.specs.Changes.{are_near};
+ghost use Rattle.node_core.specs.Voters.{LacksAt};
 
 use raft_vote::Server;
 
@@ -32,7 +33,8 @@ pub(crate) fn are_same(ones: &[Server], others: &[Server]) -> bool
 
 /// Whether these are the same ids.
 fn are_alike(ones: &[u64], others: &[u64]) -> bool
-    ensures { result ≡ true → ones.now ≡ others.now }
+    ensures is { result ≡ true → ones.now ≡ others.now }
+    ensures differ { result ≡ false → ones.now ≢ others.now }
 {
     if ones.len() != others.len() {
         return false;
@@ -49,16 +51,23 @@ fn are_alike(ones: &[u64], others: &[u64]) -> bool
 fn lacks_at(fewer: &[u64], more: &[u64], place: usize) -> bool
     requires within { place < length more.now }
     requires one { suc (length fewer.now) ≡ length more.now }
-    ensures { result ≡ true → one_more fewer.now more.now ≡ true }
+    ensures is { result ≡ true → LacksAt place fewer.now more.now }
+    ensures not { result ≡ false → LacksAt place fewer.now more.now → ⊥ }
 {
-    are_alike(&fewer[..place], &more[..place]) && are_alike(&fewer[place..], &more[place + 1..])
+    if !are_alike(&fewer[..place], &more[..place]) {
+        return false;
+    }
+    are_alike(&fewer[place..], &more[place + 1..])
 }
 
 /// Whether these ids are those without one of them.
 fn lacks_one(fewer: &[u64], more: &[u64]) -> bool
-    ensures { result ≡ true → one_more fewer.now more.now ≡ true }
+    ensures { result ≡ one_more fewer.now more.now }
 {
-    if more.is_empty() || fewer.len() != more.len() - 1 {
+    if more.is_empty() {
+        return false;
+    }
+    if fewer.len() != more.len() - 1 {
         return false;
     }
     for place in 0..more.len() {
@@ -71,7 +80,7 @@ fn lacks_one(fewer: &[u64], more: &[u64]) -> bool
 
 /// Whether voters are the same, or one more or less.
 pub(crate) fn are_near(ones: &[u64], others: &[u64]) -> bool
-    ensures { result ≡ true → are_near ones.now others.now ≡ true }
+    ensures { result ≡ are_near ones.now others.now }
 {
     if are_alike(ones, others) {
         return true;

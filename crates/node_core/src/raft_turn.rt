@@ -136,6 +136,7 @@ impl Running {
         ensures cause { StepCause (D.faults disk.old) (D.faults disk.new) result }
         ensures agrees { StaysAgreed self.old self.new }
         ensures runs { result ≢ Err fault.Down }
+        ensures fit { result ≢ Err fault.Unfit }
     {
         let Moved {
             batch,
@@ -313,6 +314,7 @@ impl Running {
             (StopsIn (read_setup opening) came self.old (Local (UseServers servers))) }
         ensures cause { StepCause (D.faults disk.old) (D.faults disk.new) result }
         ensures runs { result ≢ Err fault.Down }
+        ensures fit { result ≢ Err fault.Unfit }
     {
         self.make_step(RaftEvent::Servers(servers), disk)?;
         Ok(())

@@ -1,11 +1,11 @@
-use Rattle.std.proofs.Common.{refl, sym, subst, ◌∙◌, arith}
+use Rattle.std.proofs.Common.{Bool, refl, sym, subst, ◌∙◌, arith}
 use Rattle.std.proofs.lemmas.Result.{on_ok_weaker, on_err_weaker}
 use Rattle.raft_member.specs.Members.{read_setup}
 use Rattle.raft_rules.specs.Node.{Local, UseServers}
 use Rattle.node_core.specs.Finding.{StopsIn, StopsChanging, unchanged_yet, in_change}
-use Rattle.node_core.specs.Posting.{MayChangeTo, no_change, change_told}
+use Rattle.node_core.specs.Posting.{MayChangeTo, MayOrNot, no_change, change_told}
 use Rattle.node_core.proofs.Finding.{failed, more, kept_finds}
-use Rattle.node_core.proofs.OneChange.{proposed_change, change_event, may_so, may_tell, other_plain}
+use Rattle.node_core.proofs.OneChange.{unfit_few, unfit_many, unfit_unread, unfit_not, change_event, may_so, may_tell, other_plain}
 use Rattle.node_core.proofs.RaftTurns.{told_none}
 use Rattle.node_core.proofs.running.Running.tell_change.Goals as goal
 
@@ -46,35 +46,31 @@ returns-clause-tells g c =
     let is = (change_event c.args.event.now c.in-Propose.entries c.as_slice-2.result.now c.entry-item.result c.in-Propose.is c.as_slice-2.ensures c.in-len1.len_at_least c.in-len1.len_below c.entry-item.is) in
     let may = may_so c.args.self.now c.args.event.now c.entry-item.result c.in-Some.servers c.requires.whole c.requires.members
     (change_event c.args.event.now c.in-Propose.entries c.as_slice-2.result.now c.entry-item.result c.in-Propose.is c.as_slice-2.ensures c.in-len1.len_at_least c.in-len1.len_below c.entry-item.is)
-    c.requires.takes (sym c.in_ok-servers.ensures.is ∙ c.in-Some.is) (subst (MayChangeTo c.args.self.now) c.as_slice-3.ensures (c.in_ok-may_change_to.ensures c.if-not-branch.false)) in
+    c.requires.takes (sym c.in_ok-servers.ensures.is ∙ c.in-Some.is) (subst (MayChangeTo c.args.self.now) c.as_slice-3.ensures (subst (λ (b : Bool). MayOrNot b c.args.self.now c.as_slice-3.result.now) c.if-not-branch.false c.in_ok-may_change_to.ensures)) in
     on_ok_weaker c.tell.result (λ l. change_told c.entry-item.result c.in-Some.servers is may l) c.tell.ensures.tells
 
 pub returns-clause-stops : goal.returns-clause-stops
 returns-clause-stops g c = λ opening came has.
     let may = may_so c.args.self.now c.args.event.now c.entry-item.result c.in-Some.servers c.requires.whole c.requires.members
     (change_event c.args.event.now c.in-Propose.entries c.as_slice-2.result.now c.entry-item.result c.in-Propose.is c.as_slice-2.ensures c.in-len1.len_at_least c.in-len1.len_below c.entry-item.is)
-    c.requires.takes (sym c.in_ok-servers.ensures.is ∙ c.in-Some.is) (subst (MayChangeTo c.args.self.now) c.as_slice-3.ensures (c.in_ok-may_change_to.ensures c.if-not-branch.false)) in
+    c.requires.takes (sym c.in_ok-servers.ensures.is ∙ c.in-Some.is) (subst (MayChangeTo c.args.self.now) c.as_slice-3.ensures (subst (λ (b : Bool). MayOrNot b c.args.self.now c.as_slice-3.result.now) c.if-not-branch.false c.in_ok-may_change_to.ensures)) in
     on_err_weaker c.tell.result
     (more g.D.Disk.tells (g.D.Disk.states c.tell.new.disk) (StopsIn (read_setup opening) came c.args.self.now (Local (UseServers c.in-Some.servers))) (StopsChanging (read_setup opening) came c.args.self.now)
     (λ kept s. in_change c.in-Some.servers (may_tell opening came c.args.self.now c.entry-item.result c.in-Some.servers may) s)) (c.tell.ensures.stops opening came has)
 
 pub returns-in_default-as_slice-clause-unfit : goal.returns-in_default-as_slice-clause-unfit
-returns-in_default-as_slice-clause-unfit g c = λ q. proposed_change c.args.event.now c.in-Propose.entries c.as_slice.result.now c.in-Propose.is c.as_slice.ensures (c.are_plain.ensures.change c.if-are_plain.false)
+returns-in_default-as_slice-clause-unfit g c = λ q. unfit_few c.args.self.now c.args.event.now c.in-Propose.entries c.as_slice.result.now c.as_slice-2.result.now c.in-Propose.is c.as_slice.ensures (c.are_plain.ensures.change c.if-are_plain.false) c.as_slice-2.ensures c.in_default-as_slice.len_below
 
 pub returns-in_default-as_slice-2-clause-unfit : goal.returns-in_default-as_slice-2-clause-unfit
-returns-in_default-as_slice-2-clause-unfit g c = λ q. proposed_change c.args.event.now c.in-Propose.entries c.as_slice.result.now c.in-Propose.is c.as_slice.ensures (c.are_plain.ensures.change c.if-are_plain.false)
-
-pub returns-in_err-servers-clause-unfit : goal.returns-in_err-servers-clause-unfit
-returns-in_err-servers-clause-unfit g c = λ q. proposed_change c.args.event.now c.in-Propose.entries c.as_slice.result.now c.in-Propose.is c.as_slice.ensures (c.are_plain.ensures.change c.if-are_plain.false)
+returns-in_default-as_slice-2-clause-unfit g c = λ q. unfit_many c.args.self.now c.args.event.now c.in-Propose.entries c.as_slice.result.now c.as_slice-2.result.now c.in-Propose.is c.as_slice.ensures (c.are_plain.ensures.change c.if-are_plain.false) c.as_slice-2.ensures c.in_default-as_slice.len_at_least
 
 pub returns-in_default-2-clause-unfit : goal.returns-in_default-2-clause-unfit
-returns-in_default-2-clause-unfit g c = λ q. proposed_change c.args.event.now c.in-Propose.entries c.as_slice.result.now c.in-Propose.is c.as_slice.ensures (c.are_plain.ensures.change c.if-are_plain.false)
-
-pub returns-in_err-may_change_to-clause-unfit : goal.returns-in_err-may_change_to-clause-unfit
-returns-in_err-may_change_to-clause-unfit g c = λ q. proposed_change c.args.event.now c.in-Propose.entries c.as_slice.result.now c.in-Propose.is c.as_slice.ensures (c.are_plain.ensures.change c.if-are_plain.false)
+returns-in_default-2-clause-unfit g c = λ q.
+    unfit_unread c.args.self.now c.args.event.now c.in-Propose.entries c.as_slice.result.now c.as_slice-2.result.now c.entry-item.result c.in_ok-servers.field-0
+    c.in-Propose.is c.as_slice.ensures (c.are_plain.ensures.change c.if-are_plain.false) c.as_slice-2.ensures c.entry-item.is c.in_ok-servers.ensures.is c.in_default-2.not-Some
 
 pub returns-then-not-branch-clause-unfit : goal.returns-then-not-branch-clause-unfit
-returns-then-not-branch-clause-unfit g c = λ q. proposed_change c.args.event.now c.in-Propose.entries c.as_slice.result.now c.in-Propose.is c.as_slice.ensures (c.are_plain.ensures.change c.if-are_plain.false)
-
-pub returns-clause-unfit : goal.returns-clause-unfit
-returns-clause-unfit g c = λ q. proposed_change c.args.event.now c.in-Propose.entries c.as_slice.result.now c.in-Propose.is c.as_slice.ensures (c.are_plain.ensures.change c.if-are_plain.false)
+returns-then-not-branch-clause-unfit g c = λ q.
+    unfit_not c.args.self.now c.args.event.now c.in-Propose.entries c.as_slice.result.now c.as_slice-2.result.now c.entry-item.result c.in-Some.servers c.as_slice-3.result.now
+    c.in-Propose.is c.as_slice.ensures (c.are_plain.ensures.change c.if-are_plain.false) c.as_slice-2.ensures c.entry-item.is (sym c.in-Some.is ∙ c.in_ok-servers.ensures.is) c.as_slice-3.ensures
+    (subst (λ (b : Bool). MayOrNot b c.args.self.now c.as_slice-3.result.now) c.if-not-branch.true c.in_ok-may_change_to.ensures)
