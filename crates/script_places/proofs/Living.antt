@@ -1,26 +1,24 @@
 -- How the life of a node at its place goes on, and that it leads where its turns do.
-use Rattle.std.proofs.Common.{inl, inr, ◌≡◌, ◌⊎◌, ◌≤◌, ◌+◌, ℕ, zero, suc, Bool, true, false, leb, List, [], ◌∷◌, ◌++◌, length, take, drop, Option, Some, None, refl, sym, ap, subst, ◌∙◌, arith}
+use Rattle.std.proofs.Common.{inl, inr, ◌≡◌, ◌⊎◌, ◌≤◌, ℕ, zero, suc, Bool, true, false, leb, List, [], ◌∷◌, ◌++◌, length, take, drop, Option, Some, None, refl, sym, ap, subst, ◌∙◌, arith}
 use Rattle.std.proofs.lemmas.List.{append_assoc, append-nil, length-append, take_all}
 use Rattle.std.proofs.lemmas.Bool.{leb-true, le-leb, true≢false}
 use Rattle.sql_engine.specs.declared.kind.EngineKind.{EngineKind}
 use Rattle.sql_engine.specs.Meanings.{Meaning}
 use Rattle.disk_model.specs.Disk.{Disk, Held, no_files}
-use Rattle.disk_model.specs.Genuine.{Genuine}
 use Rattle.disk_model.specs.Rest.{Rest, AfterCrash}
 use Rattle.disk_model.specs.Trait.{Text}
 use Rattle.raft_world.specs.Members.{Setup}
 use Rattle.store_laws.specs.Chance.{NoChance, MetaGenuine, BatchesGenuine, SnapGenuine}
-use Rattle.store_laws.specs.Names.{First, Second, Segment, Snapshot}
-use Rattle.store_laws.specs.Store.{Format, reader, Kept, Outcome as Found, Loaded, Damaged, NoMeta, Gap}
+use Rattle.store_laws.specs.Store.{Format, reader, Outcome as Found, Loaded, Damaged, NoMeta, Gap}
 use Rattle.store_format.specs.NodeFormat.{node_format}
 use Rattle.segment_store.specs.Keeps.{folder}
 use Rattle.segment_store.specs.Loading.{kept_in}
 use Rattle.node_core.specs.declared.running.Running.{Running}
 use Rattle.script_nodes.specs.Outcomes.{Turn}
-use Rattle.script_runs.specs.Seats.{Seat, Runs, Rests, TurnSo, PathSo}
+use Rattle.script_runs.specs.Seats.{Seat, Runs, Rests, PathSo}
 use Rattle.script_runs.specs.Places.{Led, IsLeft, IsFair, IsPlaced}
 use Rattle.script_runs.proofs.Placing.{places_begin_hold, disks_crash_on_hold}
-use Rattle.script_places.specs.Lives.{Find, turns_to, IsFairFind, Begins, ComesTo, Stands, LeavesFound, Lives, IsFairWithin}
+use Rattle.script_places.specs.Lives.{Find, turns_to, Begins, ComesTo, Stands, LeavesFound, Lives, IsFairWithin}
 
 -- ---- a disk at rest
 

@@ -23,10 +23,8 @@ use Rattle.node_core.specs.Whole.{Agrees, IsSound}
 use Rattle.script_nodes.specs.declared.place.Came.{Came}
 use Rattle.script_nodes.specs.declared.place.Ended.{Ended}
 use Rattle.script_nodes.specs.declared.place.Ended.TheVariants as ended
-use Rattle.script_nodes.specs.declared.place.NodeLine.{NodeLine}
 use Rattle.script_nodes.specs.declared.place.Outs.{Outs}
 use Rattle.script_nodes.specs.Kinds.{role_of}
-use Rattle.script_nodes.specs.Outcomes.{Standing}
 use Rattle.script_nodes.specs.Places.{IsStart, IsStep, line_of}
 use Rattle.script_places.specs.declared.seat.Seat.{Seat}
 use Rattle.script_places.specs.Seats.{IsFall, IsQuiet, IsSeated, RunsWell, Sits, SitsWell, line_with, standing_of}

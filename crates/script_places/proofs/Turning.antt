@@ -10,23 +10,21 @@ use Rattle.sqlite_engine.specs.Any.{any_kind, any_known, any_meaning}
 use Rattle.engine_journal.specs.declared.noted.Noted.{Noted}
 use Rattle.engine_journal.specs.Noting.{Noting, told_by}
 use Rattle.session_rules.specs.Engines.{Answer}
-use Rattle.disk_model.specs.Disk.{Disk, no_files}
+use Rattle.disk_model.specs.Disk.{Disk}
 use Rattle.disk_model.specs.Rest.{AfterCrash}
-use Rattle.disk_model.specs.Stored.{Contents, OverMemory, memory_of}
+use Rattle.disk_model.specs.Stored.{Contents, OverMemory}
 use Rattle.disk_model.specs.Trait.{Text, Known, told, untold, Crashes as DiskCrashes}
 use Rattle.raft_rules.specs.Node.{Server}
 use Rattle.raft_member.specs.Members.{read_setup}
 use Rattle.store_laws.specs.Store.{Kept}
-use Rattle.segment_store.specs.Keeps.{folder}
-use Rattle.node_replica.specs.Replicas.{IsKept, kept_of}
+use Rattle.node_replica.specs.Replicas.{IsKept}
 use Rattle.node_core.specs.declared.event.Event.{Event}
-use Rattle.node_core.specs.declared.fault.NodeFault.{NodeFault}
 use Rattle.node_core.specs.declared.fault.StartFault.{StartFault}
 use Rattle.node_core.specs.declared.node.Node.{Node}
 use Rattle.node_core.specs.declared.outs.Outs.{Outs as CoreOuts}
 use Rattle.node_core.specs.declared.running.Running.{Running}
 use Rattle.node_core.specs.Account.{StepsBy, StopsBy}
-use Rattle.node_core.specs.Finding.{FindsIn, Finds}
+use Rattle.node_core.specs.Finding.{Finds}
 use Rattle.node_core.specs.Starting.{StartsOver}
 use Rattle.node_core.specs.Stepping.{IsUp}
 use Rattle.node_core.specs.Values.{applied_of, has_links, kept_by, node_of, raft_of, replica_of, servers_told}
@@ -39,9 +37,9 @@ use Rattle.script_nodes.specs.declared.place.Ended.TheVariants as ended
 use Rattle.script_nodes.specs.declared.place.NodeEvent.{NodeEvent}
 use Rattle.script_nodes.specs.declared.place.NodeEvent.TheVariants as event
 use Rattle.script_nodes.specs.declared.place.Outs.{Outs as CodeOuts}
-use Rattle.script_nodes.specs.Knowing.{IsNew, LeadsOn, StartsOn}
+use Rattle.script_nodes.specs.Knowing.{LeadsOn, StartsOn}
 use Rattle.script_nodes.specs.Outcomes.{Outcome, Outs, Ending, Steps, Starts, Stops, Fails, Unreadable, Doing, Start, Turn, Does, Crashes}
-use Rattle.script_nodes.specs.Places.{Comes, TellsEnding, doing_of, down_place, outs_of, place_after, place_after_crash}
+use Rattle.script_nodes.specs.Places.{Comes, TellsEnding, doing_of, down_place, outs_of, place_after}
 use Rattle.script_nodes.specs.Seen.{answers_in}
 use Rattle.script_nodes.specs.Voters.{voters_from}
 use Rattle.script_nodes.specs.World.{Place}
@@ -52,10 +50,10 @@ use Rattle.script_places.specs.declared.happening.StartEnd.{StartEnd}
 use Rattle.script_places.specs.declared.happening.StartEnd.TheVariants as ends
 use Rattle.script_places.specs.declared.seat.Seat.{Seat}
 use Rattle.script_places.specs.Happening.{core_event}
-use Rattle.script_places.specs.Lives.{Lives, Stands, LeavesFound}
+use Rattle.script_places.specs.Lives.{Lives}
 use Rattle.script_places.specs.Seats.{HasFallen, IsFall, IsQuiet, Sits, SitsWell, place_of, place_with, standing_of}
-use Rattle.script_places.specs.Turns.{ActsSo, HasActed, HasStopped, IsFound, IsSeatedBy, KeepsUp, Knows, LeavesShort, NodeStarted, NoneStarted, RunsNow, StartsBy, running_in, states_in}
-use Rattle.script_places.proofs.Living.{life_begins, life_falls, life_on, rest_is_fair}
+use Rattle.script_places.specs.Turns.{ActsSo, HasActed, HasStopped, IsFound, IsSeatedBy, KeepsUp, Knows, LeavesShort, NodeStarted, NoneStarted, StartsBy, running_in, states_in}
+use Rattle.script_places.proofs.Living.{life_falls, life_on, rest_is_fair}
 
 known_is : (states P : Disk Text → Type 0) → Known true states P → (d : Disk Text) × states d × P d
 known_is states P (told d is p) = (d, is, p)
@@ -154,14 +152,6 @@ life_at : (kind : EngineKind) (voters n finds : ℕ) (turns : List Turn) (disk n
 life_at kind voters n finds turns disk now_disk node now_node same is life =
     subst (λ (d : Contents). Lives (any_meaning kind) kind (setup_of voters) n finds (states_in d) turns (running_in now_node)) (sym same)
     (subst (λ (s : Option Node). Lives (any_meaning kind) kind (setup_of voters) n finds (states_in disk) turns (running_in s)) (sym is) life)
-
--- where nothing has happened yet
-pub begins_new : (kind : EngineKind) (seat : Seat) → states_in seat.disk.contents no_files → seat.node ≡ None → IsNew (Knows kind) seat
-begins_new kind seat told_is none n voters = (
-  0,
-  subst (λ (s : Option Node). Lives (any_meaning kind) kind (setup_of voters) n 0 (states_in seat.disk.contents) [] (running_in s)) (sym none)
-      (life_begins (any_meaning kind) kind (setup_of voters) n (states_in seat.disk.contents) told_is),
-)
 
 -- an engine that keeps no answers, and has lost none, has told none
 told_none : (e : Noting AnyEngine) (was : Node) → IsQuiet e (Some was) → Some (told_by e.noted e.cut) ≡ has_told []

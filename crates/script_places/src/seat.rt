@@ -46,7 +46,6 @@ pub(crate) fn new_engine(alloc: Global, kind: EngineKind) -> NotedEngine<AnyEngi
     NotedEngine::new(alloc, engine)
 }
 
-#[tactic(auto, using(crate::proofs::Turning::begins_new))]
 /// A disk without files, and no node. Takes no memory.
 pub(crate) fn empty_seat(alloc: Global, kind: EngineKind) -> Seat
     ensures place { place_of result ≡ empty_place }
@@ -165,7 +164,7 @@ fn fall(seat: &mut Seat, keeps: u64) -> Result<Ended, AllocError>
     }
 }
 
-#[tactic(auto, using(crate::proofs::Turning::step_leads, crate::proofs::Turning::stop_leads, crate::proofs::Seating::is_step, crate::proofs::Seating::is_step_fallen, crate::proofs::Seating::none_seated))]
+#[tactic(auto, using(crate::proofs::Seating::is_step, crate::proofs::Seating::is_step_fallen, crate::proofs::Seating::none_seated))]
 /// An event happens at the node that runs, while a line aims at a call of its disk.
 pub(crate) fn step(seat: &mut Seat, event: NodeEvent, aim: Aim) -> Result<Came, AllocError>
     requires seated { IsSeated seat.old }
@@ -186,7 +185,7 @@ pub(crate) fn step(seat: &mut Seat, event: NodeEvent, aim: Aim) -> Result<Came, 
     }
 }
 
-#[tactic(auto, using(crate::proofs::Turning::start_leads, crate::proofs::Turning::none_leads, crate::proofs::Turning::unread_leads, crate::proofs::Seating::is_start_well, crate::proofs::Seating::is_start_fallen, crate::proofs::Seating::is_start_unread, crate::proofs::Seating::none_seated))]
+#[tactic(auto, using(crate::proofs::Seating::is_start_well, crate::proofs::Seating::is_start_fallen, crate::proofs::Seating::is_start_unread, crate::proofs::Seating::none_seated))]
 /// A node starts over the disk, with an engine that knows nothing, where none runs.
 pub(crate) fn start(
     seat: &mut Seat,
@@ -196,7 +195,8 @@ pub(crate) fn start(
 ) -> Result<Came, AllocError>
     requires seated { IsSeated seat.old }
     requires down { seat.old.node ≡ None }
-    ensures comes { IfOk result (λ came. Comes (place_of seat.old) (place_of seat.new) came (StartsOn (Knows seat.old.kind) seat.old seat.new node voters aim)) }
+    ensures comes { IfOk result (λ came. Comes (place_of seat.old) (place_of seat.new) came
+        (StartsOn (Knows seat.old.kind) seat.old seat.new node voters aim)) }
     ensures start { IfOk result (λ came. IsStart came.ended) }
     ensures kind { seat.new.kind ≡ seat.old.kind }
     ensures seated { IsSeated seat.new }
