@@ -7,8 +7,8 @@ ghost use Rattle.script_nodes.specs.Knowing.{IsNew, LeadsOn, StartsOn};
 ghost use Rattle.script_nodes.specs.World.{empty_place};
 ghost use Rattle.script_nodes.specs.Places.{doing_of, Comes, IsStart, IsStep, line_of, outs_of, place_after_crash};
 ghost use Rattle.script_runs.specs.Seats.{outs_of as core_outs};
-ghost use Rattle.script_places.specs.Seats.{HasFallen, IsFall, IsSeated, Sits, place_of, standing_of};
-ghost use Rattle.script_places.specs.Turns.{IsFound, Knows};
+ghost use Rattle.script_places.specs.Seats.{HasFallen, IsSeated, Sits, place_of, standing_of};
+ghost use Rattle.script_places.specs.Turns.{FallsTo, IsFound, Knows};
 
 use crate::happening::{Fell, StartEnd, start_node, step_node};
 use disk_model::MemDisk;
@@ -135,7 +135,7 @@ fn came(seat: &mut Seat, ended: Ended) -> Result<Came, AllocError>
 /// is want of memory.
 #[tactic(auto, using(crate::proofs::Turning::found_crashed, crate::proofs::Turning::found_same))]
 fn find(disk: &mut MemDisk) -> Result<bool, AllocError>
-    ensures { OnOk result (IsFound disk.old.contents disk.new.contents) }
+    ensures { IfOk result (λ stopped. IsFound stopped disk.old.contents disk.new.contents) }
 {
     if disk.stopped() {
         // The stop has brought its own pick.
@@ -150,9 +150,8 @@ fn find(disk: &mut MemDisk) -> Result<bool, AllocError>
 /// stop's pick; or a call of it failed.
 fn fall(seat: &mut Seat, keeps: u64) -> Result<Ended, AllocError>
     requires { seat.old.node ≡ None }
-    ensures fall { IfOk result (IsFall keeps) }
+    ensures fall { IfOk result (FallsTo keeps seat.old.disk.contents seat.new.disk.contents) }
     ensures fallen { HasFallen seat.new.node seat.new.has_failed }
-    ensures found { OnOk result (IsFound seat.old.disk.contents seat.new.disk.contents) }
     ensures engine { seat.new.engine ≡ seat.old.engine }
     ensures kind { seat.new.kind ≡ seat.old.kind }
 {
