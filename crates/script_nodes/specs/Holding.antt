@@ -100,7 +100,8 @@ abbrev pub outside_of : ℕ → List Place → Outside → Held (Unit {0})
 outside_of voters places o = beside voters [] places o
 
 -- what came of an event at a node is noted and said: it leads here
-pub record Asks (node : ℕ) (aim : Aim) (answers : List Answer) (failed : Bool) (ending : Ending) (old new : Held (Unit {0})) (before now : List Said) : Type 0 where
+pub record Asks (node : ℕ) (aim : Aim) (answers : List Answer) (failed : Bool) (ending : Ending) (old new : Held (Unit {0}))
+    (before now : List Said) : Type 0 where
   pub more : List Said
   pub goes : (turns : List Turn) (later : List Outcome)
       → after_ending node ending (world_of (with_note old aim answers failed ending) turns later)

@@ -51,7 +51,8 @@ LeadsOn knows old new turn = (node voters : ℕ) (turns : List Turn) → knows o
 
 -- so of a start, which tells the node and the voters
 abbrev pub StartsOn : {P : Type 0} → Knowing P → P → P → ℕ → ℕ → Aim → Outcome → Type 0
-StartsOn knows old new node voters aim outcome = (turns : List Turn) → knows old node voters turns → knows new node voters (turns ++ Does node Start aim outcome ∷ [])
+StartsOn knows old new node voters aim outcome =
+    (turns : List Turn) → knows old node voters turns → knows new node voters (turns ++ Does node Start aim outcome ∷ [])
 
 -- ---- all places
 

@@ -125,7 +125,8 @@ impl<P: NodePlace> Cluster<P> {
 
     /// All nodes start, one after another, where they are down, which is no event.
     pub fn start_all(&mut self, said: &mut Vec<Said>) -> Result<(), EventFault>
-        ensures { Does P.knows (all_start (length self.old.places.items) 1) result (held P.shows self.old) (held P.shows self.new) said.old.items said.new.items }
+        ensures { Does P.knows (all_start (length self.old.places.items) 1) result
+            (held P.shows self.old) (held P.shows self.new) said.old.items said.new.items }
     {
         for index in 0..self.places.len() {
             match self.start(index as u64 + 1, Aim::Nothing, said) {

@@ -1,26 +1,24 @@
 -- How the life of a node at its place goes on, and that it leads where its turns do.
-use Rattle.std.proofs.Common.{inl, inr, ◌≡◌, ◌⊎◌, ◌≤◌, ◌+◌, ℕ, zero, suc, Bool, true, false, leb, List, [], ◌∷◌, ◌++◌, length, take, drop, Option, Some, None, refl, sym, ap, subst, ◌∙◌, arith}
+use Rattle.std.proofs.Common.{inl, inr, ◌≡◌, ◌⊎◌, ◌≤◌, ℕ, zero, suc, Bool, true, false, leb, List, [], ◌∷◌, ◌++◌, length, take, drop, Option, Some, None, refl, sym, ap, subst, ◌∙◌, arith}
 use Rattle.std.proofs.lemmas.List.{append_assoc, append-nil, length-append, take_all}
 use Rattle.std.proofs.lemmas.Bool.{leb-true, le-leb, true≢false}
 use Rattle.sql_engine.specs.declared.kind.EngineKind.{EngineKind}
 use Rattle.sql_engine.specs.Meanings.{Meaning}
 use Rattle.disk_model.specs.Disk.{Disk, Held, no_files}
-use Rattle.disk_model.specs.Genuine.{Genuine}
-use Rattle.disk_model.specs.Rest.{Rest, AfterCrash}
+use Rattle.disk_model.specs.Rest.{Rest}
 use Rattle.disk_model.specs.Trait.{Text}
 use Rattle.raft_world.specs.Members.{Setup}
 use Rattle.store_laws.specs.Chance.{NoChance, MetaGenuine, BatchesGenuine, SnapGenuine}
-use Rattle.store_laws.specs.Names.{First, Second, Segment, Snapshot}
-use Rattle.store_laws.specs.Store.{Format, reader, Kept, Outcome as Found, Loaded, Damaged, NoMeta, Gap}
+use Rattle.store_laws.specs.Store.{Format, reader, Outcome as Found, Loaded, Damaged, NoMeta, Gap}
 use Rattle.store_format.specs.NodeFormat.{node_format}
 use Rattle.segment_store.specs.Keeps.{folder}
 use Rattle.segment_store.specs.Loading.{kept_in}
 use Rattle.node_core.specs.declared.running.Running.{Running}
-use Rattle.script_nodes.specs.Outcomes.{Turn}
-use Rattle.script_runs.specs.Seats.{Seat, Runs, Rests, TurnSo, PathSo}
+use Rattle.script_nodes.specs.Outcomes.{Ending, Steps, Starts, Stops, Fails, Unreadable, Turn, Does, Crashes}
+use Rattle.script_runs.specs.Seats.{Seat, Runs, Rests, PathSo}
 use Rattle.script_runs.specs.Places.{Led, IsLeft, IsFair, IsPlaced}
 use Rattle.script_runs.proofs.Placing.{places_begin_hold, disks_crash_on_hold}
-use Rattle.script_places.specs.Lives.{Find, turns_to, IsFairFind, Begins, ComesTo, Stands, LeavesFound, Lives, IsFairWithin}
+use Rattle.script_places.specs.Lives.{Find, turns_to, Begins, ComesTo, FoundBy, IsFoundSo, Stands, LeavesFound, Lives, IsFairWithin}
 
 -- ---- a disk at rest
 
@@ -125,24 +123,35 @@ module _ (m : Meaning) (kind : EngineKind) (setup : Setup) (n : ℕ) where
   life_on zero old new turns turn was now on life = on life.0 life.1 life.2
   life_on (suc finds) old new turns turn was now on life = (life.0, comes_on turns turn life.0 life.1, λ fair. life_on finds old new turns turn was now on (life.2 fair))
 
-  found_fair : (turns : List Turn) (before found : Disk Text) → IsPlaced m kind setup n turns before None → (found ≡ before) ⊎ AfterCrash before found → NoChance node_format (folder before) (folder found).read
-      → Stands m kind setup n turns found None
-  found_fair turns before found left (inl same) fair = (
+  same_fair : (turns : List Turn) (before found : Disk Text) → IsPlaced m kind setup n turns before None → found ≡ before → NoChance node_format (folder before) (folder found).read → Stands m kind setup n turns found None
+  same_fair turns before found left same fair = (
     subst (λ (d : Disk Text). IsPlaced m kind setup n turns d None) (sym same) left,
     subst (λ (d : Disk Text). NoChance node_format (folder d) (folder found).read) (sym same) fair,
   )
-  found_fair turns before found left (inr crashed) fair = (disks_crash_on_hold m kind setup n turns before found left crashed fair, rest_is_fair found crashed.rest)
+
+  found_by : (ending : Ending) (turns : List Turn) (before found : Disk Text) → IsPlaced m kind setup n turns before None → FoundBy ending before found → NoChance node_format (folder before) (folder found).read
+      → Stands m kind setup n turns found None
+  found_by (Stops keeps) turns before found left crashed fair = (disks_crash_on_hold m kind setup n turns before found left crashed fair, rest_is_fair found crashed.rest)
+  found_by (Fails keeps) turns before found left same fair = same_fair turns before found left same fair
+  found_by Unreadable turns before found left same fair = same_fair turns before found left same fair
+  found_by (Steps outs standing) turns before found left none fair = absurd none
+  found_by (Starts kept standing) turns before found left none fair = absurd none
+
+  found_fair : (turn : Turn) (turns : List Turn) (before found : Disk Text) → IsPlaced m kind setup n turns before None → IsFoundSo turn before found → NoChance node_format (folder before) (folder found).read
+      → Stands m kind setup n turns found None
+  found_fair (Does k doing aim outcome) turns before found left came fair = found_by outcome.ending turns before found left came fair
+  found_fair (Crashes k pick) turns before found left came fair = absurd came
 
   -- by a turn by which the node fell, or none started
   pub life_falls : (finds : ℕ) (old new : Disk Text → Type 0) (turns : List Turn) (turn : Turn) (was : Option Running)
-      → ((d : Disk Text) → old d → Stands m kind setup n turns d was → LeavesFound m kind setup n new (turns ++ turn ∷ []))
+      → ((d : Disk Text) → old d → Stands m kind setup n turns d was → LeavesFound m kind setup n new turns turn)
       → Lives m kind setup n finds old turns was → Lives m kind setup n (suc finds) new (turns ++ turn ∷ []) None
   life_falls zero old new turns turn was falls life =
       let fall = falls life.0 life.1 life.2 in
       let seat = seat_of turns life.0 was life.2 in (
         record { earlier = turns; turn = turn; before = fall.before; found = fall.found },
         record { begins = ([], sym (append-nil (turns ++ turn ∷ []))); seat = seat.0; led = seat.1; left = fall.left; came = fall.came },
-        λ fair. (fall.found, fall.told, found_fair (turns ++ turn ∷ []) fall.before fall.found fall.left fall.came fair),
+        λ fair. (fall.found, fall.told, found_fair turn (turns ++ turn ∷ []) fall.before fall.found fall.left fall.came fair),
       )
   life_falls (suc finds) old new turns turn was falls life = (life.0, comes_on turns turn life.0 life.1, λ fair. life_falls finds old new turns turn was falls (life.2 fair))
 

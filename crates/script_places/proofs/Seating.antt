@@ -10,6 +10,7 @@ use Rattle.sql_engine.specs.Known.{Known}
 use Rattle.sqlite_engine.specs.declared.any.AnyEngine.{AnyEngine}
 use Rattle.sqlite_engine.specs.Any.{any_kind, any_known}
 use Rattle.engine_journal.specs.Noting.{Noting}
+use Rattle.disk_model.specs.Stored.{Contents}
 use Rattle.store_laws.specs.Store.{Kept}
 use Rattle.raft_core.specs.declared.role.RaftRole.{RaftRole}
 use Rattle.raft_core.specs.declared.role.RaftRole.TheVariants as roles
@@ -23,14 +24,12 @@ use Rattle.node_core.specs.Whole.{Agrees, IsSound}
 use Rattle.script_nodes.specs.declared.place.Came.{Came}
 use Rattle.script_nodes.specs.declared.place.Ended.{Ended}
 use Rattle.script_nodes.specs.declared.place.Ended.TheVariants as ended
-use Rattle.script_nodes.specs.declared.place.NodeLine.{NodeLine}
 use Rattle.script_nodes.specs.declared.place.Outs.{Outs}
 use Rattle.script_nodes.specs.Kinds.{role_of}
-use Rattle.script_nodes.specs.Outcomes.{Standing}
 use Rattle.script_nodes.specs.Places.{IsStart, IsStep, line_of}
 use Rattle.script_places.specs.declared.seat.Seat.{Seat}
-use Rattle.script_places.specs.Seats.{IsFall, IsQuiet, IsSeated, RunsWell, Sits, SitsWell, line_with, standing_of}
-use Rattle.script_places.specs.Turns.{ActsSo}
+use Rattle.script_places.specs.Seats.{IsQuiet, IsSeated, RunsWell, Sits, SitsWell, line_with, standing_of}
+use Rattle.script_places.specs.Turns.{ActsSo, FallsTo}
 
 role_again : (r : RaftRole) → role_of (role_value r) ≡ r
 role_again roles.Leader = refl
@@ -92,27 +91,27 @@ is_step outs (Err e) told = tt
 is_step outs (Ok came) told = subst IsStep (sym told) tt
 
 -- a fall, of a step or of a start
-fall_steps : (keeps : ℕ) (e : Ended) → IsFall keeps e → IsStep e
-fall_steps keeps (ended.Stepped outs) fall = absurd fall
-fall_steps keeps (ended.Started loaded) fall = absurd fall
-fall_steps keeps (ended.Stopped told) fall = tt
-fall_steps keeps (ended.Failed told) fall = tt
-fall_steps keeps ended.Unreadable fall = absurd fall
+fall_steps : (keeps : ℕ) (old new : Contents) (e : Ended) → FallsTo keeps old new e → IsStep e
+fall_steps keeps old new (ended.Stepped outs) fall = absurd fall
+fall_steps keeps old new (ended.Started loaded) fall = absurd fall
+fall_steps keeps old new (ended.Stopped told) fall = tt
+fall_steps keeps old new (ended.Failed told) fall = tt
+fall_steps keeps old new ended.Unreadable fall = absurd fall
 
-fall_starts : (keeps : ℕ) (e : Ended) → IsFall keeps e → IsStart e
-fall_starts keeps (ended.Stepped outs) fall = absurd fall
-fall_starts keeps (ended.Started loaded) fall = absurd fall
-fall_starts keeps (ended.Stopped told) fall = tt
-fall_starts keeps (ended.Failed told) fall = tt
-fall_starts keeps ended.Unreadable fall = absurd fall
+fall_starts : (keeps : ℕ) (old new : Contents) (e : Ended) → FallsTo keeps old new e → IsStart e
+fall_starts keeps old new (ended.Stepped outs) fall = absurd fall
+fall_starts keeps old new (ended.Started loaded) fall = absurd fall
+fall_starts keeps old new (ended.Stopped told) fall = tt
+fall_starts keeps old new (ended.Failed told) fall = tt
+fall_starts keeps old new ended.Unreadable fall = absurd fall
 
-pub is_step_fallen : (keeps : ℕ) (e : Ended) (r : Result Came AllocError) → IsFall keeps e → IfOk r (λ (came : Came). came.ended ≡ e) → IfOk r (λ (came : Came). IsStep came.ended)
-is_step_fallen keeps e (Err x) fall told = tt
-is_step_fallen keeps e (Ok came) fall told = subst IsStep (sym told) (fall_steps keeps e fall)
+pub is_step_fallen : (keeps : ℕ) (old new : Contents) (e : Ended) (r : Result Came AllocError) → FallsTo keeps old new e → IfOk r (λ (came : Came). came.ended ≡ e) → IfOk r (λ (came : Came). IsStep came.ended)
+is_step_fallen keeps old new e (Err x) fall told = tt
+is_step_fallen keeps old new e (Ok came) fall told = subst IsStep (sym told) (fall_steps keeps old new e fall)
 
-pub is_start_fallen : (keeps : ℕ) (e : Ended) (r : Result Came AllocError) → IsFall keeps e → IfOk r (λ (came : Came). came.ended ≡ e) → IfOk r (λ (came : Came). IsStart came.ended)
-is_start_fallen keeps e (Err x) fall told = tt
-is_start_fallen keeps e (Ok came) fall told = subst IsStart (sym told) (fall_starts keeps e fall)
+pub is_start_fallen : (keeps : ℕ) (old new : Contents) (e : Ended) (r : Result Came AllocError) → FallsTo keeps old new e → IfOk r (λ (came : Came). came.ended ≡ e) → IfOk r (λ (came : Came). IsStart came.ended)
+is_start_fallen keeps old new e (Err x) fall told = tt
+is_start_fallen keeps old new e (Ok came) fall told = subst IsStart (sym told) (fall_starts keeps old new e fall)
 
 pub is_start_well : (loaded : Option Kept) (r : Result Came AllocError) → IfOk r (λ (came : Came). came.ended ≡ ended.Started loaded) → IfOk r (λ (came : Came). IsStart came.ended)
 is_start_well loaded (Err e) told = tt

@@ -1,5 +1,5 @@
 -- What comes of an event at a place leads its turns on.
-use Rattle.std.proofs.Common.{◌≡◌, ◌⊎◌, ℕ, suc, Bool, true, false, cond, List, [], ◌∷◌, ◌++◌, inl, inr, Option, Some, None, Result, Ok, Err, refl, ap, sym, subst, ◌∙◌}
+use Rattle.std.proofs.Common.{◌≡◌, ℕ, suc, Bool, true, false, cond, List, [], ◌∷◌, ◌++◌, Option, Some, None, Result, Ok, Err, refl, ap, sym, subst, ◌∙◌}
 use Rattle.std.specs.Prelude.{is_some, IfOk, OnOk}
 use Rattle.std.specs.declared.alloc.AllocError.{AllocError}
 use Rattle.std.proofs.lemmas.Bool.{true≢false}
@@ -10,23 +10,20 @@ use Rattle.sqlite_engine.specs.Any.{any_kind, any_known, any_meaning}
 use Rattle.engine_journal.specs.declared.noted.Noted.{Noted}
 use Rattle.engine_journal.specs.Noting.{Noting, told_by}
 use Rattle.session_rules.specs.Engines.{Answer}
-use Rattle.disk_model.specs.Disk.{Disk, no_files}
-use Rattle.disk_model.specs.Rest.{AfterCrash}
-use Rattle.disk_model.specs.Stored.{Contents, OverMemory, memory_of}
+use Rattle.disk_model.specs.Disk.{Disk}
+use Rattle.disk_model.specs.Stored.{Contents, OverMemory}
 use Rattle.disk_model.specs.Trait.{Text, Known, told, untold, Crashes as DiskCrashes}
 use Rattle.raft_rules.specs.Node.{Server}
 use Rattle.raft_member.specs.Members.{read_setup}
 use Rattle.store_laws.specs.Store.{Kept}
-use Rattle.segment_store.specs.Keeps.{folder}
-use Rattle.node_replica.specs.Replicas.{IsKept, kept_of}
+use Rattle.node_replica.specs.Replicas.{IsKept}
 use Rattle.node_core.specs.declared.event.Event.{Event}
-use Rattle.node_core.specs.declared.fault.NodeFault.{NodeFault}
 use Rattle.node_core.specs.declared.fault.StartFault.{StartFault}
 use Rattle.node_core.specs.declared.node.Node.{Node}
 use Rattle.node_core.specs.declared.outs.Outs.{Outs as CoreOuts}
 use Rattle.node_core.specs.declared.running.Running.{Running}
 use Rattle.node_core.specs.Account.{StepsBy, StopsBy}
-use Rattle.node_core.specs.Finding.{FindsIn, Finds}
+use Rattle.node_core.specs.Finding.{Finds}
 use Rattle.node_core.specs.Starting.{StartsOver}
 use Rattle.node_core.specs.Stepping.{IsUp}
 use Rattle.node_core.specs.Values.{applied_of, has_links, kept_by, node_of, raft_of, replica_of, servers_told}
@@ -39,9 +36,9 @@ use Rattle.script_nodes.specs.declared.place.Ended.TheVariants as ended
 use Rattle.script_nodes.specs.declared.place.NodeEvent.{NodeEvent}
 use Rattle.script_nodes.specs.declared.place.NodeEvent.TheVariants as event
 use Rattle.script_nodes.specs.declared.place.Outs.{Outs as CodeOuts}
-use Rattle.script_nodes.specs.Knowing.{IsNew, LeadsOn, StartsOn}
+use Rattle.script_nodes.specs.Knowing.{LeadsOn, StartsOn}
 use Rattle.script_nodes.specs.Outcomes.{Outcome, Outs, Ending, Steps, Starts, Stops, Fails, Unreadable, Doing, Start, Turn, Does, Crashes}
-use Rattle.script_nodes.specs.Places.{Comes, TellsEnding, doing_of, down_place, outs_of, place_after, place_after_crash}
+use Rattle.script_nodes.specs.Places.{Comes, TellsEnding, doing_of, down_place, outs_of, place_after}
 use Rattle.script_nodes.specs.Seen.{answers_in}
 use Rattle.script_nodes.specs.Voters.{voters_from}
 use Rattle.script_nodes.specs.World.{Place}
@@ -52,10 +49,10 @@ use Rattle.script_places.specs.declared.happening.StartEnd.{StartEnd}
 use Rattle.script_places.specs.declared.happening.StartEnd.TheVariants as ends
 use Rattle.script_places.specs.declared.seat.Seat.{Seat}
 use Rattle.script_places.specs.Happening.{core_event}
-use Rattle.script_places.specs.Lives.{Lives, Stands, LeavesFound}
-use Rattle.script_places.specs.Seats.{HasFallen, IsFall, IsQuiet, Sits, SitsWell, place_of, place_with, standing_of}
-use Rattle.script_places.specs.Turns.{ActsSo, HasActed, HasStopped, IsFound, IsSeatedBy, KeepsUp, Knows, LeavesShort, NodeStarted, NoneStarted, RunsNow, StartsBy, running_in, states_in}
-use Rattle.script_places.proofs.Living.{life_begins, life_falls, life_on, rest_is_fair}
+use Rattle.script_places.specs.Lives.{FoundBy, Lives}
+use Rattle.script_places.specs.Seats.{HasFallen, IsQuiet, Sits, SitsWell, place_of, place_with, standing_of}
+use Rattle.script_places.specs.Turns.{ActsSo, HasActed, HasStopped, FallsTo, IsFound, IsFoundBy, IsSeatedBy, KeepsUp, Knows, LeavesShort, NodeStarted, NoneStarted, StartsBy, running_in, states_in}
+use Rattle.script_places.proofs.Living.{life_falls, life_on, rest_is_fair}
 
 known_is : (states P : Disk Text → Type 0) → Known true states P → (d : Disk Text) × states d × P d
 known_is states P (told d is p) = (d, is, p)
@@ -84,7 +81,7 @@ module _ (kind : EngineKind) (voters n finds : ℕ) (turns : List Turn) (old new
 
   stop_on : (mid : Disk Text → Type 0) (was : Running) (doing : Doing) (event : Event) (aim : Aim) (answers : List Answer) (ending : Ending) → Falls ending → EventIs doing event
       → (IsKept true old was.replica → Finds true mid (StopsBy (any_meaning kind) kind (setup_of voters) was event))
-      → ((d : Disk Text) → mid d → (e : Disk Text) × new e × ((e ≡ d) ⊎ AfterCrash d e)) → Lives (any_meaning kind) kind (setup_of voters) n finds old turns (Some was)
+      → ((d : Disk Text) → mid d → (e : Disk Text) × new e × FoundBy ending d e) → Lives (any_meaning kind) kind (setup_of voters) n finds old turns (Some was)
       → Lives (any_meaning kind) kind (setup_of voters) n (suc finds) new (turns ++ does n doing aim answers ending ∷ []) None
   stop_on mid was doing event aim answers ending fall is stops found life =
       life_falls (any_meaning kind) kind (setup_of voters) n finds old new turns _ (Some was)
@@ -110,7 +107,7 @@ module _ (kind : EngineKind) (voters n finds : ℕ) (turns : List Turn) (old new
       life
 
   none_on : (mid : Disk Text → Type 0) (why : StartFault) (aim : Aim) (answers : List Answer) (ending : Ending) → IsNoStart ending → StartsOver old mid (Err why)
-      → ((d : Disk Text) → mid d → (e : Disk Text) × new e × ((e ≡ d) ⊎ AfterCrash d e)) → Lives (any_meaning kind) kind (setup_of voters) n finds old turns None
+      → ((d : Disk Text) → mid d → (e : Disk Text) × new e × FoundBy ending d e) → Lives (any_meaning kind) kind (setup_of voters) n finds old turns None
       → Lives (any_meaning kind) kind (setup_of voters) n (suc finds) new (turns ++ does n Start aim answers ending ∷ []) None
   none_on mid why aim answers ending is over found life =
       life_falls (any_meaning kind) kind (setup_of voters) n finds old new turns _ None
@@ -154,14 +151,6 @@ life_at : (kind : EngineKind) (voters n finds : ℕ) (turns : List Turn) (disk n
 life_at kind voters n finds turns disk now_disk node now_node same is life =
     subst (λ (d : Contents). Lives (any_meaning kind) kind (setup_of voters) n finds (states_in d) turns (running_in now_node)) (sym same)
     (subst (λ (s : Option Node). Lives (any_meaning kind) kind (setup_of voters) n finds (states_in disk) turns (running_in s)) (sym is) life)
-
--- where nothing has happened yet
-pub begins_new : (kind : EngineKind) (seat : Seat) → states_in seat.disk.contents no_files → seat.node ≡ None → IsNew (Knows kind) seat
-begins_new kind seat told_is none n voters = (
-  0,
-  subst (λ (s : Option Node). Lives (any_meaning kind) kind (setup_of voters) n 0 (states_in seat.disk.contents) [] (running_in s)) (sym none)
-      (life_begins (any_meaning kind) kind (setup_of voters) n (states_in seat.disk.contents) told_is),
-)
 
 -- an engine that keeps no answers, and has lost none, has told none
 told_none : (e : Noting AnyEngine) (was : Node) → IsQuiet e (Some was) → Some (told_by e.noted e.cut) ≡ has_told []
@@ -209,27 +198,28 @@ step_leads old mid new event aim said outs (Ok came) of_kind quiet acted well ar
 -- ---- falls
 
 -- how an event ended by which a node fell, or by which none started
-pub record FallEnds (failed : Bool) (e : Ended) : Type 0 where
+pub record FallEnds (failed : Bool) (old new : Contents) (e : Ended) : Type 0 where
   pub ending : Ending
   pub tells : TellsEnding failed e ending
   pub falls : Falls ending
   pub starts_none : IsNoStart ending
-  pub after : (old : Place) → place_after ending old ≡ down_place true
+  pub after : (place : Place) → place_after ending place ≡ down_place true
+  pub found : IsFoundBy ending old new
 
-fall_ends : (failed : Bool) (keeps : ℕ) (e : Ended) → IsFall keeps e → FallEnds failed e
-fall_ends failed keeps (ended.Stepped outs) fall = absurd fall
-fall_ends failed keeps (ended.Started loaded) fall = absurd fall
-fall_ends failed keeps (ended.Stopped told_keeps) fall = record { ending = Stops told_keeps; tells = refl; falls = tt; starts_none = tt; after = λ old. refl }
-fall_ends failed keeps (ended.Failed told_keeps) fall = record { ending = Fails told_keeps; tells = refl; falls = tt; starts_none = tt; after = λ old. refl }
-fall_ends failed keeps ended.Unreadable fall = absurd fall
+fall_ends : (failed : Bool) (keeps : ℕ) (old new : Contents) (e : Ended) → FallsTo keeps old new e → FallEnds failed old new e
+fall_ends failed keeps old new (ended.Stepped outs) fall = absurd fall
+fall_ends failed keeps old new (ended.Started loaded) fall = absurd fall
+fall_ends failed keeps old new (ended.Stopped told_keeps) fall = record { ending = Stops told_keeps; tells = refl; falls = tt; starts_none = tt; after = λ place. refl; found = fall.1 }
+fall_ends failed keeps old new (ended.Failed told_keeps) fall = record { ending = Fails told_keeps; tells = refl; falls = tt; starts_none = tt; after = λ place. refl; found = fall.1 }
+fall_ends failed keeps old new ended.Unreadable fall = absurd fall
 
 pub stop_leads : (old mid fallen new : Seat) (event : NodeEvent) (aim : Aim) (keeps : ℕ) (e : Ended) (r : Result Came AllocError) → any_kind old.engine.engine ≡ old.kind → HasStopped old mid (core_event event)
-    → IsFall keeps e → HasFallen fallen.node fallen.has_failed → IsFound mid.disk.contents fallen.disk.contents → IfOk r (λ (came : Came). came.ended ≡ e) → OnOk r (new.node ≡ fallen.node)
+    → FallsTo keeps mid.disk.contents fallen.disk.contents e → HasFallen fallen.node fallen.has_failed → IfOk r (λ (came : Came). came.ended ≡ e) → OnOk r (new.node ≡ fallen.node)
     → new.has_failed ≡ fallen.has_failed → new.disk ≡ fallen.disk
     → IfOk r (λ (came : Came). Comes (place_of old) (place_of new) came (λ (outcome : Outcome). LeadsOn (Knows old.kind) old new (λ node. Does node (doing_of event) aim outcome)))
-stop_leads old mid fallen new event aim keeps e (Err x) of_kind stopped fall down found told_is same still disk = tt
-stop_leads old mid fallen new event aim keeps e (Ok came) of_kind stopped fall down found told_is same still disk =
-    let ends = fall_ends old.has_failed keeps e fall in
+stop_leads old mid fallen new event aim keeps e (Err x) of_kind stopped fall down told_is same still disk = tt
+stop_leads old mid fallen new event aim keeps e (Ok came) of_kind stopped fall down told_is same still disk =
+    let ends = fall_ends old.has_failed keeps mid.disk.contents fallen.disk.contents e fall in
     record {
       ending = ends.ending;
       tells = subst (λ (x : Ended). TellsEnding old.has_failed x ends.ending) (sym told_is) ends.tells;
@@ -240,7 +230,7 @@ stop_leads old mid fallen new event aim keeps e (Ok came) of_kind stopped fall d
             (stop_on old.kind voters n known.0 turns (states_in old.disk.contents) (states_in fallen.disk.contents) (states_in mid.disk.contents) stopped.was.running (doing_of event) (core_event event) aim (answers_in came.answers) ends.ending
             ends.falls (event_is event)
             (λ kept. subst (λ (k : EngineKind). Finds true (states_in mid.disk.contents) (StopsBy (any_meaning k) k (setup_of voters) stopped.was.running (core_event event))) of_kind (stopped.leaves (voters_from voters 1) kept))
-            found
+            ends.found
             (subst (λ (s : Option Node). Lives (any_meaning old.kind) old.kind (setup_of voters) n known.0 (states_in old.disk.contents) turns (running_in s)) stopped.was_is known.1)),
       );
     }
@@ -264,12 +254,12 @@ start_leads old mid new number voters aim loaded (Ok came) down runs told_is sam
 }
 
 pub none_leads : (old mid fallen new : Seat) (number voters : ℕ) (aim : Aim) (keeps : ℕ) (e : Ended) (r : Result Came AllocError) → old.node ≡ None → NoneStarted old mid
-    → IsFall keeps e → HasFallen fallen.node fallen.has_failed → IsFound mid.disk.contents fallen.disk.contents → IfOk r (λ (came : Came). came.ended ≡ e) → OnOk r (new.node ≡ fallen.node)
+    → FallsTo keeps mid.disk.contents fallen.disk.contents e → HasFallen fallen.node fallen.has_failed → IfOk r (λ (came : Came). came.ended ≡ e) → OnOk r (new.node ≡ fallen.node)
     → new.has_failed ≡ fallen.has_failed → new.disk ≡ fallen.disk
     → IfOk r (λ (came : Came). Comes (place_of old) (place_of new) came (StartsOn (Knows old.kind) old new number voters aim))
-none_leads old mid fallen new number voters aim keeps e (Err x) down none fall fallen_is found told_is same still disk = tt
-none_leads old mid fallen new number voters aim keeps e (Ok came) down none fall fallen_is found told_is same still disk =
-    let ends = fall_ends old.has_failed keeps e fall in
+none_leads old mid fallen new number voters aim keeps e (Err x) down none fall fallen_is told_is same still disk = tt
+none_leads old mid fallen new number voters aim keeps e (Ok came) down none fall fallen_is told_is same still disk =
+    let ends = fall_ends old.has_failed keeps mid.disk.contents fallen.disk.contents e fall in
     record {
       ending = ends.ending;
       tells = subst (λ (x : Ended). TellsEnding old.has_failed x ends.ending) (sym told_is) ends.tells;
@@ -277,7 +267,7 @@ none_leads old mid fallen new number voters aim keeps e (Ok came) down none fall
       on = λ turns known. (
         suc known.0,
         life_at old.kind voters number (suc known.0) _ fallen.disk.contents new.disk.contents None new.node (ap (λ (d : OverMemory). d.contents) disk) (same ∙ fallen_is.none)
-            (none_on old.kind voters number known.0 turns (states_in old.disk.contents) (states_in fallen.disk.contents) (states_in mid.disk.contents) none.why aim (answers_in came.answers) ends.ending ends.starts_none none.over found
+            (none_on old.kind voters number known.0 turns (states_in old.disk.contents) (states_in fallen.disk.contents) (states_in mid.disk.contents) none.why aim (answers_in came.answers) ends.ending ends.starts_none none.over ends.found
             (subst (λ (s : Option Node). Lives (any_meaning old.kind) old.kind (setup_of voters) number known.0 (states_in old.disk.contents) turns (running_in s)) down known.1)),
       );
     }
@@ -294,7 +284,7 @@ unread_leads old mid new number voters aim (Ok came) down none told_is same stil
     suc known.0,
     life_at old.kind voters number (suc known.0) _ mid.disk.contents new.disk.contents None new.node (ap (λ (d : OverMemory). d.contents) disk) (same ∙ none.none)
         (none_on old.kind voters number known.0 turns (states_in old.disk.contents) (states_in mid.disk.contents) (states_in mid.disk.contents) none.why aim (answers_in came.answers) Unreadable tt none.over
-        (λ d is. (d, is, inl refl))
+        (λ d is. (d, is, refl))
         (subst (λ (s : Option Node). Lives (any_meaning old.kind) old.kind (setup_of voters) number known.0 (states_in old.disk.contents) turns (running_in s)) down known.1)),
   );
 }
@@ -318,12 +308,11 @@ crash_leads old new pick (Ok x) up none crashes = λ n voters turns known.
 
 -- ---- what the calls of a node show
 
-pub found_crashed : {E : Type 0} (old new : Contents) (r : Result Unit E) → OnOk r (DiskCrashes (states_in old) (states_in new)) → OnOk r (IsFound old new)
-found_crashed old new (Err e) crashes = tt
-found_crashed old new (Ok x) crashes = λ d is. let c = crashes.each d is in (c.0, c.1.0, inr c.1.1)
+pub found_crashed : (old new : Contents) → DiskCrashes (states_in old) (states_in new) → IsFound true old new
+found_crashed old new crashes = λ d is. let c = crashes.each d is in (c.0, c.1.0, c.1.1)
 
-pub found_same : (old new : Contents) → new ≡ old → IsFound old new
-found_same old new same = λ d is. (d, subst (λ (c : Contents). states_in c d) (sym same) is, inl refl)
+pub found_same : (old new : Contents) → new ≡ old → IsFound false old new
+found_same old new same = λ d is. (d, subst (λ (c : Contents). states_in c d) (sym same) is, refl)
 
 pub keeps_up : (disk mid now_disk : Contents) (was now : Node) → now_disk ≡ mid → (IsKept true (states_in disk) (replica_of was) → IsKept true (states_in mid) (replica_of now)) → applied_of now ≡ (raft_of now).commit
     → KeepsUp disk now_disk was now

@@ -43,7 +43,8 @@ IsFairTo kind voters turns lives front = (n : ℕ) → IsFairLife kind voters n 
 pub record AreOfNodes (kind : EngineKind) (turns : List Turn) : Type 0 where
   pub voters : ℕ
   pub lives : AllLive kind voters turns
-  pub by_nodes : (front rest : List Turn) → turns ≡ front ++ rest → IsFairTo kind voters turns lives front → ByNodes (any_meaning kind) kind (setup_of voters) front
+  pub by_nodes : (front rest : List Turn) → turns ≡ front ++ rest → IsFairTo kind voters turns lives front →
+      ByNodes (any_meaning kind) kind (setup_of voters) front
 
 -- ---- the laws
 

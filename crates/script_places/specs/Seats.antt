@@ -12,8 +12,6 @@ use Rattle.node_core.specs.Values.{raft_of, applied_of, databases_of, has_links}
 use Rattle.node_core.specs.Whole.{Agrees, IsSound}
 use Rattle.raft_core.specs.declared.role.RaftRole.{RaftRole}
 use Rattle.script_nodes.specs.declared.place.NodeLine.{NodeLine}
-use Rattle.script_nodes.specs.declared.place.Ended.{Ended}
-use Rattle.script_nodes.specs.declared.place.Ended.TheVariants as ended
 use Rattle.script_nodes.specs.Outcomes.{Standing}
 use Rattle.script_nodes.specs.World.{Place}
 use Rattle.script_places.specs.declared.seat.Seat.{Seat}
@@ -61,11 +59,3 @@ place_of seat = place_with seat.node seat.has_failed
 pub record HasFallen (seated : Option Node) (has_failed : Bool) : Type 0 where
   pub none : seated ≡ None
   pub failed : has_failed ≡ true
-
--- an event by which a node fell, when so many things were kept whole
-abbrev pub IsFall : ℕ → Ended → Type 0
-IsFall keeps (ended.Stepped outs) = ⊥
-IsFall keeps (ended.Started loaded) = ⊥
-IsFall keeps (ended.Stopped told) = told ≡ keeps
-IsFall keeps (ended.Failed told) = told ≡ keeps
-IsFall keeps ended.Unreadable = ⊥

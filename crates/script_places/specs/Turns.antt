@@ -1,11 +1,10 @@
 -- What the calls of a place do by the rules of nodes, and which turns have led to a place.
-use Rattle.std.specs.Prelude.{◌≡◌, ◌⊎◌, ℕ, true, false, List, Option, Some, None, Ok, Err, if◌then◌else◌}
+use Rattle.std.specs.Prelude.{◌≡◌, ℕ, Bool, true, false, List, Option, Some, None, Ok, Err, if◌then◌else◌}
 use Rattle.sql_engine.specs.declared.kind.EngineKind.{EngineKind}
 use Rattle.sqlite_engine.specs.declared.any.AnyEngine.{AnyEngine}
 use Rattle.sqlite_engine.specs.Any.{any_kind, any_meaning}
 use Rattle.engine_journal.specs.Noting.{Noting, told_by}
 use Rattle.disk_model.specs.Disk.{Disk}
-use Rattle.disk_model.specs.Rest.{AfterCrash}
 use Rattle.disk_model.specs.Holds.{Holds}
 use Rattle.disk_model.specs.Stored.{Contents, memory_of}
 use Rattle.disk_model.specs.Trait.{Text}
@@ -23,13 +22,15 @@ use Rattle.node_core.specs.Finding.{Finds}
 use Rattle.node_core.specs.Starting.{StartsOver}
 use Rattle.node_core.specs.Values.{raft_of, applied_of, has_links, kept_by, node_of, replica_of, servers_told}
 use Rattle.node_rules.specs.Steps.{StartsSo}
-use Rattle.script_nodes.specs.Outcomes.{Turn}
+use Rattle.script_nodes.specs.declared.place.Ended.{Ended}
+use Rattle.script_nodes.specs.declared.place.Ended.TheVariants as ended
+use Rattle.script_nodes.specs.Outcomes.{Ending, Stops, Fails, Turn}
 use Rattle.script_nodes.specs.Voters.{voters_from}
 use Rattle.script_runs.specs.Seats.{setup_of}
 use Rattle.script_places.specs.declared.happening.StartEnd.{StartEnd}
 use Rattle.script_places.specs.declared.happening.StartEnd.TheVariants as ends
 use Rattle.script_places.specs.declared.seat.Seat.{Seat}
-use Rattle.script_places.specs.Lives.{Lives}
+use Rattle.script_places.specs.Lives.{FoundBy, Lives}
 
 abbrev pub running_in : Option Node → Option Running
 running_in (Some node) = Some node.running
@@ -78,9 +79,22 @@ pub record HasStopped (old new : Seat) (event : Event) : Type 0 where
   pub none : new.node ≡ None
   pub leaves : LeavesShort old.engine old.disk.contents new.disk.contents was event
 
--- the disk of a fall is found as it was, or after a crash
-abbrev pub IsFound : Contents → Contents → Type 0
-IsFound old new = (d : Disk Text) → states_in old d → (e : Disk Text) × states_in new e × ((e ≡ d) ⊎ AfterCrash d e)
+-- the disk of a fall is found by this ending
+abbrev pub IsFoundBy : Ending → Contents → Contents → Type 0
+IsFoundBy ending old new = (d : Disk Text) → states_in old d → (e : Disk Text) × states_in new e × FoundBy ending d e
+
+-- a stopped one after a crash, another one as it was
+abbrev pub IsFound : Bool → Contents → Contents → Type 0
+IsFound true old new = IsFoundBy (Stops 0) old new
+IsFound false old new = IsFoundBy (Fails 0) old new
+
+-- so by how an event ended by which a node fell, when so many things were kept whole
+abbrev pub FallsTo : ℕ → Contents → Contents → Ended → Type 0
+FallsTo keeps old new (ended.Stopped told) = (told ≡ keeps) × IsFound true old new
+FallsTo keeps old new (ended.Failed told) = (told ≡ keeps) × IsFound false old new
+FallsTo keeps old new (ended.Stepped outs) = ⊥
+FallsTo keeps old new (ended.Started loaded) = ⊥
+FallsTo keeps old new ended.Unreadable = ⊥
 
 -- ---- starts
 

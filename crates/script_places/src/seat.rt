@@ -7,8 +7,8 @@ ghost use Rattle.script_nodes.specs.Knowing.{IsNew, LeadsOn, StartsOn};
 ghost use Rattle.script_nodes.specs.World.{empty_place};
 ghost use Rattle.script_nodes.specs.Places.{doing_of, Comes, IsStart, IsStep, line_of, outs_of, place_after_crash};
 ghost use Rattle.script_runs.specs.Seats.{outs_of as core_outs};
-ghost use Rattle.script_places.specs.Seats.{HasFallen, IsFall, IsSeated, Sits, place_of, standing_of};
-ghost use Rattle.script_places.specs.Turns.{IsFound, Knows};
+ghost use Rattle.script_places.specs.Seats.{HasFallen, IsSeated, Sits, place_of, standing_of};
+ghost use Rattle.script_places.specs.Turns.{FallsTo, IsFound, Knows};
 
 use crate::happening::{Fell, StartEnd, start_node, step_node};
 use disk_model::MemDisk;
@@ -46,7 +46,6 @@ pub(crate) fn new_engine(alloc: Global, kind: EngineKind) -> NotedEngine<AnyEngi
     NotedEngine::new(alloc, engine)
 }
 
-#[tactic(auto, using(crate::proofs::Turning::begins_new))]
 /// A disk without files, and no node. Takes no memory.
 pub(crate) fn empty_seat(alloc: Global, kind: EngineKind) -> Seat
     ensures place { place_of result ≡ empty_place }
@@ -136,7 +135,7 @@ fn came(seat: &mut Seat, ended: Ended) -> Result<Came, AllocError>
 /// is want of memory.
 #[tactic(auto, using(crate::proofs::Turning::found_crashed, crate::proofs::Turning::found_same))]
 fn find(disk: &mut MemDisk) -> Result<bool, AllocError>
-    ensures { OnOk result (IsFound disk.old.contents disk.new.contents) }
+    ensures { IfOk result (λ stopped. IsFound stopped disk.old.contents disk.new.contents) }
 {
     if disk.stopped() {
         // The stop has brought its own pick.
@@ -151,9 +150,8 @@ fn find(disk: &mut MemDisk) -> Result<bool, AllocError>
 /// stop's pick; or a call of it failed.
 fn fall(seat: &mut Seat, keeps: u64) -> Result<Ended, AllocError>
     requires { seat.old.node ≡ None }
-    ensures fall { IfOk result (IsFall keeps) }
+    ensures fall { IfOk result (FallsTo keeps seat.old.disk.contents seat.new.disk.contents) }
     ensures fallen { HasFallen seat.new.node seat.new.has_failed }
-    ensures found { OnOk result (IsFound seat.old.disk.contents seat.new.disk.contents) }
     ensures engine { seat.new.engine ≡ seat.old.engine }
     ensures kind { seat.new.kind ≡ seat.old.kind }
 {
@@ -165,7 +163,7 @@ fn fall(seat: &mut Seat, keeps: u64) -> Result<Ended, AllocError>
     }
 }
 
-#[tactic(auto, using(crate::proofs::Turning::step_leads, crate::proofs::Turning::stop_leads, crate::proofs::Seating::is_step, crate::proofs::Seating::is_step_fallen, crate::proofs::Seating::none_seated))]
+#[tactic(auto, using(crate::proofs::Seating::is_step, crate::proofs::Seating::is_step_fallen, crate::proofs::Seating::none_seated))]
 /// An event happens at the node that runs, while a line aims at a call of its disk.
 pub(crate) fn step(seat: &mut Seat, event: NodeEvent, aim: Aim) -> Result<Came, AllocError>
     requires seated { IsSeated seat.old }
@@ -186,7 +184,7 @@ pub(crate) fn step(seat: &mut Seat, event: NodeEvent, aim: Aim) -> Result<Came, 
     }
 }
 
-#[tactic(auto, using(crate::proofs::Turning::start_leads, crate::proofs::Turning::none_leads, crate::proofs::Turning::unread_leads, crate::proofs::Seating::is_start_well, crate::proofs::Seating::is_start_fallen, crate::proofs::Seating::is_start_unread, crate::proofs::Seating::none_seated))]
+#[tactic(auto, using(crate::proofs::Seating::is_start_well, crate::proofs::Seating::is_start_fallen, crate::proofs::Seating::is_start_unread, crate::proofs::Seating::none_seated))]
 /// A node starts over the disk, with an engine that knows nothing, where none runs.
 pub(crate) fn start(
     seat: &mut Seat,
@@ -196,7 +194,8 @@ pub(crate) fn start(
 ) -> Result<Came, AllocError>
     requires seated { IsSeated seat.old }
     requires down { seat.old.node ≡ None }
-    ensures comes { IfOk result (λ came. Comes (place_of seat.old) (place_of seat.new) came (StartsOn (Knows seat.old.kind) seat.old seat.new node voters aim)) }
+    ensures comes { IfOk result (λ came. Comes (place_of seat.old) (place_of seat.new) came
+        (StartsOn (Knows seat.old.kind) seat.old seat.new node voters aim)) }
     ensures start { IfOk result (λ came. IsStart came.ended) }
     ensures kind { seat.new.kind ≡ seat.old.kind }
     ensures seated { IsSeated seat.new }

@@ -13,7 +13,7 @@ pub returns-in_ok-ended-in-DiskFault-clause-comes : goal.returns-in_ok-ended-in-
 returns-in_ok-ended-in-DiskFault-clause-comes c =
     none_leads c.args.seat.now c.start_node.new.seat c.fall.new.seat c.came-in-DiskFault.new.seat c.args.node c.args.voters c.args.aim 0 c.in_ok-ended-in-DiskFault.ended c.came-in-DiskFault.result c.requires.down
     (subst (StartsBy c.args.node c.args.voters c.args.seat.now c.start_node.new.seat) c.in-DiskFault.is c.in_ok-loaded.ensures.starts)
-    c.in_ok-ended-in-DiskFault.ensures.fall c.fall.ensures.fallen c.in_ok-ended-in-DiskFault.ensures.found c.came-in-DiskFault.ensures.ended c.came-in-DiskFault.ensures.node c.came-in-DiskFault.ensures.failed
+    c.in_ok-ended-in-DiskFault.ensures.fall c.fall.ensures.fallen c.came-in-DiskFault.ensures.ended c.came-in-DiskFault.ensures.node c.came-in-DiskFault.ensures.failed
     c.came-in-DiskFault.ensures.disk
 
 pub returns-in-Unreadable-clause-comes : goal.returns-in-Unreadable-clause-comes

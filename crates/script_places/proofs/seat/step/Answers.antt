@@ -9,5 +9,5 @@ returns-in-Ok-clause-comes c =
 pub returns-in_ok-ended-in-Err-DiskFault-clause-comes : goal.returns-in_ok-ended-in-Err-DiskFault-clause-comes
 returns-in_ok-ended-in-Err-DiskFault-clause-comes c =
     stop_leads c.args.seat.now c.step_node.new.seat c.fall.new.seat c.came-in-Err-DiskFault.new.seat c.args.event c.args.aim c.in-Err-DiskFault.keeps c.in_ok-ended-in-Err-DiskFault.ended c.came-in-Err-DiskFault.result c.requires.seated.2
-    c.in-Err-DiskFault.ensures.stops c.in_ok-ended-in-Err-DiskFault.ensures.fall c.fall.ensures.fallen c.in_ok-ended-in-Err-DiskFault.ensures.found c.came-in-Err-DiskFault.ensures.ended c.came-in-Err-DiskFault.ensures.node
+    c.in-Err-DiskFault.ensures.stops c.in_ok-ended-in-Err-DiskFault.ensures.fall c.fall.ensures.fallen c.came-in-Err-DiskFault.ensures.ended c.came-in-Err-DiskFault.ensures.node
     c.came-in-Err-DiskFault.ensures.failed c.came-in-Err-DiskFault.ensures.disk
