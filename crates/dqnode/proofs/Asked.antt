@@ -62,7 +62,7 @@ statement_in other None = other
 statement_in other (Some (asks.Script kind)) = other
 statement_in other (Some (asks.Statement statement)) = statement
 statement_in other (Some asks.Check) = other
-statement_in other (Some (asks.Generate number count)) = other
+statement_in other (Some (asks.Generate number count run)) = other
 
 same_statement : (one other : Statement) → ForStatement other (Some (asks.Statement one)) → one ≡ other
 unfolding statement_in

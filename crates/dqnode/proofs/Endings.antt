@@ -1,94 +1,141 @@
--- How a script ends, from how running it ended and what became of its error line.
-use Rattle.std.proofs.Common.{◌≡◌, ◌≢◌, ◌⊎◌, ℕ, List, [], ◌++◌, Option, Some, ap, inl, inr, sym, subst, ◌∙◌, append-nil}
+-- What a script did, from how running it ended.
+use Rattle.std.proofs.Common.{◌≡◌, ℕ, List, [], ◌++◌, Option, Some, None, refl, sym, ap, ◌∙◌, append_assoc, append-nil}
 use Rattle.std.specs.Io.KnownBytes.{Appends, Consumes}
 use Rattle.dq_base.specs.Sink.{AppendsFront}
-use Rattle.dq_base.proofs.ContentLaws.{Appends-then, AppendsFront-then, AppendsFront-longer}
-use Rattle.session_rules.specs.Engines.{Answer}
+use Rattle.dq_base.proofs.ContentLaws.{Consumes-nothing, AppendsFront-nothing}
 use Rattle.sql_engine.specs.declared.kind.EngineKind.{EngineKind}
-use Rattle.cluster_runner.specs.Run.{Fault, Line, Large, run, printed}
 use Rattle.sqlite_engine.specs.Any.{any_meaning}
-use Rattle.lone_node.proofs.Safety.{runs_are_safe_hold}
-use Rattle.cluster_runner.specs.Outcome.{MayFollow, Anything, IsAllowed, Completes, Refuses, StopsShort}
-use Rattle.cluster_runner.proofs.Running.{short_start}
-use Rattle.dqnode.specs.declared.status.Status.{Status}
-use Rattle.dqnode.specs.declared.status.Status.TheVariants as status
-use Rattle.dqnode.specs.Program.{line_error, large_error, fault_text, run_text, Faults, BreaksOff, RunsSafely}
-use Rattle.dqnode.specs.Status.{ScriptEnds}
+use Rattle.script_nodes.specs.Outcomes.{Outcome as Came, Item, Turn}
+use Rattle.script_nodes.specs.Run.{Fault, Line, Large}
+use Rattle.script_runner.specs.declared.run.Outcome.{Outcome}
+use Rattle.script_runner.specs.declared.run.Outcome.TheVariants as outcome
+use Rattle.script_runner.specs.Ending.{MayFollow, Anything, BeginWith, Prints, PrintsFront, Ended}
+use Rattle.script_runner.specs.Run.{run}
+use Rattle.script_runner.proofs.Likeness.{run_twin}
+use Rattle.script_runner.proofs.Scening.{none_told}
+use Rattle.script_runs.specs.Laws.{IsSafe, IsSafeLater}
+use Rattle.script_runs.specs.Seats.{setup_of}
+use Rattle.script_runs.proofs.Completing.{scripts_are_complete_hold}
+use Rattle.script_runs.proofs.Running.{laters_are_safe_hold}
+use Rattle.script_runs.proofs.Scripts.{scripts_are_safe_hold}
+use Rattle.script_places.specs.Safe.{AreOfNodes, IsFairTo}
+use Rattle.script_places.specs.Turns.{Knows}
+use Rattle.script_places.proofs.Guarding.{places_tell}
+use Rattle.dqnode.specs.Program.{SafeTurns, Gives, BreaksOff, RunsSafely, RunsAreSafe}
+use Rattle.dqnode.specs.Status.{status_for, OutcomeEnds, ScriptEnds}
 
--- A script that stopped short breaks off.
-pub breaks_off : (kind : EngineKind) (journal : List Answer) (follows : List ℕ → Type 0) (left left' written written' : Option (List ℕ)) → StopsShort kind journal follows left left' written written' → BreaksOff kind journal follows left left' written written'
-breaks_off kind journal follows left left' written written' s = record {
-  read = s.read;
-  taken = s.taken;
-  text = λ more may.
-      let script = run (s.read ++ more) journal in
-      AppendsFront-longer written written' (printed script) (fault_text script.fault) (s.text more may);
-  allowed = s.allowed;
-}
+-- ---- a run that whole nodes made is safe
 
-module _ (kind : EngineKind) (journal : List Answer) (left left' written printed_now later : Option (List ℕ)) (fault : Fault) (r : Refuses kind journal fault left left' written printed_now) where
-  text_is : (more : List ℕ) → MayFollow left' more → run_text (run (r.read ++ more) journal) ≡ printed (run (r.read ++ more) journal) ++ fault_text (Some fault)
-  text_is more may = ap (λ (f : Option Fault). printed (run (r.read ++ more) journal) ++ fault_text f) (r.faulty more may)
+pub runs_are_safe : RunsAreSafe
+runs_are_safe kind voters script outcomes front rest e nodes =
+    scripts_are_safe_hold (any_meaning kind) kind (setup_of voters) script outcomes front rest (sym (run_twin script outcomes).turns_are ∙ e) nodes
 
-  told : Appends printed_now later (fault_text (Some fault)) → Faults kind journal fault left left' written later
-  told a = record {
-    read = r.read;
-    taken = r.taken;
-    faulty = r.faulty;
-    text = λ more may. rw (text_is more may) (Appends-then written printed_now later (printed (run (r.read ++ more) journal)) (fault_text (Some fault)) (r.text more may) a);
-    allowed = r.allowed;
+-- a safe run, at a moment and at a later one
+stays_safe : (kind : EngineKind) (voters : ℕ) (early middle : List Turn) → IsSafe (any_meaning kind) kind (setup_of voters) (early ++ middle) → IsSafeLater (any_meaning kind) kind (setup_of voters) early middle
+stays_safe kind voters early middle safe = laters_are_safe_hold (any_meaning kind) kind (setup_of voters) early middle safe.is
+
+pub safe_turns : (kind : EngineKind) (script : List ℕ) (outcomes : List Came) (turns rest : List Turn) → (run script outcomes).turns ≡ turns ++ rest → AreOfNodes kind turns → SafeTurns kind turns
+safe_turns kind script outcomes turns rest e nodes =
+    let safe : (early late : List Turn) → turns ≡ early ++ late → IsFairTo kind nodes.voters turns nodes.lives early → IsSafe (any_meaning kind) kind (setup_of nodes.voters) early =
+    λ early late parts fair.
+    runs_are_safe kind nodes.voters script outcomes early (late ++ rest) (e ∙ ap (λ (t : List Turn). t ++ rest) parts ∙ append_assoc early late rest) (nodes.by_nodes early late parts fair) in
+    record {
+      nodes = nodes;
+      safe = safe;
+      later = λ early middle late parts fair. stays_safe kind nodes.voters early middle (safe (early ++ middle) late parts fair);
+      answers = λ early late parts fair. scripts_are_complete_hold (any_meaning kind) kind (setup_of nodes.voters) early (safe early late parts fair);
+    }
+
+-- ---- how running it ended
+
+module _ (kind : EngineKind) where
+  gives : (fault : Option Fault) (journal : List Item) (left left' a b : Option (List ℕ)) → Prints (Knows kind) fault journal left left' a b → Gives kind fault journal left left' a b
+  gives fault journal left left' a b p = record {
+    read = p.read;
+    outcomes = p.outcomes;
+    turns = p.turns;
+    taken = p.taken;
+    ends = p.ends;
+    text = p.text;
+    notes = p.notes;
+    has = p.has;
+    nodes = places_tell kind p.turns p.led;
   }
 
-  not_told : AppendsFront printed_now later (fault_text (Some fault)) → BreaksOff kind journal (MayFollow left') left left' written later
-  not_told a = record {
-    read = r.read;
-    taken = r.taken;
-    text = λ more may. rw (text_is more may) (AppendsFront-then written printed_now later (printed (run (r.read ++ more) journal)) (fault_text (Some fault)) (r.text more may) a);
-    allowed = r.allowed;
+  breaks : (follows : List ℕ → Type 0) (left left' a b : Option (List ℕ)) → PrintsFront (Knows kind) follows left left' a b → BreaksOff kind follows left left' a b
+  breaks follows left left' a b p = record {
+    read = p.read;
+    outcomes = p.outcomes;
+    turns = p.turns;
+    taken = p.taken;
+    front = p.front;
+    begins = p.begins;
+    nodes = places_tell kind p.turns p.led;
   }
 
--- A script with a faulty line ends by what became of its error line.
-pub line_refused : (kind : EngineKind) (journal : List Answer) (left left' written printed_now later : Option (List ℕ)) (line : ℕ) → Refuses kind journal (Line line) left left' written printed_now → (ends : Status)
-    → (ends ≡ status.Script → Appends printed_now later (line_error line)) → (ends ≢ status.Script → AppendsFront printed_now later (line_error line))
-    → (ends ≡ status.Script) ⊎ ((ends ≡ status.WriteFault) ⊎ (ends ≡ status.NoMemory)) → ScriptEnds kind journal ends left left' written later
-line_refused kind journal left left' written printed_now later line r ends told' broken (inl e) = rw e (line, told kind journal left left' written printed_now later (Line line) r (told' e))
-line_refused kind journal left left' written printed_now later line r ends told' broken (inr (inl e)) = rw e (not_told kind journal left left' written printed_now later (Line line) r (broken (λ s. absurd cc)))
-line_refused kind journal left left' written printed_now later line r ends told' broken (inr (inr e)) = rw e (not_told kind journal left left' written printed_now later (Line line) r (broken (λ s. absurd cc)))
+  pub outcome_ends : (why : Outcome) (journal : List Item) (left left' a b : Option (List ℕ)) → Ended (Knows kind) why journal left left' a b → OutcomeEnds kind journal why left left' a b
+  outcome_ends outcome.Done journal left left' a b e = (gives None journal left left' a b e.0, e.1)
+  outcome_ends (outcome.Script line) journal left left' a b e = gives (Some (Line line)) journal left left' a b e
+  outcome_ends outcome.Large journal left left' a b e = gives (Some Large) journal left left' a b e
+  outcome_ends outcome.ReadFault journal left left' a b e = breaks Anything left left' a b e
+  outcome_ends outcome.WriteFault journal left left' a b e = breaks (MayFollow left') left left' a b e
+  outcome_ends outcome.NoMemory journal left left' a b e = breaks (MayFollow left') left left' a b e
 
--- So does one that is too large.
-pub large_refused : (kind : EngineKind) (journal : List Answer) (left left' written printed_now later : Option (List ℕ)) → Refuses kind journal Large left left' written printed_now → (ends : Status)
-    → (ends ≡ status.Large → Appends printed_now later large_error) → (ends ≢ status.Large → AppendsFront printed_now later large_error)
-    → (ends ≡ status.Large) ⊎ (ends ≡ status.WriteFault) → ScriptEnds kind journal ends left left' written later
-large_refused kind journal left left' written printed_now later r ends told' broken (inl e) = rw e (told kind journal left left' written printed_now later Large r (told' e))
-large_refused kind journal left left' written printed_now later r ends told' broken (inr e) = rw e (not_told kind journal left left' written printed_now later Large r (broken (λ s. absurd cc)))
+-- by the status
+pub status_ends : (kind : EngineKind) (why : Outcome) (journal : List Item) (left left' a b : Option (List ℕ)) → OutcomeEnds kind journal why left left' a b → ScriptEnds kind journal (status_for why) left left' a b
+status_ends kind outcome.Done journal left left' a b e = e
+status_ends kind (outcome.Script line) journal left left' a b e = (line, e)
+status_ends kind outcome.Large journal left left' a b e = e
+status_ends kind outcome.ReadFault journal left left' a b e = e
+status_ends kind outcome.WriteFault journal left left' a b e = e
+status_ends kind outcome.NoMemory journal left left' a b e = e
 
--- However a script ended, its run is safe.
-module _ (kind : EngineKind) (journal : List Answer) (left left' : Option (List ℕ)) where
-  safely : (read : List ℕ) → Consumes left left' read → ((more : List ℕ) → MayFollow left' more → IsAllowed kind (run (read ++ more) journal)) → RunsSafely kind journal left left'
-  safely read taken allowed = record {
-    read = read;
-    taken = taken;
-    allowed = allowed;
-    safe = λ more may. runs_are_safe_hold (any_meaning kind) kind (run (read ++ more) journal).turns (allowed more may);
+-- ---- however it ended, it is safe
+
+module _ (kind : EngineKind) (left left' : Option (List ℕ)) where
+  breaks_safely : (follows : List ℕ → Type 0) → follows [] → ((more : List ℕ) → MayFollow left' more → follows more) → (a b : Option (List ℕ)) → BreaksOff kind follows left left' a b → RunsSafely kind left left'
+  breaks_safely follows none may a b x =
+      let begins = x.begins [] none [] in
+      record {
+        read = x.read;
+        outcomes = x.outcomes;
+        turns = x.turns;
+        taken = x.taken;
+        begins = λ more follow later. x.begins more (may more follow) later;
+        safe = safe_turns kind (x.read ++ []) (x.outcomes ++ []) x.turns begins.0 begins.1 x.nodes;
+      }
+
+  gives_safely : (fault : Option Fault) (journal : List Item) (a b : Option (List ℕ)) → Gives kind fault journal left left' a b → RunsSafely kind left left'
+  gives_safely fault journal a b x = record {
+    read = x.read;
+    outcomes = x.outcomes;
+    turns = x.turns;
+    taken = x.taken;
+    begins = λ more follow later. ([], x.has more follow later ∙ sym (append-nil x.turns));
+    safe = safe_turns kind (x.read ++ []) (x.outcomes ++ []) x.turns [] (x.has [] (λ end. refl) [] ∙ sym (append-nil x.turns)) x.nodes;
   }
 
-  pub completes_safely : (written written' : Option (List ℕ)) → Completes kind journal left left' written written' → RunsSafely kind journal left left'
-  completes_safely written written' h =
-      safely h.script h.taken (λ more may. subst (λ (read : List ℕ). IsAllowed kind (run read journal)) (sym (ap (λ (m : List ℕ). h.script ++ m) (may h.read) ∙ append-nil h.script)) h.allowed)
+  pub ends_safely : (why : Outcome) (journal : List Item) (a b : Option (List ℕ)) → OutcomeEnds kind journal why left left' a b → RunsSafely kind left left'
+  ends_safely outcome.Done journal a b e = gives_safely None journal a b e.0
+  ends_safely (outcome.Script line) journal a b e = gives_safely (Some (Line line)) journal a b e
+  ends_safely outcome.Large journal a b e = gives_safely (Some Large) journal a b e
+  ends_safely outcome.ReadFault journal a b e = breaks_safely Anything tt (λ more may. tt) a b e
+  ends_safely outcome.WriteFault journal a b e = breaks_safely (MayFollow left') (λ end. refl) (λ more may. may) a b e
+  ends_safely outcome.NoMemory journal a b e = breaks_safely (MayFollow left') (λ end. refl) (λ more may. may) a b e
 
-  pub refuses_safely : (fault : Fault) (written written' : Option (List ℕ)) → Refuses kind journal fault left left' written written' → RunsSafely kind journal left left'
-  refuses_safely fault written written' h = safely h.read h.taken h.allowed
+-- ---- where nothing was read of a script, it breaks off at its beginning
 
-  pub stops_safely : (written written' : Option (List ℕ)) → StopsShort kind journal (MayFollow left') left left' written written' → RunsSafely kind journal left left'
-  stops_safely written written' h = safely h.read h.taken h.allowed
-
-  pub breaks_safely : (written written' : Option (List ℕ)) → StopsShort kind journal Anything left left' written written' → RunsSafely kind journal left left'
-  breaks_safely written written' h = safely h.read h.taken (λ more may. h.allowed more tt)
-
--- Where nothing was read of a script, and its journal is empty, it breaks off at its beginning, and its run is safe.
 module _ (kind : EngineKind) (left written : Option (List ℕ)) where
-  pub unread_breaks : BreaksOff kind [] (MayFollow left) left left written written
-  unread_breaks = breaks_off kind [] (MayFollow left) left left written written (short_start kind left written)
+  pub unread_breaks : BreaksOff kind (MayFollow left) left left written written
+  unread_breaks = record {
+    read = [];
+    outcomes = [];
+    turns = [];
+    taken = Consumes-nothing left;
+    front = λ more may later. AppendsFront-nothing written _;
+    begins = λ more may later. (_, refl);
+    nodes = places_tell kind [] (none_told (Knows kind));
+  }
 
-  pub unread_safely : RunsSafely kind [] left left
-  unread_safely = stops_safely kind [] left left written written (short_start kind left written)
+  pub unread_safely : RunsSafely kind left left
+  unread_safely = breaks_safely kind left left (MayFollow left) (λ end. refl) (λ more may. may) written written unread_breaks

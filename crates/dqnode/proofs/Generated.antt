@@ -1,14 +1,15 @@
 -- How it ends where a script is made.
-use Rattle.std.proofs.Common.{◌≡◌, ◌⊎◌, inl, inr, ℕ, List, Option, Some, refl, sym, ap, subst, ◌∙◌}
+use Rattle.std.proofs.Common.{◌≡◌, ◌⊎◌, inl, inr, ℕ, true, false, List, Option, Some, refl, sym, ap, subst, ◌∙◌}
 use Rattle.std.specs.Io.KnownBytes.{Appends}
 use Rattle.dq_base.specs.Sink.{AppendsFront}
 use Rattle.dq_base.proofs.ContentLaws.{AppendsFront-nothing}
 use Rattle.program_words.specs.declared.asked.Asked.{Asked}
 use Rattle.program_words.specs.declared.asked.Asked.TheVariants as asks
 use Rattle.script_generator.specs.Generated.{script_text}
+use Rattle.script_nodes.specs.Outcomes.{Item}
 use Rattle.dqnode.specs.Status.{IsScriptCode}
-use Rattle.dqnode.specs.Asks.{ForGenerated}
-use Rattle.dqnode.specs.Generating.{GenerateEnds}
+use Rattle.dqnode.specs.Asks.{ForGenerated, ForRun}
+use Rattle.dqnode.specs.Generating.{GenerateEnds, RunEnds}
 
 pub written_whole : (number writes : ℕ) (a b : Option (List ℕ)) → Appends a b (script_text number writes) → GenerateEnds number writes a b 0
 written_whole number writes a b h = record {
@@ -30,18 +31,36 @@ ungenerated number writes written = written_in_part number writes 7 written writ
 
 -- the script that was asked for
 number_in : ℕ → Option Asked → ℕ
-number_in other (Some (asks.Generate number count)) = number
+number_in other (Some (asks.Generate number count run)) = number
 number_in other asked = other
 
 count_in : ℕ → Option Asked → ℕ
-count_in other (Some (asks.Generate number count)) = count
+count_in other (Some (asks.Generate number count run)) = count
 count_in other asked = other
 
 pub generated_for : (one many : ℕ) (a b : Option (List ℕ)) (code : ℕ) → GenerateEnds one many a b code
-    → (number writes : ℕ) → ForGenerated number writes (Some (asks.Generate one many)) → GenerateEnds number writes a b code
+    → (number writes : ℕ) → ForGenerated number writes (Some (asks.Generate one many false)) → GenerateEnds number writes a b code
 unfolding count_in number_in
 generated_for one many a b code h number writes e =
     subst (λ (n : ℕ). GenerateEnds n writes a b code) (ap (number_in one) e) (subst (λ (n : ℕ). GenerateEnds one n a b code) (ap (count_in many) e) h)
+
+pub made_for : (one many : ℕ) (journal : List Item) (a b : Option (List ℕ)) (code : ℕ) → RunEnds one many journal a b code
+    → (number writes : ℕ) → ForRun number writes (Some (asks.Generate one many true)) → RunEnds number writes journal a b code
+unfolding count_in number_in
+made_for one many journal a b code h number writes e =
+    subst (λ (n : ℕ). RunEnds n writes journal a b code) (ap (number_in one) e) (subst (λ (n : ℕ). RunEnds one n journal a b code) (ap (count_in many) e) h)
+
+pub made_code : (number writes : ℕ) (journal : List Item) (a b : Option (List ℕ)) (code : ℕ) → RunEnds number writes journal a b code → IsScriptCode code
+made_code number writes journal a b code h = elim h.known [
+  | inl e ↦ inl e
+  | inr f ↦ elim f [
+    | inl e ↦ inr (inl e)
+    | inr g ↦ elim g [
+      | inl e ↦ inr (inr (inr (inl e)))
+      | inr k ↦ elim k [ inl e ↦ inr (inr (inr (inr (inl e)))) | inr e ↦ inr (inr (inr (inr (inr e)))) ]
+    ]
+  ]
+]
 
 pub generated_code : (number writes : ℕ) (a b : Option (List ℕ)) (code : ℕ) → GenerateEnds number writes a b code → IsScriptCode code
 generated_code number writes a b code h = elim h.known [

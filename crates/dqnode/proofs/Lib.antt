@@ -2,5 +2,5 @@ pub mod Endings
 pub mod Asked
 pub mod Telling
 pub mod Idle
-pub mod Deciding
+pub mod Made
 pub mod Generated

@@ -1,5 +1,5 @@
 -- What the program's words ask for, as clauses name it.
-use Rattle.std.specs.Prelude.{◌≡◌, ℕ, List, Option, Some, None, map, string_bytes, String}
+use Rattle.std.specs.Prelude.{◌≡◌, ℕ, true, false, List, Option, Some, None, map, string_bytes, String}
 use Rattle.std.specs.declared.alloc.Global.{Global}
 use Rattle.sql_engine.specs.declared.kind.EngineKind.{EngineKind}
 use Rattle.program_words.specs.declared.asked.Asked.{Asked}
@@ -21,10 +21,17 @@ ForStatement statement asked = asked ≡ Some (asks.Statement statement)
 
 -- for the script of a number and a count of writes to be made
 abbrev pub ForGenerated : ℕ → ℕ → Option Asked → Type 0
-ForGenerated number writes asked = asked ≡ Some (asks.Generate number writes)
+ForGenerated number writes asked = asked ≡ Some (asks.Generate number writes false)
+
+-- for that script to be run
+abbrev pub ForRun : ℕ → ℕ → Option Asked → Type 0
+ForRun number writes asked = asked ≡ Some (asks.Generate number writes true)
 
 abbrev pub IsScript : Option Asked → Type 0
 IsScript asked = (kind : EngineKind) × ForScript kind asked
+
+abbrev pub IsRun : Option Asked → Type 0
+IsRun asked = (number writes : ℕ) × ForRun number writes asked
 
 abbrev pub IsStatement : Option Asked → Type 0
 IsStatement asked = (statement : Statement) × ForStatement statement asked

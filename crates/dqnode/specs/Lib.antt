@@ -4,4 +4,3 @@ pub mod Status
 pub mod Statements
 pub mod Checks
 pub mod Generating
-pub mod Deciding

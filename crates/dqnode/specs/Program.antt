@@ -1,62 +1,79 @@
 -- What the program does: its words, its input, what it writes and the status that it ends with.
 use Rattle.std.specs.Prelude.{◌≡◌, ◌++◌, ℕ, List, [], codes, Option, Some, None}
-use Rattle.std.specs.Fmt.{decimal}
-use Rattle.std.specs.Io.KnownBytes.{Appends, Consumes}
+use Rattle.std.specs.Io.KnownBytes.{Appends, Consumes, IsAtEnd}
 use Rattle.dq_base.specs.Sink.{AppendsFront}
 use Rattle.sql_engine.specs.declared.kind.EngineKind.{EngineKind}
-use Rattle.session_rules.specs.Engines.{Answer}
 use Rattle.sqlite_engine.specs.Any.{any_meaning}
-use Rattle.lone_node.specs.Safe.{Safe}
-use Rattle.cluster_runner.specs.Run.{Run, Fault, Line, Large, Unanswered, run, printed}
-use Rattle.cluster_runner.specs.Outcome.{MayFollow, IsAllowed}
+use Rattle.script_nodes.specs.Outcomes.{Outcome, Item, Turn}
+use Rattle.script_nodes.specs.Run.{Fault}
+use Rattle.script_places.specs.Safe.{AreOfNodes, IsFairTo}
+use Rattle.script_runner.specs.Ending.{MayFollow, BeginWith}
+use Rattle.script_runner.specs.Run.{run, printed}
+use Rattle.script_runs.specs.Complete.{IsComplete}
+use Rattle.script_runs.specs.Laws.{IsSafe, IsSafeLater}
+use Rattle.script_runs.specs.Mails.{ByNodes}
+use Rattle.script_runs.specs.Seats.{setup_of}
 
 -- the line for words that ask for nothing
 abbrev pub words_error : List ℕ
 words_error = codes "error words\n"
 
--- the line that names a line of the script, by its number
-abbrev pub line_error : ℕ → List ℕ
-line_error line = codes "error line " ++ (decimal line ++ codes "\n")
+-- ---- a run that is safe
 
--- the line that says that there are too many lines or events
-abbrev pub large_error : List ℕ
-large_error = codes "error large\n"
+-- The turns of a run are safe: each moment of it, and each with a later one, up to where a checksum matches by chance in what a start finds;
+-- and each request of a connection that stays open is answered once, and in its order.
+pub record SafeTurns (kind : EngineKind) (turns : List Turn) : Type 0 where
+  pub nodes : AreOfNodes kind turns
+  pub safe : (early late : List Turn) → turns ≡ early ++ late → IsFairTo kind nodes.voters turns nodes.lives early
+      → IsSafe (any_meaning kind) kind (setup_of nodes.voters) early
+  pub later : (early middle late : List Turn) → turns ≡ (early ++ middle) ++ late → IsFairTo kind nodes.voters turns nodes.lives (early ++ middle)
+      → IsSafeLater (any_meaning kind) kind (setup_of nodes.voters) early middle
+  pub answers : (early late : List Turn) (parts : turns ≡ early ++ late) (fair : IsFairTo kind nodes.voters turns nodes.lives early)
+      → IsComplete (any_meaning kind) kind (setup_of nodes.voters) early (safe early late parts fair)
 
-abbrev pub fault_text : Option Fault → List ℕ
-fault_text None = []
-fault_text (Some (Line line)) = line_error line
-fault_text (Some Large) = large_error
-fault_text (Some Unanswered) = []
+-- ---- what a script gives
 
--- what a run gives in all: what it prints, and then the line that names its fault, where it has one
-abbrev pub run_text : Run → List ℕ
-run_text run = printed run ++ fault_text run.fault
-
--- Whatever may follow the bytes read, the script has this fault by this journal, its first, all of its text was written, and
--- the answers that it took off the journal are allowed.
-pub record Faults (kind : EngineKind) (journal : List Answer) (fault : Fault) (left left' written written' : Option (List ℕ)) : Type 0 where
+-- Whatever may follow the bytes read, and whatever comes of later events: the run that the script makes with what came of its events ends
+-- so, and all that it prints was written. The journal is what it notes, and what came of its events is what whole nodes do.
+pub record Gives (kind : EngineKind) (fault : Option Fault) (journal : List Item) (left left' written written' : Option (List ℕ)) : Type 0 where
   pub read : List ℕ
+  pub outcomes : List Outcome
+  pub turns : List Turn
   pub taken : Consumes left left' read
-  pub faulty : (more : List ℕ) → MayFollow left' more → (run (read ++ more) journal).fault ≡ Some fault
-  pub text : (more : List ℕ) → MayFollow left' more → Appends written written' (run_text (run (read ++ more) journal))
-  pub allowed : (more : List ℕ) → MayFollow left' more → IsAllowed kind (run (read ++ more) journal)
+  pub ends : (more : List ℕ) → MayFollow left' more → (later : List Outcome) → (run (read ++ more) (outcomes ++ later)).fault ≡ fault
+  pub text : (more : List ℕ) → MayFollow left' more → (later : List Outcome) → Appends written written' (printed (run (read ++ more) (outcomes ++ later)))
+  pub notes : (more : List ℕ) → MayFollow left' more → (later : List Outcome) → (run (read ++ more) (outcomes ++ later)).journal ≡ journal
+  pub has : (more : List ℕ) → MayFollow left' more → (later : List Outcome) → (run (read ++ more) (outcomes ++ later)).turns ≡ turns
+  pub nodes : AreOfNodes kind turns
 
--- Whichever bytes of `follows` stand behind those read, a front of the script's text by this journal was written, its error
--- line counted in: so nothing of a line that was read in part. The answers that are taken off the journal are allowed.
-pub record BreaksOff (kind : EngineKind) (journal : List Answer) (follows : List ℕ → Type 0) (left left' written written' : Option (List ℕ)) : Type 0 where
+-- the script was read to its end, and has no fault
+abbrev pub Completes : EngineKind → List Item → Option (List ℕ) → Option (List ℕ) → Option (List ℕ) → Option (List ℕ) → Type 0
+Completes kind journal left left' written written' = Gives kind None journal left left' written written' × IsAtEnd left'
+
+-- Whichever bytes of `follows` stand behind those read, a front was written of what the run prints, its error line counted in: so nothing
+-- of a line that was read in part. The run begins with these turns, which are what whole nodes do.
+pub record BreaksOff (kind : EngineKind) (follows : List ℕ → Type 0) (left left' written written' : Option (List ℕ)) : Type 0 where
   pub read : List ℕ
+  pub outcomes : List Outcome
+  pub turns : List Turn
   pub taken : Consumes left left' read
-  pub text : (more : List ℕ) → follows more → AppendsFront written written' (run_text (run (read ++ more) journal))
-  pub allowed : (more : List ℕ) → follows more → IsAllowed kind (run (read ++ more) journal)
+  pub front : (more : List ℕ) → follows more → (later : List Outcome) → AppendsFront written written' (printed (run (read ++ more) (outcomes ++ later)))
+  pub begins : (more : List ℕ) → follows more → (later : List Outcome) → BeginWith (run (read ++ more) (outcomes ++ later)).turns turns
+  pub nodes : AreOfNodes kind turns
 
--- Whatever may follow the bytes read, each answer that the script's run takes off this journal is one that an engine of the
--- kind may give, and the run is safe.
-pub record RunsSafely (kind : EngineKind) (journal : List Answer) (left left' : Option (List ℕ)) : Type 0 where
+-- However the script ended: whatever may follow the bytes read, its run begins with turns that are safe; they are all that it has where it
+-- came to its end or to a fault of the script.
+pub record RunsSafely (kind : EngineKind) (left left' : Option (List ℕ)) : Type 0 where
   pub read : List ℕ
+  pub outcomes : List Outcome
+  pub turns : List Turn
   pub taken : Consumes left left' read
-  pub allowed : (more : List ℕ) → MayFollow left' more → IsAllowed kind (run (read ++ more) journal)
-  pub safe : (more : List ℕ) → MayFollow left' more → Safe (any_meaning kind) (run (read ++ more) journal).turns
+  pub begins : (more : List ℕ) → MayFollow left' more → (later : List Outcome) → BeginWith (run (read ++ more) (outcomes ++ later)).turns turns
+  pub safe : SafeTurns kind turns
 
--- Where each answer that a script's run takes off a journal is one that an engine of the kind may give, the run is safe.
+-- So is every script up to any moment until which what came of its events is what whole nodes do.
 abbrev pub RunsAreSafe : Type 0
-RunsAreSafe = (kind : EngineKind) (script : List ℕ) (journal : List Answer) → IsAllowed kind (run script journal) → Safe (any_meaning kind) (run script journal).turns
+RunsAreSafe =
+    (kind : EngineKind) (voters : ℕ) (script : List ℕ) (outcomes : List Outcome) (front rest : List Turn) →
+    (run script outcomes).turns ≡ front ++ rest → ByNodes (any_meaning kind) kind (setup_of voters) front →
+    IsSafe (any_meaning kind) kind (setup_of voters) front

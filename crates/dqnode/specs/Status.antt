@@ -1,10 +1,12 @@
 -- The numbers of the ways in which the program ends.
-use Rattle.std.specs.Prelude.{◌≡◌, ◌⊎◌, ℕ, Option, List}
-use Rattle.session_rules.specs.Engines.{Answer}
+use Rattle.std.specs.Prelude.{◌≡◌, ◌⊎◌, ℕ, Option, Some, List}
 use Rattle.sql_engine.specs.declared.kind.EngineKind.{EngineKind}
-use Rattle.cluster_runner.specs.Run as script
-use Rattle.cluster_runner.specs.Outcome.{MayFollow, Anything, Completes}
-use Rattle.dqnode.specs.Program.{Faults, BreaksOff}
+use Rattle.script_nodes.specs.Outcomes.{Item}
+use Rattle.script_nodes.specs.Run.{Line, Large as TooLarge}
+use Rattle.script_runner.specs.declared.run.Outcome.{Outcome}
+use Rattle.script_runner.specs.declared.run.Outcome.TheVariants as outcome
+use Rattle.script_runner.specs.Ending.{MayFollow, Anything}
+use Rattle.dqnode.specs.Program.{Gives, Completes, BreaksOff}
 use Rattle.dqnode.specs.declared.status.Status.{Status}
 use Rattle.dqnode.specs.declared.status.Status.TheVariants.{Done, Words, Script, ReadFault, WriteFault, DiskFault, NoMemory, Files, Large, Refused, NoLeader, Unknown}
 
@@ -40,8 +42,26 @@ IsStatus code = (code ≡ 1) ⊎ IsScriptCode code ⊎ IsStatementCode code ⊎ 
 abbrev pub IsBroken : ℕ → Type 0
 IsBroken code = (code ≡ 4) ⊎ (code ≡ 7)
 
+-- the status for how running a script ended
+abbrev pub status_for : Outcome → Status
+status_for outcome.Done = Done
+status_for (outcome.Script line) = Script
+status_for outcome.Large = Large
+status_for outcome.ReadFault = ReadFault
+status_for outcome.WriteFault = WriteFault
+status_for outcome.NoMemory = NoMemory
+
+-- what a script did that came to this outcome
+abbrev pub OutcomeEnds : EngineKind → List Item → Outcome → Option (List ℕ) → Option (List ℕ) → Option (List ℕ) → Option (List ℕ) → Type 0
+OutcomeEnds kind journal outcome.Done left left' written written' = Completes kind journal left left' written written'
+OutcomeEnds kind journal (outcome.Script line) left left' written written' = Gives kind (Some (Line line)) journal left left' written written'
+OutcomeEnds kind journal outcome.Large left left' written written' = Gives kind (Some TooLarge) journal left left' written written'
+OutcomeEnds kind journal outcome.ReadFault left left' written written' = BreaksOff kind Anything left left' written written'
+OutcomeEnds kind journal outcome.WriteFault left left' written written' = BreaksOff kind (MayFollow left') left left' written written'
+OutcomeEnds kind journal outcome.NoMemory left left' written written' = BreaksOff kind (MayFollow left') left left' written written'
+
 -- what a script did that ended with this status
-abbrev pub ScriptEnds : EngineKind → List Answer → Status → Option (List ℕ) → Option (List ℕ) → Option (List ℕ) → Option (List ℕ) → Type 0
+abbrev pub ScriptEnds : EngineKind → List Item → Status → Option (List ℕ) → Option (List ℕ) → Option (List ℕ) → Option (List ℕ) → Type 0
 ScriptEnds kind journal Done left left' written written' = Completes kind journal left left' written written'
 ScriptEnds kind journal Words left left' written written' = ⊥
 ScriptEnds kind journal DiskFault left left' written written' = ⊥
@@ -49,8 +69,8 @@ ScriptEnds kind journal Files left left' written written' = ⊥
 ScriptEnds kind journal Refused left left' written written' = ⊥
 ScriptEnds kind journal NoLeader left left' written written' = ⊥
 ScriptEnds kind journal Unknown left left' written written' = ⊥
-ScriptEnds kind journal Script left left' written written' = (line : ℕ) × Faults kind journal (script.Line line) left left' written written'
-ScriptEnds kind journal ReadFault left left' written written' = BreaksOff kind journal Anything left left' written written'
-ScriptEnds kind journal WriteFault left left' written written' = BreaksOff kind journal (MayFollow left') left left' written written'
-ScriptEnds kind journal NoMemory left left' written written' = BreaksOff kind journal (MayFollow left') left left' written written'
-ScriptEnds kind journal Large left left' written written' = Faults kind journal script.Large left left' written written'
+ScriptEnds kind journal Script left left' written written' = (line : ℕ) × Gives kind (Some (Line line)) journal left left' written written'
+ScriptEnds kind journal ReadFault left left' written written' = BreaksOff kind Anything left left' written written'
+ScriptEnds kind journal WriteFault left left' written written' = BreaksOff kind (MayFollow left') left left' written written'
+ScriptEnds kind journal NoMemory left left' written written' = BreaksOff kind (MayFollow left') left left' written written'
+ScriptEnds kind journal Large left left' written written' = Gives kind (Some TooLarge) journal left left' written written'

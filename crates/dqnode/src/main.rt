@@ -1,10 +1,11 @@
 //! `dqnode` runs scripts, has the leader of a cluster run statements, and tells what the files of a stopped node stand for. A script
-//! drives a node of dqlite, which is SQLite replicated over a Raft cluster, or machines that apply one list of replicated commands.
+//! drives a whole cluster of dqlite, which is SQLite replicated over a Raft cluster, or machines that apply one list of replicated commands.
 #![tactic(auto)]
 
 mod checks;
 mod generating;
 mod program;
+mod script_bytes;
 mod scripts;
 mod statements;
 mod status;
@@ -12,8 +13,8 @@ mod words;
 
 use dir_disk::DirDisk;
 use dq_base::{ReadSource, WriteSink};
-use engine_journal::Journal;
 pub use program::dqnode;
+use script_nodes::ClusterJournal;
 pub use status::Status;
 use std::io;
 use std::process::ExitCode;
@@ -29,7 +30,7 @@ fn main(rt: HostRuntime) -> ExitCode {
     let words = words::behind_name(all.as_slice());
     let mut input = ReadSource::new(rt.stdin());
     let mut output = WriteSink::new(io::writer(&rt));
-    let mut journal = Journal::new(rt.alloc());
+    let mut journal = ClusterJournal::new(rt.alloc());
     let mut dialer = TcpDialer::new(rt);
     ExitCode::from(dqnode(
         rt.alloc(),

@@ -1,36 +1,34 @@
 //! All that the program does.
 
-ghost use Rattle.std.specs.Prelude.{◌≡◌, ◌≢◌, ◌≤◌, ◌⊎◌, ◌*◌, ℕ, List, [], length, map};
+ghost use Rattle.std.specs.Prelude.{◌≡◌, ◌≢◌, ◌≤◌, ◌⊎◌, ◌*◌, ℕ, List, [], Some, length};
 ghost use Rattle.std.specs.Io.KnownBytes.{Appends, Keeps};
 ghost use Rattle.dq_base.specs.Faults.{Rose};
 ghost use Rattle.dq_base.specs.Sink.{AppendsFront};
-ghost use Rattle.session_rules.specs.Engines.{Answer};
-ghost use Rattle.engine_journal.specs.Noting.{answer_of};
+ghost use Rattle.script_nodes.specs.Outcomes.{Outcome};
+ghost use Rattle.script_nodes.specs.Run.{Line, Large};
 ghost use Rattle.dq_client.specs.Net.{HaveFailed};
 ghost use Rattle.dq_client.specs.Running.{HaveDialled};
-ghost use Rattle.cluster_runner.specs.Outcome.{MayFollow, Anything, Completes};
-ghost use Rattle.cluster_runner.specs.Run.{Line, Large};
-ghost use Rattle.cluster_runner.specs.Alike.{KeepsAlike};
+ghost use Rattle.script_runner.specs.Alike.{KeepsAlike};
+ghost use Rattle.script_runner.specs.Ending.{MayFollow, Anything};
 ghost use Rattle.program_words.specs.declared.asked.Statement.{Statement};
 ghost use Rattle.program_words.specs.Asking.{IsAskable};
-ghost use Rattle.dqnode.specs.Deciding.{CellsDecide};
-ghost use Rattle.dqnode.specs.Asks.{asks_for, ForStatement, ForGenerated, IsScript, IsStatement, IsCheck, IsNothing, RunsWith};
-ghost use Rattle.dqnode.specs.Program.{words_error, Faults, BreaksOff, RunsSafely, RunsAreSafe};
+ghost use Rattle.dqnode.specs.Asks.{asks_for, ForStatement, ForGenerated, ForRun, IsScript, IsRun, IsStatement, IsCheck, IsNothing, RunsWith};
+ghost use Rattle.dqnode.specs.Program.{words_error, Gives, Completes, BreaksOff, RunsSafely, RunsAreSafe};
 ghost use Rattle.dqnode.specs.Status.{IsStatus, IsBroken};
 ghost use Rattle.dqnode.specs.Statements.{StatementEnds, IsAnswered, IsOfStatement, HasLinked};
 ghost use Rattle.dqnode.specs.Checks.{CheckEnds};
-ghost use Rattle.dqnode.specs.Generating.{GenerateEnds};
+ghost use Rattle.dqnode.specs.Generating.{GenerateEnds, RunEnds};
 
 use crate::checks::tell;
-use crate::generating::make_script;
+use crate::generating::{make_script, run_made};
 use crate::scripts::script;
 use crate::statements::ask;
 use crate::status::Status;
 use disk_model::Disk;
 use dq_base::{Sink, Source};
 use dq_client::Dialer;
-use engine_journal::Journal;
 use program_words::{Asked, read_words};
+use script_nodes::ClusterJournal;
 use std::alloc::Global;
 
 /// Refuses the words.
@@ -48,42 +46,43 @@ fn refuse_words<K: Sink>(output: &mut K) -> Status
 }
 
 /// There is not enough memory to read the words, and so nothing is done.
-fn give_up(alloc: Global, journal: &mut Journal) -> Status
+fn give_up(alloc: Global, journal: &mut ClusterJournal) -> Status
     ensures status { result ≡ Status.NoMemory }
     ensures journal { journal.new ≡ [] }
 {
-    *journal = Journal::new(alloc);
+    *journal = ClusterJournal::new(alloc);
     Status::NoMemory
 }
 
 /// Does what is asked for.
-#[tactic(auto, using(crate::proofs::Asked::ends_for, crate::proofs::Asked::unled_for, crate::proofs::Asked::statement_linked, crate::proofs::Asked::statement_code, crate::proofs::Idle::no_call, crate::proofs::Generated::generated_for, crate::proofs::Generated::generated_code))]
+#[tactic(auto, using(crate::proofs::Asked::ends_for, crate::proofs::Asked::unled_for, crate::proofs::Asked::statement_linked, crate::proofs::Asked::statement_code, crate::proofs::Idle::no_call, crate::proofs::Generated::generated_for, crate::proofs::Generated::generated_code, crate::proofs::Generated::made_for, crate::proofs::Generated::made_code))]
 fn run<S: Source, K: Sink, D: Disk, N: Dialer>(
     alloc: Global,
     asked: Option<Asked>,
     input: &mut S,
     output: &mut K,
-    journal: &mut Journal,
+    journal: &mut ClusterJournal,
     disk: &mut D,
     dialer: &mut N,
 ) -> u8
     requires { IsAskable asked }
-    ensures done { IsScript asked → result ≡ 0 → RunsWith asked (λ kind. Completes kind (map answer_of journal.new) (S.left input.old) (S.left input.new)
+    ensures done { IsScript asked → result ≡ 0 → RunsWith asked (λ kind. Completes kind journal.new (S.left input.old) (S.left input.new)
         (K.written output.old) (K.written output.new)) }
     ensures words { result ≡ 1 → IsNothing asked × Appends (K.written output.old) (K.written output.new) words_error }
     ensures only_words { IsNothing asked → (result ≡ 1) ⊎ IsBroken result }
     ensures words_input { ¬ (IsScript asked) → Keeps (S.left input.old) (S.left input.new) × (S.faults input.old ≡ S.faults input.new) }
-    ensures words_journal { ¬ (IsScript asked) → (journal.new ≡ journal.old) ⊎ ((result ≡ 7) × (journal.new ≡ [])) }
-    ensures script { result ≡ 2 → RunsWith asked (λ kind. (line : ℕ) × Faults kind (map answer_of journal.new) (Line line) (S.left input.old)
+    ensures words_journal { ¬ (IsScript asked) → ¬ (IsRun asked) → (journal.new ≡ journal.old) ⊎ ((result ≡ 7) × (journal.new ≡ [])) }
+    ensures script { IsScript asked → result ≡ 2 → RunsWith asked (λ kind. (line : ℕ) × Gives kind (Some (Line line)) journal.new (S.left input.old)
         (S.left input.new) (K.written output.old) (K.written output.new)) }
-    ensures large { result ≡ 9 → RunsWith asked (λ kind. Faults kind (map answer_of journal.new) Large (S.left input.old) (S.left input.new)
-        (K.written output.old) (K.written output.new)) }
-    ensures safe { IsScript asked → RunsWith asked (λ kind. RunsSafely kind (map answer_of journal.new) (S.left input.old) (S.left input.new)) }
+    ensures large { IsScript asked → result ≡ 9 → RunsWith asked (λ kind. Gives kind (Some Large) journal.new (S.left input.old)
+        (S.left input.new) (K.written output.old) (K.written output.new)) }
+    ensures faulty { (result ≡ 2) ⊎ (result ≡ 9) → IsScript asked ⊎ IsRun asked }
+    ensures safe { IsScript asked → RunsWith asked (λ kind. RunsSafely kind (S.left input.old) (S.left input.new)) }
     ensures read_fault { result ≡ 3 → IsScript asked × Rose (S.faults input.old) (S.faults input.new) }
     ensures write_fault { result ≡ 4 → Rose (K.faults output.old) (K.faults output.new) }
-    ensures cut { result ≡ 3 → RunsWith asked (λ kind. BreaksOff kind (map answer_of journal.new) Anything (S.left input.old) (S.left input.new)
+    ensures cut { result ≡ 3 → RunsWith asked (λ kind. BreaksOff kind Anything (S.left input.old) (S.left input.new)
         (K.written output.old) (K.written output.new)) }
-    ensures broken { IsScript asked → IsBroken result → RunsWith asked (λ kind. BreaksOff kind (map answer_of journal.new) (MayFollow (S.left input.new))
+    ensures broken { IsScript asked → IsBroken result → RunsWith asked (λ kind. BreaksOff kind (MayFollow (S.left input.new))
         (S.left input.old) (S.left input.new) (K.written output.old) (K.written output.new)) }
     ensures words_broken { IsNothing asked → IsBroken result → AppendsFront (K.written output.old) (K.written output.new) words_error }
     ensures statement { (statement : Statement) → ForStatement statement asked → StatementEnds statement (N.net dialer.old) (N.net dialer.new)
@@ -100,6 +99,7 @@ fn run<S: Source, K: Sink, D: Disk, N: Dialer>(
     ensures unprinted { IsCheck asked → (result ≡ 5) ⊎ (result ≡ 7) → output.new ≡ output.old }
     ensures disk { ¬ (IsCheck asked) → disk.new ≡ disk.old }
     ensures generated { (number writes : ℕ) → ForGenerated number writes asked → GenerateEnds number writes (K.written output.old) (K.written output.new) result }
+    ensures made { (number writes : ℕ) → ForRun number writes asked → RunEnds number writes journal.new (K.written output.old) (K.written output.new) result }
     ensures known { IsStatus result }
     ensures input_count { S.faults input.old ≤ S.faults input.new }
     ensures output_count { K.faults output.old ≤ K.faults output.new }
@@ -109,7 +109,20 @@ fn run<S: Source, K: Sink, D: Disk, N: Dialer>(
         Some(Asked::Script(engine)) => script(alloc, engine, input, output, journal),
         Some(Asked::Statement(statement)) => ask(alloc, statement, output, dialer),
         Some(Asked::Check) => tell(alloc, output, disk),
-        Some(Asked::Generate { number, count }) => make_script(alloc, number, count, output),
+        Some(
+            Asked::Generate {
+                number,
+                count,
+                run: false,
+            },
+        ) => make_script(alloc, number, count, output),
+        Some(
+            Asked::Generate {
+                number,
+                count,
+                run: true,
+            },
+        ) => run_made(alloc, number, count, output, journal),
         None => refuse_words(output),
     };
     status.code()
@@ -123,22 +136,21 @@ fn run<S: Source, K: Sink, D: Disk, N: Dialer>(
 /// - `exec NAME SQL ADDRESS..` and `query NAME SQL ADDRESS..`: the leader of a cluster, one of whose servers is at one of the
 ///   addresses, runs a statement on the database NAME, and what came of it is printed.
 /// - `check`: what the files on the disk stand for is printed, where their node is stopped.
-/// - `gen NUMBER COUNT`: the script of a load of writes that these give is written.
+/// - `gen NUMBER COUNT`: the script of a load of writes that these give is written; with `--run` it is run instead, with an engine of
+///   cells at each node, and it is written how its nodes stand at its end.
 ///
 /// Other words give status 1 and the line `error words`. 4 is a fault of the output, an error line that could not be written
 /// included; 7 is want of memory.
 ///
 /// A script: a line that isn't in the grammar, or that names what isn't there, the first fault of the script, gives status 2, behind
-/// the text of the lines before it, and `error line` with its number. A line behind the millionth, or an event behind the twenty
-/// thousandth, as the first fault gives 9 and `error large` instead. 3 is a fault of the input. The journal is that of this run
-/// afterwards: what the engine answered to the statements of clients, in their order; what it held before is dropped, and after
-/// other words it is as it was. What was read and this journal decide all else. Each answer that the run takes off the journal is
-/// one that an engine of the kind may give, and every such run is safe: at each moment each reply is right by the node's entries,
-/// was said in the turn that applied the entry which it waited for, and is over no older image than its connection saw; and what was
-/// said and applied stays. With the engine of cells the script alone decides what is said and at which line it fails, where the
-/// engine wanted no memory. Unless the input is at its end, every script that begins with the bytes read has the fault that is
-/// named; and after a fault of the outside or want of memory a front was written of what each of them gives, so nothing of a line
-/// that was read in part.
+/// the text of the lines before it, and `error line` with its number. A line behind the millionth, an event behind the twenty thousandth,
+/// or one whose messages have too many bytes, as the first fault gives 9 and `error large` instead. 3 is a fault of the input. The journal
+/// is that of this run afterwards: what the engines answered to the statements of clients, how each disk call was met at which a line
+/// aims, and what was loaded behind a stop or a failed call, in their order; what it held before is dropped, and after other words it is
+/// as it was. What was read, and what came of the events at the nodes, decide all else. What came of them is what whole nodes do, so every
+/// such run is safe, at each moment and at a later one, with stops and failing calls of disks at any place. Unless the input is at its end,
+/// every script that begins with the bytes read has the fault that is named; and after a fault of the outside or want of memory a front was
+/// written of what each of them gives, so nothing of a line that was read in part.
 ///
 /// A statement: 0 with the number of changed rows or the rows, 11 with the server's refusal, 12 where no leader was found in three
 /// rounds of the addresses, and 13 where the statement was sent and nobody knows whether it was run; 12 and 13 print nothing. The
@@ -149,18 +161,18 @@ fn run<S: Source, K: Sink, D: Disk, N: Dialer>(
 ///
 /// After words that ask for no script the input is as it was; so is the dialer where no statement is asked for, and the disk where no
 /// check is.
-#[tactic(auto, using(crate::proofs::Endings::unread_breaks, crate::proofs::Endings::unread_safely, crate::proofs::Idle::unasked, crate::proofs::Idle::unchecked, crate::proofs::Idle::no_call, crate::proofs::Idle::nothing_written, crate::proofs::Generated::ungenerated))]
+#[tactic(auto, using(crate::proofs::Endings::unread_breaks, crate::proofs::Endings::unread_safely, crate::proofs::Idle::unasked, crate::proofs::Idle::unchecked, crate::proofs::Idle::no_call, crate::proofs::Idle::nothing_written, crate::proofs::Generated::ungenerated, crate::proofs::Made::unrun))]
 pub fn dqnode<S: Source, K: Sink, D: Disk, N: Dialer>(
     alloc: Global,
     words: &[String],
     input: &mut S,
     output: &mut K,
-    journal: &mut Journal,
+    journal: &mut ClusterJournal,
     disk: &mut D,
     dialer: &mut N,
 ) -> u8
-    // The script was read to its end, it has no fault by the journal, and its text was written.
-    ensures done { IsScript (asks_for words.now) → result ≡ 0 → RunsWith (asks_for words.now) (λ kind. Completes kind (map answer_of journal.new)
+    // The script was read to its end, it has no fault, and all that its run prints was written; the journal is what the run notes.
+    ensures done { IsScript (asks_for words.now) → result ≡ 0 → RunsWith (asks_for words.now) (λ kind. Completes kind journal.new
         (S.left input.old) (S.left input.new) (K.written output.old) (K.written output.new)) }
     // The words are refused exactly where they ask for nothing that the program does, unless their line can't be written or there is
     // not enough memory to read them.
@@ -168,35 +180,31 @@ pub fn dqnode<S: Source, K: Sink, D: Disk, N: Dialer>(
     ensures only_words { IsNothing (asks_for words.now) → (result ≡ 1) ⊎ IsBroken result }
     // Where they ask for no script the input is not touched.
     ensures words_input { ¬ (IsScript (asks_for words.now)) → Keeps (S.left input.old) (S.left input.new) × (S.faults input.old ≡ S.faults input.new) }
-    // And the journal is as it was, or it has nothing in it, where there is not enough memory.
-    ensures words_journal { ¬ (IsScript (asks_for words.now)) → (journal.new ≡ journal.old) ⊎ ((result ≡ 7) × (journal.new ≡ [])) }
+    // Where none is run the journal is as it was, or it has nothing in it, where there is not enough memory.
+    ensures words_journal { ¬ (IsScript (asks_for words.now)) → ¬ (IsRun (asks_for words.now))
+        → (journal.new ≡ journal.old) ⊎ ((result ≡ 7) × (journal.new ≡ [])) }
     // The script's first fault is a line that isn't in the grammar there; the bytes read show it, and it is named.
-    ensures script { result ≡ 2 → RunsWith (asks_for words.now) (λ kind. (line : ℕ) × Faults kind (map answer_of journal.new) (Line line) (S.left input.old)
-        (S.left input.new) (K.written output.old) (K.written output.new)) }
-    // The script's first fault is that it has too many lines or events; the bytes read show it, and it is said.
-    ensures large { result ≡ 9 → RunsWith (asks_for words.now) (λ kind. Faults kind (map answer_of journal.new) Large (S.left input.old) (S.left input.new)
-        (K.written output.old) (K.written output.new)) }
-    // However the script ended: each answer that its run takes off the journal is one that the engine may give, and the run is
-    // safe: at each moment each reply is right by the node's entries, was said in the turn that applied the entry which it
-    // waited for, and is over no older image than its connection saw; and what was said and applied stays.
-    ensures safe { IsScript (asks_for words.now) → RunsWith (asks_for words.now) (λ kind. RunsSafely kind (map answer_of journal.new) (S.left input.old)
-        (S.left input.new)) }
-    // So is the run of every script with every journal whose answers are allowed.
+    ensures script { IsScript (asks_for words.now) → result ≡ 2 → RunsWith (asks_for words.now) (λ kind. (line : ℕ) × Gives kind (Some (Line line))
+        journal.new (S.left input.old) (S.left input.new) (K.written output.old) (K.written output.new)) }
+    // The script's first fault is that it has too much; the bytes read show it, and it is said.
+    ensures large { IsScript (asks_for words.now) → result ≡ 9 → RunsWith (asks_for words.now) (λ kind. Gives kind (Some Large) journal.new
+        (S.left input.old) (S.left input.new) (K.written output.old) (K.written output.new)) }
+    ensures faulty { (result ≡ 2) ⊎ (result ≡ 9) → IsScript (asks_for words.now) ⊎ IsRun (asks_for words.now) }
+    // However the script ended: what came of its events is what whole nodes do, and the run is safe, at each moment and at a later one.
+    ensures safe { IsScript (asks_for words.now) → RunsWith (asks_for words.now) (λ kind. RunsSafely kind (S.left input.old) (S.left input.new)) }
+    // So is the run of every script where what came of its events is what whole nodes do.
     ensures always_safe { RunsAreSafe }
-    // With the engine of cells the script alone decides what is said and at which fault it ends, whatever a journal holds, where
-    // the engine wanted no memory and the journal lacks no answer.
-    ensures determined { CellsDecide }
     // A run has one list of commands: at every moment machines that have applied as many of them hold the same files and
     // pending pages, and are shown so. The files of each are together at most 67,108,864 bytes long.
-    ensures alike { (script : List ℕ) (journal : List Answer) → KeepsAlike script journal }
+    ensures alike { (script : List ℕ) (outcomes : List Outcome) → KeepsAlike script outcomes }
     // The input, the output failed in this call.
     ensures read_fault { result ≡ 3 → IsScript (asks_for words.now) × Rose (S.faults input.old) (S.faults input.new) }
     ensures write_fault { result ≡ 4 → Rose (K.faults output.old) (K.faults output.new) }
     // After a fault of the input a front was written of what the script gives, whatever bytes follow those read.
-    ensures cut { result ≡ 3 → RunsWith (asks_for words.now) (λ kind. BreaksOff kind (map answer_of journal.new) Anything (S.left input.old)
+    ensures cut { result ≡ 3 → RunsWith (asks_for words.now) (λ kind. BreaksOff kind Anything (S.left input.old)
         (S.left input.new) (K.written output.old) (K.written output.new)) }
     // So it is after a fault of the output and want of memory; but where the input is at its end nothing follows.
-    ensures broken { IsScript (asks_for words.now) → IsBroken result → RunsWith (asks_for words.now) (λ kind. BreaksOff kind (map answer_of journal.new)
+    ensures broken { IsScript (asks_for words.now) → IsBroken result → RunsWith (asks_for words.now) (λ kind. BreaksOff kind
         (MayFollow (S.left input.new)) (S.left input.old) (S.left input.new) (K.written output.old) (K.written output.new)) }
     ensures words_broken { IsNothing (asks_for words.now) → IsBroken result → AppendsFront (K.written output.old) (K.written output.new) words_error }
     // A statement: the client that finds the leader and has it run that came to an end, which the status tells and which was printed,
@@ -222,6 +230,9 @@ pub fn dqnode<S: Source, K: Sink, D: Disk, N: Dialer>(
     // The script of a number and a count of writes: with 0 it was written whole and nothing else; with 4 and 7, and there is no other
     // status, a front of it.
     ensures generated { (number writes : ℕ) → ForGenerated number writes (asks_for words.now) → GenerateEnds number writes (K.written output.old)
+        (K.written output.new) result }
+    // That script was run: with 0 it was written how its nodes stand at its end, with 2 and 9 its fault too, and with 4 and 7 a front of it.
+    ensures made { (number writes : ℕ) → ForRun number writes (asks_for words.now) → RunEnds number writes journal.new (K.written output.old)
         (K.written output.new) result }
     // There is no other status.
     ensures known { IsStatus result }

@@ -1,73 +1,83 @@
-//! Scripts: one is run, and its fault is named.
+//! Scripts: one is run, over whole nodes or over machines.
 
-ghost use Rattle.std.specs.Prelude.{◌≡◌, ◌≢◌, ◌≤◌, ◌⊎◌, map};
-ghost use Rattle.std.specs.Io.KnownBytes.{Appends};
+ghost use Rattle.std.specs.Prelude.{◌≡◌, ◌≤◌};
 ghost use Rattle.dq_base.specs.Faults.{Rose};
-ghost use Rattle.dq_base.specs.Sink.{AppendsFront};
-ghost use Rattle.engine_journal.specs.Noting.{answer_of};
-ghost use Rattle.dqnode.specs.Program.{line_error, large_error, RunsSafely};
-ghost use Rattle.dqnode.specs.Status.{ScriptEnds, IsScriptCode, status_code};
+ghost use Rattle.dqnode.specs.Program.{RunsSafely};
+ghost use Rattle.dqnode.specs.Status.{OutcomeEnds, ScriptEnds, IsScriptCode, status_code, status_for};
 
 use crate::status::Status;
-use cluster_runner::{Outcome, run_script};
 use dq_base::{Sink, Source};
-use engine_journal::Journal;
+use script_nodes::ClusterJournal;
+use script_places::{CellChoice, EngineChoice, SqliteChoice, WholePlace};
+use script_runner::{Outcome, run_script};
 use sql_engine::EngineKind;
 use std::alloc::Global;
 
-/// Writes the error line of a script whose first fault is at this line.
-fn refuse_line<K: Sink>(alloc: Global, line: u64, output: &mut K) -> Status
-    ensures script { result ≡ Status.Script → Appends (K.written output.old) (K.written output.new) (line_error line) }
-    ensures write_fault { result ≡ Status.WriteFault → Rose (K.faults output.old) (K.faults output.new) }
-    ensures broken { result ≢ Status.Script → AppendsFront (K.written output.old) (K.written output.new) (line_error line) }
-    ensures others { (result ≡ Status.Script) ⊎ ((result ≡ Status.WriteFault) ⊎ (result ≡ Status.NoMemory)) }
-    ensures count { K.faults output.old ≤ K.faults output.new }
+/// The status for how running a script ended.
+pub(crate) fn status_for(outcome: Outcome) -> Status
+    ensures { result ≡ status_for outcome }
 {
-    let Ok(text) = format!(in alloc; "error line {line}\n") else {
-        return Status::NoMemory;
-    };
-    match output.write_all(text.as_bytes()) {
-        Ok(()) => Status::Script,
-        Err(_) => Status::WriteFault,
+    match outcome {
+        Outcome::Done => Status::Done,
+        Outcome::Script(_) => Status::Script,
+        Outcome::Large => Status::Large,
+        Outcome::ReadFault => Status::ReadFault,
+        Outcome::WriteFault => Status::WriteFault,
+        Outcome::NoMemory => Status::NoMemory,
     }
 }
 
-/// Writes the error line of a script with too many lines or events.
-fn refuse_large<K: Sink>(output: &mut K) -> Status
-    ensures large { result ≡ Status.Large → Appends (K.written output.old) (K.written output.new) large_error }
-    ensures write_fault { result ≡ Status.WriteFault → Rose (K.faults output.old) (K.faults output.new) }
-    ensures broken { result ≢ Status.Large → AppendsFront (K.written output.old) (K.written output.new) large_error }
-    ensures others { (result ≡ Status.Large) ⊎ (result ≡ Status.WriteFault) }
-    ensures count { K.faults output.old ≤ K.faults output.new }
+/// Runs a script over whole nodes, with the engine of a choice at each, or over machines.
+fn run_at<C: EngineChoice, S: Source, K: Sink>(
+    alloc: Global,
+    input: &mut S,
+    output: &mut K,
+    journal: &mut ClusterJournal,
+) -> Outcome
+    ensures ended { OutcomeEnds C.kind journal.new result (S.left input.old) (S.left input.new) (K.written output.old) (K.written output.new) }
+    ensures read_fault { result ≡ Outcome.ReadFault → Rose (S.faults input.old) (S.faults input.new) }
+    ensures write_fault { result ≡ Outcome.WriteFault → Rose (K.faults output.old) (K.faults output.new) }
+    ensures input_count { S.faults input.old ≤ S.faults input.new }
+    ensures output_count { K.faults output.old ≤ K.faults output.new }
 {
-    match output.write_all(b"error large\n") {
-        Ok(()) => Status::Large,
-        Err(_) => Status::WriteFault,
+    run_script(alloc, WholePlace::<C>::new(alloc), input, output, journal)
+}
+
+/// Runs a script over whole nodes, with an engine of a kind at each, or over machines.
+pub(crate) fn run_over<S: Source, K: Sink>(
+    alloc: Global,
+    engine: EngineKind,
+    input: &mut S,
+    output: &mut K,
+    journal: &mut ClusterJournal,
+) -> Outcome
+    ensures ended { OutcomeEnds engine journal.new result (S.left input.old) (S.left input.new) (K.written output.old) (K.written output.new) }
+    ensures read_fault { result ≡ Outcome.ReadFault → Rose (S.faults input.old) (S.faults input.new) }
+    ensures write_fault { result ≡ Outcome.WriteFault → Rose (K.faults output.old) (K.faults output.new) }
+    ensures input_count { S.faults input.old ≤ S.faults input.new }
+    ensures output_count { K.faults output.old ≤ K.faults output.new }
+{
+    match engine {
+        EngineKind::Sqlite => run_at::<SqliteChoice, S, K>(alloc, input, output, journal),
+        EngineKind::Cells => run_at::<CellChoice, S, K>(alloc, input, output, journal),
     }
 }
 
-/// Runs the script that the input gives, with an engine of a kind, and leaves the journal of its run.
+/// Runs the script that the input gives, with an engine of a kind at each node, and leaves the journal of its run.
 pub(crate) fn script<S: Source, K: Sink>(
     alloc: Global,
     engine: EngineKind,
     input: &mut S,
     output: &mut K,
-    journal: &mut Journal,
+    journal: &mut ClusterJournal,
 ) -> Status
-    ensures ended { ScriptEnds engine (map answer_of journal.new) result (S.left input.old) (S.left input.new) (K.written output.old) (K.written output.new) }
-    ensures safe { RunsSafely engine (map answer_of journal.new) (S.left input.old) (S.left input.new) }
+    ensures ended { ScriptEnds engine journal.new result (S.left input.old) (S.left input.new) (K.written output.old) (K.written output.new) }
+    ensures safe { RunsSafely engine (S.left input.old) (S.left input.new) }
     ensures read_fault { result ≡ Status.ReadFault → Rose (S.faults input.old) (S.faults input.new) }
     ensures write_fault { result ≡ Status.WriteFault → Rose (K.faults output.old) (K.faults output.new) }
     ensures codes { IsScriptCode (status_code result) }
     ensures input_count { S.faults input.old ≤ S.faults input.new }
     ensures output_count { K.faults output.old ≤ K.faults output.new }
 {
-    match run_script(alloc, input, output, engine, journal) {
-        Outcome::Done => Status::Done,
-        Outcome::Script(line) => refuse_line(alloc, line, output),
-        Outcome::Large => refuse_large(output),
-        Outcome::ReadFault => Status::ReadFault,
-        Outcome::WriteFault => Status::WriteFault,
-        Outcome::NoMemory => Status::NoMemory,
-    }
+    status_for(run_over(alloc, engine, input, output, journal))
 }

@@ -12,7 +12,7 @@ use Rattle.clap.specs.declared.error.kind.ErrorKind.{ErrorKind}
 use Rattle.clap.specs.declared.error.kind.ErrorKind.TheVariants as kind
 use Rattle.clap.specs.declared.parser.matches.ArgMatches.{ArgMatches}
 use Rattle.program_words.specs.Commands.{script_app, statement_app, check_app, generate_app, unless_refused, read_by}
-use Rattle.program_words.specs.Asking.{engine_named, are_addresses, is_askable, statement_with, script_found, statement_found, check_found, number_in, generate_with, generate_found, asked_by, CanBeSent, IsAskable}
+use Rattle.program_words.specs.Asking.{engine_named, are_addresses, is_askable, statement_with, script_found, statement_found, check_found, number_in, is_set, generate_with, generate_found, asked_by, CanBeSent, IsAskable}
 use Rattle.program_words.specs.declared.asked.Asked.{Asked}
 use Rattle.program_words.specs.declared.asked.Asked.TheVariants as asks
 use Rattle.program_words.specs.declared.reading.Line.{Line}
@@ -95,14 +95,15 @@ statement_fits : (query : Bool) (o : Option (List Row)) → IsAskable (statement
 statement_fits query None = tt
 statement_fits query (Some rows) = with_fits query (first_of (codes "NAME") rows) (first_of (codes "SQL") rows) (all_of (codes "ADDRESS") rows)
 
-numbers_fit : (number count : Option ℕ) → IsAskable (generate_with number count)
-numbers_fit None count = tt
-numbers_fit (Some number) None = tt
-numbers_fit (Some number) (Some count) = tt
+numbers_fit : (number count : Option ℕ) (run : Bool) → IsAskable (generate_with number count run)
+numbers_fit None count run = tt
+numbers_fit (Some number) None run = tt
+numbers_fit (Some number) (Some count) run = tt
 
 generate_fits : (o : Option (List Row)) → IsAskable (generate_found o)
 generate_fits None = tt
-generate_fits (Some rows) = numbers_fit (number_in 0 2147483647 (first_of (codes "NUMBER") rows)) (number_in 1 2000 (first_of (codes "COUNT") rows))
+generate_fits (Some rows) =
+    numbers_fit (number_in 0 2147483647 (first_of (codes "NUMBER") rows)) (number_in 1 2000 (first_of (codes "COUNT") rows)) (is_set (first_of (codes "run") rows))
 
 kind_fits : (o : Option EngineKind) → IsAskable (option_map (λ (kind : EngineKind). asks.Script kind) o)
 kind_fits None = tt

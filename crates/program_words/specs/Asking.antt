@@ -57,13 +57,20 @@ abbrev pub number_in : ℕ → ℕ → Option Text → Option ℕ
 number_in least most None = None
 number_in least most (Some word) = within least most (number_below (2 ^ 32) word)
 
-abbrev pub generate_with : Option ℕ → Option ℕ → Option Asked
-generate_with (Some number) (Some count) = Some (asks.Generate number count)
-generate_with number count = None
+-- an option without a value is there
+abbrev pub is_set : Option Text → Bool
+is_set None = false
+is_set (Some word) = bytes_eq word (codes "true")
+
+abbrev pub generate_with : Option ℕ → Option ℕ → Bool → Option Asked
+generate_with (Some number) (Some count) run = Some (asks.Generate number count run)
+generate_with number count run = None
 
 -- behind `gen`
 abbrev pub generate_in : List Row → Option Asked
-generate_in rows = generate_with (number_in 0 2147483647 (first_of (codes "NUMBER") rows)) (number_in 1 2000 (first_of (codes "COUNT") rows))
+generate_in rows =
+    generate_with (number_in 0 2147483647 (first_of (codes "NUMBER") rows)) (number_in 1 2000 (first_of (codes "COUNT") rows))
+    (is_set (first_of (codes "run") rows))
 
 abbrev pub script_found : Option (List Row) → Option Asked
 script_found (Some rows) = script_in rows

@@ -1,6 +1,6 @@
 -- The commands of clap by which words are read, and what they find.
 use Rattle.std.specs.Prelude.{true, List, [], ◌∷◌, Option, Some, None, codes}
-use Rattle.clap.specs.declared.builder.action.ArgAction.TheVariants.{Set, Append}
+use Rattle.clap.specs.declared.builder.action.ArgAction.TheVariants.{Set, Append, SetTrue}
 use Rattle.clap.specs.Simple.{App, new_shape, new_rule, matches_of}
 use Rattle.clap.specs.Walk.{Row, Rule, Text}
 use Rattle.clap.specs.Kinds.{Kinds}
@@ -13,6 +13,10 @@ plain_app name rules = record { top = record (new_shape name) { rules = rules; n
 -- an option with a value, by its long name
 abbrev pub option_rule : Text → Rule
 option_rule name = record (new_rule name) { long = Some name; action = Some Set }
+
+-- an option without a value, by its long name
+abbrev pub flag_rule : Text → Rule
+flag_rule name = record (new_rule name) { long = Some name; action = Some SetTrue }
 
 -- a word that has to be there
 abbrev pub one_rule : Text → Rule
@@ -34,9 +38,9 @@ statement_app = plain_app (codes "statement") (one_rule (codes "NAME") ∷ one_r
 abbrev pub check_app : App
 check_app = plain_app (codes "check") []
 
--- NUMBER COUNT
+-- NUMBER COUNT [--run]
 abbrev pub generate_app : App
-generate_app = plain_app (codes "gen") (one_rule (codes "NUMBER") ∷ one_rule (codes "COUNT") ∷ [])
+generate_app = plain_app (codes "gen") (one_rule (codes "NUMBER") ∷ one_rule (codes "COUNT") ∷ flag_rule (codes "run") ∷ [])
 
 -- what was found, unless there is a reason to refuse
 abbrev pub unless_refused : Kinds → List Row → Option (List Row)

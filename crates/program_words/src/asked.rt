@@ -11,8 +11,9 @@ pub enum Asked {
     Statement(Statement),
     /// To tell what the files of the working folder stand for.
     Check,
-    /// To write the script of a number, 0 to 2,147,483,647, and of a count of writes, 1 to 2,000.
-    Generate { number: u32, count: u32 },
+    /// To write the script of a number, 0 to 2,147,483,647, and of a count of writes, 1 to 2,000; or to run it, and to tell how its
+    /// nodes stand then.
+    Generate { number: u32, count: u32, run: bool },
 }
 
 /// A statement for the leader of a cluster.

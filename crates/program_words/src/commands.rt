@@ -3,7 +3,7 @@
 ghost use Rattle.std.specs.Prelude.{◌≡◌, ◌≢◌, [], true, false, None, IfOk, map, string_bytes};
 ghost use Rattle.std.specs.Option.{option_map};
 ghost use Rattle.clap.specs.Words.{app_of, rule_of, found_of, rows_of, first_of, all_of, is_simple_and_free, kind_of};
-ghost use Rattle.program_words.specs.Commands.{plain_app, option_rule, one_rule, several_rule, script_app, statement_app, check_app, generate_app, read_by};
+ghost use Rattle.program_words.specs.Commands.{plain_app, option_rule, flag_rule, one_rule, several_rule, script_app, statement_app, check_app, generate_app, read_by};
 
 use clap::error::ErrorKind;
 use clap::{Arg, ArgAction, ArgMatches, Command, Error};
@@ -24,6 +24,14 @@ fn option<'a>(alloc: Global, name: &'a str) -> Arg<'a>
     ensures local { result.global ≡ false }
 {
     Arg::new(alloc, name).long(name).action(ArgAction::Set)
+}
+
+/// An option without a value, by its long name.
+fn flag<'a>(alloc: Global, name: &'a str) -> Arg<'a>
+    ensures rule { rule_of result ≡ flag_rule name.entry.now }
+    ensures local { result.global ≡ false }
+{
+    Arg::new(alloc, name).long(name).action(ArgAction::SetTrue)
 }
 
 /// A word that has to be there.
@@ -74,7 +82,8 @@ pub(crate) fn generate_command<'a>(alloc: Global) -> Result<Command<'a>, AllocEr
 {
     plain(alloc, "gen")
         .arg(one(alloc, "NUMBER"))?
-        .arg(one(alloc, "COUNT"))
+        .arg(one(alloc, "COUNT"))?
+        .arg(flag(alloc, "run"))
 }
 
 /// Nothing where an error refuses the words. `Err` where it is want of memory.

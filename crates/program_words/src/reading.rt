@@ -2,7 +2,7 @@ ghost use Rattle.std.specs.Prelude.{◌≡◌, Some, IfOk, map, string_bytes, co
 ghost use Rattle.std.specs.Option.{option_map};
 ghost use Rattle.clap.specs.Words.{found_of, rows_of};
 ghost use Rattle.program_words.specs.Commands.{script_app, statement_app, check_app, generate_app, read_by};
-ghost use Rattle.program_words.specs.Asking.{engine_named, script_in, statement_with, statement_in, script_found, statement_found, check_found, is_within, number_in, generate_in, generate_found, line_of, asked_by, asked_of, IsAskable};
+ghost use Rattle.program_words.specs.Asking.{engine_named, script_in, statement_with, statement_in, script_found, statement_found, check_found, is_within, number_in, is_set, generate_in, generate_found, line_of, asked_by, asked_of, IsAskable};
 
 use crate::addresses::{is_askable, text, texts};
 use crate::asked::{Asked, Statement};
@@ -172,12 +172,23 @@ fn number_in(least: u32, most: u32, word: Option<&str>) -> Option<u32>
     None
 }
 
+/// Whether an option without a value is there.
+fn is_set(word: Option<&str>) -> bool
+    ensures { result ≡ is_set (option_map (λ word. word.now) word.entry) }
+{
+    match word {
+        Some(word) => word == "true",
+        None => false,
+    }
+}
+
 fn generate_in(matches: &ArgMatches<'_>) -> Option<Asked>
     ensures { result ≡ generate_in (rows_of (found_of matches.now)) }
 {
     let number = number_in(0, 2_147_483_647, value(matches, "NUMBER"))?;
     let count = number_in(1, 2_000, value(matches, "COUNT"))?;
-    Some(Asked::Generate { number, count })
+    let run = is_set(value(matches, "run"));
+    Some(Asked::Generate { number, count, run })
 }
 
 /// The words behind `gen`.
@@ -209,8 +220,9 @@ fn read_by(alloc: Global, line: Line, words: &[String]) -> Result<Option<Asked>,
 /// The first word is `script`, `exec`, `query`, `check` or `gen`. Behind `script` an engine may be named once, as `--engine E` or
 /// `--engine=E`, where E is `sqlite`, which is taken where none is named, or `cells`. Behind `exec` and `query` stand the name of a
 /// database, a text of SQL and 1 to 9 addresses of 1 to 255 bytes. Behind `check` stands nothing. Behind `gen`
-/// stand a number of 0 to 2,147,483,647 and one of 1 to 2,000, in decimal without sign or leading zeros. No text may hold a NUL. The word
-/// `--` ends the options, and before it a longer word that begins with `-` is an option; there is no help.
+/// stand a number of 0 to 2,147,483,647 and one of 1 to 2,000, in decimal without sign or leading zeros, and `--run` where the script is
+/// to be run. No text may hold a NUL. The word `--` ends the options, and before it a longer word that begins with `-` is an option;
+/// there is no help.
 #[tactic(auto, unfolding(crate::specs::Asking::asked_of))]
 pub fn read_words(alloc: Global, words: &[String]) -> Result<Option<Asked>, AllocError>
     ensures asked { IfOk result (λ asked. asked ≡ asked_of (map string_bytes words.now)) }

@@ -1,7 +1,7 @@
 mod Answering
 mod Mailing
 pub mod Running
-mod Placing
+pub mod Placing
 mod Worlds
 pub mod Scripts
 mod Contents

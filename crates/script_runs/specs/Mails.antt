@@ -1,26 +1,15 @@
 -- Each message that arrives in a script was sent.
-use Rattle.std.specs.Prelude.{◌≡◌, ℕ, List, [], ◌∷◌, ◌++◌}
-use Rattle.std.specs.List.{AllByRecursion}
+use Rattle.std.specs.Prelude.{◌≡◌, ℕ, List, [], ◌++◌}
 use Rattle.sql_engine.specs.declared.kind.EngineKind.{EngineKind}
 use Rattle.sql_engine.specs.Meanings.{Meaning}
-use Rattle.raft_vote.specs.declared.message.RaftMessage.{RaftMessage}
-use Rattle.raft_vote.specs.Messages.{message_fields, AllHold}
 use Rattle.raft_world.specs.Members.{Setup}
 use Rattle.node_world.specs.Runs.{nothing_kept}
 use Rattle.script_nodes.specs.Outcomes.{Outcome, Turn}
 use Rattle.script_nodes.specs.Run.{run}
+pub use Rattle.script_nodes.specs.Knowing.{CanHold, AllCanHold}
 use Rattle.script_runs.specs.Laws.{IsSafe}
 use Rattle.script_runs.specs.Seats.{Seat, Rests, PathSo}
-use Rattle.script_runs.specs.Turns.{turns_at, messages_in, AllSentTo}
-
--- The wire can hold the message: its numbers and sizes are of 64 bits.
-abbrev pub CanHold : RaftMessage → Type 0
-CanHold m = AllHold (message_fields m)
-
--- so each message that a step says
-abbrev pub AllCanHold : List Turn → Type 0
-AllCanHold [] = Unit {0}
-AllCanHold (turn ∷ turns) = AllByRecursion CanHold (messages_in turn) × AllCanHold turns
+use Rattle.script_runs.specs.Turns.{turns_at, AllSentTo}
 
 -- In a script, whatever came of its events, a node receives only messages that were sent to it; up to any moment, where the wire could
 -- hold what was sent until then.

@@ -1,6 +1,5 @@
 -- What whole nodes do in the turns of a script, each at its place.
-use Rattle.std.specs.Prelude.{◌≡◌, ℕ, zero, suc, false, List, [], ◌∷◌, ◌++◌, codes, Option, Some}
-use Rattle.std.specs.Fmt.{decimal}
+use Rattle.std.specs.Prelude.{◌≡◌, ℕ, false, List, [], ◌∷◌, ◌++◌, Option, Some}
 use Rattle.sql_engine.specs.declared.kind.EngineKind.{EngineKind}
 use Rattle.sql_engine.specs.Meanings.{Meaning, Told}
 use Rattle.session_rules.specs.Engines.{Answer}
@@ -18,15 +17,12 @@ use Rattle.node_core.specs.declared.outs.Outs as core_outs
 use Rattle.node_core.specs.declared.running.Running.{Running}
 use Rattle.node_core.specs.Account.{StepsBy, StopsBy}
 use Rattle.node_core.specs.Values.{seen}
+use Rattle.script_nodes.specs.Voters.{voters_from}
 use Rattle.script_nodes.specs.Outcomes.{Standing, Outs, Ending, Steps, Starts, Stops, Fails, Unreadable, Doing, Timeout, Beat, Connect, Bytes, Hangup, Receive, Start, Turn, Does, Crashes}
 
 -- ---- the cluster of a script
 
--- so many voters, the first of which has this number, each at the address of its number
-abbrev pub voters_from : ℕ → ℕ → List Server
-voters_from zero n = []
-voters_from (suc count) n = record { id = n; address = codes "n" ++ decimal n; role = 0 } ∷ voters_from count (suc n)
-
+-- so many voters, those of the lowest numbers, each at the address of its number
 abbrev pub setup_of : ℕ → Setup
 setup_of voters = read_setup (voters_from voters 1)
 

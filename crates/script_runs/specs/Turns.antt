@@ -14,31 +14,10 @@ use Rattle.node_world.specs.Acts.{NotStarted, NotJoined, asked}
 use Rattle.node_world.specs.Runs.{Place, Up, Down, Run, Event, nothing_kept, run_from}
 use Rattle.node_runs.specs.Steps.{Leads, used_in, AreAmong}
 use Rattle.script_nodes.specs.Outcomes.{Standing, Outs, Ending, Steps, Starts, Stops, Fails, Unreadable, Doing, Timeout, Beat, Connect, Bytes, Hangup, Receive, Start, Turn, Does, Crashes}
+pub use Rattle.script_nodes.specs.Knowing.{actor, turns_at, messages_of, messages_in}
 use Rattle.script_runs.specs.Seats.{Seat, Rests, StandsSo, PathSo}
 
 -- ---- turns
-
--- the node at which it happened
-abbrev pub actor : Turn → ℕ
-actor (Does n doing aim outcome) = n
-actor (Crashes n pick) = n
-
--- those at a node
-abbrev pub turns_at : ℕ → List Turn → List Turn
-turns_at n [] = []
-turns_at n (turn ∷ turns) = cond (actor turn == n) (turn ∷ turns_at n turns) (turns_at n turns)
-
--- the messages that were said by it
-abbrev pub messages_of : Ending → List RaftMessage
-messages_of (Steps outs standing) = outs.messages
-messages_of (Starts kept standing) = []
-messages_of (Stops keeps) = []
-messages_of (Fails keeps) = []
-messages_of Unreadable = []
-
-abbrev pub messages_in : Turn → List RaftMessage
-messages_in (Does n doing aim outcome) = messages_of outcome.ending
-messages_in (Crashes n pick) = []
 
 -- a message that a node receives is for it, and was sent
 abbrev pub WasSent : List RaftMessage → ℕ → Doing → Type 0

@@ -1,36 +1,27 @@
 use Rattle.std.proofs.Common.{◌∙◌, subst}
-use Rattle.sqlite_engine.specs.Any.{any_meaning}
-use Rattle.lone_node.proofs.Safety.{runs_are_safe_hold}
-use Rattle.cluster_runner.specs.Run.{run}
-use Rattle.cluster_runner.proofs.Agreement.{keeps_alike}
-use Rattle.dqnode.specs.Asks.{IsScript}
-use Rattle.dqnode.specs.Program.{RunsAreSafe}
-use Rattle.dqnode.proofs.Deciding.{cells_decide}
+use Rattle.script_runner.proofs.Agreement.{keeps_alike}
+use Rattle.dqnode.specs.Asks.{IsScript, IsRun}
+use Rattle.dqnode.proofs.Endings.{runs_are_safe}
 use Rattle.dqnode.proofs.program.dqnode.Goals as goal
 
 pub returns-in-Ok-clause-words_input : goal.returns-in-Ok-clause-words_input
 returns-in-Ok-clause-words_input g c = λ other. c.run.ensures.words_input (λ (s : IsScript c.in-Ok.asked). other (subst IsScript c.in-Ok.ensures.asked s))
 
 pub returns-in-Ok-clause-words_journal : goal.returns-in-Ok-clause-words_journal
-returns-in-Ok-clause-words_journal g c = λ other. c.run.ensures.words_journal (λ (s : IsScript c.in-Ok.asked). other (subst IsScript c.in-Ok.ensures.asked s))
+returns-in-Ok-clause-words_journal g c = λ other unrun.
+    c.run.ensures.words_journal (λ (s : IsScript c.in-Ok.asked). other (subst IsScript c.in-Ok.ensures.asked s)) (λ (r : IsRun c.in-Ok.asked). unrun (subst IsRun c.in-Ok.ensures.asked r))
 
 pub returns-in-Ok-clause-generated : goal.returns-in-Ok-clause-generated
 returns-in-Ok-clause-generated g c = λ number writes asked. c.run.ensures.generated number writes (c.in-Ok.ensures.asked ∙ asked)
 
-runs_are_safe : RunsAreSafe
-runs_are_safe = λ kind script journal allowed. runs_are_safe_hold (any_meaning kind) kind (run script journal).turns allowed
+pub returns-in-Ok-clause-made : goal.returns-in-Ok-clause-made
+returns-in-Ok-clause-made g c = λ number writes asked. c.run.ensures.made number writes (c.in-Ok.ensures.asked ∙ asked)
 
 pub returns-in-Ok-clause-always_safe : goal.returns-in-Ok-clause-always_safe
 returns-in-Ok-clause-always_safe g c = runs_are_safe
 
 pub returns-in-Err-clause-always_safe : goal.returns-in-Err-clause-always_safe
 returns-in-Err-clause-always_safe g c = runs_are_safe
-
-pub returns-in-Ok-clause-determined : goal.returns-in-Ok-clause-determined
-returns-in-Ok-clause-determined g c = cells_decide
-
-pub returns-in-Err-clause-determined : goal.returns-in-Err-clause-determined
-returns-in-Err-clause-determined g c = cells_decide
 
 pub returns-in-Ok-clause-alike : goal.returns-in-Ok-clause-alike
 returns-in-Ok-clause-alike g c = keeps_alike

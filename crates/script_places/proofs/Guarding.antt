@@ -1,0 +1,74 @@
+-- A script over places of whole nodes is safe, up to where a checksum matches by chance.
+use Rattle.std.proofs.Common.{◌≡◌, ◌==◌, ℕ, Bool, true, false, cond, List, [], ◌∷◌, ◌++◌, length, Option, Some, None, refl, ap, sym, subst, ◌∙◌}
+use Rattle.std.proofs.lemmas.Bool.{true≢false}
+use Rattle.sql_engine.specs.declared.kind.EngineKind.{EngineKind}
+use Rattle.sqlite_engine.specs.Any.{any_meaning}
+use Rattle.node_world.specs.Runs.{nothing_kept}
+use Rattle.script_nodes.specs.Outcomes.{Turn}
+use Rattle.script_nodes.specs.Knowing.{AllCanHold, KnowsAt, actor, turns_at, node_at}
+use Rattle.script_runs.specs.Seats.{Seat as NodeSeat, Rests, PathSo, setup_of}
+use Rattle.script_runs.specs.Mails.{ScriptsAreSafe}
+use Rattle.script_places.specs.declared.seat.Seat.{Seat}
+use Rattle.script_places.specs.Lives.{Begins}
+use Rattle.script_places.specs.Safe.{LifeOf, idle, lived, AllLive, IsFairLife, PlacesTell, WholeScriptsAreSafe}
+use Rattle.script_places.specs.Turns.{Knows, running_in, states_in}
+use Rattle.script_places.proofs.Living.{life_leads}
+
+-- ---- fronts
+
+one_joins : (b : Bool) (turn : Turn) (front rest : List Turn) → cond b (turn ∷ (front ++ rest)) (front ++ rest) ≡ cond b (turn ∷ front) front ++ rest
+one_joins true turn front rest = refl
+one_joins false turn front rest = refl
+
+turns_join : (n : ℕ) (front rest : List Turn) → turns_at n (front ++ rest) ≡ turns_at n front ++ turns_at n rest
+turns_join n [] rest = refl
+turns_join n (turn ∷ front) rest =
+    ap (λ (turns : List Turn). cond (actor turn == n) (turn ∷ turns) turns) (turns_join n front rest) ∙ one_joins (actor turn == n) turn (turns_at n front) (turns_at n rest)
+
+begins_at : (n : ℕ) (front turns : List Turn) → Begins front turns → Begins (turns_at n front) (turns_at n turns)
+begins_at n front turns begins = (turns_at n begins.0, ap (turns_at n) begins.1 ∙ turns_join n front begins.0)
+
+abbrev is_some_turn : List Turn → Bool
+is_some_turn [] = false
+is_some_turn (turn ∷ turns) = true
+
+-- what begins no turns is none
+none_begins : (front turns : List Turn) → Begins front turns → turns ≡ [] → front ≡ []
+none_begins [] turns begins none = refl
+none_begins (turn ∷ front) turns begins none = absurd (true≢false (ap is_some_turn (sym begins.1 ∙ none)))
+
+held_front : (front rest : List Turn) → AllCanHold (front ++ rest) → AllCanHold front
+held_front [] rest all = tt
+held_front (turn ∷ front) rest all = (all.0, held_front front rest all.1)
+
+-- ---- the laws
+
+-- the life of a node at its place
+life_of : (kind : EngineKind) (voters n : ℕ) (turns : List Turn) (place : Option Seat) → KnowsAt (Knows kind) voters n turns place → LifeOf kind voters n turns
+life_of kind voters n turns None none = idle none
+life_of kind voters n turns (Some seat) known = lived (record { finds = known.0; disk = seat.disk.contents; node = running_in seat.node; life = known.1 })
+
+module _ (kind : EngineKind) (voters n : ℕ) (front turns : List Turn) (begins : Begins front turns) where
+  path_of : (life : LifeOf kind voters n (turns_at n turns)) → IsFairLife kind voters n (turns_at n turns) (length (turns_at n front)) life
+      → (seat : NodeSeat) × PathSo (any_meaning kind) kind (setup_of voters) n (Rests nothing_kept) (turns_at n front) seat
+  path_of (idle none) fair = (
+    Rests nothing_kept,
+    subst (λ (ts : List Turn). PathSo (any_meaning kind) kind (setup_of voters) n (Rests nothing_kept) ts (Rests nothing_kept)) (sym (none_begins (turns_at n front) (turns_at n turns) (begins_at n front turns begins) none)) refl,
+  )
+  path_of (lived one) fair = life_leads (any_meaning kind) kind (setup_of voters) n one.finds (states_in one.disk) (turns_at n turns) one.node one.life (turns_at n front) (begins_at n front turns begins) fair
+
+pub places_tell : (kind : EngineKind) → PlacesTell kind
+places_tell kind turns told =
+    let lives : AllLive kind told.voters turns = λ n. life_of kind told.voters n (turns_at n turns) (node_at told.places n) (told.know.0 n) in
+    record {
+      voters = told.voters;
+      lives = lives;
+      by_nodes = λ front rest is fair. record {
+        ends = λ n. (path_of kind told.voters n front turns (rest, is) (lives n) (fair n)).0;
+        paths = λ n. (path_of kind told.voters n front turns (rest, is) (lives n) (fair n)).1;
+        hold = held_front front rest (subst AllCanHold is told.know.1);
+      };
+    }
+
+pub whole_safe : (kind : EngineKind) → ScriptsAreSafe (any_meaning kind) kind → WholeScriptsAreSafe kind
+whole_safe kind safe script outcomes of front rest is fair = safe (setup_of of.voters) script outcomes front rest is (of.by_nodes front rest is fair)

@@ -1,0 +1,5 @@
+pub mod Voting
+pub mod Seating
+pub mod Turning
+pub mod Living
+pub mod Guarding

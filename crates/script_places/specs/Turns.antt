@@ -1,0 +1,124 @@
+-- What the calls of a place do by the rules of nodes, and which turns have led to a place.
+use Rattle.std.specs.Prelude.{◌≡◌, ◌⊎◌, ℕ, true, false, List, Option, Some, None, Ok, Err, if◌then◌else◌}
+use Rattle.sql_engine.specs.declared.kind.EngineKind.{EngineKind}
+use Rattle.sqlite_engine.specs.declared.any.AnyEngine.{AnyEngine}
+use Rattle.sqlite_engine.specs.Any.{any_kind, any_meaning}
+use Rattle.engine_journal.specs.Noting.{Noting, told_by}
+use Rattle.disk_model.specs.Disk.{Disk}
+use Rattle.disk_model.specs.Rest.{AfterCrash}
+use Rattle.disk_model.specs.Holds.{Holds}
+use Rattle.disk_model.specs.Stored.{Contents, memory_of}
+use Rattle.disk_model.specs.Trait.{Text}
+use Rattle.store_laws.specs.Store.{Kept}
+use Rattle.raft_rules.specs.Node.{Server}
+use Rattle.raft_member.specs.Members.{read_setup}
+use Rattle.node_replica.specs.Replicas.{IsKept}
+use Rattle.node_core.specs.declared.event.Event.{Event}
+use Rattle.node_core.specs.declared.fault.StartFault.{StartFault}
+use Rattle.node_core.specs.declared.node.Node.{Node}
+use Rattle.node_core.specs.declared.outs.Outs.{Outs as CoreOuts}
+use Rattle.node_core.specs.declared.running.Running.{Running}
+use Rattle.node_core.specs.Account.{StepsBy, StopsBy}
+use Rattle.node_core.specs.Finding.{Finds}
+use Rattle.node_core.specs.Starting.{StartsOver}
+use Rattle.node_core.specs.Values.{raft_of, applied_of, has_links, kept_by, node_of, replica_of, servers_told}
+use Rattle.node_rules.specs.Steps.{StartsSo}
+use Rattle.script_nodes.specs.Outcomes.{Turn}
+use Rattle.script_nodes.specs.Voters.{voters_from}
+use Rattle.script_runs.specs.Seats.{setup_of}
+use Rattle.script_places.specs.declared.happening.StartEnd.{StartEnd}
+use Rattle.script_places.specs.declared.happening.StartEnd.TheVariants as ends
+use Rattle.script_places.specs.declared.seat.Seat.{Seat}
+use Rattle.script_places.specs.Lives.{Lives}
+
+abbrev pub running_in : Option Node → Option Running
+running_in (Some node) = Some node.running
+running_in None = None
+
+-- the states that a disk with these contents may be said to be in
+abbrev pub states_in : Contents → Disk Text → Type 0
+states_in contents = Holds (memory_of contents)
+
+-- These turns of the node of this number, in a cluster that was opened with so many voters, have led to this seat.
+abbrev pub Knows : EngineKind → Seat → ℕ → ℕ → List Turn → Type 0
+Knows kind seat node voters turns =
+    (finds : ℕ) × Lives (any_meaning kind) kind (setup_of voters) node finds (states_in seat.disk.contents) turns (running_in seat.node)
+
+-- ---- steps
+
+-- A step made the acts of the rules, whatever the servers are with which the cluster was opened, and its engine told what it did.
+abbrev pub ActsSo : Noting AnyEngine → Noting AnyEngine → Node → Node → Event → CoreOuts → Type 0
+ActsSo engine engine_now was now event outs = (opening : List Server) →
+    StepsBy (any_meaning (any_kind engine.engine)) (any_kind engine.engine) (read_setup opening) was.running now.running event outs
+    (Some (told_by engine.noted engine.cut)) (Some (told_by engine_now.noted engine_now.cut))
+
+-- The disk keeps what the node is, where it did so before; and all that is committed is applied.
+pub record KeepsUp (disk disk_now : Contents) (was now : Node) : Type 0 where
+  pub stored : IsKept true (states_in disk) (replica_of was) → IsKept true (states_in disk_now) (replica_of now)
+  pub applied : applied_of now ≡ (raft_of now).commit
+
+-- A step that failed or was stopped leaves on the disk what the acts of the rules leave, where the disk kept what the node was.
+abbrev pub LeavesShort : Noting AnyEngine → Contents → Contents → Node → Event → Type 0
+LeavesShort engine disk disk_now was event = (opening : List Server) → IsKept true (states_in disk) (replica_of was) →
+    Finds true (states_in disk_now) (StopsBy (any_meaning (any_kind engine.engine)) (any_kind engine.engine) (read_setup opening) was.running event)
+
+-- A step of the node at a place that ended well.
+pub record HasActed (old new : Seat) (event : Event) (outs : CoreOuts) : Type 0 where
+  pub was : Node
+  pub now : Node
+  pub was_is : old.node ≡ Some was
+  pub now_is : new.node ≡ Some now
+  pub acts : ActsSo old.engine new.engine was now event outs
+  pub keeps : KeepsUp old.disk.contents new.disk.contents was now
+
+-- One that failed or was stopped, after which no node runs.
+pub record HasStopped (old new : Seat) (event : Event) : Type 0 where
+  pub was : Node
+  pub was_is : old.node ≡ Some was
+  pub none : new.node ≡ None
+  pub leaves : LeavesShort old.engine old.disk.contents new.disk.contents was event
+
+-- the disk of a fall is found as it was, or after a crash
+abbrev pub IsFound : Contents → Contents → Type 0
+IsFound old new = (d : Disk Text) → states_in old d → (e : Disk Text) × states_in new e × ((e ≡ d) ⊎ AfterCrash d e)
+
+-- ---- starts
+
+-- A node has started over a disk: it stands for each node of Raft that had stored what was kept, in the cluster of these voters, by this
+-- number; and it has no links.
+pub record NodeStarted (number voters : ℕ) (disk disk_now : Contents) (node : Node) : Type 0 where
+  pub starts : StartsSo (read_setup (voters_from voters 1)) (kept_by node) (node_of node) (servers_told node)
+  pub id : (replica_of node).raft.id ≡ number
+  pub links : has_links node ≡ false
+  pub applied : applied_of node ≡ (raft_of node).commit
+  pub over : StartsOver (states_in disk) (states_in disk_now) (Ok node)
+
+-- It runs at the place. What it has loaded is told where a call of the disk had stopped or failed before.
+pub record RunsNow (number voters : ℕ) (old new : Seat) (loaded : Option Kept) : Type 0 where
+  pub node : Node
+  pub runs : new.node ≡ Some node
+  pub fresh : new.has_failed ≡ false
+  pub told : loaded ≡ (if old.has_failed then Some (kept_by node) else None)
+  pub started : NodeStarted number voters old.disk.contents new.disk.contents node
+
+-- So it is where a node that has started is put there; the disk stays.
+pub record IsSeatedBy (old new : Seat) (node : Node) (ended : StartEnd) : Type 0 where
+  pub loaded : Option Kept
+  pub ended_is : ended ≡ ends.Runs loaded
+  pub runs : new.node ≡ Some node
+  pub fresh : new.has_failed ≡ false
+  pub told : loaded ≡ (if old.has_failed then Some (kept_by node) else None)
+  pub disk : new.disk.contents ≡ old.disk.contents
+
+-- none has started, for some cause
+pub record NoneStarted (old new : Seat) : Type 0 where
+  pub none : new.node ≡ None
+  pub failed : new.has_failed ≡ old.has_failed
+  pub why : StartFault
+  pub over : StartsOver (states_in old.disk.contents) (states_in new.disk.contents) (Err why)
+
+-- what a start did, by how it ended
+abbrev pub StartsBy : ℕ → ℕ → Seat → Seat → StartEnd → Type 0
+StartsBy number voters old new (ends.Runs loaded) = RunsNow number voters old new loaded
+StartsBy number voters old new ends.DiskFault = NoneStarted old new
+StartsBy number voters old new ends.Unreadable = NoneStarted old new
