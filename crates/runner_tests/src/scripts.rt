@@ -1,6 +1,7 @@
-use cluster_runner::{Outcome, run_script};
 use dq_base::{MemSink, MemSource};
-use engine_journal::Journal;
+use script_nodes::ClusterJournal;
+use script_places::{CellChoice, SqliteChoice, WholePlace};
+use script_runner::{Outcome, run_script};
 use sql_engine::EngineKind;
 use std::alloc::{AllocError, Global};
 use std::test::Fail;
@@ -35,8 +36,23 @@ fn run(
         Vec::from_slice(alloc, &[read])?,
     );
     let mut output = MemSink::new(alloc, Vec::from_slice(alloc, &[write])?);
-    let mut journal = Journal::new(alloc);
-    let outcome = run_script(alloc, &mut input, &mut output, engine, &mut journal);
+    let mut journal = ClusterJournal::new(alloc);
+    let outcome = match engine {
+        EngineKind::Sqlite => run_script(
+            alloc,
+            WholePlace::<SqliteChoice>::new(alloc),
+            &mut input,
+            &mut output,
+            &mut journal,
+        ),
+        EngineKind::Cells => run_script(
+            alloc,
+            WholePlace::<CellChoice>::new(alloc),
+            &mut input,
+            &mut output,
+            &mut journal,
+        ),
+    };
     let text = Vec::from_slice(alloc, output.bytes())?;
     Ok(Ended { outcome, text })
 }
@@ -82,12 +98,28 @@ const ROWS: &[Row] = &[
     (SQLITE, Script::Text(""), 1, 0, Outcome::ReadFault, ""),
     // A line that is cut by a failed read is not run.
     (SQLITE, Script::Long, 2, 0, Outcome::ReadFault, ""),
-    (SQLITE, Script::Long, 0, 0, Outcome::Script(3), ""),
+    (
+        SQLITE,
+        Script::Long,
+        0,
+        0,
+        Outcome::Script(3),
+        "error line 3\n",
+    ),
     (SQLITE, Script::Asking, 0, 1, Outcome::WriteFault, ""),
     // The line at the end can't be written.
     (SQLITE, Script::Asking, 0, 2, Outcome::WriteFault, NO_LEADER),
     (SQLITE, Script::Text(""), 0, 1, Outcome::Done, ""),
-    (SQLITE, Script::Text("nodes"), 0, 1, Outcome::Script(1), ""),
+    (
+        SQLITE,
+        Script::Text("nodes"),
+        0,
+        0,
+        Outcome::Script(1),
+        "error line 1\n",
+    ),
+    // The line that tells the fault can't be written.
+    (SQLITE, Script::Text("nodes"), 0, 1, Outcome::WriteFault, ""),
 ];
 
 /// Whether the script of a row ends and prints as the row says.
