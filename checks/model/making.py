@@ -26,6 +26,8 @@ class Script:
 
     def line(self, text):
         """What the line prints by the model."""
+        if self.world.is_large:
+            return []
         printed = self.world.line(text)
         self.lines.append(text)
         self.wanted += printed
@@ -69,10 +71,10 @@ class Script:
 
     def ends(self):
         """All start, one is elected, and it answers reads of all places and another write."""
-        for attempt in range(3 * self.world.count):
+        for attempt in range(3 * self.world.size):
             for number in self.world.nodes:
                 self.line("start %d" % number)
-            self.all("settle 1000", "timeout %d" % (attempt % self.world.count + 1), "settle 1000")
+            self.all("settle 1000", "timeout %d" % (attempt % self.world.size + 1), "settle 1000")
             leads = self.leader()
             if not leads:
                 continue

@@ -46,6 +46,16 @@ def servers_size(servers):
     return 8 + sum(16 + len(wire.text(address)) for address, _ in servers.values())
 
 
+def message_size(message):
+    """The bytes of a message, with its header."""
+    rest = {"AskVote": 16, "Vote": 8, "Ack": 16, "TimeoutNow": 0}.get(message["kind"])
+    if message["kind"] == "Append":
+        rest = 32 + sum(16 + entry.size for entry in message["entries"])
+    elif message["kind"] == "Install":
+        rest = 24 + message["snapshot"].size()
+    return 24 + rest
+
+
 class Snapshot:
     """What a node stands at: index and term, the applied servers, the databases."""
 

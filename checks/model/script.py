@@ -1,6 +1,12 @@
 """A script of nodes over the engine of cells, line by line."""
 from .disk import Disk, Failed, Stopped
-from .node import VOTER, Node
+from .node import VOTER, Node, message_size
+
+EVENTS, BYTES = 20_000, 268_435_456
+
+
+class Large(Exception):
+    """An event too many, or one that makes too many bytes of messages. It isn't in the run."""
 
 
 class World:
@@ -8,15 +14,30 @@ class World:
 
     def __init__(self, mode):
         numbers = [int(number) for number in mode.split(" ")[1:]]
-        self.voters, self.count = numbers[0], sum(numbers)
+        self.voters, self.size = numbers[0], sum(numbers)
         self.opening = {number: ("n%d" % number, VOTER) for number in range(1, self.voters + 1)}
-        self.disks = {number: Disk() for number in range(1, self.count + 1)}
+        self.disks = {number: Disk() for number in range(1, self.size + 1)}
         self.nodes = {number: Node(number, self.opening, disk) for number, disk in self.disks.items()}
         self.homes, self.open = {}, set()
         self.messages, self.came = [], set()
+        self.events, self.bytes_made, self.is_large = 0, 0, False
 
     def line(self, text):
-        """What a line behind the mode line prints."""
+        """What a line behind the mode line prints. Behind one that is too much nothing is printed."""
+        if self.is_large:
+            return []
+        try:
+            return self.takes(text)
+        except Large:
+            self.is_large = True
+            return ["error large"]
+
+    def count(self):
+        self.events += 1
+        if self.events > EVENTS:
+            raise Large
+
+    def takes(self, text):
         words = text.split(" ")
         aim = {}
         if words[0] == "stop":
@@ -27,13 +48,15 @@ class World:
             return []
         if words[0] == "settle":
             return self.settle(int(words[1]))
+        if words[0] != "show":
+            self.count()
         numbers = [word if at == 1 and words[0] == "bytes" else int(word) for at, word in enumerate(words[1:])]
         return getattr(self, words[0])(*numbers, aim=aim) if words[0] in self.AIMED else getattr(self, words[0])(*numbers)
 
     AIMED = ("timeout", "beat", "bytes", "hangup", "deliver", "start")
 
     def end(self):
-        return [line for number in range(1, self.count + 1) for line in self.show(number)]
+        return [] if self.is_large else [line for number in sorted(self.nodes) for line in self.show(number)]
 
     def show(self, number):
         node = self.nodes[number]
@@ -72,7 +95,12 @@ class World:
             least = self.low()
             if least > len(self.messages):
                 break
-            printed += self.deliver(least, {})
+            try:
+                self.count()
+                printed += self.deliver(least, {})
+            except Large:
+                self.is_large = True
+                return printed + ["error large"]
         return printed
 
     least = 1
@@ -130,6 +158,9 @@ class World:
         for conn, reason in closes:
             self.open.discard(conn)
             printed.append("closed %d %d" % (conn, reason))
+        self.bytes_made += sum(map(message_size, messages))
+        if self.bytes_made > BYTES:
+            raise Large
         for message in messages:
             self.messages.append(message)
             printed.append("message %d %d %d %s" % (len(self.messages), number, message["to"], message["kind"]))
