@@ -5,8 +5,8 @@ from .script import World
 BARRIERS = 1 << 32
 
 
-def open_(flags=0):
-    return wire.message(3, wire.text("d") + wire.word(flags) + wire.text("volatile"))
+def open_(flags=0, name="d"):
+    return wire.message(3, wire.text(name) + wire.word(flags) + wire.text("volatile"))
 
 
 def execute(words, schema=0):
@@ -44,13 +44,14 @@ class Script:
         leads = [node for node in self.world.nodes.values() if node and node.role == "leader"]
         return max(leads, key=lambda node: node.term, default=None)
 
-    def client(self, node, flags=0):
-        """A client of a node opens the database."""
+    def client(self, node, flags=0, name="d"):
+        """A client of a node opens a database."""
         self.conns += 1
-        self.asked[self.conns] = [("open",)]
-        self.line("connect %d %d" % (node, self.conns))
-        self.line("bytes %d %s" % (self.conns, (wire.word(1) + open_(flags)).hex()))
-        return self.conns
+        conn = self.conns
+        self.asked[conn] = [("open",)]
+        self.line("connect %d %d" % (node, conn))
+        self.line("bytes %d %s" % (conn, (wire.word(1) + open_(flags, name)).hex()))
+        return conn
 
     def piece(self, conn, *requests):
         """The line in which a client sends requests, each with what it asks."""

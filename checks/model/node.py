@@ -9,6 +9,7 @@ from .scan import Image, Refused
 
 VOTER, STANDBY, SPARE = 0, 1, 2
 BATCH, DUE, STAY = 16, 64, 16
+PAGES = 16_384
 
 
 class Entry:
@@ -79,7 +80,8 @@ class Transaction:
 
 
 class Flight:
-    """A proposal: `index` is that of its last entry; `then` is what becomes of the session and is answered once it is applied."""
+    """A proposal: `index` is that of its last entry; `then` is what becomes of the session and is answered once it is applied; `pages`
+    is how many the image behind it has, and of an OPEN the name."""
 
     def __init__(self, kind, index, then, pages=0):
         self.kind, self.index, self.then, self.pages = kind, index, then, pages
@@ -595,6 +597,8 @@ class Node:
         names = set(self.machine) | proposed
         if name not in names and len(names) >= 16:
             raise Refused(13, "too many databases")
+        if sum(self.sizes(name, Image()).values()) > PAGES:
+            raise Refused(13, "database is full")
         return self.propose([open_entry(self.term, name)], "open", opens, name)
 
     # Statements.
@@ -681,13 +685,19 @@ class Node:
 
         return self.propose_pages(session, pages, transaction.image, commits)
 
-    def has_room(self, session, image):
-        sizes = {name: database.image.page_count() for name, database in self.machine.items()}
+    def sizes(self, name, image):
+        """The pages of all databases, proposals counted, where one has this image."""
+        sizes = {other: database.image.page_count() for other, database in self.machine.items()}
         for other in self.sessions.values():
-            if other.flight and other.flight.kind == "pages":
+            if other.flight and other.flight.kind == "open":
+                sizes.setdefault(other.flight.pages, 1)
+            elif other.flight and other.flight.kind == "pages":
                 sizes[other.name] = max(sizes[other.name], other.flight.pages)
-        sizes[session.name] = max(sizes[session.name], image.page_count())
-        if sum(sizes.values()) > 16_384:
+        sizes[name] = max(sizes.get(name, 0), image.page_count())
+        return sizes
+
+    def has_room(self, session, image):
+        if sum(self.sizes(session.name, image).values()) > PAGES:
             raise Refused(13, "database is full")
 
     def propose_pages(self, session, pages, image, then):

@@ -65,12 +65,14 @@ StopsBehind setup came old kept = (c : Configurations) × StopsTelling setup cam
 -- An event from outside was stopped: in Raft's step of it, or behind it, where Raft was told servers.
 pub data StopsFollowing (setup : Setup) (old : Running) (event : RaftEvent) (kept : Kept) : Type 0 where
   in_step : StopsIn setup (bytes_with event) old (input_of event) kept → StopsFollowing setup old event kept
-  behind_step : (mid : Running) (servers : List raft.Server) → FollowsSo old mid (input_of event) → StopsIn setup (bytes_with event) mid (raft.Local (raft.UseServers servers)) kept → StopsFollowing setup old event kept
+  behind_step : (mid : Running) (servers : List raft.Server) → FollowsSo old mid (input_of event) →
+      StopsIn setup (bytes_with event) mid (raft.Local (raft.UseServers servers)) kept → StopsFollowing setup old event kept
 
 -- A message that brings a snapshot: in Raft's step of it, or behind it.
 pub data StopsInstalling (setup : Setup) (old : Running) (event : RaftEvent) (kept : Kept) : Type 0 where
   in_install : StopsIn setup (bytes_with event) old (input_of event) kept → StopsInstalling setup old event kept
-  behind_install : (message : RaftMessage) (mid : Running) (servers : List raft.Server) → event ≡ events.Message message → InstallsSo setup old mid (bytes_in message.what) (message_value message) →
+  behind_install : (message : RaftMessage) (mid : Running) (servers : List raft.Server) → event ≡ events.Message message →
+      InstallsSo setup old mid (bytes_in message.what) (message_value message) →
       StopsIn setup (bytes_in message.what) mid (raft.Local (raft.UseServers servers)) kept → StopsInstalling setup old event kept
 
 -- Raft was to be told the servers of a change: nothing was kept yet, or it was stopped in that step, at which the voters may be told.
@@ -91,11 +93,14 @@ StopsCompacting setup came old kept = KnowsServers setup old → StopsIn setup c
 
 -- An act that began with an event was stopped in Raft's step of it, or in one that the node added.
 pub data BeganStops (m : Meaning) (kind : EngineKind) (setup : Setup) (old : Running) (event : RaftEvent) (kept : Kept) : Type 0 where
-  at_once : MayBe setup old (bytes_with event) (input_of event ∷ []) → StopsIn setup (bytes_with event) old (input_of event) kept → BeganStops m kind setup old event kept
-  later_on : {told : Option Told} (mid : Running) (i : raft.Input) (since : Since m kind setup (came_by event) false old mid told told) → IsOwn i → IsFirst (moment_of mid) i →
+  at_once : MayBe setup old (bytes_with event) (input_of event ∷ []) →
+      StopsIn setup (bytes_with event) old (input_of event) kept → BeganStops m kind setup old event kept
+  later_on : {told : Option Told} (mid : Running) (i : raft.Input) (since : Since m kind setup (came_by event) false old mid told told) →
+      IsOwn i → IsFirst (moment_of mid) i →
       MayBe setup old (bytes_with event) (since.piece.inputs ++ i ∷ []) → StopsIn setup (bytes_with event) mid i kept → BeganStops m kind setup old event kept
 
 -- A message of a peer that came on a connection was stopped; or nothing was kept yet.
 pub data StopsLetter (m : Meaning) (kind : EngineKind) (setup : Setup) (old : Running) (kept : Kept) : Type 0 where
-  letter_stopped : (message : RaftMessage) (mid : Running) → old.has_links ≡ true → mid ≡ record old { links = mid.links } → BeganStops m kind setup mid (events.Message message) kept → StopsLetter m kind setup old kept
+  letter_stopped : (message : RaftMessage) (mid : Running) → old.has_links ≡ true → mid ≡ record old { links = mid.links } →
+      BeganStops m kind setup mid (events.Message message) kept → StopsLetter m kind setup old kept
   no_letter : kept ≡ kept_of old.replica → StopsLetter m kind setup old kept

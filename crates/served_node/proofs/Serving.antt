@@ -1,13 +1,28 @@
 -- Steps of a node that has its disk and its engine by reference, seen as those of the node, the disk and the engine.
 use Rattle.std.proofs.Common.{◌≡◌, ◌≤◌, ℕ, List, [], ◌∷◌, refl, sym, ap, subst, ◌∙◌, arith}
-use Rattle.std.specs.Prelude.{Option}
+use Rattle.std.specs.Prelude.{Bool, Option}
+use Rattle.disk_model.specs.Disk.{Disk}
+use Rattle.disk_model.specs.Trait.{Text}
+use Rattle.sql_engine.specs.declared.kind.EngineKind.{EngineKind}
+use Rattle.raft_rules.specs.Node.{Server}
+use Rattle.raft_member.specs.Members.{read_setup}
+use Rattle.session_decisions.specs.declared.job.Read.{Read}
+use Rattle.node_replica.specs.Replicas.{IsKept}
+use Rattle.node_core.specs.declared.node.Node.{Node}
+use Rattle.node_core.specs.declared.event.Event as core
+use Rattle.node_core.specs.Account.{StepsBy, StopsBy}
+use Rattle.node_core.specs.Finding.{Finds}
+use Rattle.node_core.specs.Stepping.{IsDown}
+use Rattle.node_core.specs.Values.{replica_of, raft_of, applied_of}
 use Rattle.node_edge.specs.declared.event.Event.{Event}
 use Rattle.node_edge.specs.declared.looping.LoopEnd.{LoopEnd}
 use Rattle.node_edge.specs.declared.looping.LoopEnd.TheVariants.{Closed, DiskFault, Spent, NoMemory, Unfit}
 use Rattle.node_edge.specs.Stepping.{Steps}
 use Rattle.node_edge.specs.Looping.{Taken, Broke, Ends, Loops}
-use Rattle.sql_engine.specs.Meanings.{Stays}
-use Rattle.served_node.specs.Serving.{Lent, StaysLent}
+use Rattle.sql_engine.specs.Meanings.{Meaning, Stays, Told}
+use Rattle.served_node.specs.declared.said.Said.{Said}
+use Rattle.served_node.specs.Bridge.{event_of}
+use Rattle.served_node.specs.Serving.{IsStateOf, Lent, StaysLent, StepsByRules, StopsByRules}
 
 -- the same steps, seen otherwise
 pub steps_seen : {S R E T : Type 0} (see : S → R) (makes : S → E → T → S → Type 0) (seen : R → E → T → R → Type 0)
@@ -105,3 +120,25 @@ loop_lends see makes breaks was now before after said said_after budget end loop
     lent_then (see was) (see loops.last) (see now)
     (steps_keep makes (λ a b. StaysLent (see a) (see b)) (λ a. lent_same (see a)) (λ a b c. lent_then (see a) (see b) (see c)) each was loops.events loops.outs loops.last loops.steps)
     (ends_keep breaks (λ a b. StaysLent (see a) (see b)) (λ a. lent_same (see a)) each_broken loops.last now before after loops.events budget end loops.ends)
+
+-- ---- what one step shows
+
+-- a step of the node's event is one of the loop's
+pub steps_well : (m : Meaning) (kind : EngineKind) (told_before told_now : Option Told) (tells : Bool) (before after : Disk Text → Type 0) (old new : Node)
+    (event : Event Read) (e : core.Event) (said : Said) → e ≡ event_of event →
+    ((opening : List Server) → StepsBy m kind (read_setup opening) old.running new.running e said.outs told_before told_now) →
+    (IsKept tells before (replica_of old) → IsKept tells after (replica_of new)) → applied_of new ≡ (raft_of new).commit → IsStateOf said.state new →
+    StepsByRules m kind told_before told_now tells before after old new event said
+steps_well m kind told_before told_now tells before after old new event e said is acts stored applied told = record {
+  acts = λ opening. subst (λ (z : core.Event). StepsBy m kind (read_setup opening) old.running new.running z said.outs told_before told_now) is (acts opening);
+  well = record { stored = stored; applied = applied; told = told };
+}
+
+pub stops_short : (m : Meaning) (kind : EngineKind) (tells : Bool) (before after : Disk Text → Type 0) (old new : Node) (event : Event Read) (e : core.Event) →
+    e ≡ event_of event → IsDown new →
+    ((opening : List Server) → IsKept tells before (replica_of old) → Finds tells after (StopsBy m kind (read_setup opening) old.running e)) →
+    StopsByRules m kind tells before after old new event
+stops_short m kind tells before after old new event e is down stops = record {
+  down = down;
+  stops = λ opening keeps. subst (λ (z : core.Event). Finds tells after (StopsBy m kind (read_setup opening) old.running z)) is (stops opening keeps);
+}

@@ -4,7 +4,7 @@ ghost use Rattle.std.specs.Prelude.{◌≡◌, ◌≤◌};
 ghost use Rattle.dq_base.specs.Faults.{Rose};
 ghost use Rattle.sql_engine.specs.Meanings.{Stays};
 ghost use Rattle.node_edge.specs.declared.looping.LoopEnd.TheVariants as ends;
-ghost use Rattle.served_node.specs.Serving.{CanStep, Runs};
+ghost use Rattle.served_node.specs.Serving.{CanStep, Runs, RunsByRules};
 
 use crate::said::Said;
 use crate::served::ServedNode;
@@ -30,6 +30,8 @@ impl<'n, 'd, 'e, D: Disk, E: Engine> ServedNode<'n, 'd, 'e, D, E> {
         ensures engine { Stays (E.kind self.old.engine.now) (E.kind self.new.engine.now) (E.refused_openings self.old.engine.now) (E.refused_openings self.new.engine.now) }
         ensures runs { Runs D.tells D.states D.faults E.kind E.refused_openings self.old.node.now self.old.disk.now self.new.disk.now self.old.engine.now self.new.engine.now
             (record { left = I.left inbox.old; count = I.taken inbox.old }) (record { left = I.left inbox.new; count = I.taken inbox.new }) (O.said outbox.old) (O.said outbox.new) budget result }
+        ensures by_rules { RunsByRules D.tells D.states D.faults E.meaning E.kind E.told E.refused_openings self.old.node.now self.old.disk.now self.new.disk.now self.old.engine.now self.new.engine.now
+            (record { left = I.left inbox.old; count = I.taken inbox.old }) (record { left = I.left inbox.new; count = I.taken inbox.new }) (O.said outbox.old) (O.said outbox.new) budget result }
         ensures closed { result ≡ ends.Closed → Rose (I.faults inbox.old) (I.faults inbox.new) }
         ensures disk { result ≡ ends.DiskFault → Rose (D.faults self.old.disk.now) (D.faults self.new.disk.now) }
     {
@@ -52,6 +54,8 @@ pub fn run_node<D: Disk, E: Engine, I: Inbox<Read>, O: Outbox<Said>>(
 ) -> LoopEnd
     requires { CanStep (E.known engine.old) node }
     ensures runs { Runs D.tells D.states D.faults E.kind E.refused_openings node disk.old disk.new engine.old engine.new
+        (record { left = I.left inbox.old; count = I.taken inbox.old }) (record { left = I.left inbox.new; count = I.taken inbox.new }) (O.said outbox.old) (O.said outbox.new) budget result }
+    ensures by_rules { RunsByRules D.tells D.states D.faults E.meaning E.kind E.told E.refused_openings node disk.old disk.new engine.old engine.new
         (record { left = I.left inbox.old; count = I.taken inbox.old }) (record { left = I.left inbox.new; count = I.taken inbox.new }) (O.said outbox.old) (O.said outbox.new) budget result }
     ensures closed { result ≡ ends.Closed → Rose (I.faults inbox.old) (I.faults inbox.new) }
     ensures disk { result ≡ ends.DiskFault → Rose (D.faults disk.old) (D.faults disk.new) }

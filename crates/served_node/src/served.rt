@@ -2,8 +2,7 @@
 
 ghost use Rattle.std.specs.Prelude.{◌≡◌, ◌≤◌, IfOk, OnOk, OnErr};
 ghost use Rattle.node_edge.specs.Stepping.{StepCause};
-ghost use Rattle.node_core.specs.Stepping.{IsDown};
-ghost use Rattle.served_node.specs.Serving.{CanStep, StaysLent, StepsWell};
+ghost use Rattle.served_node.specs.Serving.{CanStep, StaysLent, StepsByRules, StopsByRules};
 
 use crate::bridge::{event_of, fault_of};
 use crate::said::Said;
@@ -31,12 +30,14 @@ impl<'n, 'd, 'e, D: Disk, E: Engine> Core for ServedNode<'n, 'd, 'e, D, E> {
     ghost makes = { λ old event said new.
         StaysLent (record { disk = old.disk.ghost_name; engine = old.engine.ghost_name; faults = D.faults old.disk.now; kind = E.kind old.engine.now; refused = E.refused_openings old.engine.now })
         (record { disk = new.disk.ghost_name; engine = new.engine.ghost_name; faults = D.faults new.disk.now; kind = E.kind new.engine.now; refused = E.refused_openings new.engine.now })
-        × StepsWell D.tells (D.states old.disk.now) (D.states new.disk.now) old.node.now new.node.now said.state };
+        × StepsByRules (E.meaning (E.kind old.engine.now)) (E.kind old.engine.now) (E.told old.engine.now) (E.told new.engine.now)
+        D.tells (D.states old.disk.now) (D.states new.disk.now) old.node.now new.node.now event said };
 
     ghost breaks = { λ old event new.
         StaysLent (record { disk = old.disk.ghost_name; engine = old.engine.ghost_name; faults = D.faults old.disk.now; kind = E.kind old.engine.now; refused = E.refused_openings old.engine.now })
         (record { disk = new.disk.ghost_name; engine = new.engine.ghost_name; faults = D.faults new.disk.now; kind = E.kind new.engine.now; refused = E.refused_openings new.engine.now })
-        × IsDown new.node.now };
+        × StopsByRules (E.meaning (E.kind old.engine.now)) (E.kind old.engine.now) D.tells (D.states old.disk.now) (D.states new.disk.now)
+        old.node.now new.node.now event };
 
     ghost faults = { λ s. D.faults s.disk.now };
 
@@ -46,11 +47,13 @@ impl<'n, 'd, 'e, D: Disk, E: Engine> Core for ServedNode<'n, 'd, 'e, D, E> {
         ensures makes { IfOk result (λ said. StaysLent
             (record { disk = self.old.disk.ghost_name; engine = self.old.engine.ghost_name; faults = D.faults self.old.disk.now; kind = E.kind self.old.engine.now; refused = E.refused_openings self.old.engine.now })
             (record { disk = self.new.disk.ghost_name; engine = self.new.engine.ghost_name; faults = D.faults self.new.disk.now; kind = E.kind self.new.engine.now; refused = E.refused_openings self.new.engine.now })
-            × StepsWell D.tells (D.states self.old.disk.now) (D.states self.new.disk.now) self.old.node.now self.new.node.now said.state) }
+            × StepsByRules (E.meaning (E.kind self.old.engine.now)) (E.kind self.old.engine.now) (E.told self.old.engine.now) (E.told self.new.engine.now)
+            D.tells (D.states self.old.disk.now) (D.states self.new.disk.now) self.old.node.now self.new.node.now event said) }
         ensures breaks { OnErr result (StaysLent
             (record { disk = self.old.disk.ghost_name; engine = self.old.engine.ghost_name; faults = D.faults self.old.disk.now; kind = E.kind self.old.engine.now; refused = E.refused_openings self.old.engine.now })
             (record { disk = self.new.disk.ghost_name; engine = self.new.engine.ghost_name; faults = D.faults self.new.disk.now; kind = E.kind self.new.engine.now; refused = E.refused_openings self.new.engine.now })
-            × IsDown self.new.node.now) }
+            × StopsByRules (E.meaning (E.kind self.old.engine.now)) (E.kind self.old.engine.now) D.tells (D.states self.old.disk.now)
+            (D.states self.new.disk.now) self.old.node.now self.new.node.now event) }
         ensures cause { StepCause (D.faults self.old.disk.now) (D.faults self.new.disk.now) result }
     {
         match self.node.step(event_of(event), self.disk, self.engine) {

@@ -1,4 +1,4 @@
-use Rattle.served_node.specs.Serving.{Seat, Lent, StaysLent, Makes, Breaks}
+use Rattle.served_node.specs.Serving.{Seat, Lent, StaysLent, Makes, Breaks, MakesByRules, BreaksByRules}
 use Rattle.served_node.proofs.Serving.{loop_lends, loops_seen}
 use Rattle.served_node.proofs.served.ServedNode.run.Goals as goal
 
@@ -23,6 +23,16 @@ returns-clause-runs g c = record {
   last = c.core_loop.new.core.node.now;
   loops = loops_seen (λ s. record { node = s.node.now; disk = s.disk.now; engine = s.engine.now }) _ _
       (Makes g.D.Disk.tells g.D.Disk.states g.D.Disk.faults g.E.Engine.kind g.E.Engine.refused_openings) (Breaks g.D.Disk.faults g.E.Engine.kind g.E.Engine.refused_openings)
+      c.args.self.now c.core_loop.new.core _ _ _ _ _ _ c.core_loop.ensures.loops
+      (λ a b event outs made. (made.0.faults, made.0.stays, made.1.well)) (λ a b event broken. (broken.0.faults, broken.0.stays, broken.1.down));
+}
+
+pub returns-clause-by_rules : goal.returns-clause-by_rules
+returns-clause-by_rules g c = record {
+  last = c.core_loop.new.core.node.now;
+  loops = loops_seen (λ s. record { node = s.node.now; disk = s.disk.now; engine = s.engine.now }) _ _
+      (MakesByRules g.D.Disk.tells g.D.Disk.states g.D.Disk.faults g.E.Engine.meaning g.E.Engine.kind g.E.Engine.told g.E.Engine.refused_openings)
+      (BreaksByRules g.D.Disk.tells g.D.Disk.states g.D.Disk.faults g.E.Engine.meaning g.E.Engine.kind g.E.Engine.refused_openings)
       c.args.self.now c.core_loop.new.core _ _ _ _ _ _ c.core_loop.ensures.loops
       (λ a b event outs made. (made.0.faults, made.0.stays, made.1)) (λ a b event broken. (broken.0.faults, broken.0.stays, broken.1));
 }

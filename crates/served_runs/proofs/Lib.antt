@@ -1,0 +1,5 @@
+mod Onward
+mod Stepped
+mod Beside
+mod Alone
+mod Begun

@@ -1,0 +1,4 @@
+pub mod Paths
+pub mod Beside
+pub mod Alone
+pub mod Begun
