@@ -98,12 +98,26 @@ const ROWS: &[Row] = &[
     (SQLITE, Script::Text(""), 1, 0, Outcome::ReadFault, ""),
     // A line that is cut by a failed read is not run.
     (SQLITE, Script::Long, 2, 0, Outcome::ReadFault, ""),
-    (SQLITE, Script::Long, 0, 0, Outcome::Script(3), "error line 3\n"),
+    (
+        SQLITE,
+        Script::Long,
+        0,
+        0,
+        Outcome::Script(3),
+        "error line 3\n",
+    ),
     (SQLITE, Script::Asking, 0, 1, Outcome::WriteFault, ""),
     // The line at the end can't be written.
     (SQLITE, Script::Asking, 0, 2, Outcome::WriteFault, NO_LEADER),
     (SQLITE, Script::Text(""), 0, 1, Outcome::Done, ""),
-    (SQLITE, Script::Text("nodes"), 0, 0, Outcome::Script(1), "error line 1\n"),
+    (
+        SQLITE,
+        Script::Text("nodes"),
+        0,
+        0,
+        Outcome::Script(1),
+        "error line 1\n",
+    ),
     // The line that tells the fault can't be written.
     (SQLITE, Script::Text("nodes"), 0, 1, Outcome::WriteFault, ""),
 ];
