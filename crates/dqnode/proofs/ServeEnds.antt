@@ -119,6 +119,51 @@ pub words_not_ten : (s : Status) → (s ≡ status.Words) ⊎ (s ≡ status.Writ
 words_not_ten s (inl a) e = let bad : 1 ≡ 10 = sym (ap status_code a) ∙ e in cc
 words_not_ten s (inr a) e = let bad : 4 ≡ 10 = sym (ap status_code a) ∙ e in cc
 
+-- ---- nor with 6
+
+pub script_not_six : (code : ℕ) → IsScriptCode code → code ≡ 6 → ⊥
+script_not_six code (inl a) e = let bad : 0 ≡ 6 = sym a ∙ e in cc
+script_not_six code (inr (inl a)) e = let bad : 2 ≡ 6 = sym a ∙ e in cc
+script_not_six code (inr (inr (inl a))) e = let bad : 3 ≡ 6 = sym a ∙ e in cc
+script_not_six code (inr (inr (inr (inl a)))) e = let bad : 4 ≡ 6 = sym a ∙ e in cc
+script_not_six code (inr (inr (inr (inr (inl a))))) e = let bad : 7 ≡ 6 = sym a ∙ e in cc
+script_not_six code (inr (inr (inr (inr (inr a))))) e = let bad : 9 ≡ 6 = sym a ∙ e in cc
+
+pub statement_not_six : (code : ℕ) → IsStatementCode code → code ≡ 6 → ⊥
+statement_not_six code (inl a) e = let bad : 0 ≡ 6 = sym a ∙ e in cc
+statement_not_six code (inr (inl a)) e = let bad : 4 ≡ 6 = sym a ∙ e in cc
+statement_not_six code (inr (inr (inl a))) e = let bad : 7 ≡ 6 = sym a ∙ e in cc
+statement_not_six code (inr (inr (inr (inl a)))) e = let bad : 11 ≡ 6 = sym a ∙ e in cc
+statement_not_six code (inr (inr (inr (inr (inl a))))) e = let bad : 12 ≡ 6 = sym a ∙ e in cc
+statement_not_six code (inr (inr (inr (inr (inr a))))) e = let bad : 13 ≡ 6 = sym a ∙ e in cc
+
+pub check_not_six : (code : ℕ) → IsCheckCode code → code ≡ 6 → ⊥
+check_not_six code (inl a) e = let bad : 0 ≡ 6 = sym a ∙ e in cc
+check_not_six code (inr (inl a)) e = let bad : 4 ≡ 6 = sym a ∙ e in cc
+check_not_six code (inr (inr (inl a))) e = let bad : 5 ≡ 6 = sym a ∙ e in cc
+check_not_six code (inr (inr (inr (inl a)))) e = let bad : 7 ≡ 6 = sym a ∙ e in cc
+check_not_six code (inr (inr (inr (inr a)))) e = let bad : 8 ≡ 6 = sym a ∙ e in cc
+
+pub words_not_six : (s : Status) → (s ≡ status.Words) ⊎ (s ≡ status.WriteFault) → status_code s ≡ 6 → ⊥
+words_not_six s (inl a) e = let bad : 1 ≡ 6 = sym (ap status_code a) ∙ e in cc
+words_not_six s (inr a) e = let bad : 4 ≡ 6 = sym (ap status_code a) ∙ e in cc
+
+pub host_status : (s : Status) → status_code s ≡ 6 → s ≡ status.HostFault
+host_status status.Spent e = absurd cc
+host_status status.Done e = absurd cc
+host_status status.Words e = absurd cc
+host_status status.Script e = absurd cc
+host_status status.ReadFault e = absurd cc
+host_status status.WriteFault e = absurd cc
+host_status status.DiskFault e = absurd cc
+host_status status.HostFault e = refl
+host_status status.NoMemory e = absurd cc
+host_status status.Files e = absurd cc
+host_status status.Large e = absurd cc
+host_status status.Refused e = absurd cc
+host_status status.NoLeader e = absurd cc
+host_status status.Unknown e = absurd cc
+
 -- what holds of a disk, a network and a status, holds of the same by other names
 pub moved : {D N : Type 0} (disk disk_then : D) (network network_then : N) (s t : Status) (code : ℕ) → disk ≡ disk_then → network ≡ network_then → s ≡ t → code ≡ status_code s
     → (P : D → N → ℕ → Type 0) → P disk_then network_then (status_code t) → P disk network code

@@ -18,6 +18,9 @@ returns-in-Ok-clause-generated g c = λ number writes asked. c.run.ensures.gener
 pub returns-in-Ok-clause-made : goal.returns-in-Ok-clause-made
 returns-in-Ok-clause-made g c = λ number writes asked. c.run.ensures.made number writes (c.in-Ok.ensures.asked ∙ asked)
 
+pub returns-in-Ok-clause-faulty : goal.returns-in-Ok-clause-faulty
+returns-in-Ok-clause-faulty g c = λ e. subst (λ (a : Option Asked). IsScript a ⊎ IsRun a) c.in-Ok.ensures.asked (c.run.ensures.faulty e)
+
 pub returns-in-Ok-clause-dialer : goal.returns-in-Ok-clause-dialer
 returns-in-Ok-clause-dialer g c = λ other. c.run.ensures.dialer (λ (s : IsStatement c.in-Ok.asked). other (subst IsStatement c.in-Ok.ensures.asked s))
 

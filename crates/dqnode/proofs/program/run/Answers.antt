@@ -1,13 +1,32 @@
 use Rattle.std.proofs.Common.{◌≡◌, ℕ, Some, None, sym, ap, subst, ◌∙◌}
+use Rattle.dq_base.specs.Faults.{Rose}
 use Rattle.program_words.specs.declared.asked.Asked.TheVariants as asks
 use Rattle.dqnode.specs.declared.status.Status.{Status}
 use Rattle.dqnode.specs.Status.{status_code, IsScriptCode, IsStatementCode, IsCheckCode}
 use Rattle.dqnode.specs.Serving.{ServedBy}
 use Rattle.dqnode.proofs.Asked.{statement_code}
 use Rattle.dqnode.proofs.Generated.{generated_code, made_code}
-use Rattle.dqnode.proofs.ServeEnds.{script_not_ten, statement_not_ten, check_not_ten, words_not_ten, moved, served_for}
-use Rattle.dqnode.proofs.program.run.Goals.{in-Some-Script, in-Some-Statement, in-Some-Check, in-Some-Generate-false, in-Some-Generate-true, in-Some-Serve, in-None}
+use Rattle.dqnode.proofs.ServeEnds.{script_not_ten, statement_not_ten, check_not_ten, words_not_ten, script_not_six, statement_not_six, check_not_six, words_not_six, host_status, moved, served_for}
+use Rattle.dqnode.proofs.program.run.Goals.{in-Some-Script, in-Some-Statement, in-Some-Check, in-Some-Generate-default-default-false, in-Some-Generate-default-default-true, in-Some-Serve, in-None}
 use Rattle.dqnode.proofs.program.run.Goals as goal
+
+pub returns-clause-host_fault : goal.returns-clause-host_fault
+returns-clause-host_fault g c = λ e.
+    let at : status_code c.match-asked.status ≡ 6 = sym c.code.ensures ∙ e in
+    elim c.match-asked.branch [
+      | in-Some-Script w ↦ absurd (script_not_six _ (subst (λ (s : Status). IsScriptCode (status_code s)) (sym w.status-is) w.script-status.ensures.codes) at)
+      | in-Some-Statement w ↦ absurd (statement_not_six _ (subst (λ (s : Status). IsStatementCode (status_code s)) (sym w.status-is) (statement_code _ _ _ _ _ _ w.ask-status.ensures.ended)) at)
+      | in-Some-Check w ↦ absurd (check_not_six _ (subst (λ (s : Status). IsCheckCode (status_code s)) (sym w.status-is) w.tell-status.ensures.codes) at)
+      | in-Some-Generate-default-default-false w ↦ absurd (script_not_six _ (subst (λ (s : Status). IsScriptCode (status_code s)) (sym w.status-is) (generated_code _ _ _ _ _ w.make_script-status.ensures.ended)) at)
+      | in-Some-Generate-default-default-true w ↦ absurd (script_not_six _ (subst (λ (s : Status). IsScriptCode (status_code s)) (sym w.status-is) (made_code _ _ _ _ _ _ w.run_made-status.ensures.ended)) at)
+      | in-Some-Serve w ↦ (
+        (w.in-Some-Serve.words, w.in-Some-Serve.is ∙ ap Some w.in-Some-Serve.field-0-is),
+        moved _ _ _ _ _ _ _ w.disk-is w.network-is w.status-is c.code.ensures
+            (λ disk network code. Rose (g.H.Inbox.faults c.args.network.now.host) (g.H.Inbox.faults network.host))
+            (w.serve_node-status.ensures.host_fault (host_status _ (ap status_code (sym w.status-is) ∙ at))),
+      )
+      | in-None w ↦ absurd (words_not_six _ w.refuse_words-status.ensures.others (ap status_code (sym w.status-is) ∙ at))
+    ]
 
 pub returns-clause-of_spent : goal.returns-clause-of_spent
 returns-clause-of_spent g c = λ e.
@@ -16,8 +35,8 @@ returns-clause-of_spent g c = λ e.
       | in-Some-Script w ↦ absurd (script_not_ten _ (subst (λ (s : Status). IsScriptCode (status_code s)) (sym w.status-is) w.script-status.ensures.codes) at)
       | in-Some-Statement w ↦ absurd (statement_not_ten _ (subst (λ (s : Status). IsStatementCode (status_code s)) (sym w.status-is) (statement_code _ _ _ _ _ _ w.ask-status.ensures.ended)) at)
       | in-Some-Check w ↦ absurd (check_not_ten _ (subst (λ (s : Status). IsCheckCode (status_code s)) (sym w.status-is) w.tell-status.ensures.codes) at)
-      | in-Some-Generate-false w ↦ absurd (script_not_ten _ (subst (λ (s : Status). IsScriptCode (status_code s)) (sym w.status-is) (generated_code _ _ _ _ _ w.make_script-status.ensures.ended)) at)
-      | in-Some-Generate-true w ↦ absurd (script_not_ten _ (subst (λ (s : Status). IsScriptCode (status_code s)) (sym w.status-is) (made_code _ _ _ _ _ _ w.run_made-status.ensures.ended)) at)
+      | in-Some-Generate-default-default-false w ↦ absurd (script_not_ten _ (subst (λ (s : Status). IsScriptCode (status_code s)) (sym w.status-is) (generated_code _ _ _ _ _ w.make_script-status.ensures.ended)) at)
+      | in-Some-Generate-default-default-true w ↦ absurd (script_not_ten _ (subst (λ (s : Status). IsScriptCode (status_code s)) (sym w.status-is) (made_code _ _ _ _ _ _ w.run_made-status.ensures.ended)) at)
       | in-Some-Serve w ↦ (w.in-Some-Serve.words, w.in-Some-Serve.is ∙ ap Some w.in-Some-Serve.field-0-is)
       | in-None w ↦ absurd (words_not_ten _ w.refuse_words-status.ensures.others (ap status_code (sym w.status-is) ∙ at))
     ]
@@ -27,8 +46,8 @@ returns-clause-serves g c = λ served asked. elim c.match-asked.branch [
   | in-Some-Script w ↦ let bad : Some (asks.Script w.in-Some-Script.engine) ≡ Some (asks.Serve served) = sym (w.in-Some-Script.is ∙ ap Some w.in-Some-Script.field-0-is) ∙ asked in absurd cc
   | in-Some-Statement w ↦ let bad : Some (asks.Statement w.in-Some-Statement.statement) ≡ Some (asks.Serve served) = sym (w.in-Some-Statement.is ∙ ap Some w.in-Some-Statement.field-0-is) ∙ asked in absurd cc
   | in-Some-Check w ↦ let bad : Some asks.Check ≡ Some (asks.Serve served) = sym (w.in-Some-Check.is ∙ ap Some w.in-Some-Check.field-0-is) ∙ asked in absurd cc
-  | in-Some-Generate-false w ↦ let bad : Some (asks.Generate _ _ _) ≡ Some (asks.Serve served) = sym (w.in-Some-Generate-false.is ∙ ap Some w.in-Some-Generate-false.field-0-is) ∙ asked in absurd cc
-  | in-Some-Generate-true w ↦ let bad : Some (asks.Generate _ _ _) ≡ Some (asks.Serve served) = sym (w.in-Some-Generate-true.is ∙ ap Some w.in-Some-Generate-true.field-0-is) ∙ asked in absurd cc
+  | in-Some-Generate-default-default-false w ↦ let bad : Some (asks.Generate _ _ _) ≡ Some (asks.Serve served) = sym (w.in-Some-Generate-default-default-false.is ∙ ap Some w.in-Some-Generate-default-default-false.field-0-is) ∙ asked in absurd cc
+  | in-Some-Generate-default-default-true w ↦ let bad : Some (asks.Generate _ _ _) ≡ Some (asks.Serve served) = sym (w.in-Some-Generate-default-default-true.is ∙ ap Some w.in-Some-Generate-default-default-true.field-0-is) ∙ asked in absurd cc
   | in-Some-Serve w ↦ served_for _ _ _ _ w.in-Some-Serve.words _ _ _ _ _ _
       (moved _ _ _ _ _ _ _ w.disk-is w.network-is w.status-is c.code.ensures
       (λ disk network code. ServedBy g.D.Disk.tells g.D.Disk.states g.D.Disk.faults g.H.Host.done w.in-Some-Serve.words c.args.network.now.host c.args.disk.now disk
