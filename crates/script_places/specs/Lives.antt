@@ -78,6 +78,6 @@ Lives m kind setup n (suc finds) states turns node =
 -- no checksum matches by chance in what was found within so many turns of it
 abbrev pub IsFairWithin : (m : Meaning) (kind : EngineKind) (setup : Setup) (n finds : ℕ) (states : Disk Text → Type 0) (turns : List Turn)
     (node : Option Running) → ℕ → Lives m kind setup n finds states turns node → Type 0
-IsFairWithin m kind setup n zero states turns node count life = Unit {0}
+IsFairWithin m kind setup n zero states turns _ count life = Unit {0}
 IsFairWithin m kind setup n (suc finds) states turns node count life =
     length (turns_to life.0) ≤ count → (fair : IsFairFind life.0) × IsFairWithin m kind setup n finds states turns node count (life.2 fair)
