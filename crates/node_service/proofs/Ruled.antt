@@ -1,5 +1,5 @@
 -- What was served is a run of the rules.
-use Rattle.std.proofs.Common.{◌≡◌, ◌⊎◌, inl, inr, ℕ, Bool, not, List, [], ◌∷◌, ◌++◌, length, Option, Some, None, Result, Ok, Err, IfOk, refl, sym, ap, subst, ◌∙◌, arith}
+use Rattle.std.proofs.Common.{◌≡◌, ◌⊎◌, inl, inr, ℕ, Bool, not, List, [], length, Option, Some, None, Result, Ok, Err, IfOk, refl, sym, ap, subst, ◌∙◌, arith}
 use Rattle.std.specs.Prelude.{◌==◌}
 use Rattle.disk_model.specs.Disk.{Disk}
 use Rattle.disk_model.specs.Trait.{Text}
@@ -30,8 +30,8 @@ use Rattle.node_service.specs.declared.end.ServeEnd.{ServeEnd}
 use Rattle.node_service.specs.declared.end.ServeEnd.TheVariants as ends
 use Rattle.node_service.specs.Ending.{end_of_start, end_of_loop}
 use Rattle.node_service.specs.Named.{voters_of}
-use Rattle.node_service.specs.Rules.{setup_of, IsNodeOf, NoNode, EndsFor, NodeServed, IsRunOfRules}
-use Rattle.node_service.specs.Serving.{workers_of, Surroundings, StaysSo, Unserved, Looped, GoesOn, Follows, Started}
+use Rattle.node_service.specs.Rules.{IsNodeOf, EndsFor, NodeServed, IsRunOfRules}
+use Rattle.node_service.specs.Serving.{workers_of, Surroundings, StaysSo, GoesOn, Follows, Started}
 
 -- ---- the node that starts
 
@@ -77,7 +77,7 @@ loop_ends loops.Unfit end e = e
 -- ---- the run
 
 module _ {D E H : Type 0} (tells : Bool) (states : D → Disk Text → Type 0) (faults : D → ℕ) (meaning : EngineKind → Meaning) (kind : E → EngineKind) (told : E → Option Told) (refused : E → ℕ) where
-  abbrev Ran : Serve → Surroundings D E → Surroundings D E → D → Node → LoopEnd → Type 0
+  abbrev pub Ran : Serve → Surroundings D E → Surroundings D E → D → Node → LoopEnd → Type 0
   Ran words old new disk node end =
       RunsByRules tells states faults meaning kind told refused node disk new.disk old.engine new.engine old.events new.events None None words.events end
 

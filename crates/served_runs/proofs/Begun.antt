@@ -1,15 +1,13 @@
 -- A start finds what the disk's files stood for, which is nothing where there are none; and what is served from there on is a run.
-use Rattle.std.proofs.Common.{◌≡◌, ◌≤◌, ℕ, List, [], length, refl, sym, ap, ◌∙◌, subst, arith}
-use Rattle.std.specs.Prelude.{Bool, true, false, drop, map, Option, Ok}
+use Rattle.std.proofs.Common.{◌≡◌, ◌≤◌, ℕ, [], length, sym, ap, ◌∙◌, subst, arith}
+use Rattle.std.specs.Prelude.{Bool, true, false, drop, Option}
 use Rattle.std.proofs.lemmas.List.{length-drop}
 use Rattle.disk_model.specs.Disk.{Disk, no_files}
 use Rattle.disk_model.specs.Trait.{Text, told}
 use Rattle.sql_engine.specs.declared.kind.EngineKind.{EngineKind}
 use Rattle.sql_engine.specs.Meanings.{Meaning, Told}
-use Rattle.raft_rules.specs.Node.{Server}
 use Rattle.raft_member.specs.Members.{read_setup}
 use Rattle.store_laws.specs.Chance.{Lawful, NoChance}
-use Rattle.store_laws.specs.Names.{NodeFiles, NodeDisk}
 use Rattle.store_laws.specs.Store.{Kept, Outcome, Loaded, Damaged, NoMeta, Gap, Format, reader}
 use Rattle.store_format.specs.NodeFormat.{node_format}
 use Rattle.store_format.proofs.BatchesLawful.{is_lawful}
