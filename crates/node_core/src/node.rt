@@ -2,6 +2,7 @@
 
 ghost use Rattle.std.specs.Prelude.{◌≡◌, List, [], Err, IfOk, OnOk, OnErr};
 ghost use Rattle.sql_engine.specs.Meanings.{Stays};
+ghost use Rattle.client_sessions.specs.Sizes.{all_held, held_for};
 ghost use Rattle.raft_vote.specs.Servers.{IsConfiguration};
 ghost use Rattle.raft_rules.specs.Node.{Server as ServerValue};
 ghost use Rattle.raft_core.specs.Roles.{role_value};
@@ -134,6 +135,21 @@ impl Node {
         ensures { result.now ≡ databases_of self.now }
     {
         &self.running.applied.machine
+    }
+
+    /// How many bytes it holds of what clients have said, and of what they are to be told, as `Clients::held` counts them; those of
+    /// connections that carry a peer's messages aren't counted. Takes no memory.
+    pub fn held(&self) -> u64
+        ensures { result ≡ all_held self.now.running.clients }
+    {
+        self.running.clients.held()
+    }
+
+    /// The same of one client's connection; 0 where it is none. Takes no memory.
+    pub fn held_by(&self, conn: u64) -> u64
+        ensures { result ≡ held_for conn self.now.running.clients }
+    {
+        self.running.clients.held_by(conn)
     }
 
     /// What it keeps, as a load of the disk would answer it; right behind a start, what that has loaded. Entries and the snapshot
