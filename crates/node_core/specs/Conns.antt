@@ -1,5 +1,5 @@
 -- The connections of clients in a step: what is taken of their streams, and which are closed.
-use Rattle.std.specs.Prelude.{◌≡◌, ℕ, ◌==◌, false, cond, List, [], ◌∷◌, ◌++◌, Option, Some, None}
+use Rattle.std.specs.Prelude.{◌≡◌, ℕ, Bool, ◌==◌, false, cond, List, [], ◌∷◌, ◌++◌, Option, Some, None}
 use Rattle.wire_words.specs.declared.message.Message.{Message}
 use Rattle.client_connection.specs.declared.connection.CloseReason.{CloseReason}
 use Rattle.client_connection.specs.declared.connection.CloseReason.TheVariants.{Limit}
@@ -11,6 +11,7 @@ use Rattle.client_sessions.specs.declared.joining.Joining.TheVariants as joining
 use Rattle.client_sessions.specs.Clients.{Clients, closing, joining}
 use Rattle.node_core.specs.declared.event.Event.{Event}
 use Rattle.node_core.specs.declared.event.Event.TheVariants as events
+use Rattle.node_core.specs.declared.node.Node.{Node}
 use Rattle.node_core.specs.declared.outs.Outs.{Outs}
 use Rattle.node_core.specs.declared.running.Running.{Running}
 use Rattle.node_core.specs.Values.{clients_in}
@@ -80,6 +81,15 @@ closes_by (events.ReadDone conn read) k = []
 pub record IsUnlinked (n : Running) : Type 0 where
   pub links : n.links.all.items ≡ []
   pub view : n.view.links ≡ false
+
+-- No connection carries a peer's messages yet, and the sessions are told whether there are links.
+pub record HasNoPeers (links : Bool) (n : Running) : Type 0 where
+  pub links : n.links.all.items ≡ []
+  pub view : n.view.links ≡ links
+
+-- a node that has started: without links it is unlinked
+abbrev pub StartsUnlinked : Bool → Node → Type 0
+StartsUnlinked links n = HasNoPeers links n.running × (links ≡ false → IsUnlinked n.running)
 
 -- ---- a part of a step
 

@@ -91,16 +91,17 @@ ShowsFront index bytes a = (opening : List Server) (front : List Entry) → leng
 abbrev pub StaysKept : Disk Text → Disk Text → Type 0
 StaysKept d e = StaysSeen (folder d) (folder e) ⊎ ((s : Open) × ((k : Kept) × IsLoaded s k (folder d) (folder e)))
 
--- the snapshot that is kept up to this index is none of a node
+-- the snapshot that is kept up to this index, which isn't 0, is none of a node
 pub record SnapshotUnread (index : ℕ) (d : Disk Text) : Type 0 where
   pub kept : Kept
   pub reads : kept_in (folder d).read ≡ Loaded kept
   pub at_is : kept.snap.index ≡ index
+  pub some : 0 < index
   pub unread : snapshot_in kept.snap.bytes ≡ None
 
--- why there is no node over a snapshot that was loaded: it is none of a node, or memory ran out
+-- why there is no node over a snapshot that was loaded: there is one, and it is none of a node; or memory ran out
 abbrev pub IsUnread : ℕ → List ℕ → StartFault → Type 0
-IsUnread index bytes (start.Snapshot at) = (at ≡ index) × (snapshot_in bytes ≡ None)
+IsUnread index bytes (start.Snapshot at) = (at ≡ index) × (0 < at) × (snapshot_in bytes ≡ None)
 IsUnread index bytes start.NoMemory = Unit {0}
 IsUnread index bytes start.DiskFault = ⊥
 IsUnread index bytes (start.Damaged fault) = ⊥

@@ -93,7 +93,9 @@ fn next_of(alloc: Global, links: &mut Vec<Link>, me: u64) -> Result<Option<Lette
 
 impl Links {
     /// No links. Takes no memory.
-    pub(crate) fn new(alloc: Global) -> Links {
+    pub(crate) fn new(alloc: Global) -> Links
+        ensures { result.all.items ≡ [] }
+    {
         Links {
             alloc,
             all: Vec::new(alloc),
