@@ -3,6 +3,7 @@ use Rattle.std.specs.Prelude.{◌≡◌, ◌⊎◌, ℕ, suc, ◌-◌, ◌<◌, 
 use Rattle.disk_model.specs.Disk.{Disk}
 use Rattle.disk_model.specs.Trait.{Text}
 use Rattle.store_laws.specs.Store.{Snap, Kept, Loaded}
+use Rattle.segment_store.specs.declared.load_fault.LoadFault.TheVariants as load
 use Rattle.segment_store.specs.Open.{Open}
 use Rattle.segment_store.specs.Keeps.{folder}
 use Rattle.segment_store.specs.Loading.{kept_in, IsSeen, IsLoaded, StaysSeen, LoadLeaves}
@@ -109,6 +110,8 @@ IsUnread index bytes (start.Damaged fault) = ⊥
 -- The disk before a start and after it, by its answer: a node over what was kept; or why there is none, and all stays kept.
 abbrev pub StartLeaves : Result Node StartFault → Disk Text → Disk Text → Type 0
 StartLeaves (Ok node) d e = IsLoaded (replica_of node).store (kept_by node) (folder d) (folder e)
+StartLeaves (Err (start.Damaged load.DiskFault)) d e = ⊥
+StartLeaves (Err (start.Damaged load.NoMemory)) d e = ⊥
 StartLeaves (Err (start.Damaged fault)) d e = LoadLeaves (Err fault) d e
 StartLeaves (Err (start.Snapshot index)) d e = SnapshotUnread index d × StaysKept d e
 StartLeaves (Err start.DiskFault) d e = StaysKept d e
