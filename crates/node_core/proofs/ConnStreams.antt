@@ -22,7 +22,7 @@ use Rattle.node_core.specs.declared.event.Event.TheVariants as events
 use Rattle.node_core.specs.declared.outs.Outs.{Outs}
 use Rattle.node_core.specs.declared.running.Running.{Running}
 use Rattle.node_core.specs.Conns.{StreamOn, StreamsOn, brought, come_by, heard_by, close_of, close_on, closes_in, full_for, closes_by}
-use Rattle.node_core.specs.Conns.{HasNoPeers, StartsUnlinked, IsUnlinked, KeepsConns, ConnsOn, LeavesConns, ConnsBehind, ClosesConn, ConnsBegin, ConnsBy}
+use Rattle.node_core.specs.Conns.{HasNoPeers, IsUnlinked, KeepsConns, ConnsOn, LeavesConns, ConnsBehind, ClosesConn, ConnsBegin, ConnsBy}
 use Rattle.client_sessions.specs.Calls.{TookOffer, TookTurn, WasIdle, bytes_of}
 use Rattle.client_sessions.specs.Later.{Resumes, Finishes, turn_for}
 use Rattle.client_sessions.proofs.Offers.{next_is_first}
@@ -78,7 +78,7 @@ conns_both a b c x y = record {
 }
 
 -- a node that starts without links is unlinked
-pub starts_unlinked : (links : Bool) (n : Running) → HasNoPeers links n → StartsUnlinked links n
+pub starts_unlinked : (links : Bool) (n : Running) → HasNoPeers links n → HasNoPeers links n × (links ≡ false → IsUnlinked n)
 starts_unlinked links n p = (p, λ none. record { links = p.links; view = p.view ∙ none })
 
 pub conns_same : (n : Running) → ConnsOn n n

@@ -83,13 +83,13 @@ pub record IsUnlinked (n : Running) : Type 0 where
   pub view : n.view.links ≡ false
 
 -- No connection carries a peer's messages yet, and the sessions are told whether there are links.
-pub record HasNoPeers (links : Bool) (n : Running) : Type 0 where
+pub record HasNoPeers (has_links : Bool) (n : Running) : Type 0 where
   pub links : n.links.all.items ≡ []
-  pub view : n.view.links ≡ links
+  pub view : n.view.links ≡ has_links
 
 -- a node that has started: without links it is unlinked
 abbrev pub StartsUnlinked : Bool → Node → Type 0
-StartsUnlinked links n = HasNoPeers links n.running × (links ≡ false → IsUnlinked n.running)
+StartsUnlinked has_links n = HasNoPeers has_links n.running × (has_links ≡ false → IsUnlinked n.running)
 
 -- ---- a part of a step
 
