@@ -6,6 +6,7 @@ use Rattle.node_server.specs.contracts.place.Shared as shared
 use Rattle.node_server.specs.contracts.channel.ChannelPost as post
 use Rattle.node_server.specs.contracts.channel.Sent as sent
 use Rattle.node_server.specs.contracts.credit.Credit as credit
+use Rattle.node_server.specs.contracts.credit.Debit as debit
 use Rattle.node_server.specs.contracts.keeper.Keeper as keeper
 use Rattle.node_server.specs.contracts.writer.Writer as writer
 use Rattle.node_server.specs.contracts.peer.Peer as peer
@@ -33,8 +34,11 @@ writes_send L s = search (sendable, crosses, shared_send, shared_sync) depth 60 
 credit_send : IsSend credit.the_row
 credit_send = search (sendable, crosses) depth 60 fits 5000
 
+debit_send : IsSend debit.the_row
+debit_send = search (sendable, crosses) depth 60 fits 5000
+
 sent_send : (T : RattleType) → IsSend T → IsSend (sent.the_row T)
-sent_send T t = search (sendable, crosses, credit_send) depth 60 fits 5000
+sent_send T t = search (sendable, crosses, debit_send) depth 60 fits 5000
 
 pub post_send : (R T : RattleType) → IsSend R → IsSend T → IsSend (post.the_field R T).row
 post_send R T r t = search (sendable, crosses, sent_send, credit_send) depth 60 fits 5000

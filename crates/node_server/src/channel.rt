@@ -5,7 +5,7 @@ ghost use Rattle.dq_base.specs.Faults.{HasCause};
 ghost use Rattle.node_edge.specs.Told.{Puts};
 ghost use Rattle.node_server.specs.Counts.{IsCounted};
 
-use crate::credit::Credit;
+use crate::credit::{Credit, Debit};
 use crossbeam_channel::{Receiver, Sender, unbounded};
 use dq_base::Failed;
 use node_edge::{Event, Inbox, Post};
@@ -13,11 +13,11 @@ use std::alloc::{AllocError, Global};
 use std::marker::Model;
 use std::sync::Wait;
 
-/// An event on its way, with what its post gets back once it is taken.
+/// An event on its way, with what its post gets back once it is taken or dropped.
 #[derive(Drop)]
 struct Sent<T> {
     event: Event<T>,
-    credit: Option<Credit>,
+    credit: Option<Debit>,
 }
 
 /// An inbox that takes what is posted at its ends. It waits where there is no event, and fails where no end is left. It tells no
@@ -31,7 +31,7 @@ pub struct ChannelInbox<R: Wait + Copy + Drop, T: Drop> {
 }
 
 /// An end at which events are posted for a channel's inbox. Of a metered end only so many events wait there at a time: a post more
-/// waits until one was taken. It fails where the inbox is gone, and where memory runs out. It tells no events.
+/// waits until one was taken, or the inbox is gone. It fails where the inbox is gone, and where memory runs out. It tells no events.
 #[derive(Drop)]
 pub struct ChannelPost<R: Wait + Copy + Drop, T: Drop> {
     rt: R,
@@ -103,11 +103,10 @@ impl<R: Wait + Copy + Drop, T: Drop> Inbox<T> for ChannelInbox<R, T> {
         let Ok(sent) = self.queue.recv(&self.rt) else {
             return Err(self.fail());
         };
+        let Sent { event, credit } = sent;
+        drop(credit);
         self.taken = taken;
-        if let Some(credit) = &sent.credit {
-            credit.give(&self.rt);
-        }
-        Ok(sent.event)
+        Ok(event)
     }
 }
 
@@ -133,13 +132,11 @@ impl<R: Wait + Copy + Drop, T: Drop> ChannelPost<R, T> {
     }
 
     /// What an event carries of this end, once it may be posted.
-    fn begin(&self) -> Result<Option<Credit>, AllocError> {
-        let Some(credit) = &self.credit else {
-            return Ok(None);
-        };
-        let carried = credit.again()?;
-        credit.take(&self.rt);
-        Ok(Some(carried))
+    fn begin(&self) -> Result<Option<Debit>, AllocError> {
+        match &self.credit {
+            Some(credit) => Ok(Some(credit.take(&self.rt)?)),
+            None => Ok(None),
+        }
     }
 
     /// Posts an event, and says whether that succeeded.
@@ -147,13 +144,7 @@ impl<R: Wait + Copy + Drop, T: Drop> ChannelPost<R, T> {
         let Ok(credit) = self.begin() else {
             return false;
         };
-        if self.queue.send(&self.rt, Sent { event, credit }).is_ok() {
-            return true;
-        }
-        if let Some(credit) = &self.credit {
-            credit.give(&self.rt);
-        }
-        false
+        self.queue.send(&self.rt, Sent { event, credit }).is_ok()
     }
 }
 

@@ -34,7 +34,7 @@ pub(crate) enum Write<L> {
 ///
 /// Each message counts for its bytes and 256 more, from when it is handed over until it is written. A place has room for 1 MiB of its own,
 /// and for 31 MiB in a room of 96 MiB that all places of a node share. A connection of which a message has room in neither, or finds no
-/// memory, is cut: nothing more of it is written, and its link is shut once the write that is being made has ended.
+/// memory, is cut: nothing more of it is written, its link is read no further, and is shut once the write that is being made has ended.
 #[derive(Drop)]
 pub struct ClientQueue<L: Drop> {
     queue: Sender<Write<L>>,
@@ -120,10 +120,15 @@ impl<L: Drop> ClientQueue<L> {
         }
     }
 
-    /// Has the connection closed now: what waits of it isn't written.
+    /// Has the connection closed now: what waits of it isn't written, and its link is read no further.
     pub fn cut<R: Wait>(&self, rt: &R, conn: u64) {
         self.place.cut(conn);
         self.close(rt, conn);
+    }
+
+    /// Whether nothing more of the connection is to be read or written.
+    pub(crate) fn is_cut(&self, conn: u64) -> bool {
+        self.place.is_cut(conn)
     }
 }
 

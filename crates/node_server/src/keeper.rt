@@ -1,8 +1,13 @@
 //! The reading of clients' links.
 
+ghost use Rattle.std.specs.Prelude.{None};
+ghost use Rattle.dq_base.specs.Faults.{HasCause};
+ghost use Rattle.node_edge.specs.Told.{Puts};
+
 use crate::channel::ChannelPost;
 use crate::client_queue::ClientQueue;
-use node_edge::{Door, Event, Link, LinkEnd, Post, serve_link};
+use dq_base::Failed;
+use node_edge::{Door, Event, Link, Post, serve_link};
 use std::alloc::Global;
 use std::sync::Wait;
 use std::thread;
@@ -14,8 +19,8 @@ pub const KEEPERS: u64 = 72;
 /// How long a keeper waits after its door failed, in milliseconds.
 const PAUSE: u64 = 10;
 
-/// Accepts one link after the other at a door, and reads each to its end. The numbers of its connections are `first` and each 72nd
-/// behind it; `first` is 1 to 72, so that no two keepers give the same number, and 0 is none.
+/// Accepts one link after the other at a door, and reads each to its end, or until its connection is cut. The numbers of its connections
+/// are `first` and each 72nd behind it; `first` is 1 to 72, so that no two keepers give the same number, and 0 is none.
 ///
 /// Where the door fails it is tried again, ten milliseconds later.
 #[derive(Drop)]
@@ -36,41 +41,85 @@ pub struct Keeper<R: Wait + Clock + Copy + Drop, D: Door, T: Drop> {
     pub budget: u64,
 }
 
-impl<R: Wait + Clock + Copy + Drop, D: Door, T: Drop> Keeper<R, D, T> {
-    /// Serves links until the post fails, or no number is left.
-    pub fn run(mut self) {
-        let mut conn = self.first;
-        for _ in 0..u64::MAX {
-            let Ok(link) = self.door.accept() else {
-                thread::sleep(&self.rt, Duration::from_millis(PAUSE));
-                continue;
-            };
-            if !self.serve(link, conn) {
-                return;
-            }
-            let Some(next) = conn.checked_add(KEEPERS) else {
-                return;
-            };
-            conn = next;
-        }
-    }
+/// One connection after the other, and where what is read of its link goes. That fails once the connection is cut, and where the post does.
+#[derive(Drop)]
+struct Served<R: Wait + Copy + Drop, L: Drop, T: Drop> {
+    rt: R,
+    post: ChannelPost<R, T>,
+    writer: ClientQueue<L>,
+    conn: u64,
+    faults: u64,
+}
 
-    /// Serves one link as this connection, and says whether the post still takes events.
-    fn serve(&mut self, mut link: D::Link, conn: u64) -> bool {
+impl<R: Wait + Copy + Drop, L: Drop, T: Drop> Post<T> for Served<R, L, T> {
+    ghost posted = { λ _. None };
+
+    ghost faults = { λ served. served.faults };
+
+    fn put(&mut self, event: Event<T>) -> Result<(), Failed>
+        ensures event { Puts None None event result }
+        ensures cause { HasCause self.old.faults self.new.faults result }
+    {
+        if !self.writer.is_cut(self.conn) {
+            if self.post.put(event).is_ok() {
+                return Ok(());
+            }
+        }
+        self.faults = self.faults.saturating_add(1);
+        Err(Failed)
+    }
+}
+
+impl<R: Wait + Copy + Drop, L: Link, T: Drop> Served<R, L, T> {
+    /// Serves a link as the connection, and says whether the post still takes events.
+    fn serve(&mut self, alloc: Global, mut link: L, budget: u64) -> bool {
         let Ok(twin) = link.twin() else {
             return true;
         };
-        if !self.writer.take(&self.rt, conn, twin) {
+        if !self.writer.take(&self.rt, self.conn, twin) {
             return true;
         }
-        if self.post.put(Event::Connect(conn)).is_err() {
+        if self.post.put(Event::Connect(self.conn)).is_err() {
             return false;
         }
-        let end = serve_link(self.alloc, &mut link, conn, &mut self.post, self.budget);
+        let conn = self.conn;
+        serve_link(alloc, &mut link, conn, self, budget);
         link.shut();
-        if end == LinkEnd::Closed {
-            return false;
-        }
         self.post.put(Event::Hangup(conn)).is_ok()
+    }
+}
+
+impl<R: Wait + Clock + Copy + Drop, D: Door, T: Drop> Keeper<R, D, T> {
+    /// Serves links until the post fails, or no number is left.
+    pub fn run(self) {
+        let Keeper {
+            alloc,
+            rt,
+            mut door,
+            post,
+            writer,
+            first,
+            budget,
+        } = self;
+        let mut served = Served {
+            rt,
+            post,
+            writer,
+            conn: first,
+            faults: 0,
+        };
+        for _ in 0..u64::MAX {
+            let Ok(link) = door.accept() else {
+                thread::sleep(&rt, Duration::from_millis(PAUSE));
+                continue;
+            };
+            if !served.serve(alloc, link, budget) {
+                return;
+            }
+            let Some(next) = served.conn.checked_add(KEEPERS) else {
+                return;
+            };
+            served.conn = next;
+        }
     }
 }

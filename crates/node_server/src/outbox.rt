@@ -51,6 +51,13 @@ impl<R: Wait + Copy + Drop, L: Drop, J: Drop> Queues<R, L, J> {
         }
     }
 
+    /// Closes a connection now: what waits of it isn't written, and its link is read no further.
+    pub fn cut(&self, conn: u64) {
+        if let Some(writer) = self.writers.get(place_of(conn)) {
+            writer.cut(&self.rt, conn);
+        }
+    }
+
     /// Sends a message to the peer that it is for. It gets lost where too many wait, and where no peer has the id.
     pub fn send(&self, message: RaftMessage) {
         self.heard.note(&message);
@@ -72,8 +79,6 @@ impl<R: Wait + Copy + Drop, L: Drop, J: Drop> Queues<R, L, J> {
                 }
             }
         }
-        if let Some(writer) = self.writers.get(place_of(conn)) {
-            writer.cut(&self.rt, conn);
-        }
+        self.cut(conn);
     }
 }

@@ -114,9 +114,13 @@ fn a_list_host_gives_its_events(rt: HostRuntime) -> Result<(), Fail> {
     Ok(())
 }
 
-/// Whether a keeper with two links, numbered from 5, posts what comes on each, with its number.
-fn keeps<H: Host<u8>>(host: &mut H, alloc: Global) -> Option<bool> {
+/// Whether a keeper with two links, numbered from 5, posts what comes on each, with its number; on the second one nothing comes any more
+/// where its connection is cut.
+fn keeps<H: Host<u8>>(host: &mut H, alloc: Global, cuts: bool) -> Option<bool> {
     let (writer, _writes) = write_queue(alloc).ok()?;
+    if cuts {
+        writer.cut(&host.rt(), 77);
+    }
     let keeper = Keeper {
         alloc,
         rt: host.rt(),
@@ -127,12 +131,13 @@ fn keeps<H: Host<u8>>(host: &mut H, alloc: Global) -> Option<bool> {
         budget: 1_000,
     };
     beside::<Next, H>(host, Worker::Keeper(keeper)).ok()?;
-    for conn in [5, 77] {
-        if !is_whole(host, conn)? {
-            return Some(false);
-        }
-    }
-    Some(true)
+    let is_first_whole = is_whole(host, 5)?;
+    let is_second = if cuts {
+        is_silent(host, 77)?
+    } else {
+        is_whole(host, 77)?
+    };
+    Some(is_first_whole && is_second)
 }
 
 /// Whether an event is this connection's, and which one.
@@ -153,6 +158,13 @@ fn is_whole<H: Host<u8>>(host: &mut H, conn: u64) -> Option<bool> {
     Some([begun, said, over] == *b"cyh")
 }
 
+/// Whether the next two events are one connection's, without a byte.
+fn is_silent<H: Host<u8>>(host: &mut H, conn: u64) -> Option<bool> {
+    let begun = of_conn(&host.take().ok()?, conn);
+    let over = of_conn(&host.take().ok()?, conn);
+    Some([begun, over] == *b"ch")
+}
+
 /// A host at whose door two links come.
 fn door_host<R: Wait + Copy + Drop>(rt: R, alloc: Global) -> Option<MemHost<R, u8>> {
     let mut accepts = Vec::new(alloc);
@@ -163,10 +175,12 @@ fn door_host<R: Wait + Copy + Drop>(rt: R, alloc: Global) -> Option<MemHost<R, u
 
 #[test]
 fn a_keeper_reads_one_link_after_the_other(rt: HostRuntime) -> Result<(), Fail> {
-    let came = match door_host(rt, rt.alloc()) {
-        Some(mut host) => keeps(&mut host, rt.alloc()),
-        None => None,
-    };
-    assert_eq!(rt; came, Some(true));
+    for cuts in [false, true] {
+        let came = match door_host(rt, rt.alloc()) {
+            Some(mut host) => keeps(&mut host, rt.alloc(), cuts),
+            None => None,
+        };
+        assert_eq!(rt; came, Some(true), "cut: {cuts}");
+    }
     Ok(())
 }

@@ -7,6 +7,8 @@ mod addresses;
 #[cfg(test)]
 mod echo;
 #[cfg(test)]
+mod ending;
+#[cfg(test)]
 mod hosts;
 #[cfg(test)]
 mod links;

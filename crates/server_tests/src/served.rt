@@ -70,7 +70,7 @@ fn hears<L: Link>(mut link: L, wanted: &[u8]) -> Option<bool> {
 }
 
 /// A client's link, on which it said 24 bytes.
-fn ask<H: Host<u8>>(host: &mut H, address: &str) -> Option<<H::Door as Door>::Link> {
+pub(crate) fn ask<H: Host<u8>>(host: &mut H, address: &str) -> Option<<H::Door as Door>::Link> {
     let mut client = host.dial(address).ok()?;
     client.write_all(FRONT).ok()?;
     client.write_all(b"sentence").ok()?;

@@ -1,0 +1,72 @@
+//! Where it goes what a node says in a life.
+
+ghost use Rattle.std.specs.Prelude.{None};
+
+use crate::feed::Feed;
+use node_edge::{Event, Outbox};
+use query_reader::answer_read;
+use served_node::Said;
+use sql_engine::Engine;
+use std::alloc::Global;
+use std::sync::Wait;
+
+/// Notes what is said, two letters for each thing: a connection's digit and what it hears, or `x` where its link is to be shut; and has the queries that are lent answered at
+/// once, by an engine of its own, so that what is told of them is the last event so far.
+#[derive(Drop)]
+pub(crate) struct Desk<R: Wait + Copy + Drop, E: Engine + Drop> {
+    pub(crate) alloc: Global,
+    pub(crate) feed: Feed<R>,
+    pub(crate) engine: E,
+    pub(crate) heard: Vec<u8>,
+}
+
+/// The digit of a small number; `?` for others.
+pub(crate) fn digit(number: u64) -> u8 {
+    if number < 10 {
+        return b'0' + number as u8;
+    }
+    b'?'
+}
+
+/// What a message is to a client: `d` a database, `r` a result, `w` rows, `e` empty, a digit for the code of a failure.
+pub(crate) fn letter(message: &[u8]) -> u8 {
+    let code = message.get(8).copied().unwrap_or(0);
+    match message.get(4).copied().unwrap_or(b'?') {
+        0 => digit(code as u64),
+        4 => b'd',
+        6 => b'r',
+        7 => b'w',
+        8 => b'e',
+        _ => b'?',
+    }
+}
+
+impl<R: Wait + Copy + Drop, E: Engine + Drop> Desk<R, E> {
+    fn note(&mut self, conn: u64, what: u8) {
+        let _ = self.heard.push(digit(conn));
+        let _ = self.heard.push(what);
+    }
+}
+
+impl<R: Wait + Copy + Drop, E: Engine + Drop> Outbox<Said> for Desk<R, E> {
+    ghost said = { λ _. None };
+
+    fn put(&mut self, said: Said) {
+        let outs = said.outs;
+        for (conn, message) in &outs.replies {
+            self.note(*conn, letter(message.as_slice()));
+        }
+        for (conn, reason) in &outs.closed {
+            self.note(*conn, b'!');
+            self.note(*conn, digit(reason.number()));
+        }
+        if let Some(conn) = said.shut {
+            self.note(conn, b'x');
+        }
+        for (conn, job) in &outs.reads {
+            self.note(*conn, b'q');
+            let told = answer_read(self.alloc, job, &mut self.engine);
+            self.feed.add(Event::ReadDone(*conn, told));
+        }
+    }
+}

@@ -1,0 +1,56 @@
+//! Posts and links whose inbox is gone.
+
+use crate::addresses::free_address;
+use crate::served::{ask, begin};
+use node_edge::{Door, Event, Inbox, Link, Post};
+use node_server::{ChannelInbox, Host, event_channel};
+use server_hosts::TcpHost;
+use std::alloc::Global;
+use std::sync::Wait;
+use std::test::*;
+
+/// Whether a post that one event may wait of takes one, and takes another one where the inbox is gone, which took none.
+fn posts<R: Wait + Copy + Drop>(rt: R, alloc: Global) -> Option<[bool; 2]> {
+    let (inbox, post) = event_channel(rt, alloc).ok()?;
+    let inbox: ChannelInbox<R, u8> = inbox;
+    let mut metered = post.metered(alloc, 1).ok()?;
+    let is_first = metered.put(Event::Beat).is_ok();
+    drop(inbox);
+    let is_second = metered.put(Event::Beat).is_ok();
+    Some([is_first, is_second])
+}
+
+#[test]
+fn a_post_waits_for_no_inbox_that_is_gone(rt: HostRuntime) -> Result<(), Fail> {
+    assert_eq!(rt; posts(rt, rt.alloc()), Some([true, false]));
+    Ok(())
+}
+
+/// The link of a client of which a host took the connect, and nothing of what it said: two pieces, of which one waits for the other.
+fn met<H: Host<u8>>(host: &mut H, alloc: Global, address: &str) -> Option<<H::Door as Door>::Link> {
+    let door = host.listen(address).ok()?;
+    let _queues = begin(host, alloc, door)?;
+    let client = ask(host, address)?;
+    host.take().ok()?;
+    Some(client)
+}
+
+/// Whether a link is at its end.
+fn is_over<L: Link>(mut link: L) -> bool {
+    let mut byte = [0; 1];
+    !matches!(link.read(&mut byte), Ok(1))
+}
+
+#[test]
+fn a_link_ends_with_its_host(rt: HostRuntime) -> Result<(), Fail> {
+    let address = free_address(rt)?;
+    let mut host: TcpHost<_, u8> = TcpHost::new(rt, rt, rt.alloc())?;
+    let client = met(&mut host, rt.alloc(), address.as_str());
+    drop(host);
+    let came = match client {
+        Some(link) => Some(is_over(link)),
+        None => None,
+    };
+    assert_eq!(rt; came, Some(true));
+    Ok(())
+}

@@ -1,0 +1,166 @@
+//! Two nodes over this machine's sockets.
+
+use crate::addresses::free_address;
+use crate::silent::Silent;
+use crate::words::named;
+use disk_model::MemDisk;
+use gateway::Read;
+use node_edge::{Door, Link};
+use node_server::Host;
+use node_service::{ServeEnd, serve};
+use server_hosts::TcpHost;
+use sql_engine::CellEngine;
+use std::alloc::Global;
+use std::sync::Wait;
+use std::test::*;
+use std::thread;
+use std::thread::Threads;
+use std::time::{Clock, Duration};
+
+/// How many events each node takes before it ends.
+const EVENTS: &str = "400";
+
+/// The version of the wire, and an OPEN of `d`.
+const OPEN: &[u8] =
+    b"\x01\0\0\0\0\0\0\0\x04\0\0\0\x03\0\0\0d\0\0\0\0\0\0\0\0\0\0\0\0\0\0\0volatile\0\0\0\0\0\0\0\0";
+
+/// EXEC_SQL of `SET 1 7`.
+const SET: &[u8] = b"\x02\0\0\0\x08\0\0\0\0\0\0\0\0\0\0\0SET 1 7\0";
+
+/// The version of the wire, and LEADER.
+const LEADER: &[u8] = b"\x01\0\0\0\0\0\0\0\x01\0\0\0\0\0\0\0\0\0\0\0\0\0\0\0";
+
+/// How many connections use a node up.
+const CONNECTIONS: u32 = 250;
+
+/// The numbers of the responses DB and STMT_RESULT.
+const DB: u8 = 4;
+
+const RESULT: u8 = 6;
+
+/// How often the nodes are asked, and how long a client waits in between, in milliseconds.
+const TRIES: u32 = 600;
+
+const PAUSE: u64 = 20;
+
+/// The number of the next response; it is read to its end.
+fn response<L: Link>(alloc: Global, link: &mut L) -> Option<u8> {
+    let head = read(alloc, link, 8)?;
+    let (Some(words), Some(kind)) = (head.first(), head.get(4)) else {
+        return None;
+    };
+    read(alloc, link, 8 * *words as usize)?;
+    Some(*kind)
+}
+
+/// The next bytes of a link, so many.
+fn read<L: Link>(alloc: Global, link: &mut L, size: usize) -> Option<Vec<u8>> {
+    let mut bytes = Vec::new(alloc);
+    let mut byte = [0; 1];
+    for _ in 0..size {
+        if link.read(&mut byte).ok()? == 0 {
+            return None;
+        }
+        bytes.push(byte[0]).ok()?;
+    }
+    Some(bytes)
+}
+
+/// Whether the node at an address does a write.
+fn writes<H: Host<Read>>(host: &mut H, alloc: Global, address: &str) -> Option<bool> {
+    let mut link = host.dial(address).ok()?;
+    link.write_all(OPEN).ok()?;
+    if response(alloc, &mut link)? != DB {
+        return Some(false);
+    }
+    link.write_all(SET).ok()?;
+    Some(response(alloc, &mut link)? == RESULT)
+}
+
+/// Uses the events of the node at an address up, of which each connection takes three or more. Nothing is read: behind its end a node may
+/// leave a link that it never shuts.
+fn use_up<H: Host<Read>>(host: &mut H, address: &str) {
+    for _ in 0..CONNECTIONS {
+        if let Ok(mut link) = host.dial(address) {
+            let _ = link.write_all(LEADER);
+        }
+    }
+}
+
+/// Has a client write at one of two nodes, as soon as one does it, and then uses both up. Says whether a write was answered.
+fn ask<H: Host<Read>>(host: &mut H, alloc: Global, addresses: &[&str]) -> bool {
+    let rt = host.rt();
+    let mut is_done = false;
+    for _ in 0..TRIES {
+        for address in addresses {
+            is_done = is_done || writes(host, alloc, address) == Some(true);
+        }
+        if is_done {
+            break;
+        }
+        thread::sleep(&rt, Duration::from_millis(PAUSE));
+    }
+    for address in addresses {
+        use_up(host, address);
+    }
+    is_done
+}
+
+/// Serves one of two nodes until it took so many events.
+fn node<R: Threads + Wait + Clock + Copy + Drop + Send + 'static>(
+    rt: R,
+    sockets: HostRuntime,
+    alloc: Global,
+    words: [&str; 3],
+) -> Option<ServeEnd> {
+    let [id, own, peer] = words;
+    let words = named(
+        alloc,
+        &[id, own, peer, "--engine", "cells", "--events", EVENTS],
+    )?;
+    let mut host: TcpHost<_, Read> = TcpHost::new(rt, sockets, alloc).ok()?;
+    let mut disk = MemDisk::new(alloc);
+    let mut engine = CellEngine::new(alloc);
+    Some(serve(
+        alloc,
+        &words,
+        &mut host,
+        &mut disk,
+        &mut engine,
+        &mut Silent,
+    ))
+}
+
+/// Whether a client of two nodes hears a result.
+fn client<R: Threads + Wait + Clock + Copy + Drop + Send + 'static>(
+    rt: R,
+    sockets: HostRuntime,
+    alloc: Global,
+    addresses: [&str; 2],
+) -> Option<bool> {
+    let mut host: TcpHost<_, Read> = TcpHost::new(rt, sockets, alloc).ok()?;
+    Some(ask(&mut host, alloc, &addresses))
+}
+
+#[test]
+fn two_nodes_do_a_write(rt: HostRuntime) -> Result<(), Fail> {
+    let alloc = rt.alloc();
+    let one = free_address(rt)?;
+    let two = free_address(rt)?;
+    let first_peer = format!(in alloc; "1={one}")?;
+    let second_peer = format!(in alloc; "2={two}")?;
+    let (ends, is_done) = thread::join(
+        &rt,
+        || {
+            thread::join(
+                &rt,
+                || node(rt, rt, alloc, ["1", one.as_str(), second_peer.as_str()]),
+                || node(rt, rt, alloc, ["2", two.as_str(), first_peer.as_str()]),
+            )
+        },
+        || client(rt, rt, alloc, [one.as_str(), two.as_str()]),
+    );
+    assert!(rt; is_done == Some(true));
+    assert!(rt; ends == (Some(ServeEnd::Spent), Some(ServeEnd::Spent)));
+    Ok(())
+}

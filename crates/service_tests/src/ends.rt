@@ -1,0 +1,139 @@
+//! How a node ends that is served over memory, and what its files stand for then.
+
+use crate::silent::Silent;
+use crate::words::named;
+use dir_check::{CheckEnd, check};
+use disk_model::{Disk, MemDisk};
+use dq_base::{Items, MemSink};
+use node_edge::Event;
+use node_service::{ServeEnd, serve};
+use raft_vote::{Entry, EntryKind, SharedBytes};
+use segment_store::Store;
+use server_hosts::ListHost;
+use sql_engine::CellEngine;
+use std::alloc::Global;
+use std::sync::Wait;
+use std::test::*;
+use std::thread::Threads;
+use std::time::Clock;
+
+/// One voter over cells that takes one event.
+const LONE: &[&str] = &[
+    "1",
+    "localhost:9001",
+    "--engine",
+    "cells",
+    "--events",
+    "1",
+];
+
+/// What a disk is before a node is started over it.
+#[derive(Clone, Copy)]
+enum Folder {
+    /// It has no files.
+    Empty,
+    /// It has none, and its first call fails.
+    Failing,
+    /// It has two segments, of which the first is cut in its batch.
+    Faulty,
+}
+
+/// What a start over no files leaves, and a voter's first timeout; a folder that doesn't load tells nothing.
+const NOTHING: &str = "term 0 vote 0\nsnapshot none\nlog none\n";
+
+const ELECTED: &str = "term 1 vote 1\nsnapshot none\nlog 1 1\n";
+
+/// A folder, how many timeouts the host brings, how serving ends, and the first lines of what the files stand for.
+const ROWS: &[(Folder, u64, ServeEnd, &str)] = &[
+    (Folder::Empty, 1, ServeEnd::Spent, ELECTED),
+    (Folder::Empty, 2, ServeEnd::Spent, ELECTED),
+    (Folder::Empty, 0, ServeEnd::HostFault, NOTHING),
+    (Folder::Failing, 1, ServeEnd::DiskFault, NOTHING),
+    (Folder::Faulty, 1, ServeEnd::Files, ""),
+];
+
+/// Adds the entry of a new leader of term 1 in a segment of its own.
+fn add(alloc: Global, disk: &mut MemDisk, index: u64) -> Option<()> {
+    let (mut store, _kept) = Store::load(alloc, disk).ok()?;
+    store.set_meta(disk, 1, 1).ok()?;
+    let entry = Entry {
+        term: 1,
+        kind: EntryKind::Barrier,
+        bytes: SharedBytes::new(alloc, Items::new(Vec::new(alloc))).ok()?,
+    };
+    store.append(disk, index, &[entry]).ok()
+}
+
+/// The disk of a folder.
+fn disk_of(alloc: Global, folder: Folder) -> Option<MemDisk> {
+    let mut disk = MemDisk::new(alloc);
+    match folder {
+        Folder::Empty => {}
+        Folder::Failing => disk.arm(None, Some(1)),
+        Folder::Faulty => {
+            add(alloc, &mut disk, 1)?;
+            add(alloc, &mut disk, 2)?;
+            disk.cut("segment-0000000000000001", 40).ok()?;
+        }
+    }
+    Some(disk)
+}
+
+/// A host that brings so many timeouts.
+fn host_of<R: Wait + Copy + Drop>(
+    rt: R,
+    alloc: Global,
+    timeouts: u64,
+) -> Option<ListHost<R, gateway::Read>> {
+    let mut events = Vec::new(alloc);
+    for _ in 0..timeouts {
+        events.push(Event::Timeout).ok()?;
+    }
+    ListHost::new(rt, alloc, events).ok()
+}
+
+/// Serves the node over a disk.
+fn serve_over<R: Threads + Wait + Clock + Copy + Drop + Send + 'static>(
+    rt: R,
+    alloc: Global,
+    timeouts: u64,
+    disk: &mut MemDisk,
+) -> Option<ServeEnd> {
+    let words = named(alloc, LONE)?;
+    let mut host = host_of(rt, alloc, timeouts)?;
+    let mut engine = CellEngine::new(alloc);
+    Some(serve(
+        alloc,
+        &words,
+        &mut host,
+        disk,
+        &mut engine,
+        &mut Silent,
+    ))
+}
+
+/// Whether the files of a disk load, and begin so in words; of those that don't, the words are none.
+fn stands_for(alloc: Global, disk: &mut MemDisk, wanted: &str) -> bool {
+    let mut sink = MemSink::new(alloc, Vec::new(alloc));
+    let is_read = check(alloc, disk, &mut sink) == CheckEnd::Done;
+    is_read == !wanted.is_empty() && sink.bytes().starts_with(wanted.as_bytes())
+}
+
+/// Whether serving ends so over a folder, whose files then stand for this.
+fn ends_so<R: Threads + Wait + Clock + Copy + Drop + Send + 'static>(
+    rt: R,
+    alloc: Global,
+    row: &(Folder, u64, ServeEnd, &str),
+) -> Option<bool> {
+    let mut disk = disk_of(alloc, row.0)?;
+    let end = serve_over(rt, alloc, row.1, &mut disk)?;
+    Some(end == row.2 && stands_for(alloc, &mut disk, row.3))
+}
+
+#[test]
+fn serving_ends_with_its_cause(rt: HostRuntime) -> Result<(), Fail> {
+    for (place, row) in ROWS.iter().enumerate() {
+        assert!(rt; ends_so(rt, rt.alloc(), row) == Some(true), "row {place}");
+    }
+    Ok(())
+}
