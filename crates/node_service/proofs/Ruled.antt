@@ -1,12 +1,15 @@
 -- What was served is a run of the rules.
-use Rattle.std.proofs.Common.{◌≡◌, ◌⊎◌, inl, inr, ℕ, Bool, not, List, [], length, Option, Some, None, Result, Ok, Err, IfOk, refl, sym, ap, subst, ◌∙◌, arith}
+use Rattle.std.proofs.Common.{◌≡◌, ◌≢◌, ◌⊎◌, ◌<◌, inl, inr, ℕ, Bool, not, List, [], length, Option, Some, None, Result, Ok, Err, IfOk, refl, sym, ap, subst, ◌∙◌, arith}
 use Rattle.std.specs.Prelude.{◌==◌}
+use Rattle.dq_base.specs.Faults.{Rose}
 use Rattle.disk_model.specs.Disk.{Disk}
 use Rattle.disk_model.specs.Trait.{Text}
 use Rattle.sql_engine.specs.declared.kind.EngineKind.{EngineKind}
 use Rattle.sql_engine.specs.Meanings.{Meaning, Told}
 use Rattle.raft_rules.specs.Node.{Server}
 use Rattle.raft_member.specs.Members.{read_setup}
+use Rattle.store_laws.specs.Store.{Kept, Outcome, Loaded, Damaged, NoMeta, Gap}
+use Rattle.segment_store.specs.declared.load_fault.LoadFault.TheVariants as load
 use Rattle.segment_store.specs.Keeps.{folder}
 use Rattle.segment_store.specs.Loading.{IsSeen}
 use Rattle.session_decisions.specs.declared.job.Read.{Read}
@@ -21,8 +24,9 @@ use Rattle.node_edge.specs.Told.{Gives}
 use Rattle.node_core.specs.declared.node.Node.{Node}
 use Rattle.node_core.specs.declared.fault.StartFault.{StartFault}
 use Rattle.node_core.specs.declared.fault.StartFault.TheVariants as start
-use Rattle.node_core.specs.Starting.{StartsOver}
+use Rattle.node_core.specs.Starting.{SnapshotUnread, StartLeaves, StartsOver}
 use Rattle.node_core.specs.Values.{replica_of, node_of, kept_by, servers_told, has_links}
+use Rattle.node_state.specs.Snapshot.{snapshot_in}
 use Rattle.node_server.specs.declared.done.Done.{Done}
 use Rattle.served_node.specs.Serving.{RunsByRules}
 use Rattle.served_runs.proofs.Begun.{start_serves_hold}
@@ -30,7 +34,7 @@ use Rattle.node_service.specs.declared.end.ServeEnd.{ServeEnd}
 use Rattle.node_service.specs.declared.end.ServeEnd.TheVariants as ends
 use Rattle.node_service.specs.Ending.{end_of_start, end_of_loop}
 use Rattle.node_service.specs.Named.{voters_of}
-use Rattle.node_service.specs.Rules.{IsNodeOf, EndsFor, NodeServed, IsRunOfRules}
+use Rattle.node_service.specs.Rules.{IsNodeOf, EndsFor, NodeServed, IsRunOfRules, HasNode, GoesWell}
 use Rattle.node_service.specs.Serving.{workers_of, Surroundings, StaysSo, GoesOn, Follows, Started}
 
 -- ---- the node that starts
@@ -73,6 +77,55 @@ loop_ends loops.DiskFault end e = e
 loop_ends (loops.Spent count) end e = e
 loop_ends loops.NoMemory end e = e
 loop_ends loops.Unfit end e = e
+
+-- ---- files of a node
+
+kept_in_it : Kept → Outcome → Kept
+kept_in_it other (Loaded kept) = kept
+kept_in_it other Damaged = other
+kept_in_it other NoMeta = other
+kept_in_it other (Gap first last) = other
+
+same_kept : (one other : Kept) → Loaded one ≡ Loaded other → one ≡ other
+unfolding kept_in_it
+same_kept one other e = ap (kept_in_it other) e
+
+read_all : (d : Disk Text) (index : ℕ) → HasNode d → SnapshotUnread index d → ⊥
+read_all d index has u =
+    let same : u.kept ≡ has.kept = same_kept u.kept has.kept (sym u.reads ∙ has.reads) in
+    has.snapshot (subst (λ (n : ℕ). 0 < n) (sym u.at_is ∙ ap (λ (k : Kept). k.snap.index) same) u.some) (subst (λ (k : Kept). snapshot_in k.snap.bytes ≡ None) same u.unread)
+
+-- over them a start doesn't say that they are none
+no_fault : (d e : Disk Text) (f : StartFault) → HasNode d → StartLeaves (Err f) d e → end_of_start f ≢ ends.Files
+no_fault d e start.DiskFault has leaves files = let bad : ends.DiskFault ≡ ends.Files = files in cc
+no_fault d e start.NoMemory has leaves files = let bad : ends.NoMemory ≡ ends.Files = files in cc
+no_fault d e (start.Snapshot index) has leaves files = read_all d index has leaves.0
+no_fault d e (start.Damaged load.NoMeta) has leaves files = let bad : Loaded has.kept ≡ NoMeta = sym has.reads ∙ leaves.1 in cc
+no_fault d e (start.Damaged (load.Damaged segment at)) has leaves files = let bad : Loaded has.kept ≡ Damaged = sym has.reads ∙ leaves.0.1 in cc
+no_fault d e (start.Damaged (load.Gap first last)) has leaves files = let bad : Loaded has.kept ≡ Gap first last = sym has.reads ∙ leaves.1 in cc
+no_fault d e (start.Damaged load.DiskFault) has leaves files = leaves
+no_fault d e (start.Damaged load.NoMemory) has leaves files = leaves
+
+by_end : (end : ServeEnd) → end ≢ ends.Files → end ≢ ends.DiskFault → end ≢ ends.HostFault → (end ≡ ends.Spent) ⊎ (end ≡ ends.NoMemory)
+by_end ends.Files files disk host = absurd (files refl)
+by_end ends.DiskFault files disk host = absurd (disk refl)
+by_end ends.HostFault files disk host = absurd (host refl)
+by_end ends.NoMemory files disk host = inr refl
+by_end ends.Spent files disk host = inl refl
+
+answers_well : {D E H : Type 0} (workers : ℕ) (done : H → Done) (states after : Disk Text → Type 0) (runs : Node → LoopEnd → Type 0) (host : H) (old new : Surroundings D E) (end : ServeEnd)
+    (answer : Result Node StartFault) → StartsOver states after answer → Follows workers done runs answer host old new end → (d : Disk Text) → states d → IsSeen (folder d) → HasNode d → end ≢ ends.Files
+answers_well workers done states after runs host old new end (Ok node) starts follows d was seen has = follows.0
+answers_well workers done states after runs host old new end (Err fault) starts follows d was seen has =
+    let x = starts.each d was seen in
+    λ files. no_fault d x.0 fault has x.1.1 (sym follows.1 ∙ files)
+
+pub serves_well : {D E H : Type 0} (words : Serve) (done : H → Done) (states : D → Disk Text → Type 0) (runs : D → Node → LoopEnd → Type 0) (host : H) (old new : Surroundings D E) (end : ServeEnd)
+    (disk disk_after host_was host_after : ℕ) → Started words done states runs host old new end → (end ≡ ends.DiskFault → Rose disk disk_after) → (end ≡ ends.HostFault → Rose host_was host_after) →
+    GoesWell (states old.disk) disk disk_after host_was host_after → (end ≡ ends.Spent) ⊎ (end ≡ ends.NoMemory)
+serves_well words done states runs host old new end disk disk_after host_was host_after s by_disk by_host w =
+    by_end end (answers_well (workers_of words) done (states old.disk) (states s.disk) (runs s.disk) host (record old { disk = s.disk }) new end s.answer s.starts s.follows w.first w.was w.seen w.has_node)
+    (λ e. w.disk_held (by_disk e)) (λ e. w.host_held (by_host e))
 
 -- ---- the run
 

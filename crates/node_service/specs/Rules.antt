@@ -1,13 +1,16 @@
 -- What was served is a run of the rules.
-use Rattle.std.specs.Prelude.{◌≡◌, ◌⊎◌, ◌==◌, not, Bool, [], length, Option, None}
+use Rattle.std.specs.Prelude.{◌≡◌, ◌≢◌, ◌⊎◌, ◌<◌, ◌==◌, not, Bool, [], length, Option, None}
+use Rattle.dq_base.specs.Faults.{Rose}
 use Rattle.disk_model.specs.Disk.{Disk}
 use Rattle.disk_model.specs.Trait.{Text}
 use Rattle.sql_engine.specs.declared.kind.EngineKind.{EngineKind}
 use Rattle.sql_engine.specs.Meanings.{Meaning, Told}
 use Rattle.raft_member.specs.Members.{read_setup}
 use Rattle.raft_world.specs.Members.{Setup}
+use Rattle.store_laws.specs.Store.{Kept, Loaded}
 use Rattle.segment_store.specs.Keeps.{folder}
-use Rattle.segment_store.specs.Loading.{IsSeen}
+use Rattle.segment_store.specs.Loading.{kept_in, IsSeen}
+use Rattle.node_state.specs.Snapshot.{snapshot_in}
 use Rattle.session_decisions.specs.declared.job.Read.{Read}
 use Rattle.program_words.specs.declared.asked.Serve.{Serve}
 use Rattle.node_rules.specs.Steps.{StartsSo}
@@ -62,3 +65,18 @@ abbrev pub IsRunOfRules : Meaning → EngineKind → Option Told → Serve → B
 IsRunOfRules m kind told words tells states states_after before after end =
     (first : Disk Text) → states first → IsSeen (folder first) →
     NoNode before after end ⊎ NodeServed m kind told words tells states_after before after end first
+
+-- the files of a node: they load, with a node's snapshot or with none
+pub record HasNode (d : Disk Text) : Type 0 where
+  pub kept : Kept
+  pub reads : kept_in (folder d).read ≡ Loaded kept
+  pub snapshot : 0 < kept.snap.index → snapshot_in kept.snap.bytes ≢ None
+
+-- A start may read the files that the disk may have had, which are those of a node; and neither the disk nor the host failed.
+pub record GoesWell (states : Disk Text → Type 0) (disk disk_after host host_after : ℕ) : Type 0 where
+  pub first : Disk Text
+  pub was : states first
+  pub seen : IsSeen (folder first)
+  pub has_node : HasNode first
+  pub disk_held : Rose disk disk_after → ⊥
+  pub host_held : Rose host host_after → ⊥

@@ -1,6 +1,6 @@
 //! A node that is served.
 
-ghost use Rattle.std.specs.Prelude.{◌≡◌, ◌≢◌, ◌≤◌, ◌+◌, [], None, IfOk, IfErr, OnOk};
+ghost use Rattle.std.specs.Prelude.{◌≡◌, ◌≢◌, ◌≤◌, ◌⊎◌, ◌+◌, [], None, IfOk, IfErr, OnOk};
 ghost use Rattle.dq_base.specs.Faults.{Rose};
 ghost use Rattle.program_words.specs.Serving.{IsServable};
 ghost use Rattle.raft_vote.specs.Servers.{IsConfiguration};
@@ -11,7 +11,7 @@ ghost use Rattle.node_service.specs.declared.fault.CrewFault.TheVariants as crew
 ghost use Rattle.node_service.specs.Crew.{HasBegun};
 ghost use Rattle.node_edge.specs.declared.looping.LoopEnd.TheVariants as loops;
 ghost use Rattle.node_service.specs.Named.{voters_of};
-ghost use Rattle.node_service.specs.Rules.{IsNodeOf, IsRunOfRules};
+ghost use Rattle.node_service.specs.Rules.{GoesWell, IsNodeOf, IsRunOfRules};
 ghost use Rattle.node_service.specs.Serving.{workers_of, GoesOn, Started, Serves};
 ghost use Rattle.node_service.specs.declared.end.ServeEnd.TheVariants as ends;
 
@@ -205,6 +205,9 @@ pub fn serve<H: Host<Read>, D: Disk, E: Engine + Send + Drop + 'static, W: Notes
     // As many events were taken as the words say.
     ensures spent { result ≡ ends.Spent → H.taken host.new ≡ H.taken host.old + words.now.events }
     ensures count { D.faults disk.old ≤ D.faults disk.new }
+    // Over the files of a node, where neither the disk nor the host failed, all events were taken, or memory ran out.
+    ensures ends_well { GoesWell (D.states disk.old) (D.faults disk.old) (D.faults disk.new) (H.faults host.old) (H.faults host.new) →
+        (result ≡ ends.Spent) ⊎ (result ≡ ends.NoMemory) }
 {
     match voters(alloc, words) {
         Ok(servers) => serve_with(alloc, words, servers, host, disk, engine, notes),

@@ -3,7 +3,7 @@ use Rattle.sql_engine.specs.declared.kind.EngineKind.{EngineKind}
 use Rattle.sqlite_engine.specs.Any.{any_meaning}
 use Rattle.node_service.specs.Rules.{IsRunOfRules}
 use Rattle.dqnode.specs.Status.{status_code}
-use Rattle.dqnode.proofs.ServeEnds.{serve_code, end_disk, end_host, end_spent}
+use Rattle.dqnode.proofs.ServeEnds.{serve_code, end_disk, end_host, end_spent, well_code}
 use Rattle.dqnode.proofs.serving.serve_node.Goals as goal
 
 pub returns-clause-served : goal.returns-clause-served
@@ -31,3 +31,6 @@ returns-clause-host_fault g c = λ e. c.serve.ensures.host_fault (end_host _ _ c
 
 pub returns-clause-spent : goal.returns-clause-spent
 returns-clause-spent g c = λ e. c.serve.ensures.spent (end_spent _ _ c.status_of.ensures e)
+
+pub returns-clause-ends_well : goal.returns-clause-ends_well
+returns-clause-ends_well g c = λ well. well_code _ _ c.status_of.ensures (c.serve.ensures.ends_well well)
