@@ -46,7 +46,7 @@ well_choice : (b : Bool) (turn : Turn) (turns : List Turn) → GoesWell turn →
 well_choice true turn turns one rest = (one, rest)
 well_choice false turn turns one rest = rest
 
-well_at : (n : ℕ) (turns : List Turn) → AllByRecursion GoesWell turns → AllByRecursion GoesWell (turns_at n turns)
+pub well_at : (n : ℕ) (turns : List Turn) → AllByRecursion GoesWell turns → AllByRecursion GoesWell (turns_at n turns)
 well_at n [] well = tt
 well_at n (turn ∷ turns) well = well_choice (actor turn == n) turn (turns_at n turns) well.0 (well_at n turns well.1)
 

@@ -1,5 +1,5 @@
 -- Two runs of one script, line by line.
-use Rattle.std.proofs.Common.{◌≡◌, ℕ, suc, Bool, true, false, cond, List, [], ◌∷◌, ◌++◌, map, Option, Some, None, refl, sym, ap, subst, ◌∙◌, append_assoc}
+use Rattle.std.proofs.Common.{◌≡◌, ◌≢◌, ℕ, suc, Bool, true, false, cond, List, [], ◌∷◌, ◌++◌, map, Option, Some, None, refl, sym, ap, subst, ◌∙◌, append_assoc, append-nil}
 use Rattle.std.specs.Prelude.{nat_le}
 use Rattle.std.specs.Option.{option_map}
 use Rattle.std.proofs.lemmas.List.{map-append}
@@ -17,9 +17,10 @@ use Rattle.script_nodes.specs.World.{World, Halt, Went, shown, takes, opened}
 use Rattle.script_pages.specs.Machines.{Fleet}
 use Rattle.script_runner.specs.Run.{Said, OfNodes, Stage, AtNodes, AtMachines, Next, Run, at_nodes, stops, line_step, said_step, step, onward, said_before, ends_at, closing, turns_at, journal_at, run_from, run, text_of, printed}
 use Rattle.script_runner.proofs.Growing.{run_grows}
+use Rattle.script_runner.proofs.Printed.{text_of-append}
 use Rattle.script_repeats.specs.Plain.{plain_turns, plain_items}
 use Rattle.script_repeats.specs.Nodes.{Nodes, AreLed, AreExact}
-use Rattle.script_repeats.specs.Repeats.{AreAlike, IsEarly, StartWith, EndsBefore, Compared, Same, Shorter, Longer, RunsCompare, IsWhole, WholeRunsRepeat}
+use Rattle.script_repeats.specs.Repeats.{AreAlike, IsEarly, StartWith, EndsBefore, Compared, Same, Shorter, Longer, RunsCompare, IsWhole, FrontsRepeat, WholeRunsRepeat}
 use Rattle.script_repeats.proofs.Paths.{led_front}
 use Rattle.script_repeats.proofs.Going.{Beside, Past, world_with, beside_of, past_of, SamePast, SameWorld, GoAlike, IsCut, GoShort, Together, takes_repeats, opened_repeats}
 use Rattle.script_repeats.proofs.Going as going
@@ -241,6 +242,31 @@ whole_same : (one other : Run) → Compared one other → IsWhole one.fault → 
 whole_same one other (Same s) whole also = prints_same one other s
 whole_same one other (Shorter s) whole also = absurd (whole s.early)
 whole_same one other (Longer s) whole also = absurd (also s.early)
+
+-- of a fault that isn't early but for what isn't told, nothing is printed
+untold_text : (fault : Option Fault) → IsEarly fault → fault ≢ Some Large → fault_text fault ≡ []
+untold_text None early other = absurd early
+untold_text (Some (Line number)) early other = absurd early
+untold_text (Some Large) early other = absurd (other refl)
+untold_text (Some Untold) early other = refl
+
+front_printed : (one other : Run) → EndsBefore one other → one.fault ≢ Some Large → StartWith (printed other) (printed one)
+front_printed one other s large =
+    let rest = text_of s.front.0 ++ fault_text other.fault in (
+      rest,
+      ap (λ (said : List Said). text_of said ++ fault_text other.fault) s.front.1
+          ∙ ap (λ (text : List ℕ). text ++ fault_text other.fault) (text_of-append one.said s.front.0)
+          ∙ append_assoc (text_of one.said) (text_of s.front.0) (fault_text other.fault)
+          ∙ ap (λ (text : List ℕ). text ++ rest) (sym (ap (λ (end : List ℕ). text_of one.said ++ end) (untold_text one.fault s.early large) ∙ append-nil (text_of one.said))),
+    )
+
+fronts_same : (one other : Run) → Compared one other → one.fault ≢ Some Large → IsWhole other.fault → StartWith (printed other) (printed one)
+fronts_same one other (Same s) large whole = ([], sym (prints_same one other s).0 ∙ sym (append-nil (printed one)))
+fronts_same one other (Shorter s) large whole = front_printed one other s large
+fronts_same one other (Longer s) large whole = absurd (whole s.early)
+
+pub fronts_repeat : (places : Nodes) → FrontsRepeat places
+fronts_repeat places exact script one other fits also large whole = fronts_same (run script one) (run script other) (runs_compare places exact script one other fits also) large whole
 
 pub whole_runs_repeat : (places : Nodes) → WholeRunsRepeat places
 whole_runs_repeat places exact script one other fits also whole whole_too = whole_same (run script one) (run script other) (runs_compare places exact script one other fits also) whole whole_too

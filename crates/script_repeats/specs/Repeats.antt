@@ -1,5 +1,5 @@
 -- Two runs of one script whose nodes do what is decided by what they are asked.
-use Rattle.std.specs.Prelude.{◌≡◌, ℕ, List, ◌++◌, Option, Some, None}
+use Rattle.std.specs.Prelude.{◌≡◌, ◌≢◌, ℕ, List, ◌++◌, Option, Some, None}
 use Rattle.script_nodes.specs.Outcomes.{Outcome}
 use Rattle.script_nodes.specs.Run.{Fault, Line, Large, Untold}
 use Rattle.script_runner.specs.Run.{Run, run, printed}
@@ -20,7 +20,7 @@ IsEarly (Some (Line number)) = ⊥
 IsEarly (Some Large) = Unit {0}
 IsEarly (Some Untold) = Unit {0}
 
--- what is said begins with this
+-- the one list begins with the other
 abbrev pub StartWith : {A : Type 0} → List A → List A → Type 0
 StartWith {A} said front = (rest : List A) × (said ≡ front ++ rest)
 
@@ -46,6 +46,12 @@ RunsCompare nodes =
 -- a run that has all of its script, up to its fault: it was told what came of each event, and none has too much
 abbrev pub IsWhole : Option Fault → Type 0
 IsWhole fault = IsEarly fault → ⊥
+
+-- A run that isn't told all prints a front of what a whole one prints, as it would where memory or the output ended it there.
+abbrev pub FrontsRepeat : Nodes → Type 0
+FrontsRepeat nodes =
+    AreExact nodes → (script : List ℕ) (one other : List Outcome) → AreLed nodes (run script one).turns → AreLed nodes (run script other).turns →
+    (run script one).fault ≢ Some Large → IsWhole (run script other).fault → StartWith (printed (run script other)) (printed (run script one))
 
 -- Two that are whole print the same, and have the same fault.
 abbrev pub WholeRunsRepeat : Nodes → Type 0
