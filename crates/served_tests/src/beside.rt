@@ -32,7 +32,6 @@ const SETTING: Setting = Setting {
         statement: Some(100_000),
         reader: Some(100_000),
     },
-    most: u64::MAX,
 };
 
 /// What happens, and what is heard: the query of the first client is answered behind the write of the second one, but without what that
@@ -167,7 +166,14 @@ fn life<R: Threads + Wait + Clock + Copy + Drop + Send + Sync + 'static>(
     let (heard, ()) = thread::join(
         &rt,
         move || {
-            run_node(node, &mut disk, &mut engine, &mut inbox, &mut desk, u64::MAX, SETTING.most);
+            run_node(
+                node,
+                &mut disk,
+                &mut engine,
+                &mut inbox,
+                &mut desk,
+                u64::MAX,
+            );
             desk.heard
         },
         move || reads(rt, alloc, theirs, lent, post),

@@ -10,7 +10,7 @@ use sql_engine::Engine;
 use std::alloc::Global;
 use std::sync::Wait;
 
-/// Notes what is said, two letters for each thing: a connection's digit and what it hears, or `x` where its link is to be shut; and has the queries that are lent answered at
+/// Notes what is said, two letters for each thing: a connection's digit and what it hears; and has the queries that are lent answered at
 /// once, by an engine of its own, so that what is told of them is the last event so far.
 #[derive(Drop)]
 pub(crate) struct Desk<R: Wait + Copy + Drop, E: Engine + Drop> {
@@ -59,9 +59,6 @@ impl<R: Wait + Copy + Drop, E: Engine + Drop> Outbox<Said> for Desk<R, E> {
         for (conn, reason) in &outs.closed {
             self.note(*conn, b'!');
             self.note(*conn, digit(reason.number()));
-        }
-        if let Some(conn) = said.shut {
-            self.note(conn, b'x');
         }
         for (conn, job) in &outs.reads {
             self.note(*conn, b'q');

@@ -17,8 +17,8 @@ use std::thread;
 use std::thread::Threads;
 use std::time::{Clock, Duration};
 
-/// How many events each node takes before it ends.
-const EVENTS: &str = "400";
+/// How many events each node takes before it ends: enough for many elections, as some 80 come in a second.
+const EVENTS: &str = "2000";
 
 /// The version of the wire, and an OPEN of `d`.
 const OPEN: &[u8] =
@@ -31,7 +31,7 @@ const SET: &[u8] = b"\x02\0\0\0\x08\0\0\0\0\0\0\0\0\0\0\0SET 1 7\0";
 const LEADER: &[u8] = b"\x01\0\0\0\0\0\0\0\x01\0\0\0\0\0\0\0\0\0\0\0\0\0\0\0";
 
 /// How many connections use a node up.
-const CONNECTIONS: u32 = 250;
+const CONNECTIONS: u32 = 1_000;
 
 /// The numbers of the responses DB and STMT_RESULT.
 const DB: u8 = 4;
@@ -39,9 +39,9 @@ const DB: u8 = 4;
 const RESULT: u8 = 6;
 
 /// How often the nodes are asked, and how long a client waits in between, in milliseconds.
-const TRIES: u32 = 600;
+const TRIES: u32 = 200;
 
-const PAUSE: u64 = 20;
+const PAUSE: u64 = 100;
 
 /// The number of the next response; it is read to its end.
 fn response<L: Link>(alloc: Global, link: &mut L) -> Option<u8> {
@@ -77,8 +77,8 @@ fn writes<H: Host<Read>>(host: &mut H, alloc: Global, address: &str) -> Option<b
     Some(response(alloc, &mut link)? == RESULT)
 }
 
-/// Uses the events of the node at an address up, of which each connection takes three or more. Nothing is read: behind its end a node may
-/// leave a link that it never shuts.
+/// Uses the events of the node at an address up, of which each connection takes three or more. Nothing is read, as a node may end before it
+/// answers.
 fn use_up<H: Host<Read>>(host: &mut H, address: &str) {
     for _ in 0..CONNECTIONS {
         if let Ok(mut link) = host.dial(address) {
