@@ -32,6 +32,7 @@ const SETTING: Setting = Setting {
         statement: Some(100_000),
         reader: Some(100_000),
     },
+    most: u64::MAX,
 };
 
 /// What happens, and what is heard: the query of the first client is answered behind the write of the second one, but without what that
@@ -173,6 +174,7 @@ fn life<R: Threads + Wait + Clock + Copy + Drop + Send + Sync + 'static>(
                 &mut inbox,
                 &mut desk,
                 u64::MAX,
+                SETTING.most,
             );
             desk.heard
         },

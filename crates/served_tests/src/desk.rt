@@ -10,7 +10,7 @@ use sql_engine::Engine;
 use std::alloc::Global;
 use std::sync::Wait;
 
-/// Notes what is said, two letters for each thing: a connection's digit and what it hears; and has the queries that are lent answered at
+/// Notes what is said, two letters for each thing: a connection's digit and what it hears, or `x` where its link is to be shut; and has the queries that are lent answered at
 /// once, by an engine of its own, so that what is told of them is the last event so far.
 #[derive(Drop)]
 pub(crate) struct Desk<R: Wait + Copy + Drop, E: Engine + Drop> {
@@ -28,12 +28,13 @@ pub(crate) fn digit(number: u64) -> u8 {
     b'?'
 }
 
-/// What a message is to a client: `d` a database, `r` a result, `w` rows, `e` empty, a digit for the code of a failure.
+/// What a message is to a client: `d` a database, `s` a statement, `r` a result, `w` rows, `e` empty, a digit for the code of a failure.
 pub(crate) fn letter(message: &[u8]) -> u8 {
     let code = message.get(8).copied().unwrap_or(0);
     match message.get(4).copied().unwrap_or(b'?') {
         0 => digit(code as u64),
         4 => b'd',
+        5 => b's',
         6 => b'r',
         7 => b'w',
         8 => b'e',
@@ -59,6 +60,9 @@ impl<R: Wait + Copy + Drop, E: Engine + Drop> Outbox<Said> for Desk<R, E> {
         for (conn, reason) in &outs.closed {
             self.note(*conn, b'!');
             self.note(*conn, digit(reason.number()));
+        }
+        if let Some(conn) = said.shut {
+            self.note(conn, b'x');
         }
         for (conn, job) in &outs.reads {
             self.note(*conn, b'q');

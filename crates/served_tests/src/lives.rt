@@ -29,11 +29,12 @@ pub(crate) const THREE: &[u8] =
 /// How many events a life has at most.
 const EVENTS: u64 = 1_000;
 
-/// What a node is started with: its voters and the limits of steps.
+/// What a node is started with: its voters, the limits of steps, and how many bytes of what clients say it may hold.
 #[derive(Clone, Copy)]
 pub(crate) struct Setting {
     pub(crate) servers: &'static [u8],
     pub(crate) steps: StepLimits,
+    pub(crate) most: u64,
 }
 
 /// Something that happens.
@@ -106,6 +107,14 @@ pub(crate) fn hears<R: Wait + Copy + Drop, E: Engine + Drop>(
         engine: reader,
         heard: Vec::new(alloc),
     };
-    run_node(node, &mut disk, &mut engine, &mut feed, &mut desk, EVENTS);
+    run_node(
+        node,
+        &mut disk,
+        &mut engine,
+        &mut feed,
+        &mut desk,
+        EVENTS,
+        setting.most,
+    );
     Some(desk.heard.as_slice() == wanted)
 }

@@ -24,6 +24,12 @@ pub(crate) enum Said {
     Connect,
     /// A message of Raft from the node of this number to the first one.
     Raft(u64),
+    /// The version, and so many bytes of a message that has more.
+    Front(usize),
+    /// So many bytes more of a message.
+    More(usize),
+    /// That a statement is prepared whose text has so many bytes.
+    Prepare(usize),
 }
 
 /// A message of this type with a statement's text for the first database.
@@ -37,6 +43,27 @@ fn statement(alloc: Global, kind: u8, text: &str) -> Option<Vec<u8>> {
         bytes.push(0).ok()?;
     }
     Some(bytes)
+}
+
+/// The version, the header of a message of 16 MiB, and so many bytes of it.
+fn front(alloc: Global, count: usize) -> Option<Vec<u8>> {
+    let mut bytes = Vec::from_slice(alloc, b"\x01\0\0\0\0\0\0\0\0\0\x20\0\x08\0\0\0").ok()?;
+    bytes.resize(16 + count, b' ').ok()?;
+    Some(bytes)
+}
+
+/// So many spaces.
+fn spaces(alloc: Global, count: usize) -> Option<Vec<u8>> {
+    vec![in alloc; b' '; count].ok()
+}
+
+/// A PREPARE of a statement whose text has so many bytes, six at least.
+fn preparing(alloc: Global, count: usize) -> Option<Vec<u8>> {
+    let mut text = String::from_str(alloc, "SELECT 1").ok()?;
+    for _ in 8..count {
+        text.push(' ').ok()?;
+    }
+    statement(alloc, 4, text.as_str())
 }
 
 /// A TimeoutNow from the node of this number to the first one.
@@ -58,6 +85,9 @@ pub(crate) fn bytes_of(alloc: Global, said: Said) -> Option<Items<u8>> {
         Said::Exec(text) => statement(alloc, 8, text)?,
         Said::Query(text) => statement(alloc, 9, text)?,
         Said::Raft(from) => raft(alloc, from)?,
+        Said::Front(count) => front(alloc, count)?,
+        Said::More(count) => spaces(alloc, count)?,
+        Said::Prepare(count) => preparing(alloc, count)?,
     };
     Some(Items::new(bytes))
 }

@@ -26,6 +26,7 @@ fn a_peer_speaks_for_itself(rt: HostRuntime) -> Result<(), Fail> {
         let setting = Setting {
             servers: THREE,
             steps: StepLimits::none(),
+            most: u64::MAX,
         };
         let came = hears(rt, rt.alloc(), &setting, engines, happens, wanted);
         assert!(rt; came == Some(true), "row {row}");

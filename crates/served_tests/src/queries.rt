@@ -16,6 +16,7 @@ const SETTING: Setting = Setting {
         statement: Some(100_000),
         reader: Some(2_000),
     },
+    most: u64::MAX,
 };
 
 /// Ten rows, from which a join of five tables makes 100,000.
