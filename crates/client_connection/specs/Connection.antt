@@ -1,6 +1,6 @@
 -- A client's connection: how its stream ends so far, the messages that wait, and for how many bytes there is room.
 use Rattle.std.specs.Option.{option_or}
-use Rattle.std.specs.Prelude.{◌≡◌, ◌+◌, ◌-◌, ◌≤◌, ℕ, Bool, true, false, nat_lt, List, [], ◌∷◌, ◌++◌, length, take, sum_by, Option, Some, None, if◌then◌else◌, MatchOption}
+use Rattle.std.specs.Prelude.{◌≡◌, ◌+◌, ◌-◌, ◌*◌, ◌^◌, ◌≤◌, min, ℕ, Bool, true, false, nat_lt, List, [], ◌∷◌, ◌++◌, length, take, sum_by, Option, Some, None, if◌then◌else◌, MatchOption}
 use Rattle.wire_words.specs.declared.message.Message.{Message}
 use Rattle.wire_words.specs.declared.splitter.SplitFault.{SplitFault}
 use Rattle.wire_words.specs.declared.splitter.SplitFault.TheVariants as faults
@@ -26,6 +26,10 @@ message_size m = 8 + length m.body
 -- how many bytes a connection holds: those that are unread, and header and body of each message that waits
 unfoldable pub held : Conn → ℕ
 held c = length (unread_bytes c.end) + sum_by message_size c.waiting
+
+-- about how many bytes of memory that takes: 128 more for each message that waits; as a number of 64 bits
+abbrev pub footprint : Conn → ℕ
+footprint c = min (held c + 128 * length c.waiting) (2 ^ 64 - 1)
 
 -- how many bytes of what is unread are no part of a message: those of the version word, until it is there whole
 abbrev pub version_room : End → ℕ

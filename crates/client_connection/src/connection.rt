@@ -1,7 +1,7 @@
 ghost use Rattle.std.specs.Prelude.{◌≡◌, ◌||◌, not, nat_lt, ◌+◌, ◌≤◌, ◌<◌, ◌^◌, [], ◌∷◌, ◌++◌, length, take, sum_by, IfOk, OnOk, IsErr, MatchOption, if◌then◌else◌};
 ghost use Rattle.wire_words.specs.Stream.{going_on, client_limit, unread_bytes};
 ghost use Rattle.std.specs.Option.{option_or};
-ghost use Rattle.client_connection.specs.Connection.{IsFed, opened, received, with_more, held, room, message_size, version_room, stream_reason, limit_reason, reason_of, TakesFirst};
+ghost use Rattle.client_connection.specs.Connection.{IsFed, opened, received, with_more, held, footprint, room, message_size, version_room, stream_reason, limit_reason, reason_of, TakesFirst};
 
 use crate::peer_stream::PeerStream;
 use std::alloc::{AllocError, Global};
@@ -190,6 +190,15 @@ impl Connection {
         ensures limit { result ≤ 33554432 + version_room self.now.end }
     {
         self.splitter.held() + self.waiting_bytes
+    }
+
+    /// About how many bytes of memory that takes: 128 more for each message that waits. The sum stops at the last number of 64 bits.
+    /// Takes no memory.
+    pub fn footprint(&self) -> u64
+        ensures { result ≡ footprint self.now }
+    {
+        let messages = (self.earlier.len() + self.latest.len()) as u64;
+        self.held().saturating_add(messages.saturating_mul(128))
     }
 
     // For how many bytes there is room. Before the version word is there whole, its eight bytes don't count.

@@ -17,6 +17,7 @@ use Rattle.session_rules.specs.Machine.{Machine}
 use Rattle.session_rules.specs.Sessions.{Gateway, View, Reply, may_ask, is_due, later_query, lent_query}
 use Rattle.session_rules.specs.Touched.{IsListed}
 use Rattle.session_table.specs.Marks.{AreMarks}
+use Rattle.gateway.specs.Later.{first_due}
 use Rattle.gateway.specs.Seen as gates
 use Rattle.gateway.specs.Seen.{Held as Gate, seen, pins_of, PinsOf}
 use Rattle.client_sessions.specs.declared.act.Act.{Act}
@@ -100,8 +101,8 @@ unfolding clients_of
 came_held m kind v machine old new before after conn asked told_before told_now refused_before refused_now r came = came
 
 pub due_held : (held : Held) (databases : List Database) (r : Option ℕ)
-    → MatchOption r ((conn : ℕ) → is_due ((seen held.gateway databases).session conn).later ≡ false) (λ (conn : ℕ). is_due ((seen held.gateway databases).session conn).later ≡ true)
-    → MatchOption r ((conn : ℕ) → is_due ((clients_of held databases).sessions.session conn).later ≡ false) (λ (conn : ℕ). is_due ((clients_of held databases).sessions.session conn).later ≡ true)
+    → MatchOption r ((conn : ℕ) → is_due ((seen held.gateway databases).session conn).later ≡ false) (λ (conn : ℕ). first_due (seen held.gateway databases) ≡ Some conn)
+    → MatchOption r ((conn : ℕ) → is_due ((clients_of held databases).sessions.session conn).later ≡ false) (λ (conn : ℕ). first_due (clients_of held databases).sessions ≡ Some conn)
 unfolding clients_of
 due_held held databases r due = due
 

@@ -3,3 +3,4 @@ pub mod Clients
 pub mod Later
 pub mod Seen
 pub mod Sending
+pub mod Sizes

@@ -1,9 +1,9 @@
 //! The clients of a node, and their calls.
 
-ghost use Rattle.std.specs.Prelude.{◌≡◌, [], true, false, not, is_none, None, List, ℕ, ◌++◌, IfOk, IfSome, OnOk, OnErr, MatchOption, if◌then◌else◌};
+ghost use Rattle.std.specs.Prelude.{◌≡◌, ◌+◌, ◌<◌, ◌^◌, [], true, false, not, is_none, None, List, ℕ, ◌++◌, IfOk, IfSome, OnOk, OnErr, MatchOption, if◌then◌else◌};
 ghost use Rattle.sql_engine.specs.Meanings.{Stays};
 ghost use Rattle.std.specs.Ordering.{nat_cmp};
-ghost use Rattle.std.specs.BTreeMap.{get};
+ghost use Rattle.std.specs.BTreeMap.{get, values};
 ghost use Rattle.sql_engine.specs.Known.{Known};
 ghost use Rattle.page_apply.specs.declared.database.Database.{Database};
 ghost use Rattle.page_apply.specs.Machines.{IsMachine};
@@ -12,13 +12,16 @@ ghost use Rattle.session_rules.specs.Sessions.{is_due, later_query, lent_query, 
 ghost use Rattle.session_rules.specs.Events as events;
 ghost use Rattle.session_decisions.specs.Reading.{read_named};
 ghost use Rattle.statement_runs.specs.Calls.{call_on};
+ghost use Rattle.wire_rows.specs.Answering.{held};
 ghost use Rattle.session_decisions.specs.Scenes.{scene};
 ghost use Rattle.gateway.specs.Calls.{HasNoNul, HasShortTerm, IsConfigured};
+ghost use Rattle.gateway.specs.Later.{first_due};
 ghost use Rattle.gateway.specs.Seen.{pins_of};
 ghost use Rattle.client_sessions.specs.Clients.{no_clients, joining, joined, joined_as, hung_up, closing, closed, heard, freed, with_sessions};
 ghost use Rattle.client_sessions.specs.Clients.{HasNoTransactions};
 ghost use Rattle.client_sessions.specs.Calls.{Comes, TookFrom, TookNext, TookTurn, told_conns, landed_at, told_at, lost_all, told_all_lost};
 ghost use Rattle.client_sessions.specs.Later.{Resumes, Finishes, turn_for};
+ghost use Rattle.client_sessions.specs.Sizes.{all_held, held_for, stream_size, streams_size};
 ghost use Rattle.client_sessions.specs.Seen.{clients_of, Agrees, StandOver, HasNoMarks};
 
 use crate::act::Act;
@@ -57,6 +60,17 @@ fn give_turns(turns: &mut VecDeque<u64>, told: &[(u64, Response)]) -> Result<(),
     Ok(())
 }
 
+// How many bytes the streams of connections hold, behind so many others. The sum stops at the last number of 64 bits.
+fn with_streams(size: u64, connections: &BTreeMap<u64, Connection>) -> u64
+    ensures { result ≡ held (size + streams_size (values connections.now)) }
+{
+    let mut size = size;
+    for stream in connections.values() {
+        size = size.saturating_add(stream.footprint());
+    }
+    size
+}
+
 impl Clients {
     /// No clients. Takes no memory.
     pub fn new(alloc: Global) -> Clients
@@ -77,6 +91,40 @@ impl Clients {
         ensures { (databases : List Database) → result ≡ not (is_none ((clients_of self.now databases).streams conn)) }
     {
         self.connections.contains_key(&conn)
+    }
+
+    /// How many bytes are held of what clients have said, and of what they are to be told: of each connection what is unread and the
+    /// messages that wait (`Connection::footprint`); and what the sessions keep (`Gateway::held`), those of clients that have gone
+    /// included: prepared statements, queries that wait or that a reader has, and rows that wait for the entry of their write. The sum
+    /// stops at the last number of 64 bits.
+    ///
+    /// Not counted is what the rules of sessions bound or what the databases' size does, as the working image of an open transaction;
+    /// nor a query that a reader has still, where its client has gone.
+    ///
+    /// Looks at each connection and at each number of a statement; takes no memory.
+    pub fn held(&self) -> u64
+        ensures { result ≡ all_held self.now }
+    {
+        with_streams(self.gateway.held(), &self.connections)
+    }
+
+    /// The same of one connection; 0 where there is no session of it. Takes no memory.
+    pub fn held_by(&self, conn: u64) -> u64
+        ensures { result ≡ held_for conn self.now }
+    {
+        self.gateway
+            .held_by(conn)
+            .saturating_add(self.stream_size(conn))
+    }
+
+    // How many bytes the stream of a connection holds; 0 where it isn't open.
+    fn stream_size(&self, conn: u64) -> u64
+        ensures { result ≡ stream_size (get nat_cmp self.now.connections conn) }
+    {
+        match self.connections.get(&conn) {
+            Some(stream) => stream.footprint(),
+            None => 0,
+        }
     }
 
     /// A client connects: it gets a session, unless its number is taken or 64 sessions are there, hung-up ones counted. `Err`
@@ -222,7 +270,7 @@ impl Clients {
     pub fn next_due(&self) -> Option<u64>
         ensures { (databases : List Database) → MatchOption result
             ((conn : ℕ) → is_due ((clients_of self.now databases).sessions.session conn).later ≡ false)
-            (λ conn. is_due ((clients_of self.now databases).sessions.session conn).later ≡ true) }
+            (λ conn. first_due (clients_of self.now databases).sessions ≡ Some conn) }
     {
         self.gateway.next_due()
     }

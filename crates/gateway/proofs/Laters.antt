@@ -1,9 +1,9 @@
 -- Queries that are run later than they were asked.
-use Rattle.std.proofs.Common.{◌≡◌, ℕ, ◌<◌, Bool, true, false, true≢false, cond, List, [], ◌∷◌, ◌++◌, length, map, find, Option, Some, None, IsSome, option_map, Ok, Err, refl, sym, ap, subst, ◌∙◌}
+use Rattle.std.proofs.Common.{◌≡◌, ℕ, zero, suc, ◌<◌, take, arith, Bool, true, false, true≢false, cond, List, [], ◌∷◌, ◌++◌, length, map, find, Option, Some, None, IsSome, option_map, Ok, Err, refl, sym, ap, subst, ◌∙◌}
 use Rattle.std.specs.Prelude.{◌==◌, not, is_none, get_or, set}
 use Rattle.std.specs.List.{AllByRecursion}
 use Rattle.std.proofs.lemmas.List.{length-set, get_or-set_same}
-use Rattle.std.proofs.lemmas.Bool.{eqb-true, eq-eqb, false≢true}
+use Rattle.std.proofs.lemmas.Bool.{cond-true, cond-false, eqb-true, eq-eqb, false≢true}
 use Rattle.std.specs.declared.alloc.AllocError.{AllocError}
 use Rattle.page_apply.specs.declared.database.Database.{Database}
 use Rattle.page_apply.specs.ImageNumbers.{numbered}
@@ -25,6 +25,7 @@ use Rattle.session_table.specs.Changing.{IsAbsent, StandsAt}
 use Rattle.session_table.specs.Named.{later_named}
 use Rattle.session_table.specs.Table.{has_conn, session_found, session_at, session_of, table_of, AreApart}
 use Rattle.session_table.specs.Working.{works_of}
+use Rattle.session_table.proofs.Found.{IsFound, all_found}
 use Rattle.session_table.proofs.Placing.{stands}
 use Rattle.session_table.proofs.Swept.{none_there}
 use Rattle.session_decisions.specs.declared.decision.Decision.{Decision}
@@ -37,7 +38,7 @@ use Rattle.session_decisions.specs.Scenes.{scene}
 use Rattle.gateway.specs.declared.act.Act.{Act}
 use Rattle.gateway.specs.declared.act.Act.TheVariants as acts
 use Rattle.gateway.specs.Carrying.{AgreesOn, CanCarry}
-use Rattle.gateway.specs.Later.{LaterBy, ReadDone, Resumed}
+use Rattle.gateway.specs.Later.{LaterBy, ReadDone, Resumed, first_due_in, first_due}
 use Rattle.gateway.proofs.Decided.{can_carry, here_at}
 use Rattle.gateway.proofs.Numbering.{with_some}
 
@@ -209,10 +210,24 @@ done_told g now conn (Some statement) known (Some reply) act same some is told =
 abbrev pub IsNotDue : CodeSession → Type 0
 IsNotDue s = is_due (option_map later_named s.later) ≡ false
 
-pub due_there : (databases : List Database) (ss : List CodeSession) (weight place : ℕ) (d : CodeSession) → AreApart ss → place < length ss → is_due (option_map later_named (get_or ss place d).later) ≡ true
-    → is_due ((table_of databases ss weight).session (get_or ss place d).conn).later ≡ true
+-- The session at a place is the first whose query is run next, where none before it is.
+first_at : (databases : List Database) (all ss : List CodeSession) (weight place : ℕ) (d : CodeSession) → AllByRecursion (IsFound databases all) ss
+    → AllByRecursion IsNotDue (take place ss) → place < length ss → is_due (option_map later_named (get_or ss place d).later) ≡ true
+    → first_due_in (table_of databases all weight) (map (λ (s : CodeSession). s.conn) ss) ≡ Some (get_or ss place d).conn
 unfolding table_of
-due_there databases ss weight place d apart within due = ap (λ (s : Session). is_due s.later) (stands databases ss place d apart within) ∙ due
+first_at databases all [] weight place d found none within due = absurd (omega arith)
+first_at databases all (s ∷ ss) weight zero d found none within due =
+    let is = ap (λ (r : Session). is_due r.later) found.0 ∙ due in
+    cond-true (is_due (session_at databases all s.conn).later) (Some s.conn) (first_due_in (table_of databases all weight) (map (λ (t : CodeSession). t.conn) ss)) is
+first_at databases all (s ∷ ss) weight (suc place) d found none within due =
+    let is = ap (λ (r : Session). is_due r.later) found.0 ∙ none.0 in
+    cond-false (is_due (session_at databases all s.conn).later) (Some s.conn) (first_due_in (table_of databases all weight) (map (λ (t : CodeSession). t.conn) ss)) is
+    ∙ first_at databases all ss weight place d found.1 none.1 (omega arith) due
+
+pub due_first : (databases : List Database) (ss : List CodeSession) (weight place : ℕ) (d : CodeSession) → AreApart ss → AllByRecursion IsNotDue (take place ss)
+    → place < length ss → is_due (option_map later_named (get_or ss place d).later) ≡ true → first_due (table_of databases ss weight) ≡ Some (get_or ss place d).conn
+unfolding table_of
+due_first databases ss weight place d apart none within due = first_at databases ss ss weight place d (all_found databases ss apart) none within due
 
 pub none_due : (databases : List Database) (ss : List CodeSession) (weight conn : ℕ) → AllByRecursion IsNotDue ss → is_due ((table_of databases ss weight).session conn).later ≡ false
 unfolding table_of session_at

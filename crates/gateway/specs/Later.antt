@@ -1,15 +1,23 @@
 -- What comes of queries that are answered later than they were asked.
-use Rattle.std.specs.Prelude.{◌≡◌, ℕ, List, length, Option, Some, None}
+use Rattle.std.specs.Prelude.{◌≡◌, ℕ, cond, List, [], ◌∷◌, length, Option, Some, None}
 use Rattle.sql_engine.specs.Replies.{Statement}
 use Rattle.session_rules.specs.Engines.{Answer, AllowsFor, used_for}
 use Rattle.session_rules.specs.Requests.{handed_later, on_later, without_later}
-use Rattle.session_rules.specs.Sessions.{Reply, Gateway, responses_of}
+use Rattle.session_rules.specs.Sessions.{Reply, Gateway, responses_of, is_due}
 use Rattle.statement_runs.specs.Calls.{EngineCall}
 use Rattle.statement_runs.specs.Running.{TellsAll}
 use Rattle.session_decisions.specs.Scenes.{Scene}
 use Rattle.gateway.specs.declared.act.Act.{Act}
 use Rattle.gateway.specs.declared.act.Act.TheVariants as acts
 use Rattle.gateway.specs.Calls.{Is}
+
+-- the first of these connections whose query is to be run next
+abbrev pub first_due_in : Gateway → List ℕ → Option ℕ
+first_due_in g [] = None
+first_due_in g (conn ∷ conns) = cond (is_due (g.session conn).later) (Some conn) (first_due_in g conns)
+
+abbrev pub first_due : Gateway → Option ℕ
+first_due g = first_due_in g g.conns
 
 -- There are answers that the engine may give to what the query hands it, and which it told one after the other. The query uses
 -- all of them, and by them it comes to this act and these sessions.

@@ -26,7 +26,7 @@ ghost use Rattle.statement_runs.specs.Calls.{call_on};
 ghost use Rattle.session_decisions.specs.Scenes.{scene};
 ghost use Rattle.gateway.specs.declared.act.Act.TheVariants as acts;
 ghost use Rattle.gateway.specs.Calls.{HasShortTerm};
-ghost use Rattle.gateway.specs.Later.{LaterBy, ReadDone, Resumed};
+ghost use Rattle.gateway.specs.Later.{LaterBy, ReadDone, Resumed, first_due};
 
 use crate::act::Act;
 use crate::call::{Call, Seat};
@@ -303,7 +303,7 @@ pub(crate) fn next_due(sessions: &[Session]) -> Option<u64>
     requires { AreApart sessions.now }
     ensures { (databases : List Database) (weight : ℕ) → MatchOption result
         ((conn : ℕ) → is_due ((table_of databases sessions.now weight).session conn).later ≡ false)
-        (λ conn. is_due ((table_of databases sessions.now weight).session conn).later ≡ true) }
+        (λ conn. first_due (table_of databases sessions.now weight) ≡ Some conn) }
 {
     for session in sessions {
         if is_next(session) {

@@ -13,13 +13,14 @@ ghost use Rattle.session_rules.specs.Touched.{IsListed};
 ghost use Rattle.session_rules.specs.Events as events;
 ghost use Rattle.session_table.specs.Sweeping.{all_told};
 ghost use Rattle.session_table.specs.Table.{session_of, IsTable};
+ghost use Rattle.session_table.specs.SessionSizes.{kept_size, kept_size_at};
 ghost use Rattle.session_rules.specs.Asking.{has_database};
 ghost use Rattle.session_rules.specs.Sessions.{is_due, later_query, lent_query};
 ghost use Rattle.session_decisions.specs.Reading.{read_named};
 ghost use Rattle.statement_runs.specs.Calls.{call_on};
 ghost use Rattle.session_decisions.specs.Scenes.{scene};
 ghost use Rattle.gateway.specs.Calls.{TurnedBy, HasNoNul, HasShortTerm, IsConfigured};
-ghost use Rattle.gateway.specs.Later.{ReadDone, Resumed};
+ghost use Rattle.gateway.specs.Later.{ReadDone, Resumed, first_due};
 ghost use Rattle.gateway.specs.Seen.{seen, pins_of, Agrees, ListsAsBefore, PinsOf};
 
 use crate::act::Act;
@@ -29,7 +30,7 @@ use crate::later::{next_due, read_done, resume};
 use page_apply::Machine;
 use session_asking::View;
 use session_decisions::Read;
-use session_table::{Session, applied, find, join, left, lost};
+use session_table::{Session, applied, find, join, kept_size, kept_size_at, left, lost};
 use sql_engine::Engine;
 use std::alloc::{AllocError, Global};
 use std::marker::Model;
@@ -198,7 +199,7 @@ impl Gateway {
     pub fn next_due(&self) -> Option<u64>
         ensures { (databases : List Database) → MatchOption result
             ((conn : ℕ) → is_due ((seen self.now databases).session conn).later ≡ false)
-            (λ conn. is_due ((seen self.now databases).session conn).later ≡ true) }
+            (λ conn. first_due (seen self.now databases) ≡ Some conn) }
     {
         next_due(self.sessions.as_slice())
     }
@@ -309,5 +310,20 @@ impl Gateway {
             Some(place) => is_busy(&self.sessions[place]),
             None => false,
         }
+    }
+
+    /// How many bytes the sessions keep of what their clients have said, and of what they are to be told, as `kept_size` of
+    /// `session_table` counts them. Looks at each number of a statement; takes no memory.
+    pub fn held(&self) -> u64
+        ensures { result ≡ kept_size self.now.sessions }
+    {
+        kept_size(self.sessions.as_slice())
+    }
+
+    /// The same of the session of one connection; 0 where it has none. Takes no memory.
+    pub fn held_by(&self, conn: u64) -> u64
+        ensures { result ≡ kept_size_at conn self.now.sessions }
+    {
+        kept_size_at(self.sessions.as_slice(), conn)
     }
 }

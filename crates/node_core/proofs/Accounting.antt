@@ -4,6 +4,7 @@ use Rattle.std.specs.Prelude.{map, ◌||◌, Option, None}
 use Rattle.std.specs.List.{AllByRecursion, flat_map}
 use Rattle.std.proofs.lemmas.List.{map-append}
 use Rattle.wire_msgs.specs.declared.request.Request.{Request}
+use Rattle.client_connection.specs.Connection.{Conn}
 use Rattle.sql_engine.specs.declared.kind.EngineKind.{EngineKind}
 use Rattle.sql_engine.specs.Meanings.{Meaning, Told}
 use Rattle.statement_runs.specs.Running.{TellsAll}
@@ -24,10 +25,11 @@ use Rattle.node_rules.proofs.Connecting.{hearing_goes_holds}
 use Rattle.node_rules.proofs.Ends.{goes_to_end_holds, stops_between_holds, stops_within_holds}
 use Rattle.node_rules.proofs.Stretches.{nothing_goes_holds, goes_begins_holds, begins_on_holds, sent_on_holds}
 use Rattle.node_core.specs.declared.event.Event.{Event}
+use Rattle.node_core.specs.declared.event.Event.TheVariants as events
 use Rattle.node_core.specs.declared.outs.Outs.{Outs}
 use Rattle.node_core.specs.declared.running.Running.{Running}
-use Rattle.node_core.specs.Values.{seen}
-use Rattle.node_core.specs.Account.{moment_of, letter_of, lived, responses_in, sent_so, Sends, Says, Brought, IsOwn, Adds, Turns, KnowsServers, Since, Begin, IsLost, Brings, Comes_in, Takes, AtRest, none_made, made_both, Act, Acts, Stopped, Fresh, SoFar, Between, Went, IsMore, Happens, AreOf, IsAlone, AreAlone, Underway, StepsBy, StopsBy}
+use Rattle.node_core.specs.Values.{seen, clients_in, waiting_on}
+use Rattle.node_core.specs.Account.{moment_of, letter_of, lived, responses_in, sent_so, Sends, Says, Brought, IsOwn, Adds, Turns, KnowsServers, Since, Begin, IsLost, Brings, Comes_in, Takes, AtRest, none_made, made_both, Act, Acts, Stopped, Fresh, SoFar, Between, Went, IsMore, Happens, Comes, Compacts, NoneAsks, heard_on, acts_asks, AreOf, IsAlone, AreAlone, Underway, StepsBy, StopsBy}
 use Rattle.node_core.specs.Taking.{TurnsOn}
 use Rattle.node_core.specs.Voters.{Beside, MayBe}
 use Rattle.node_core.proofs.Besides.{beside_none, beside_on, tells_act, tells_begun}
@@ -261,6 +263,42 @@ acts_still m kind setup a b c [] xs all same = (same ∙ all.0, all.1)
 acts_still m kind setup a b c (first ∷ begins) xs all same =
     (all.0, all.1, all.2, all.3, all.4, all.5, acts_still m kind setup all.1 b c begins all.3 all.6 same, all.7)
 
+-- what is asked in acts, and in one more
+acts_asks_end : (m : Meaning) (kind : EngineKind) (setup : Setup) (a b c d : Running) (begins : List Begin) (begin : Begin) (xs ys : Made) (all : Acts m kind setup a b begins xs) (same : seen c ≡ seen b)
+    (act : Act m kind setup c d begin ys) (conn : ℕ) → acts_asks m kind setup a d (begins ++ begin ∷ []) (made_both xs ys) (acts_end m kind setup a b c d begins begin xs ys all same act) conn
+    ≡ acts_asks m kind setup a b begins xs all conn ++ act.taken.asks conn
+unfolding acts_end
+acts_asks_end m kind setup a b c d [] begin xs ys all same act conn = append-nil (act.taken.asks conn)
+acts_asks_end m kind setup a b c d (first ∷ begins) begin xs ys all same act conn =
+    ap (λ (l : List Request). all.5.taken.asks conn ++ l) (acts_asks_end m kind setup all.1 b c d begins begin all.3 ys all.6 same act conn)
+    ∙ sym (append_assoc (all.5.taken.asks conn) (acts_asks m kind setup all.1 b begins all.3 all.6 conn) (act.taken.asks conn))
+
+acts_asks_still : (m : Meaning) (kind : EngineKind) (setup : Setup) (a b c : Running) (begins : List Begin) (xs : Made) (all : Acts m kind setup a b begins xs) (same : seen c ≡ seen b) (conn : ℕ)
+    → acts_asks m kind setup a c begins xs (acts_still m kind setup a b c begins xs all same) conn ≡ acts_asks m kind setup a b begins xs all conn
+unfolding acts_still
+acts_asks_still m kind setup a b c [] xs all same conn = refl
+acts_asks_still m kind setup a b c (first ∷ begins) xs all same conn = ap (λ (l : List Request). all.5.taken.asks conn ++ l) (acts_asks_still m kind setup all.1 b c begins all.3 all.6 same conn)
+
+-- what an act takes in is what came in by it
+taken_asks : {before now : Option Told} (m : Meaning) (kind : EngineKind) (setup : Setup) (x : Brought) (late : Bool) (a b : Running) (begin : Begin) (stood : AtRest a) (comes : Comes_in a begin x)
+    (s : Since m kind setup x late a b before now) (beside : Beside setup a b x.bytes s.piece.inputs) (end : MayEnd (moment_of b)) (id : b.replica.raft.id ≡ b.replica.id) (conn : ℕ)
+    → (since_ends m kind setup x late a b begin stood comes s beside end id).1.taken.asks conn ≡ x.asks conn
+unfolding since_ends
+taken_asks m kind setup x late a b begin stood comes s beside end id conn = s.asks conn
+
+-- what is brought is so where clients have the same streams
+brings_same : (a b : Running) (event : Event) (asks : ℕ → List Request) → (clients_in a).streams ≡ (clients_in b).streams → Brings a (Happens event) asks → Brings b (Happens event) asks
+brings_same a b events.Timeout asks same h = h
+brings_same a b events.Beat asks same h = h
+brings_same a b (events.Connect conn) asks same h = h
+brings_same a b (events.Hangup conn) asks same h = h
+brings_same a b (events.Peer message) asks same h = h
+brings_same a b (events.ReadDone conn read) asks same h = h
+brings_same a b (events.Bytes conn bytes) asks same h = record {
+  here = ap (λ (s : ℕ → Option Conn). waiting_on (s conn) ++ asks conn) (sym same) ∙ h.here ∙ ap (λ (s : ℕ → Option Conn). heard_on (s conn) bytes) same;
+  others = h.others;
+}
+
 -- none yet
 pub went_none : {told : Option Told} (m : Meaning) (kind : EngineKind) (setup : Setup) (a : Running) → Went m kind setup a a [] told told
 went_none m kind setup a = record { made = none_made; acts = (refl, refl); says = says_none a a refl refl refl; heard = heard_none _ }
@@ -275,10 +313,19 @@ went_on m kind setup a b c d begins begin ys w between act says heard = record {
   heard = heard_join w.made.answers ys.answers _ _ _ w.heard heard;
 }
 
+went_asks : (before mid now : Option Told) (m : Meaning) (kind : EngineKind) (setup : Setup) (a b c d : Running) (begins : List Begin) (begin : Begin) (ys : Made) (w : Went m kind setup a b begins before mid)
+    (between : Between b c) (act : Act m kind setup c d begin ys) (says : Says c d ys.letters ys.replies ys.jobs) (heard : TellsAll ys.answers mid now) (conn : ℕ)
+    → acts_asks m kind setup a d (begins ++ begin ∷ []) (went_on m kind setup a b c d begins begin ys w between act says heard).made (went_on m kind setup a b c d begins begin ys w between act says heard).acts conn
+    ≡ acts_asks m kind setup a b begins w.made w.acts conn ++ act.taken.asks conn
+unfolding went_on
+went_asks before mid now m kind setup a b c d begins begin ys w between act says heard conn = acts_asks_end m kind setup a b c d begins begin w.made ys w.acts between.same act conn
+
 -- what is said at the end is what was said since the begin, where nothing had been
 pub went_steps : {before now : Option Told} (m : Meaning) (kind : EngineKind) (setup : Setup) (a b c : Running) (begins : List Begin) (event : Event) (outs : Outs) → a.mail ≡ no_mail → a.outs.replies.items ≡ [] → a.outs.reads.items ≡ [] → AreOf event begins →
-    Went m kind setup a b begins before now → seen c ≡ seen b → outs.messages.items ≡ sent b.mail → outs.replies.items ≡ b.outs.replies.items → outs.reads.items ≡ b.outs.reads.items → c.has_links ≡ a.has_links → AreAlone a begins → StepsBy m kind setup a c event outs before now
-went_steps m kind setup a b c begins event outs quiet silent unread are w same messages replies reads links alone = record {
+    (w : Went m kind setup a b begins before now) → seen c ≡ seen b → outs.messages.items ≡ sent b.mail → outs.replies.items ≡ b.outs.replies.items → outs.reads.items ≡ b.outs.reads.items → c.has_links ≡ a.has_links → AreAlone a begins
+    → Brings a (Happens event) (acts_asks m kind setup a b begins w.made w.acts) → StepsBy m kind setup a c event outs before now
+went_steps m kind setup a b c begins event outs quiet silent unread are w same messages replies reads links alone asks = record {
+  asks = subst (Brings a (Happens event)) (λ i. λ conn. sym (acts_asks_still m kind setup a b c begins w.made w.acts same conn) i) asks;
   links = links;
   alone = alone;
   begins = begins;
@@ -337,8 +384,10 @@ are_more event (first ∷ begins) begin next are more = (are.0, all begins are.1
     all (x ∷ xs) h = (h.0, all xs h.1)
 
 -- the event's act has begun
-pub underway_starts : {before now : Option Told} (m : Meaning) (kind : EngineKind) (setup : Setup) (a from b : Running) (event : Event) → Between a from → AtRest from → SoFar m kind setup from b (Happens event) before now → Underway m kind setup a b event before now
-underway_starts m kind setup a from b event between stood so_far = record {
+pub underway_starts : {before now : Option Told} (m : Meaning) (kind : EngineKind) (setup : Setup) (a from b : Running) (event : Event) → Between a from → (clients_in from).streams ≡ (clients_in a).streams → AtRest from
+    → SoFar m kind setup from b (Happens event) before now → Underway m kind setup a b event before now
+underway_starts m kind setup a from b event between streams stood so_far = record {
+  asks = brings_same from a event so_far.brought.asks streams so_far.comes.asks;
   begins = [];
   begin = Happens event;
   are = (refl, tt);
@@ -367,6 +416,11 @@ so_far_on m kind setup a b c begin f t =
       beside = beside_on setup x.bytes a b c f.since.piece.inputs on.turns.piece.inputs f.since.id f.beside on.beside;
     }
 
+brought_on : {before mid now : Option Told} (m : Meaning) (kind : EngineKind) (setup : Setup) (a b c : Running) (begin : Begin) (f : SoFar m kind setup a b begin before mid)
+    (t : (bytes : List ℕ) (joins : Option ℕ) → TurnsOn m kind setup bytes joins b c mid now) → (so_far_on m kind setup a b c begin f t).brought ≡ f.brought
+unfolding so_far_on
+brought_on m kind setup a b c begin f t = refl
+
 pub underway_on : {before mid now : Option Told} (m : Meaning) (kind : EngineKind) (setup : Setup) (a b c : Running) (event : Event) → Underway m kind setup a b event before mid → ((bytes : List ℕ) (joins : Option ℕ) → TurnsOn m kind setup bytes joins b c mid now) → Underway m kind setup a c event before now
 underway_on m kind setup a b c event u t = record {
   begins = u.begins;
@@ -379,6 +433,8 @@ underway_on m kind setup a b c event u t = record {
   between = u.between;
   stood = u.stood;
   so_far = so_far_on m kind setup u.from b c u.begin u.so_far t;
+  asks = subst (Brings a (Happens event))
+      (λ i. λ conn. acts_asks m kind setup a u.mid u.begins u.went.made u.went.acts conn ++ (sym (brought_on m kind setup u.from b c u.begin u.so_far t) i).asks conn) u.asks;
   links = (t [] None).beside.links ∙ u.links;
   alone = u.alone;
 }
@@ -386,6 +442,29 @@ underway_on m kind setup a b c event u t = record {
 pub all_then : (begins : List Begin) (next : Begin) → AllByRecursion IsAlone begins → IsAlone next → AllByRecursion IsAlone (begins ++ next ∷ [])
 all_then [] next all alone = (alone, tt)
 all_then (b ∷ begins) next all alone = (all.0, all_then begins next all.1 alone)
+
+-- what is asked in the acts that have ended, with the one that was under way
+ended_asks : {before now : Option Told} (m : Meaning) (kind : EngineKind) (setup : Setup) (a b : Running) (event : Event) (u : Underway m kind setup a b event before now) (end : MayEnd (moment_of b))
+    (id : b.replica.raft.id ≡ b.replica.id) (conn : ℕ) →
+    let f = u.so_far in
+    let r = since_ends m kind setup f.brought f.late u.from b u.begin u.stood f.comes f.since f.beside end id in
+    let w = went_on m kind setup a u.mid u.from b u.begins u.begin r.0 u.went u.between r.1 r.2 r.3 in
+    acts_asks m kind setup a b (u.begins ++ u.begin ∷ []) w.made w.acts conn ≡ acts_asks m kind setup a u.mid u.begins u.went.made u.went.acts conn ++ f.brought.asks conn
+ended_asks m kind setup a b event u end id conn =
+    let f = u.so_far in
+    let r = since_ends m kind setup f.brought f.late u.from b u.begin u.stood f.comes f.since f.beside end id in
+    went_asks _ _ _ m kind setup a u.mid u.from b u.begins u.begin r.0 u.went u.between r.1 r.2 r.3 conn
+    ∙ ap (λ (l : List Request). acts_asks m kind setup a u.mid u.begins u.went.made u.went.acts conn ++ l) (taken_asks m kind setup f.brought f.late u.from b u.begin u.stood f.comes f.since f.beside end id conn)
+
+-- nothing is asked where a message of a peer came, or an own snapshot was kept
+more_asks : (a : Running) (begin : Begin) (asks : ℕ → List Request) → IsMore begin → Brings a begin asks → NoneAsks asks
+more_asks a (Happens event) asks more h = absurd more
+more_asks a (Comes message) asks more h = h
+more_asks a (Compacts index) asks more h = h
+
+-- what was asked is asked in the act that has ended, and nothing in the next one
+asked_then : (earlier first rest : ℕ → List Request) (all : ℕ → List Request) → ((conn : ℕ) → all conn ≡ earlier conn ++ first conn) → NoneAsks rest → (conn : ℕ) → earlier conn ++ first conn ≡ all conn ++ rest conn
+asked_then earlier first rest all is none conn = sym (is conn) ∙ sym (append-nil (all conn)) ∙ ap (λ (l : List Request). all conn ++ l) (sym (none conn))
 
 -- the node rests again, and another act has begun
 pub underway_next : {before mid now : Option Told} (m : Meaning) (kind : EngineKind) (setup : Setup) (a b c d : Running) (event : Event) → Underway m kind setup a b event before mid → MayEnd (moment_of b) → b.replica.raft.id ≡ b.replica.id → Between b c → AtRest c → (next : Begin) → IsMore next →
@@ -404,6 +483,12 @@ underway_next m kind setup a b c d event u end id between stood next more alone 
       between = between;
       stood = stood;
       so_far = so_far;
+      asks = subst (Brings a (Happens event))
+          (λ i. λ conn. asked_then (acts_asks m kind setup a u.mid u.begins u.went.made u.went.acts) f.brought.asks so_far.brought.asks
+          (acts_asks m kind setup a b (u.begins ++ u.begin ∷ []) (went_on m kind setup a u.mid u.from b u.begins u.begin r.0 u.went u.between r.1 r.2 r.3).made
+          (went_on m kind setup a u.mid u.from b u.begins u.begin r.0 u.went u.between r.1 r.2 r.3).acts)
+          (ended_asks m kind setup a b event u end id)
+          (more_asks c next so_far.brought.asks more so_far.comes.asks) conn i) u.asks;
       links = so_far.beside.links ∙ between.links ∙ u.links;
       alone = λ none. all_then (u.begins ++ u.begin ∷ []) next (u.alone none) (alone none);
     }
@@ -415,6 +500,7 @@ underway_ends m kind setup a b c event outs u end id quiet silent unread same me
     let f = u.so_far in
     let r = since_ends m kind setup f.brought f.late u.from b u.begin u.stood f.comes f.since f.beside end id in
     went_steps m kind setup a b c (u.begins ++ u.begin ∷ []) event outs quiet silent unread u.are (went_on m kind setup a u.mid u.from b u.begins u.begin r.0 u.went u.between r.1 r.2 r.3) same messages replies reads (links ∙ u.links) u.alone
+    (subst (Brings a (Happens event)) (λ i. λ conn. sym (ended_asks m kind setup a b event u end id conn) i) u.asks)
 
 -- the act under way was stopped
 pub underway_stops : {before now : Option Told} (m : Meaning) (kind : EngineKind) (setup : Setup) (a b : Running) (event : Event) (kept : Kept) (u : Underway m kind setup a b event before now) → Stopped m kind setup u.from u.begin kept → StopsBy m kind setup a event kept

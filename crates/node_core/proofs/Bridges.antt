@@ -232,7 +232,7 @@ new_waits streams conn other old = ⊎_elim
     (λ (q : other ≢ conn). ap waiting_on (cond-false (other == conn) (Some opened) (streams other) (ne_eqb other conn q)))
     (cases_eq other conn)
 
-requests_append : (xs ys : List Message) → requests_in (xs ++ ys) ≡ requests_in xs ++ requests_in ys
+pub requests_append : (xs ys : List Message) → requests_in (xs ++ ys) ≡ requests_in xs ++ requests_in ys
 requests_append [] ys = refl
 requests_append (x ∷ xs) ys = ap (λ l. request_in (request_of x) ++ l) (requests_append xs ys) ∙ sym (append_assoc (request_in (request_of x)) (requests_in xs) (requests_in ys))
 

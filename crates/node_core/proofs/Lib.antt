@@ -36,3 +36,6 @@ mod Compacting
 mod Finding
 mod StopsOfTurns
 mod StopsOfStep
+mod PeerActs
+mod ConnStreams
+mod HeardSo

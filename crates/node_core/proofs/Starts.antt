@@ -160,7 +160,7 @@ applies_some opening s a pos r stands unpinned shows = record {
 -- ---- no node over what was loaded
 
 pub start_fails : (fault : StartFault) (store : Open) (k : Kept) (d e : Disk Text) → IsUnread k.snap.index k.snap.bytes fault → IsLoaded store k (folder d) (folder e) → StartLeaves (Err fault) d e
-start_fails (start.Snapshot at) store k d e u l = (record { kept = k; reads = l.reads; at_is = sym u.0; unread = u.1 }, inr (store, (k, l)))
+start_fails (start.Snapshot at) store k d e u l = (record { kept = k; reads = l.reads; at_is = sym u.0; some = u.1; unread = u.2 }, inr (store, (k, l)))
 start_fails start.NoMemory store k d e u l = inr (store, (k, l))
 start_fails start.DiskFault store k d e u l = absurd u
 start_fails (start.Damaged fault) store k d e u l = absurd u

@@ -315,6 +315,12 @@ Acts m kind setup old new (begin ∷ begins) made =
     (from : Running) × (mid : Running) × (first : Made) × (rest : Made) × (seen from ≡ seen old) × Act m kind setup from mid begin first ×
     Acts m kind setup mid new begins rest × (made ≡ made_both first rest)
 
+-- what connections ask in them, one act after another
+abbrev pub acts_asks : (m : Meaning) (kind : EngineKind) (setup : Setup) (old new : Running) (begins : List Begin) (made : Made) →
+    Acts m kind setup old new begins made → ℕ → List Request
+acts_asks m kind setup old new [] made acts conn = []
+acts_asks m kind setup old new (begin ∷ begins) made acts conn = acts.5.taken.asks conn ++ acts_asks m kind setup acts.1 new begins acts.3 acts.6 conn
+
 -- What the last of them left when it failed or was stopped.
 pub record Stopped (m : Meaning) (kind : EngineKind) (setup : Setup) (old : Running) (begin : Begin) (kept : Kept) : Type 0 where
   pub stood : AtRest old
@@ -393,14 +399,16 @@ pub record Underway (m : Meaning) (kind : EngineKind) (setup : Setup) (start now
   pub between : Between mid from
   pub stood : AtRest from
   pub so_far : SoFar m kind setup from now begin told_between told_now
+  pub asks : Brings start (Happens event) (λ conn. acts_asks m kind setup start mid begins went.made went.acts conn ++ so_far.brought.asks conn)
   pub links : now.has_links ≡ start.has_links
   pub alone : AreAlone start (begins ++ begin ∷ [])
 
 -- ---- what a step shows
 
 -- A step that ended well: its acts are those of the rules, the first one that of the event, and it says what they say: of the Appends and
--- Installs to one peer the last one. It hands to readers what they lend, and the engine told the answers that they use, and no others. A
--- node without links takes no peer's message from a connection, and stays without them.
+-- Installs to one peer the last one. It hands to readers what they lend, and the engine told the answers that they use, and no others.
+-- Connections ask what the event's bytes bring to the streams that they had before. A node without links takes no peer's message from a
+-- connection, and stays without them.
 pub record StepsBy (m : Meaning) (kind : EngineKind) (setup : Setup) (old new : Running) (event : Event) (outs : Outs) (told_before told_now : Option Told)
     : Type 0 where
   pub begins : List Begin
@@ -413,6 +421,7 @@ pub record StepsBy (m : Meaning) (kind : EngineKind) (setup : Setup) (old new : 
   pub tells : Sends made.replies outs.replies.items
   pub reads : outs.reads.items ≡ made.jobs
   pub heard : TellsAll made.answers told_before told_now
+  pub asks : Brings old (Happens event) (acts_asks m kind setup old new begins made acts)
   pub links : new.has_links ≡ old.has_links
   pub alone : AreAlone old begins
 

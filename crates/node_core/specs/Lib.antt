@@ -13,3 +13,5 @@ pub mod Posting
 pub mod Taking
 pub mod Duties
 pub mod Finding
+pub mod Conns
+pub mod Heard

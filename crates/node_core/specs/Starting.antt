@@ -3,6 +3,7 @@ use Rattle.std.specs.Prelude.{◌≡◌, ◌⊎◌, ℕ, suc, ◌-◌, ◌<◌, 
 use Rattle.disk_model.specs.Disk.{Disk}
 use Rattle.disk_model.specs.Trait.{Text}
 use Rattle.store_laws.specs.Store.{Snap, Kept, Loaded}
+use Rattle.segment_store.specs.declared.load_fault.LoadFault.TheVariants as load
 use Rattle.segment_store.specs.Open.{Open}
 use Rattle.segment_store.specs.Keeps.{folder}
 use Rattle.segment_store.specs.Loading.{kept_in, IsSeen, IsLoaded, StaysSeen, LoadLeaves}
@@ -91,16 +92,17 @@ ShowsFront index bytes a = (opening : List Server) (front : List Entry) → leng
 abbrev pub StaysKept : Disk Text → Disk Text → Type 0
 StaysKept d e = StaysSeen (folder d) (folder e) ⊎ ((s : Open) × ((k : Kept) × IsLoaded s k (folder d) (folder e)))
 
--- the snapshot that is kept up to this index is none of a node
+-- the snapshot that is kept up to this index, which isn't 0, is none of a node
 pub record SnapshotUnread (index : ℕ) (d : Disk Text) : Type 0 where
   pub kept : Kept
   pub reads : kept_in (folder d).read ≡ Loaded kept
   pub at_is : kept.snap.index ≡ index
+  pub some : 0 < index
   pub unread : snapshot_in kept.snap.bytes ≡ None
 
--- why there is no node over a snapshot that was loaded: it is none of a node, or memory ran out
+-- why there is no node over a snapshot that was loaded: there is one, and it is none of a node; or memory ran out
 abbrev pub IsUnread : ℕ → List ℕ → StartFault → Type 0
-IsUnread index bytes (start.Snapshot at) = (at ≡ index) × (snapshot_in bytes ≡ None)
+IsUnread index bytes (start.Snapshot at) = (at ≡ index) × (0 < at) × (snapshot_in bytes ≡ None)
 IsUnread index bytes start.NoMemory = Unit {0}
 IsUnread index bytes start.DiskFault = ⊥
 IsUnread index bytes (start.Damaged fault) = ⊥
@@ -108,6 +110,8 @@ IsUnread index bytes (start.Damaged fault) = ⊥
 -- The disk before a start and after it, by its answer: a node over what was kept; or why there is none, and all stays kept.
 abbrev pub StartLeaves : Result Node StartFault → Disk Text → Disk Text → Type 0
 StartLeaves (Ok node) d e = IsLoaded (replica_of node).store (kept_by node) (folder d) (folder e)
+StartLeaves (Err (start.Damaged load.DiskFault)) d e = ⊥
+StartLeaves (Err (start.Damaged load.NoMemory)) d e = ⊥
 StartLeaves (Err (start.Damaged fault)) d e = LoadLeaves (Err fault) d e
 StartLeaves (Err (start.Snapshot index)) d e = SnapshotUnread index d × StaysKept d e
 StartLeaves (Err start.DiskFault) d e = StaysKept d e

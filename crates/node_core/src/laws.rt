@@ -1,5 +1,6 @@
 //! What is known of nodes that start.
 
+ghost use Rattle.node_core.specs.Heard.{HeardBegins, HeardOn};
 ghost use Rattle.node_core.specs.Starting.{BegunStands};
 
 use node_rules::starts_tell_voters;
@@ -11,3 +12,10 @@ pub fn starts_stand()
 {
     starts_tell_voters();
 }
+
+/// A law: what a connection has asked of a node, from the step in which it came on, are the requests that all bytes spell which have
+/// come on it and were read, in whatever pieces and steps they came; all are read, unless one has no room.
+pub fn requests_are_spelled()
+    ensures begins { HeardBegins }
+    ensures on { HeardOn }
+{}

@@ -12,6 +12,7 @@ ghost use Rattle.client_sessions.specs.Seen.{clients_of, Agrees, StandOver};
 ghost use Rattle.node_state.specs.Applied.{with_entry};
 ghost use Rattle.raft_world.specs.Members.{Setup};
 ghost use Rattle.node_core.specs.Applying.{TakesEntry, AppliesSo};
+ghost use Rattle.node_core.specs.Conns.{ConnsOn, KeepsConns};
 ghost use Rattle.node_core.specs.Duties.{DutySo, IsCalm, IsSettled, ServesFrom};
 ghost use Rattle.node_core.specs.Taking.{TurnsOn};
 ghost use Rattle.node_core.specs.Performing.{SaysNothing};
@@ -80,6 +81,7 @@ impl Running {
         requires led { IsLed self.old }
         requires idle { self.old.due.items ≡ [] }
         requires agrees { Agrees (E.known engine.old) self.old.clients self.old.applied.machine }
+        ensures conns { OnOk result (ConnsOn self.old self.new) }
         ensures going { OnOk result (IsGoing self.new) }
         ensures led { OnOk result (IsLed self.new) }
         ensures index { OnOk result (self.new.applied.index ≡ suc self.old.applied.index) }
@@ -100,6 +102,7 @@ impl Running {
     fn apply_one(&mut self) -> Result<Effect, NodeFault>
         requires going { IsGoing self.old }
         requires more { self.old.applied.index < self.old.replica.raft.commit }
+        ensures conns { OnOk result (KeepsConns self.old self.new) }
         ensures going { OnOk result (IsGoing self.new) }
         ensures index { OnOk result (self.new.applied.index ≡ suc self.old.applied.index) }
         ensures replica { self.new.replica ≡ self.old.replica }
@@ -120,6 +123,7 @@ impl Running {
     fn apply_entry(&mut self) -> Result<Effect, NodeFault>
         requires going { IsGoing self.old }
         requires more { self.old.applied.index < self.old.replica.raft.commit }
+        ensures links { self.new.view.links ≡ self.old.view.links }
         ensures going { OnOk result (IsGoing self.new) }
         ensures index { OnOk result (self.new.applied.index ≡ suc self.old.applied.index) }
         ensures replica { self.new.replica ≡ self.old.replica }
@@ -145,6 +149,7 @@ impl Running {
     /// The client whose proposal ends with the entry that was applied last is told.
     fn tell_applied(&mut self) -> Result<(), NodeFault>
         requires going { IsGoing self.old }
+        ensures conns { OnOk result (KeepsConns self.old self.new) }
         ensures going { OnOk result (IsGoing self.new) }
         ensures index { self.new.applied.index ≡ self.old.applied.index }
         ensures replica { self.new.replica ≡ self.old.replica }
@@ -174,6 +179,7 @@ impl Running {
         requires led { IsLed self.old }
         requires idle { self.old.due.items ≡ [] }
         requires agrees { Agrees (E.known engine.old) self.old.clients self.old.applied.machine }
+        ensures conns { OnOk result (ConnsOn self.old self.new) }
         ensures going { OnOk result (IsGoing self.new) }
         ensures led { OnOk result (IsLed self.new) }
         ensures replica { self.new.replica ≡ self.old.replica }
@@ -200,6 +206,7 @@ impl Running {
     fn do_duties(&mut self, effect: &Effect) -> Result<(), NodeFault>
         requires going { IsGoing self.old }
         requires led { IsLed self.old }
+        ensures conns { OnOk result (KeepsConns self.old self.new) }
         ensures going { OnOk result (IsGoing self.new) }
         ensures led { OnOk result (IsLed self.new) }
         ensures applied { self.new.applied ≡ self.old.applied }

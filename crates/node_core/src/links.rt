@@ -1,6 +1,6 @@
 //! Connections that carry the messages of peers.
 
-ghost use Rattle.std.specs.Prelude.{◌<◌, length, MatchOption};
+ghost use Rattle.std.specs.Prelude.{◌≡◌, ◌<◌, false, [], None, IfOk, length, MatchOption};
 
 use client_connection::{CloseReason, PeerStream};
 use raft_vote::{PeerFault, RaftMessage, read_message};
@@ -93,7 +93,9 @@ fn next_of(alloc: Global, links: &mut Vec<Link>, me: u64) -> Result<Option<Lette
 
 impl Links {
     /// No links. Takes no memory.
-    pub(crate) fn new(alloc: Global) -> Links {
+    pub(crate) fn new(alloc: Global) -> Links
+        ensures { result.all.items ≡ [] }
+    {
         Links {
             alloc,
             all: Vec::new(alloc),
@@ -101,7 +103,9 @@ impl Links {
     }
 
     /// Whether a connection carries a peer's messages.
-    pub(crate) fn has(&self, conn: u64) -> bool {
+    pub(crate) fn has(&self, conn: u64) -> bool
+        ensures none { self.now.all.items ≡ [] → result ≡ false }
+    {
         place_of(self.all.as_slice(), conn).is_some()
     }
 
@@ -117,12 +121,16 @@ impl Links {
     }
 
     /// A connection is gone, and what waits on it.
-    pub(crate) fn leave(&mut self, conn: u64) {
+    pub(crate) fn leave(&mut self, conn: u64)
+        ensures none { self.old.all.items ≡ [] → self.new.all.items ≡ [] }
+    {
         self.all.retain(|link| link.conn != conn);
     }
 
     /// The next bytes come on a connection. Where it isn't one of these nothing happens.
-    pub(crate) fn receive(&mut self, conn: u64, bytes: &[u8]) -> Result<(), AllocError> {
+    pub(crate) fn receive(&mut self, conn: u64, bytes: &[u8]) -> Result<(), AllocError>
+        ensures none { self.old.all.items ≡ [] → self.new.all.items ≡ [] }
+    {
         match place_of(self.all.as_slice(), conn) {
             Some(place) => self.all[place].stream.receive(bytes),
             None => Ok(()),
@@ -130,7 +138,13 @@ impl Links {
     }
 
     /// Takes the next message that waits, which is for the node of this id. None where none waits.
-    pub(crate) fn next(&mut self, me: u64) -> Result<Option<Letter>, AllocError> {
+    pub(crate) fn next(&mut self, me: u64) -> Result<Option<Letter>, AllocError>
+        ensures none { self.old.all.items ≡ [] → self.new.all.items ≡ [] }
+        ensures waits { self.old.all.items ≡ [] → IfOk result (λ letter. letter ≡ None) }
+    {
+        if self.all.is_empty() {
+            return Ok(None);
+        }
         next_of(self.alloc, &mut self.all, me)
     }
 

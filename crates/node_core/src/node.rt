@@ -2,6 +2,7 @@
 
 ghost use Rattle.std.specs.Prelude.{◌≡◌, List, [], Err, IfOk, OnOk, OnErr};
 ghost use Rattle.sql_engine.specs.Meanings.{Stays};
+ghost use Rattle.client_sessions.specs.Sizes.{all_held, held_for};
 ghost use Rattle.raft_vote.specs.Servers.{IsConfiguration};
 ghost use Rattle.raft_rules.specs.Node.{Server as ServerValue};
 ghost use Rattle.raft_core.specs.Roles.{role_value};
@@ -12,6 +13,7 @@ ghost use Rattle.node_core.specs.Faults.{StartCause, StepCause};
 ghost use Rattle.raft_member.specs.Members.{read_setup};
 ghost use Rattle.node_rules.specs.Steps.{StartsSo};
 ghost use Rattle.node_core.specs.Account.{StepsBy, StopsBy};
+ghost use Rattle.node_core.specs.Conns.{ConnsBy, StartsUnlinked};
 ghost use Rattle.node_core.specs.Finding.{LeavesBy};
 ghost use Rattle.node_core.specs.Starting.{StartsOver};
 ghost use Rattle.node_core.specs.Stepping.{IsDown, IsUp, StaysDown, StaysStored};
@@ -51,6 +53,8 @@ impl Node {
         ensures stands { IfOk result (λ node. StartsSo (read_setup spec.servers) (kept_by node) (node_of node) (servers_told node)) }
         ensures id { IfOk result (λ node. (replica_of node).raft.id ≡ spec.id) }
         ensures links { IfOk result (λ node. has_links node ≡ spec.links) }
+        // No connection carries a peer's messages, so the closes of its steps are those of a node without links where it has none.
+        ensures unlinked { IfOk result (StartsUnlinked spec.links) }
         ensures sound { IfOk result IsSound }
         ensures up { IfOk result IsUp }
         // No number stands for two images, for an engine that knows none.
@@ -79,6 +83,8 @@ impl Node {
         requires sound { IsSound self.old }
         // No number stands for two images, for the engine, the transactions and the databases; and so it is afterwards.
         requires agrees { IsUp self.old → Agrees (E.known engine.old) self.old }
+        // What of connections' bytes is read and taken, and which are closed.
+        ensures conns { IfOk result (λ outs. ConnsBy event self.old.running self.new.running outs) }
         ensures agrees { OnOk result (Agrees (E.known engine.new) self.new) }
         ensures sound { IsSound self.new }
         // A node that is down stays so, and one that fails is down.
@@ -134,6 +140,21 @@ impl Node {
         ensures { result.now ≡ databases_of self.now }
     {
         &self.running.applied.machine
+    }
+
+    /// How many bytes it holds of what clients have said, and of what they are to be told, as `Clients::held` counts them; those of
+    /// connections that carry a peer's messages aren't counted. Takes no memory.
+    pub fn held(&self) -> u64
+        ensures { result ≡ all_held self.now.running.clients }
+    {
+        self.running.clients.held()
+    }
+
+    /// The same of one client's connection; 0 where it is none. Takes no memory.
+    pub fn held_by(&self, conn: u64) -> u64
+        ensures { result ≡ held_for conn self.now.running.clients }
+    {
+        self.running.clients.held_by(conn)
     }
 
     /// What it keeps, as a load of the disk would answer it; right behind a start, what that has loaded. Entries and the snapshot

@@ -1,6 +1,7 @@
 //! What a step says.
 
 ghost use Rattle.std.specs.Prelude.{◌≡◌, ◌++◌, ℕ, List, [], map, OnOk};
+ghost use Rattle.node_core.specs.Conns.{close_of};
 
 use client_connection::CloseReason;
 use dq_base::Items;
@@ -47,6 +48,20 @@ impl Outs {
         let mut told = told;
         self.replies.append(&mut told)?;
         Ok(())
+    }
+
+    /// A connection is closed behind the others, if there is a reason.
+    pub(crate) fn close(&mut self, conn: u64, reason: Option<CloseReason>) -> Result<(), AllocError>
+        ensures said { OnOk result (self.new.closed.items ≡ self.old.closed.items ++ close_of conn reason) }
+        ensures rest { self.new ≡ record self.old { closed = self.new.closed } }
+    {
+        match reason {
+            Some(reason) => {
+                self.closed.push((conn, reason))?;
+                Ok(())
+            }
+            None => Ok(()),
+        }
     }
 
     /// Messages to one client are said, behind the others.

@@ -8,6 +8,7 @@ ghost use Rattle.raft_rules.specs.NodeValues.{node_of};
 ghost use Rattle.raft_member.specs.Members.{read_setup};
 ghost use Rattle.node_replica.specs.Replicas.{IsWhole};
 ghost use Rattle.node_core.specs.declared.fault.NodeFault.TheVariants as fault;
+ghost use Rattle.node_core.specs.Conns.{KeepsConns};
 ghost use Rattle.node_core.specs.Faults.{StepCause};
 ghost use Rattle.node_core.specs.Finding.{LeavesBy, StopsOwn, StopsTelling};
 ghost use Rattle.node_core.specs.Posting.{HadNone, MayTake, OwnsSo, ToldOr, WasDue};
@@ -27,6 +28,7 @@ impl Running {
     pub(crate) fn take_due<D: Disk>(&mut self, disk: &mut D) -> Result<bool, NodeFault>
         requires going { IsGoing self.old }
         requires led { IsLed self.old }
+        ensures conns { OnOk result (KeepsConns self.old self.new) }
         ensures going { OnOk result (IsGoing self.new) }
         ensures led { OnOk result (IsLed self.new) }
         ensures none { IfOk result (λ more. more ≡ false → HadNone self.old self.new) }
@@ -51,6 +53,7 @@ impl Running {
         requires takes { MayTake event self.old.replica.raft }
         requires going { IsGoing self.old }
         requires led { IsLed self.old }
+        ensures conns { OnOk result (KeepsConns self.old self.new) }
         ensures going { OnOk result (IsGoing self.new) }
         ensures led { OnOk result (IsLed self.new) }
         ensures goes { (before : RunningValue) → WasDue event before self.old → OnOk result (OwnsSo before self.new) }

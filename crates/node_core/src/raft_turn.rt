@@ -16,6 +16,7 @@ ghost use Rattle.node_replica.specs.Replicas.{IsIntake, IsWhole};
 ghost use Rattle.node_rules.specs.Voting.{FromSnapshot};
 ghost use Rattle.node_core.specs.declared.fault.NodeFault.TheVariants as fault;
 ghost use Rattle.node_core.specs.Account.{moment_of};
+ghost use Rattle.node_core.specs.Conns.{KeepsConns};
 ghost use Rattle.node_core.specs.Faults.{StepCause};
 ghost use Rattle.node_core.specs.Finding.{BeganStops, LeavesBy, StopsBehind, StopsFollowing, StopsIn, StopsInstalling, StopsTelling};
 ghost use Rattle.node_core.specs.Posting.{FollowsOn, InstallsOn, LeavesSo, LosesSo, OfficeSo, Posts, TellsCurrent, ToldBehind, ends_office};
@@ -85,6 +86,7 @@ impl Running {
         requires led { IsLed self.old }
         requires idle { self.old.due.items ≡ [] }
         requires agrees { Agrees (E.known engine.old) self.old.clients self.old.applied.machine }
+        ensures conns { OnOk result (KeepsConns self.old self.new) }
         ensures going { OnOk result (IsGoing self.new) }
         ensures led { OnOk result (IsLed self.new) }
         // An act of the rules has begun by it.
@@ -163,6 +165,7 @@ impl Running {
         requires idle { self.old.due.items ≡ [] }
         requires fits { EventFits self.old.replica.raft event }
         requires intake { IsIntake event }
+        ensures conns { OnOk result (KeepsConns self.old self.new) }
         ensures stepped { IfOk result (λ batch. HasStepped self.old self.new event batch) }
         ensures posts { OnOk result (Posts self.old self.new (input_of event)) }
         ensures offices { OnOk result (OfficeSo self.old self.new) }
@@ -188,6 +191,7 @@ impl Running {
         requires going { IsGoing self.old }
         requires led { IsLed self.old }
         requires idle { self.old.due.items ≡ [] }
+        ensures conns { OnOk result (KeepsConns self.old self.new) }
         ensures going { OnOk result (IsGoing self.new) }
         ensures led { OnOk result (IsLed self.new) }
         ensures began { OnOk result (FollowsOn self.old self.new event) }
@@ -261,6 +265,7 @@ impl Running {
         requires going { IsGoing self.old }
         requires led { IsLed self.old }
         requires idle { self.old.due.items ≡ [] }
+        ensures conns { OnOk result (KeepsConns self.old self.new) }
         ensures going { OnOk result (IsGoing self.new) }
         ensures led { OnOk result (IsLed self.new) }
         ensures began { (opening : List ServerValue) → OnOk result (InstallsOn (read_setup opening) self.old self.new event) }
@@ -349,6 +354,7 @@ impl Running {
         requires unserved { self.old.office ≡ None → self.old.view.serving ≡ false }
         requires stand { StandOver self.old.clients self.old.applied.machine }
         requires turns { HasTurns (clients_in self.old) }
+        ensures conns { OnOk result (KeepsConns self.old self.new) }
         ensures stand { OnOk result (StandOver self.new.clients self.new.applied.machine) }
         ensures turns { OnOk result (HasTurns (clients_in self.new)) }
         ensures office { OnOk result (InOffice self.new.office self.new.view.serving self.new.replica.raft) }
@@ -400,6 +406,7 @@ impl Running {
     fn lose(&mut self) -> Result<(), NodeFault>
         requires stand { StandOver self.old.clients self.old.applied.machine }
         requires turns { HasTurns (clients_in self.old) }
+        ensures conns { OnOk result (KeepsConns self.old self.new) }
         ensures stand { OnOk result (StandOver self.new.clients self.new.applied.machine) }
         ensures turns { OnOk result (HasTurns (clients_in self.new)) }
         ensures unmarked { OnOk result (HasNoMarks self.new.applied.machine) }

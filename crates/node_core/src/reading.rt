@@ -4,6 +4,7 @@ ghost use Rattle.std.specs.Prelude.{◌≡◌, ◌<◌, ◌++◌, ◌∷◌, ℕ
 ghost use Rattle.raft_world.specs.Members.{Setup};
 ghost use Rattle.node_core.specs.declared.event.Event.TheVariants as happens;
 ghost use Rattle.node_core.specs.Account.{SoFar, Happens};
+ghost use Rattle.node_core.specs.Conns.{ConnsOn, KeepsConns};
 ghost use Rattle.node_core.specs.Taking.{TurnsOn};
 ghost use Rattle.node_core.specs.Performing.{ReadsSo};
 ghost use Rattle.sql_engine.specs.Meanings.{Stays};
@@ -46,6 +47,7 @@ impl Running {
     /// A query goes to a reader.
     pub(crate) fn lend(&mut self, conn: u64, job: ReadJob) -> Result<(), NodeFault>
         requires going { IsGoing self.old }
+        ensures conns { OnOk result (KeepsConns self.old self.new) }
         ensures going { OnOk result (IsGoing self.new) }
         ensures replica { self.new.replica ≡ self.old.replica }
         ensures index { self.new.applied.index ≡ self.old.applied.index }
@@ -101,6 +103,7 @@ impl Running {
         requires led { IsLed self.old }
         requires idle { self.old.due.items ≡ [] }
         requires agrees { Agrees (E.known engine.old) self.old.clients self.old.applied.machine }
+        ensures conns { OnOk result (ConnsOn self.old self.new) }
         ensures going { OnOk result (IsGoing self.new) }
         ensures led { OnOk result (IsLed self.new) }
         ensures replica { self.new.replica ≡ self.old.replica }
@@ -126,6 +129,7 @@ impl Running {
     /// The client of a query is told what its reader tells.
     fn tell_read(&mut self, conn: u64, read: Read) -> Result<(), NodeFault>
         requires going { IsGoing self.old }
+        ensures conns { OnOk result (ConnsOn self.old self.new) }
         ensures going { OnOk result (IsGoing self.new) }
         ensures office { OnOk result (self.new.office ≡ self.old.office) }
         ensures replica { self.new.replica ≡ self.old.replica }
@@ -155,6 +159,7 @@ impl Running {
         requires led { IsLed self.old }
         requires idle { self.old.due.items ≡ [] }
         requires agrees { Agrees (E.known engine.old) self.old.clients self.old.applied.machine }
+        ensures conns { OnOk result (ConnsOn self.old self.new) }
         ensures going { OnOk result (IsGoing self.new) }
         ensures led { OnOk result (IsLed self.new) }
         ensures replica { self.new.replica ≡ self.old.replica }

@@ -7,7 +7,9 @@ ghost use Rattle.raft_member.specs.Members.{read_setup};
 ghost use Rattle.raft_rules.specs.Node.{Server as ServerValue};
 ghost use Rattle.raft_world.specs.Members.{Setup};
 ghost use Rattle.client_sessions.specs.Clients.{hung_up};
+ghost use Rattle.node_core.specs.declared.event.Event.TheVariants as happens;
 ghost use Rattle.node_core.specs.Account.{moment_of};
+ghost use Rattle.node_core.specs.Conns.{ClosesConn, ConnsBegin, ConnsBehind, ConnsOn, KeepsConns};
 ghost use Rattle.node_core.specs.Performing.{ClosesSo, ComesOr, GoesOr, HearsSo, Performed, SaysNothing};
 ghost use Rattle.sql_engine.specs.Meanings.{Stays};
 ghost use Rattle.client_sessions.specs.Seen.{Agrees};
@@ -52,6 +54,7 @@ impl Running {
     #[tactic(auto, using(crate::proofs::Waiting::came_turns))]
     pub(crate) fn connect(&mut self, conn: u64) -> Result<(), NodeFault>
         requires going { IsGoing self.old }
+        ensures conns { OnOk result (ConnsBegin (happens.Connect conn) self.old self.new) }
         ensures going { OnOk result (IsGoing self.new) }
         ensures office { self.new.office ≡ self.old.office }
         ensures replica { self.new.replica ≡ self.old.replica }
@@ -76,6 +79,7 @@ impl Running {
     #[tactic(auto, using(crate::proofs::Waiting::heard_turns))]
     pub(crate) fn receive(&mut self, conn: u64, bytes: &[u8]) -> Result<(), NodeFault>
         requires going { IsGoing self.old }
+        ensures conns { OnOk result (ConnsBegin (happens.Bytes conn bytes.now) self.old self.new) }
         ensures going { OnOk result (IsGoing self.new) }
         ensures office { self.new.office ≡ self.old.office }
         ensures replica { self.new.replica ≡ self.old.replica }
@@ -98,6 +102,7 @@ impl Running {
     /// A connection is gone.
     pub(crate) fn hang_up(&mut self, conn: u64)
         requires going { IsGoing self.old }
+        ensures conns { ConnsBegin (happens.Hangup conn) self.old self.new }
         ensures going { IsGoing self.new }
         ensures office { self.new.office ≡ self.old.office }
         ensures replica { self.new.replica ≡ self.old.replica }
@@ -122,6 +127,7 @@ impl Running {
         requires led { IsLed self.old }
         requires idle { self.old.due.items ≡ [] }
         requires agrees { Agrees (E.known engine.old) self.old.clients self.old.applied.machine }
+        ensures conns { OnOk result (ConnsOn self.old self.new) }
         ensures going { OnOk result (IsGoing self.new) }
         ensures led { OnOk result (IsLed self.new) }
         ensures stored { StaysStored D.tells (D.states disk.old) (D.states disk.new) self.old.replica self.new.replica result }
@@ -161,6 +167,7 @@ impl Running {
         requires led { IsLed self.old }
         requires idle { self.old.due.items ≡ [] }
         requires agrees { Agrees (E.known engine.old) self.old.clients self.old.applied.machine }
+        ensures conns { OnOk result (ConnsOn self.old self.new) }
         ensures going { OnOk result (IsGoing self.new) }
         ensures led { OnOk result (IsLed self.new) }
         ensures replica { self.new.replica ≡ self.old.replica }
@@ -204,6 +211,7 @@ impl Running {
     /// Does what came of a message; what it gives Raft is due then.
     pub(crate) fn perform(&mut self, act: Act) -> Result<(), NodeFault>
         requires going { IsGoing self.old }
+        ensures conns { OnOk result (ConnsBehind act self.old self.new) }
         ensures going { OnOk result (IsGoing self.new) }
         ensures replica { self.new.replica ≡ self.old.replica }
         ensures index { self.new.applied.index ≡ self.old.applied.index }
@@ -230,6 +238,7 @@ impl Running {
 
     fn reply(&mut self, conn: u64, messages: Items<WireBytes>) -> Result<(), NodeFault>
         requires going { IsGoing self.old }
+        ensures conns { OnOk result (KeepsConns self.old self.new) }
         ensures going { OnOk result (IsGoing self.new) }
         ensures replica { self.new.replica ≡ self.old.replica }
         ensures index { self.new.applied.index ≡ self.old.applied.index }
@@ -271,6 +280,7 @@ impl Running {
     /// Closes the connection whose bytes came, where its stream has ended. False where that was looked at before.
     pub(crate) fn close_heard(&mut self) -> Result<bool, NodeFault>
         requires going { IsGoing self.old }
+        ensures conns { OnOk result (ConnsOn self.old self.new) }
         ensures going { OnOk result (IsGoing self.new) }
         ensures office { self.new.office ≡ self.old.office }
         ensures replica { self.new.replica ≡ self.old.replica }
@@ -286,9 +296,8 @@ impl Running {
             return Ok(false);
         };
         self.heard = None;
-        if let Some(reason) = self.closing(conn) {
-            self.outs.closed.push((conn, reason))?;
-        }
+        let reason = self.closing(conn);
+        self.outs.close(conn, reason)?;
         Ok(true)
     }
 
@@ -296,6 +305,7 @@ impl Running {
     #[tactic(auto, using(crate::proofs::Waiting::closed_turns))]
     fn closing(&mut self, conn: u64) -> Option<CloseReason>
         requires going { IsGoing self.old }
+        ensures conns { ClosesConn self.old self.new conn result }
         ensures going { IsGoing self.new }
         ensures office { self.new.office ≡ self.old.office }
         ensures replica { self.new.replica ≡ self.old.replica }

@@ -14,6 +14,7 @@ ghost use Rattle.node_replica.specs.Replicas.{kept_of};
 ghost use Rattle.node_state.specs.Applied.{HasNoPins};
 ghost use Rattle.node_state.specs.Snapshot.{IsRestored};
 ghost use Rattle.node_rules.specs.Steps.{StartsSo};
+ghost use Rattle.node_core.specs.Conns.{HasNoPeers};
 ghost use Rattle.node_core.specs.Starting.{AppliesKept, HasStarted, IsUnread, ShowsFront};
 ghost use Rattle.node_core.specs.Values.{seen};
 ghost use Rattle.client_sessions.specs.Seen.{Agrees};
@@ -41,6 +42,7 @@ const DUE_ROOM: usize = 4;
 
 /// What the bytes of a node's snapshot up to an index bring; a fault where they are none.
 fn restored(alloc: Global, index: u64, bytes: &[u8]) -> Result<Applied, StartFault>
+    requires some { 0 < index }
     ensures restored { IfOk result (IsRestored index bytes.now) }
     ensures servers { IfOk result (λ applied. IsConfiguration applied.servers) }
     ensures unpinned { IfOk result (λ applied. HasNoPins applied.machine) }
@@ -126,6 +128,7 @@ impl Running {
         ensures agrees { IfOk result (λ node. Agrees [] node.clients node.applied.machine) }
         ensures keeps { IfOk result (λ node. node.replica.keeps ≡ 0) }
         ensures links { IfOk result (λ node. node.has_links ≡ spec.links) }
+        ensures peers { IfOk result (HasNoPeers spec.links) }
         ensures unread { IfErr result (IsUnread kept.snap.index kept.snap.bytes) }
     {
         let NodeSpec {
@@ -156,6 +159,7 @@ impl Running {
         requires unpinned { HasNoPins applied.machine }
         ensures started { IfOk result (HasStarted replica members applied view) }
         ensures links { IfOk result (λ node. node.has_links ≡ view.links) }
+        ensures peers { IfOk result (HasNoPeers view.links) }
     {
         let due = VecDeque::with_capacity(alloc, DUE_ROOM)?;
         let _databases = applied.machine.databases();

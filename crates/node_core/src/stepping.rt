@@ -6,6 +6,7 @@ ghost use Rattle.node_rules.specs.Accounts.{MayEnd};
 ghost use Rattle.node_core.specs.declared.event.Event.{Event as EventValue};
 ghost use Rattle.node_core.specs.declared.running.Running.{Running as RunningValue};
 ghost use Rattle.node_core.specs.Account.{AtRest, SoFar, Stopped, Happens, StepsBy, StopsBy, Underway, moment_of};
+ghost use Rattle.node_core.specs.Conns.{ConnsBegin, ConnsBy, ConnsOn, KeepsConns};
 ghost use Rattle.node_core.specs.Finding.{LeavesBy};
 ghost use Rattle.node_core.specs.Taking.{CompactsSo};
 ghost use Rattle.std.specs.Prelude.{◌≡◌, ◌≢◌, ℕ, List, Option, [], true, false, Err, IfOk, OnOk, IfErr};
@@ -42,6 +43,8 @@ impl Running {
     ) -> Result<Outs, NodeFault>
         requires rests { Rests self.old }
         requires agrees { Agrees (E.known engine.old) self.old.clients self.old.applied.machine }
+        // What of connections' bytes is read and taken, and which are closed.
+        ensures conns { IfOk result (λ outs. ConnsBy event self.old self.new outs) }
         ensures rests { OnOk result (Rests self.new) }
         ensures agrees { OnOk result (Agrees (E.known engine.new) self.new.clients self.new.applied.machine) }
         ensures stored { StaysStored D.tells (D.states disk.old) (D.states disk.new) self.old.replica self.new.replica result }
@@ -75,6 +78,7 @@ impl Running {
         requires led { IsLed self.old }
         requires idle { self.old.due.items ≡ [] }
         requires agrees { Agrees (E.known engine.old) self.old.clients self.old.applied.machine }
+        ensures conns { OnOk result (ConnsBegin event self.old self.new) }
         ensures going { OnOk result (IsGoing self.new) }
         ensures led { OnOk result (IsLed self.new) }
         ensures stored { StaysStored D.tells (D.states disk.old) (D.states disk.new) self.old.replica self.new.replica result }
@@ -108,6 +112,7 @@ impl Running {
         requires going { IsGoing self.old }
         requires led { IsLed self.old }
         requires agrees { Agrees (E.known engine.old) self.old.clients self.old.applied.machine }
+        ensures conns { OnOk result (ConnsOn self.old self.new) }
         ensures going { OnOk result (IsGoing self.new) }
         ensures stored { StaysStored D.tells (D.states disk.old) (D.states disk.new) self.old.replica self.new.replica result }
         ensures cause { StepCause (D.faults disk.old) (D.faults disk.new) result }
@@ -147,6 +152,7 @@ impl Running {
         requires going { IsGoing self.old }
         requires led { IsLed self.old }
         requires agrees { Agrees (E.known engine.old) self.old.clients self.old.applied.machine }
+        ensures conns { OnOk result (ConnsOn self.old self.new) }
         ensures going { OnOk result (IsGoing self.new) }
         ensures stored { StaysStored D.tells (D.states disk.old) (D.states disk.new) self.old.replica self.new.replica result }
         ensures cause { StepCause (D.faults disk.old) (D.faults disk.new) result }
@@ -189,6 +195,7 @@ impl Running {
         requires led { IsLed self.old }
         requires due { self.old.due.items ≡ [] }
         requires applied { self.old.applied.index ≡ self.old.replica.raft.commit }
+        ensures conns { OnOk result (ConnsOn self.old self.new) }
         ensures going { OnOk result (IsGoing self.new) }
         ensures stored { StaysStored D.tells (D.states disk.old) (D.states disk.new) self.old.replica self.new.replica result }
         ensures cause { StepCause (D.faults disk.old) (D.faults disk.new) result }
@@ -231,6 +238,7 @@ impl Running {
         requires led { IsLed self.old }
         requires idle { self.old.due.items ≡ [] }
         requires applied { self.old.applied.index ≡ self.old.replica.raft.commit }
+        ensures conns { OnOk result (KeepsConns self.old self.new) }
         ensures going { OnOk result (IsGoing self.new) }
         ensures stored { StaysStored D.tells (D.states disk.old) (D.states disk.new) self.old.replica self.new.replica result }
         ensures stops { (opening : List ServerValue) (came : List ℕ) → LeavesBy D.tells (D.states disk.old) (D.states disk.new) self.old.replica result

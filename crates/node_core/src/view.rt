@@ -61,6 +61,7 @@ impl Running {
         requires holds { Holds self.old }
         requires office { InOffice self.old.office self.old.view.serving self.old.replica.raft }
         requires seen { self.old.view.servers ≡ self.old.applied.servers }
+        ensures links { self.new.view.links ≡ self.old.view.links }
         ensures going { OnOk result (IsGoing self.new) }
         ensures rest { self.new ≡ record self.old { view = self.new.view } }
         ensures serving { self.new.view.serving ≡ self.old.view.serving }
@@ -92,6 +93,7 @@ impl Running {
     pub(crate) fn look_at_servers(&mut self) -> Result<(), AllocError>
         requires holds { Holds self.old }
         requires office { InOffice self.old.office self.old.view.serving self.old.replica.raft }
+        ensures links { self.new.view.links ≡ self.old.view.links }
         ensures going { OnOk result (IsGoing self.new) }
         ensures rest { self.new ≡ record self.old { view = self.new.view } }
         ensures serving { self.new.view.serving ≡ self.old.view.serving }

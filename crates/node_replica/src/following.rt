@@ -1,11 +1,11 @@
 //! The configurations of a node's whole log follow the log of its Raft.
-ghost use Rattle.std.specs.Prelude.{◌≡◌, ◌<◌, ◌≤◌, ◌-◌, ◌++◌, ◌||◌, suc, false, List, IfOk, OnOk, length, take, drop};
+ghost use Rattle.std.specs.Prelude.{◌≡◌, ◌<◌, ◌≤◌, ◌-◌, ◌++◌, ◌||◌, suc, false, nat_lt, List, [], IfOk, OnOk, length, take, drop};
 ghost use Rattle.raft_rules.specs.Log.{Entry as EntryValue};
 ghost use Rattle.raft_rules.specs.Node.{Server as ServerValue};
 ghost use Rattle.raft_rules.specs.NodeValues.{node_of};
-ghost use Rattle.raft_world.specs.Members.{configuration};
+ghost use Rattle.raft_world.specs.Members.{any_change, configuration};
 ghost use Rattle.raft_vote.specs.Servers.{IsConfiguration};
-ghost use Rattle.raft_member.specs.Members.{AllStand, IsOf, read_setup};
+ghost use Rattle.raft_member.specs.Members.{AllStand, IsOf, all_changed, cut_at, first_of, read_setup};
 ghost use Rattle.node_replica.specs.Replicas.{IsWhole};
 
 use crate::keeper::one_more;
@@ -36,6 +36,9 @@ impl Replica {
         ensures stand { AllStand members.old → OnOk result (AllStand members.new) }
         ensures at { OnOk result (members.new.at ≡ members.old.at) }
         ensures stays { IfOk result (λ told. told ≡ false → members.new ≡ members.old) }
+        ensures exact { OnOk result (members.new ≡ all_changed (cut_at members.old first) first (drop (first - 1) (node_of self.now.raft).log)) }
+        ensures told { IfOk result (λ told. told ≡ (nat_lt (length (cut_at members.old first).later) (length members.old.later) ||
+            any_change (read_setup []) (drop (first - 1) (node_of self.now.raft).log))) }
     {
         let gone = members.cut_from(first);
         let came = members.take_all(self.alloc, first, self.raft.tail(first))?;
@@ -49,6 +52,8 @@ impl Replica {
         ensures is { (opening : List ServerValue) (front : List EntryValue) → length front ≡ self.now.snap.index →
             configuration (read_setup opening) front ≡ servers →
             IfOk result (λ members. IsOf (read_setup opening) (front ++ drop self.now.snap.index (node_of self.now.raft).log) members) }
+        ensures exact { IfOk result (λ members.
+            members ≡ all_changed (first_of servers self.now.snap.index) (suc self.now.snap.index) (drop self.now.snap.index (node_of self.now.raft).log)) }
         ensures at { IfOk result (λ members. members.at ≡ self.now.snap.index) }
         ensures stand { IsConfiguration servers → IfOk result (λ members. AllStand members) }
     {

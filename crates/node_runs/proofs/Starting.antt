@@ -125,8 +125,8 @@ module _ (P : Outcome → Type 0) where
   fails d e f (start.Damaged fault.NoMeta) stands begins leaves = unmoved d e f stands begins leaves.0
   fails d e f (start.Damaged (fault.Damaged segment at)) stands begins leaves = unmoved d e f stands begins leaves.0.0
   fails d e f (start.Damaged (fault.Gap first last)) stands begins leaves = unmoved d e f stands begins leaves.0
-  fails d e f (start.Damaged fault.DiskFault) stands begins leaves = stays d e (folder f) stands begins leaves
-  fails d e f (start.Damaged fault.NoMemory) stands begins leaves = stays d e (folder f) stands begins leaves
+  fails d e f (start.Damaged fault.DiskFault) stands begins leaves = absurd leaves
+  fails d e f (start.Damaged fault.NoMemory) stands begins leaves = absurd leaves
   fails d e f (start.Snapshot index) stands begins leaves = stays_kept d e f stands begins leaves.1
   fails d e f start.DiskFault stands begins leaves = stays_kept d e f stands begins leaves
   fails d e f start.NoMemory stands begins leaves = stays_kept d e f stands begins leaves

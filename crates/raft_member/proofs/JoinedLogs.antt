@@ -10,7 +10,7 @@ use Rattle.raft_rules.specs.Node.{Server}
 use Rattle.raft_vote.specs.Servers.{configuration_of}
 use Rattle.raft_world.specs.Members.{is_change, reads, changes}
 use Rattle.raft_member.specs.declared.members.Change.{Change}
-use Rattle.raft_member.specs.Members.{Configurations, AllStand, last_from, last_index, with_read, configuration_in, changed, below, cut_at, read_setup, IsOf, Joined}
+use Rattle.raft_member.specs.Members.{Configurations, AllStand, last_from, last_index, with_read, configuration_in, changed, all_changed, below, cut_at, read_setup, IsOf, Joined}
 
 -- ---- the last change
 
@@ -60,6 +60,7 @@ cut_none m index e = let l = ltb-false _ _ e in ap (λ cs. record m { later = cs
 pub none_joined : (m : Configurations) (first : ℕ) → last_index m < first → Joined m m first [] false
 none_joined m first l = record {
   is = λ opening log h e. subst (λ (es : List Entry). IsOf (read_setup opening) es m) (nil log) h;
+  exact = refl;
   at = refl;
   low = omega arith;
   told_so = refl;
@@ -84,6 +85,11 @@ or_swapped false false = refl
 one_at_end : (p : Entry → Bool) (entries : List Entry) (e : Entry) → (p e || list_any p entries) ≡ list_any p (entries ++ e ∷ [])
 one_at_end p entries e = or_swapped (p e) (list_any p entries) ∙ sym (list_any-append p entries (e ∷ []))
 
+all_and_one : (m : Configurations) (first : ℕ) (entries : List Entry) (e : Entry) (index : ℕ) → index ≡ first + length entries
+    → all_changed m first (entries ++ e ∷ []) ≡ changed (all_changed m first entries) index e
+all_and_one m first [] e index at = let n : first ≡ index = omega arith in ap (λ (k : ℕ). changed m k e) n
+all_and_one m first (x ∷ xs) e index at = all_and_one (changed m first x) (suc first) xs e index (omega arith)
+
 pub one_joined : (old m new : Configurations) (first index : ℕ) (entries : List Entry) (e : Entry) (told one : Bool) → Joined old m first entries told → index ≡ first + length entries → one ≡ changes (read_setup []) e → new ≡ changed m index e
     → ((opening : List Server) (log : List Entry) → IsOf (read_setup opening) log m → index ≡ suc (length log) → IsOf (read_setup opening) (log ++ e ∷ []) new)
     → (AllStand m → AllStand new)
@@ -97,6 +103,7 @@ one_joined old m new first index entries e told one j at c n is stand =
       is = λ opening log h f.
           let count : index ≡ suc (length (log ++ entries)) = let a = length-append log entries in omega arith in
           subst (λ (es : List Entry). IsOf (read_setup opening) es new) (append_assoc log entries (e ∷ [])) (is opening (log ++ entries) (j.is opening log h f) count);
+      exact = n ∙ ap (λ (x : Configurations). changed x index e) j.exact ∙ sym (all_and_one old first entries e index at);
       at = ap (λ (x : Configurations). x.at) n ∙ read_at m index (configuration_in e) ∙ j.at;
       low = omega arith;
       told_so = (λ i. c i || j.told_so i) ∙ one_at_end (λ (x : Entry). changes (read_setup []) x) entries e;

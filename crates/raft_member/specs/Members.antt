@@ -50,6 +50,11 @@ with_read m index (Some servers) = with_change m index servers
 abbrev pub changed : Configurations → ℕ → Entry → Configurations
 changed m index e = with_read m index (configuration_in e)
 
+-- entries join, of which the first has this index
+abbrev pub all_changed : Configurations → ℕ → List Entry → Configurations
+all_changed m index [] = m
+all_changed m index (e ∷ es) = all_changed (changed m index e) (suc index) es
+
 -- the changes below an index, before one that isn't
 abbrev pub below : ℕ → List Change → List Change
 below index [] = []
@@ -111,6 +116,7 @@ pub record IsOf (setup : Setup) (log : List Entry) (m : Configurations) : Type 0
 -- told as others exactly where one of the entries is a change that reads. Each may stand, where each did.
 pub record Joined (old new : Configurations) (first : ℕ) (entries : List Entry) (told : Bool) : Type 0 where
   pub is : (opening : List Server) (log : List Entry) → IsOf (read_setup opening) log old → first ≡ suc (length log) → IsOf (read_setup opening) (log ++ entries) new
+  pub exact : new ≡ all_changed old first entries
   pub at : new.at ≡ old.at
   pub low : last_index new < first + length entries
   pub told_so : told ≡ any_change (read_setup []) entries

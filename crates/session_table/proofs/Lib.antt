@@ -7,6 +7,7 @@ pub mod Releasing
 pub mod Parting
 pub mod Following
 pub mod Telling
+pub mod Sizing
 pub mod Walking
 pub mod Waits
 pub mod Kept

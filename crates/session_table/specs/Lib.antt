@@ -5,3 +5,5 @@ pub mod Sweeping
 pub mod Waiting
 pub mod Working
 pub mod Changing
+pub mod StatementSizes
+pub mod SessionSizes

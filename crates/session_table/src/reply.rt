@@ -4,7 +4,10 @@ ghost use Rattle.std.specs.Prelude.{◌≡◌, ◌<◌, ◌≤◌, ◌+◌, ◌+
 ghost use Rattle.wire_rows.specs.Spelling.{HaveNoNul, HaveWidth};
 ghost use Rattle.wire_msgs.specs.declared.response.Response.TheVariants as responses;
 ghost use Rattle.session_rules.specs.Sessions.{responses_of};
+ghost use Rattle.wire_rows.specs.Answering.{held};
+ghost use Rattle.wire_rows.specs.Cut.{cut, bodies, total_size};
 ghost use Rattle.session_table.specs.Named.{TellsRows, reply_named};
+ghost use Rattle.session_table.specs.SessionSizes.{reply_size};
 ghost use Rattle.session_table.specs.Sweeping.{told_in};
 
 use crate::cause::Cause;
@@ -22,18 +25,32 @@ use wire_words::WireBytes;
 pub struct ToldRows {
     answer: Ran,
     told: Items<WireBytes>,
+    // How many bytes the parts have.
+    size: u64,
 }
 
 impl Model for ToldRows {
     ghost use Rattle.std.specs.Prelude.{◌≡◌};
-    ghost use Rattle.wire_rows.specs.Cut.{cut, bodies};
+    ghost use Rattle.wire_rows.specs.Cut.{cut, bodies, total_size};
+    ghost use Rattle.wire_rows.specs.Answering.{held};
     ghost use Rattle.sql_engine.specs.declared.answer.Ran.{Ran};
 
     ghost Value = { Ran };
 
     ghost view = { λ r. r.answer };
 
-    ghost invariant = { λ r. r.told ≡ bodies r.answer.columns (cut r.answer.columns r.answer.rows) };
+    ghost invariant = { λ r. (r.told ≡ bodies r.answer.columns (cut r.answer.columns r.answer.rows)) × (r.size ≡ held (total_size r.told)) };
+}
+
+/// How many bytes parts have together. The sum stops at the last number of 64 bits.
+fn total(parts: &[WireBytes]) -> u64
+    ensures { result ≡ held (total_size parts.now) }
+{
+    let mut size: u64 = 0;
+    for part in parts {
+        size = size.saturating_add(part.len() as u64);
+    }
+    size
 }
 
 impl ToldRows {
@@ -46,14 +63,25 @@ impl ToldRows {
         ensures { IfOk result (TellsRows answer) }
     {
         match parts(alloc, answer.columns.as_slice(), answer.rows.as_slice()) {
-            Ok(bodies) => Ok(Ok(ToldRows {
-                answer,
-                told: Items::new(bodies),
-            })),
+            Ok(bodies) => {
+                let size = total(bodies.as_slice());
+                Ok(Ok(ToldRows {
+                    answer,
+                    told: Items::new(bodies),
+                    size,
+                }))
+            }
             Err(RowFault::Nul(_, _)) => Ok(Err(Cause::NulInText)),
             Err(RowFault::TooBig(_)) => Ok(Err(Cause::AnswerTooBig)),
             Err(RowFault::NoMemory) => Err(AllocError),
         }
+    }
+
+    /// How many bytes its parts have. Takes no memory.
+    fn size(&self) -> u64
+        ensures { result ≡ held (total_size (bodies self.now.columns (cut self.now.columns self.now.rows))) }
+    {
+        self.size
     }
 }
 
@@ -96,6 +124,17 @@ impl Reply {
         match self {
             Reply::Single(_) => 1,
             Reply::Rows(rows) => rows.told.len(),
+        }
+    }
+
+    /// How many bytes the parts have in which rows are told; 0 for one response, which is small. The answer that was cut into them is
+    /// not counted. Takes no memory.
+    pub fn size(&self) -> u64
+        ensures { result ≡ held (reply_size (reply_named self.now)) }
+    {
+        match self {
+            Reply::Single(_) => 0,
+            Reply::Rows(rows) => rows.size(),
         }
     }
 

@@ -1,18 +1,19 @@
-use Rattle.std.proofs.Common.{◌≡◌, ◌<◌, ◌≤◌, true, option_map, length, sym, ap, subst, ◌∙◌, arith}
+use Rattle.std.proofs.Common.{◌≡◌, ◌<◌, ◌≤◌, Some, option_map, length, sym, ap, subst, ◌∙◌, arith}
 use Rattle.std.proofs.lemmas.List.{take_all}
 use Rattle.std.specs.List.{AllByRecursion}
 use Rattle.session_rules.specs.Sessions.{is_due}
 use Rattle.session_table.specs.declared.session.Session.{Session}
 use Rattle.session_table.specs.Named.{later_named}
 use Rattle.session_table.specs.Table.{table_of}
-use Rattle.gateway.proofs.Laters.{IsNotDue, due_there, none_due}
+use Rattle.gateway.specs.Later.{first_due}
+use Rattle.gateway.proofs.Laters.{IsNotDue, due_first, none_due}
 use Rattle.gateway.proofs.later.next_due.Goals as goal
 
 pub returns-then-is_next : goal.returns-then-is_next
 returns-then-is_next c = λ databases weight.
     let at : c.loop-session.session-index < length c.args.sessions.now = omega arith in
-    subst (λ (s : Session). is_due ((table_of databases c.args.sessions.now weight).session s.conn).later ≡ true) (sym c.session-item.is)
-    (due_there databases c.args.sessions.now weight c.loop-session.session-index c.session-item.result c.requires at (ap (λ (s : Session). is_due (option_map later_named s.later)) (sym c.session-item.is) ∙ sym c.is_next.ensures ∙ c.if-is_next.true))
+    subst (λ (s : Session). first_due (table_of databases c.args.sessions.now weight) ≡ Some s.conn) (sym c.session-item.is)
+    (due_first databases c.args.sessions.now weight c.loop-session.session-index c.session-item.result c.requires c.loop-session.invariant at (ap (λ (s : Session). is_due (option_map later_named s.later)) (sym c.session-item.is) ∙ sym c.is_next.ensures ∙ c.if-is_next.true))
 
 pub returns : goal.returns
 returns c = λ databases weight conn.

@@ -1,3 +1,4 @@
+use Rattle.node_core.proofs.ConnStreams.{conns_both, kept_on}
 use Rattle.std.proofs.Common.{[], Option, sym, ap, subst, ◌∙◌}
 use Rattle.sql_engine.specs.Meanings.{Told}
 use Rattle.raft_member.specs.Members.{read_setup}
@@ -15,6 +16,34 @@ use Rattle.node_core.specs.Account.{StopsBy}
 use Rattle.node_core.specs.Finding.{StopsCompacting, StopsLetter}
 use Rattle.node_core.proofs.StopsOfStep.{always_err, stopped_here, stopped_compacting, stopped_letter}
 use Rattle.node_core.proofs.running.Running.attend.Goals as goal
+
+pub returns-then-branch-2-clause-conns : goal.returns-then-branch-2-clause-conns
+returns-then-branch-2-clause-conns g c = conns_both c.args.self.now c.run_due.new.self c.take_message.new.self c.in_ok-run_due.ensures.conns c.in_ok-take_message.ensures.conns
+
+pub returns-then-branch-3-clause-conns : goal.returns-then-branch-3-clause-conns
+returns-then-branch-3-clause-conns g c =
+    conns_both c.args.self.now c.take_message.new.self c.compact.new.self
+    (conns_both c.args.self.now c.run_due.new.self c.take_message.new.self c.in_ok-run_due.ensures.conns c.in_ok-take_message.ensures.conns)
+    (kept_on c.take_message.new.self c.compact.new.self c.in_ok-compact.ensures.conns)
+
+pub returns-then-branch-4-clause-conns : goal.returns-then-branch-4-clause-conns
+returns-then-branch-4-clause-conns g c =
+    conns_both c.args.self.now c.compact.new.self c.take_letter.new.self
+    (conns_both c.args.self.now c.take_message.new.self c.compact.new.self
+    (conns_both c.args.self.now c.run_due.new.self c.take_message.new.self c.in_ok-run_due.ensures.conns c.in_ok-take_message.ensures.conns)
+    (kept_on c.take_message.new.self c.compact.new.self c.in_ok-compact.ensures.conns))
+    c.in_ok-take_letter.ensures.conns
+
+pub returns-clause-conns : goal.returns-clause-conns
+returns-clause-conns g c =
+    on_ok_then c.close_heard.result
+    (conns_both c.args.self.now c.take_letter.new.self c.close_heard.new.self
+    (conns_both c.args.self.now c.compact.new.self c.take_letter.new.self
+    (conns_both c.args.self.now c.take_message.new.self c.compact.new.self
+    (conns_both c.args.self.now c.run_due.new.self c.take_message.new.self c.in_ok-run_due.ensures.conns c.in_ok-take_message.ensures.conns)
+    (kept_on c.take_message.new.self c.compact.new.self c.in_ok-compact.ensures.conns))
+    c.in_ok-take_letter.ensures.conns))
+    c.close_heard.ensures.conns
 
 pub returns-then-branch-clause-stored : goal.returns-then-branch-clause-stored
 returns-then-branch-clause-stored g c = λ has. subst (λ (r : ReplicaValue). IsKept g.D.Disk.tells (g.D.Disk.states c.args.disk.now) r) (sym c.run_due.ensures.replica) has

@@ -1,3 +1,5 @@
+use Rattle.node_core.specs.Conns.{ConnsBegin}
+use Rattle.node_core.proofs.ConnStreams.{timeout_begins, beat_begins, peer_begins, read_begins}
 use Rattle.std.proofs.Common.{ℕ, List, sym, subst}
 use Rattle.raft_core.specs.declared.event.RaftEvent.TheVariants as raft_events
 use Rattle.raft_member.specs.Members.{read_setup}
@@ -15,6 +17,24 @@ use Rattle.node_core.specs.Finding.{BeganStops}
 use Rattle.node_core.proofs.StopsOfStep.{began_stopped, client_stopped}
 use Rattle.node_core.proofs.Finding.{failed as always_err}
 use Rattle.node_core.proofs.running.Running.begin.Goals as goal
+
+pub returns-in_ok-take_raft-in-Timeout-clause-conns : goal.returns-in_ok-take_raft-in-Timeout-clause-conns
+returns-in_ok-take_raft-in-Timeout-clause-conns g c =
+    subst (λ (e : Event). ConnsBegin e c.args.self.now c.take_raft.new.self) (sym c.in-Timeout.is) (timeout_begins c.args.self.now c.take_raft.new.self c.in_ok-take_raft-in-Timeout.ensures.conns)
+
+pub returns-in_ok-take_raft-in-Beat-clause-conns : goal.returns-in_ok-take_raft-in-Beat-clause-conns
+returns-in_ok-take_raft-in-Beat-clause-conns g c =
+    subst (λ (e : Event). ConnsBegin e c.args.self.now c.take_raft-in-Beat.new.self) (sym c.in-Beat.is) (beat_begins c.args.self.now c.take_raft-in-Beat.new.self c.in_ok-take_raft-in-Beat.ensures.conns)
+
+pub returns-in_ok-take_raft-in-Peer-clause-conns : goal.returns-in_ok-take_raft-in-Peer-clause-conns
+returns-in_ok-take_raft-in-Peer-clause-conns g c =
+    subst (λ (e : Event). ConnsBegin e c.args.self.now c.take_raft-in-Peer.new.self) (sym c.in-Peer.is)
+    (peer_begins c.in-Peer.message c.args.self.now c.take_raft-in-Peer.new.self c.in_ok-take_raft-in-Peer.ensures.conns)
+
+pub returns-in_ok-read_done-in-ReadDone-clause-conns : goal.returns-in_ok-read_done-in-ReadDone-clause-conns
+returns-in_ok-read_done-in-ReadDone-clause-conns g c =
+    subst (λ (e : Event). ConnsBegin e c.args.self.now c.read_done.new.self) (sym c.in-ReadDone.is)
+    (read_begins c.in-ReadDone.conn c.in-ReadDone.read c.args.self.now c.read_done.new.self c.in_ok-read_done-in-ReadDone.ensures.conns)
 
 pub returns-in_ok-connect-in-Connect-clause-begun : goal.returns-in_ok-connect-in-Connect-clause-begun
 returns-in_ok-connect-in-Connect-clause-begun g c = λ opening.

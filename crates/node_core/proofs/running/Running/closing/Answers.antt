@@ -1,7 +1,17 @@
-use Rattle.std.proofs.Common.{refl}
+use Rattle.node_core.proofs.ConnStreams.{closed_conn, link_conn}
+use Rattle.std.proofs.Common.{Some, refl}
 use Rattle.node_core.specs.declared.running.Running.{Running}
 use Rattle.node_core.proofs.ClientMoves.{closes_so}
 use Rattle.node_core.proofs.running.Running.closing.Goals as goal
+
+pub returns-then-not-has-clause-conns : goal.returns-then-not-has-clause-conns
+returns-then-not-has-clause-conns c =
+    let new : Running = record c.args.self.now { clients = c.close-reason.new.self; applied = record c.args.self.now.applied { machine = c.close-reason.new.machine } } in
+    closed_conn c.args.self.now new c.args.conn c.close-reason.result c.close-reason.ensures.closed c.close-reason.ensures.told refl refl refl
+
+pub returns-clause-conns : goal.returns-clause-conns
+returns-clause-conns c =
+    link_conn c.args.self.now (record c.args.self.now { links = c.leave.new.self }) c.args.conn (Some c.in-Some.reason) c.has.result c.has.ensures.none c.if-not-has.false refl refl
 
 pub returns-then-not-has-clause-goes : goal.returns-then-not-has-clause-goes
 returns-then-not-has-clause-goes c =

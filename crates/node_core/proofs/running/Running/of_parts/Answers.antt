@@ -19,4 +19,5 @@ returns c = record {
     quiet = record { mail = c.new-5.ensures; replies = c.new-4.ensures.replies; closed = c.new-4.ensures.closed; messages = c.new-4.ensures.messages; reads = c.new-4.ensures.reads };
   };
   links = ap (λ (v : View). v.links) c.view.view_is;
+  peers = record { links = c.new-2.ensures; view = refl };
 }

@@ -1,4 +1,8 @@
-use Rattle.std.proofs.Common.{refl}
+use Rattle.std.proofs.Common.{refl, sym, subst}
+use Rattle.client_sessions.specs.declared.act.Act.{Act}
+use Rattle.node_core.specs.Conns.{ConnsBehind}
+use Rattle.node_core.specs.Values.{clients_in}
+use Rattle.node_core.proofs.ConnStreams.{gone_streams}
 use Rattle.node_core.proofs.Performing.{performed_propose, performed_transfer}
 use Rattle.node_core.proofs.running.Running.perform.Goals as goal
 
@@ -13,3 +17,8 @@ pub returns-in_ok-give-in-Transfer-clause-performed :
 returns-in_ok-give-in-Transfer-clause-performed c =
     performed_transfer c.args.self.now c.give-in-Transfer.new.self _ c.args.act c.in-Transfer.conn c.in-Transfer.to c.in-Transfer.reply c.in-Transfer.is c.databases_stand.ensures
     c.in_ok-push-in-Transfer.ensures.items refl c.in_ok-give-in-Transfer.ensures.due c.in_ok-give-in-Transfer.ensures.is
+
+pub returns-in_ok-hand_over-in-Peer-clause-conns : goal.returns-in_ok-hand_over-in-Peer-clause-conns
+returns-in_ok-hand_over-in-Peer-clause-conns c =
+    subst (λ (a : Act). ConnsBehind a c.args.self.now c.hand_over.new.self) (sym c.in-Peer.is)
+    (record { streams = gone_streams (clients_in c.args.self.now) (clients_in c.hand_over.new.self) c.in-Peer.conn c.in_ok-hand_over-in-Peer.ensures.gone })

@@ -1,7 +1,19 @@
+use Rattle.node_core.proofs.ConnStreams.{conns_both, lent_on}
 use Rattle.std.proofs.Common.{[], None}
 use Rattle.node_core.proofs.Beginning.{begins_unread, begins_given_back, begins_told}
 use Rattle.node_core.proofs.Led.{led_lent, led_reads}
 use Rattle.node_core.proofs.running.Running.read_done.Goals as goal
+
+pub returns-then-gives_back-clause-conns : goal.returns-then-gives_back-clause-conns
+returns-then-gives_back-clause-conns g c =
+    conns_both c.args.self.now c.take_back.new.self c.run_later.new.self (lent_on c.args.self.now c.take_back.new.self _ _ c.take_back.ensures.rest) c.in_ok-run_later.ensures.conns
+
+pub returns-then-not-take_back-clause-conns : goal.returns-then-not-take_back-clause-conns
+returns-then-not-take_back-clause-conns g c = lent_on c.args.self.now c.take_back.new.self _ _ c.take_back.ensures.rest
+
+pub returns-clause-conns : goal.returns-clause-conns
+returns-clause-conns g c =
+    conns_both c.args.self.now c.take_back.new.self c.tell_read.new.self (lent_on c.args.self.now c.take_back.new.self _ _ c.take_back.ensures.rest) c.in_ok-tell_read.ensures.conns
 
 pub returns-then-not-take_back-clause-begun : goal.returns-then-not-take_back-clause-begun
 returns-then-not-take_back-clause-begun g c = λ setup.

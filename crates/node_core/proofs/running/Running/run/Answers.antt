@@ -1,3 +1,4 @@
+use Rattle.node_core.proofs.ConnStreams.{conns_both, conns_same}
 use Rattle.node_core.proofs.Turning.{turned_on, under_kind}
 use Rattle.raft_member.specs.Members.{read_setup}
 use Rattle.node_core.proofs.Finding.{more, kept_finds}
@@ -6,6 +7,9 @@ use Rattle.node_core.proofs.StopsOfStep.{stopped_here}
 use Rattle.std.proofs.Common.{sym, subst}
 use Rattle.node_core.proofs.Finding.{failed as always_err}
 use Rattle.node_core.proofs.running.Running.run.Goals as goal
+
+pub returns-then-not-branch-clause-conns : goal.returns-then-not-branch-clause-conns
+returns-then-not-branch-clause-conns g c = conns_both c.args.self.now c.loop.self c.turn.new.self c.loop.invariant.conns c.in_ok-turn.ensures.conns
 
 pub returns-then-not-branch-clause-stored : goal.returns-then-not-branch-clause-stored
 returns-then-not-branch-clause-stored g c = λ has. c.in_ok-turn.ensures.stored (c.loop.invariant.stored has)
@@ -19,7 +23,7 @@ pub loop-preserved : goal.loop-preserved
 loop-preserved g c = turned_on g.E.Engine.meaning g.D.Disk.tells (g.D.Disk.states c.args.disk.now) (g.D.Disk.states c.loop.disk) (g.D.Disk.states c.turn.new.disk) (g.D.Disk.faults c.args.disk.now) (g.D.Disk.faults c.loop.disk) (g.D.Disk.faults c.turn.new.disk)
     (g.E.Engine.kind c.args.engine.now) (g.E.Engine.kind c.loop.engine) (g.E.Engine.kind c.turn.new.engine) (g.E.Engine.refused_openings c.args.engine.now) (g.E.Engine.refused_openings c.loop.engine) (g.E.Engine.refused_openings c.turn.new.engine)
     (g.E.Engine.told c.args.engine.now) (g.E.Engine.told c.loop.engine) (g.E.Engine.told c.turn.new.engine) (g.E.Engine.known c.loop.engine) (g.E.Engine.known c.turn.new.engine) c.args.self.now c.loop.self c.turn.new.self c.loop.invariant c.in_ok-turn.ensures.going c.in_ok-turn.ensures.led c.in_ok-turn.ensures.agrees c.in_ok-turn.ensures.stored c.turn.ensures.cause.never_falls c.turn.ensures.engine
-    (λ opening start event told. c.in_ok-turn.ensures.on opening start event told)
+    (λ opening start event told. c.in_ok-turn.ensures.on opening start event told) c.in_ok-turn.ensures.conns
 
 pub returns-in_err-turn-clause-stops : goal.returns-in_err-turn-clause-stops
 returns-in_err-turn-clause-stops g c = λ opening start event told u has.

@@ -1,3 +1,4 @@
+use Rattle.node_core.proofs.ConnStreams.{conns_same, letter_on, none_letter}
 use Rattle.std.proofs.Common.{refl}
 use Rattle.node_core.specs.declared.running.Running.{Running}
 use Rattle.node_core.specs.Taking.{came, none_came}
@@ -8,6 +9,19 @@ use Rattle.raft_member.specs.Members.{read_setup}
 use Rattle.raft_core.specs.declared.event.RaftEvent.TheVariants as raft_events
 use Rattle.node_core.proofs.Finding.{failed as always_err}
 use Rattle.node_core.proofs.running.Running.take_letter.Goals as goal
+
+pub returns-then-not-self-clause-conns : goal.returns-then-not-self-clause-conns
+returns-then-not-self-clause-conns g c = conns_same c.args.self.now
+
+pub returns-in_ok-take_raft-in-Some-Message-clause-conns : goal.returns-in_ok-take_raft-in-Some-Message-clause-conns
+returns-in_ok-take_raft-in-Some-Message-clause-conns g c =
+    letter_on c.in_ok-message.field-0 _ c.args.self.now c.take_raft.new.self c.in_ok-message.ensures.waits c.in-Some-Message.is c.in_ok-take_raft-in-Some-Message.ensures.conns.streams
+
+pub returns-in_ok-push-in-Some-Wrong-clause-conns : goal.returns-in_ok-push-in-Some-Wrong-clause-conns
+returns-in_ok-push-in-Some-Wrong-clause-conns g c = letter_on c.in_ok-message.field-0 _ c.args.self.now _ c.in_ok-message.ensures.waits c.in-Some-Wrong.is refl
+
+pub returns-in-None-clause-conns : goal.returns-in-None-clause-conns
+returns-in-None-clause-conns g c = none_letter c.args.self.now (record c.args.self.now { links = c.next.new.self }) c.next.ensures.none refl refl refl refl
 
 pub take_raft-requires-clause-led : goal.take_raft-requires-clause-led
 take_raft-requires-clause-led g c = led_same c.args.self.now (record c.args.self.now { links = c.next.new.self }) c.requires.led refl refl

@@ -1,8 +1,20 @@
+use Rattle.node_core.specs.declared.running.Running.{Running}
+use Rattle.node_core.proofs.ConnStreams.{message_on, idle_on}
 use Rattle.std.proofs.Common.{refl}
 use Rattle.node_core.proofs.ClientTurns.{took_turns_on, idle_turns_on}
 use Rattle.node_core.proofs.Led.{took_led, idle_led, idle_sessions}
 use Rattle.node_core.proofs.Looping.{turns_kept}
 use Rattle.node_core.proofs.running.Running.take_message.Goals as goal
+
+pub returns-in_ok-perform-in-Some-clause-conns : goal.returns-in_ok-perform-in-Some-clause-conns
+returns-in_ok-perform-in-Some-clause-conns g c =
+    let mid : Running = record c.args.self.now { clients = c.next.new.self; applied = record c.args.self.now.applied { machine = c.next.new.machine } } in
+    message_on _ c.args.self.now mid c.perform.new.self _ _ c.in_ok-act.act c.in-Some.act c.in_ok-act.ensures.turn c.in-Some.is refl refl refl refl c.in_ok-perform-in-Some.ensures.conns
+
+pub returns-in-None-clause-conns : goal.returns-in-None-clause-conns
+returns-in-None-clause-conns g c =
+    let new : Running = record c.args.self.now { clients = c.next.new.self; applied = record c.args.self.now.applied { machine = c.next.new.machine } } in
+    idle_on _ c.args.self.now new _ _ c.in_ok-act.act c.in_ok-act.ensures.turn c.in-None.is refl refl refl refl
 
 pub returns-in_ok-perform-in-Some-clause-goes : goal.returns-in_ok-perform-in-Some-clause-goes
 returns-in_ok-perform-in-Some-clause-goes g c = λ setup bytes joins.

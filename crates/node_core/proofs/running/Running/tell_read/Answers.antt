@@ -1,3 +1,4 @@
+use Rattle.node_core.proofs.ConnStreams.{read_on, none_later}
 use Rattle.std.proofs.Common.{refl}
 use Rattle.client_sessions.specs.Seen.{clients_of}
 use Rattle.session_decisions.specs.Reading.{read_named}
@@ -6,6 +7,18 @@ use Rattle.node_core.proofs.ClientTurns.{reads_reply}
 use Rattle.node_core.proofs.Going.{clients_moved}
 use Rattle.node_core.proofs.Waiting.{finished_turns}
 use Rattle.node_core.proofs.running.Running.tell_read.Goals as goal
+
+pub returns-in_ok-perform-in-Some-clause-conns : goal.returns-in_ok-perform-in-Some-clause-conns
+returns-in_ok-perform-in-Some-clause-conns c =
+    let databases = c.args.self.now.applied.machine in
+    let mid : Running = record c.args.self.now { clients = c.on_read_done.new.self } in
+    read_on c.args.self.now mid c.perform.new.self c.args.conn _ _ c.in_ok-act.field-0 c.in-Some.act (c.in_ok-act.ensures.finished databases) (c.in_ok-act.ensures.rest databases) c.in-Some.is refl refl refl refl
+    c.in_ok-perform-in-Some.ensures.conns
+
+pub returns-in-None-clause-conns : goal.returns-in-None-clause-conns
+returns-in-None-clause-conns c =
+    let databases = c.args.self.now.applied.machine in
+    none_later c.args.self.now (record c.args.self.now { clients = c.on_read_done.new.self }) c.args.conn c.in_ok-act.field-0 (c.in_ok-act.ensures.rest databases) refl refl refl refl
 
 pub perform-requires : goal.perform-requires
 perform-requires c =

@@ -1,7 +1,8 @@
+use Rattle.node_core.proofs.ConnStreams.{conns_both, kept_on}
 use Rattle.std.proofs.Common.{sym, subst}
 use Rattle.raft_member.specs.Members.{read_setup}
 use Rattle.node_replica.specs.Replicas.{ReplicaValue, IsKept}
-use Rattle.node_core.proofs.Looping.{goes_further, had_none}
+use Rattle.node_core.proofs.Looping.{on_ok_then, goes_further, had_none}
 use Rattle.node_core.proofs.RaftAccounts.{owns_turns}
 use Rattle.node_core.proofs.Finding.{more, kept_finds}
 use Rattle.node_core.specs.Account.{StopsBy}
@@ -9,6 +10,16 @@ use Rattle.node_core.specs.Finding.{StopsOwn}
 use Rattle.node_core.proofs.StopsOfStep.{stopped_here, stopped_own}
 use Rattle.node_core.proofs.Finding.{failed as always_err}
 use Rattle.node_core.proofs.running.Running.turn.Goals as goal
+
+pub returns-then-branch-clause-conns : goal.returns-then-branch-clause-conns
+returns-then-branch-clause-conns g c = kept_on c.args.self.now c.take_due.new.self c.in_ok-take_due.ensures.conns
+
+pub returns-then-self-view-clause-conns : goal.returns-then-self-view-clause-conns
+returns-then-self-view-clause-conns g c = conns_both c.args.self.now c.take_due.new.self c.apply_next.new.self (kept_on c.args.self.now c.take_due.new.self c.in_ok-take_due.ensures.conns) c.in_ok-apply_next.ensures.conns
+
+pub returns-clause-conns : goal.returns-clause-conns
+returns-clause-conns g c =
+    on_ok_then c.attend.result (conns_both c.args.self.now c.take_due.new.self c.attend.new.self (kept_on c.args.self.now c.take_due.new.self c.in_ok-take_due.ensures.conns)) c.attend.ensures.conns
 
 pub returns-then-branch-clause-on : goal.returns-then-branch-clause-on
 returns-then-branch-clause-on g c = λ opening start event told u.

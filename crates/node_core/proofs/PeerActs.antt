@@ -1,0 +1,306 @@
+-- Only a node with links has a connection carry a peer's messages.
+use Rattle.std.proofs.Common.{◌≡◌, ℕ, Bool, true, false, cond, not, ◌&&◌, List, [], ◌∷◌, length, map, Option, Some, None, Result, Ok, Err, refl, sym, subst}
+use Rattle.std.specs.Prelude.{◌==◌, nat_lt, nat_le}
+use Rattle.wire_words.specs.declared.value.Value.{Value}
+use Rattle.wire_msgs.specs.declared.fault.MsgFault.{MsgFault}
+use Rattle.wire_msgs.specs.declared.request.Request.{Request}
+use Rattle.wire_msgs.specs.declared.request.Request.TheVariants as requests
+use Rattle.wire_msgs.specs.Reading.{request_of}
+use Rattle.raft_rules.specs.Node.{Server, among, voters}
+use Rattle.sql_scan.specs.declared.pieces.Piece.{Piece}
+use Rattle.sql_scan.specs.declared.fault.ScanFault.{ScanFault}
+use Rattle.sql_scan.specs.declared.heading.WordKind.{WordKind}
+use Rattle.sql_scan.specs.declared.heading.WordKind.TheVariants as words
+use Rattle.sql_scan.specs.Statements.{scan_of}
+use Rattle.sql_engine.specs.declared.kind.EngineKind.{EngineKind}
+use Rattle.sql_engine.specs.Meanings.{Meaning, Told}
+use Rattle.sql_engine.specs.Replies.{Statement}
+use Rattle.session_rules.specs.Causes.{Cause, BadNode}
+use Rattle.session_rules.specs.Engines.{Answer, no_pages, Ending, Lacking, TooLarge, Stopped, Ended}
+use Rattle.session_rules.specs.Limits.{change_in_flight, one_too_many, log_full}
+use Rattle.session_rules.specs.Machine.{Machine, is_named}
+use Rattle.session_rules.specs.Requests as rules
+use Rattle.session_rules.specs.Requests.{on_request, on_later, does}
+use Rattle.session_rules.specs.Servers.{has_server}
+use Rattle.session_rules.specs.Sessions.{Prepared, Session, Gateway, Transaction, View, Effect, HandsOver, JoinsPeer, Weighs, in_tx}
+use Rattle.session_rules.specs.Sessions.{Turned, Refused, Lacks, Answers, Proposes, Lends, Affects}
+use Rattle.session_rules.specs.Statements.{prepared_from, prepared_at, prepared_count, is_left_out, any_barred, wrong_params, with_params, with_all}
+use Rattle.session_rules.specs.Asking as asking
+use Rattle.session_rules.specs.Asking.{Asked, Never, Tells, Sets, Opens, Creates, Prepares, Drops, Begins, Commits, RollsBack, Changes, Runs, Reads, asked_by}
+use Rattle.session_decisions.specs.Scenes.{Scene, scene}
+use Rattle.statement_runs.specs.Calls.{EngineCall, call_of}
+use Rattle.gateway.specs.declared.act.Act.{Act as GatewayAct}
+use Rattle.gateway.specs.declared.act.Act.TheVariants as gateway
+use Rattle.gateway.specs.Calls.{Is}
+use Rattle.client_sessions.specs.declared.act.Act.{Act}
+use Rattle.client_sessions.specs.declared.act.Act.TheVariants as acts
+use Rattle.client_sessions.specs.Calls.{act_on, Asked as CameTo, Comes, TookOffer}
+use Rattle.client_sessions.specs.Clients.{Clients}
+use Rattle.client_sessions.specs.Later.{Resumes, RanLater}
+
+abbrev ForEffect : View → Effect → Type 0
+ForEffect v (HandsOver id) = Unit {0}
+ForEffect v (JoinsPeer id) = v.links ≡ true
+ForEffect v (Weighs weight) = Unit {0}
+
+-- where it is asked that a connection carries a peer's messages, there are links
+abbrev MayAsk : View → Asked → Type 0
+MayAsk v (Never cause) = Unit {0}
+MayAsk v (Tells response) = Unit {0}
+MayAsk v (Sets effect) = ForEffect v effect
+MayAsk v (Opens name barriers) = Unit {0}
+MayAsk v (Creates name barriers) = Unit {0}
+MayAsk v (Prepares prepared tail) = Unit {0}
+MayAsk v (Drops id) = Unit {0}
+MayAsk v (Begins at_once) = Unit {0}
+MayAsk v Commits = Unit {0}
+MayAsk v RollsBack = Unit {0}
+MayAsk v (Changes servers) = Unit {0}
+MayAsk v (Runs statements) = Unit {0}
+MayAsk v (Reads statement) = Unit {0}
+
+abbrev MayTurn : View → Turned → Type 0
+MayTurn v (Refused cause) = Unit {0}
+MayTurn v Lacks = Unit {0}
+MayTurn v (Answers s reply note) = Unit {0}
+MayTurn v (Proposes s contents note) = Unit {0}
+MayTurn v (Lends s job) = Unit {0}
+MayTurn v (Affects effect) = ForEffect v effect
+
+module _ (v : View) where
+  either : (b : Bool) (x y : Asked) → MayAsk v x → MayAsk v y → MayAsk v (cond b x y)
+  either true x y a h = a
+  either false x y a h = h
+
+  in_database : (s : Session) (db : ℕ) (asked : Asked) → MayAsk v asked → MayAsk v (asking.in_database s db asked)
+  in_database s db asked h = either (asking.no_database s db) _ asked tt h
+
+  served : (s : Session) (db : ℕ) (asked : Asked) → MayAsk v asked → MayAsk v (asking.at_leader v (asking.in_database s db asked))
+  served s db asked h = either v.serving (asking.in_database s db asked) _ (in_database s db asked h) tt
+
+  leading : (asked : Asked) → MayAsk v asked → MayAsk v (asking.at_leader v asked)
+  leading asked h = either v.serving asked _ h tt
+
+  settled : (g : Gateway) (asked : Asked) → MayAsk v asked → MayAsk v (asking.if_settled g asked)
+  settled g asked h = either (change_in_flight g) _ asked tt h
+
+  of_other : (id : ℕ) (asked : Asked) → MayAsk v asked → MayAsk v (asking.of_other v id asked)
+  of_other id asked h = either (id == v.id) _ asked tt h
+
+  kind : (active : Bool) (word : WordKind) (s : Statement) → MayAsk v (asking.asks_kind active word s)
+  kind true (words.Begin at_once) s = tt
+  kind false (words.Begin at_once) s = tt
+  kind true words.Commit s = tt
+  kind false words.Commit s = tt
+  kind true words.Rollback s = tt
+  kind false words.Rollback s = tt
+  kind active words.Write s = tt
+  kind active words.LeftOut s = tt
+  kind active words.Other s = tt
+
+  one : (active : Bool) (p : Prepared) (params : List Value) → MayAsk v (asking.asks_one active p params)
+  one active p params = either (is_left_out p.word) _ _ tt (either (wrong_params (p ∷ []) params) _ _ tt (kind active p.word (with_all p params)))
+
+  several : (ps : List Prepared) (params : List Value) → MayAsk v (asking.asks_several ps params)
+  several ps params = either (any_barred ps) _ _ tt (either (wrong_params ps params) _ (Runs (with_params ps params)) tt tt)
+
+  statements : (active : Bool) (ps : List Prepared) (params : List Value) → MayAsk v (asking.asks_statements active ps params)
+  statements active [] params = several [] params
+  statements active (p ∷ []) params = one active p params
+  statements active (p ∷ q ∷ ps) params = several (p ∷ q ∷ ps) params
+
+  text : (active : Bool) (sql : List ℕ) (t : Result (List Piece) ScanFault) (params : List Value) → MayAsk v (asking.asks_text active sql t params)
+  text active sql (Err fault) params = tt
+  text active sql (Ok pieces) params = statements active (map (prepared_from sql) pieces) params
+
+  query : (p : Prepared) (params : List Value) → MayAsk v (asking.asks_query p params)
+  query p params = either (any_barred (p ∷ [])) _ _ tt (either (wrong_params (p ∷ []) params) _ (Reads (with_all p params)) tt tt)
+
+  not_one : (ps : List Prepared) → MayAsk v (asking.not_one ps)
+  not_one ps = either (any_barred ps) _ _ tt tt
+
+  sole : (ps : List Prepared) (params : List Value) → MayAsk v (asking.asks_sole ps params)
+  sole [] params = not_one []
+  sole (p ∷ []) params = query p params
+  sole (p ∷ q ∷ ps) params = not_one (p ∷ q ∷ ps)
+
+  rows : (sql : List ℕ) (t : Result (List Piece) ScanFault) (params : List Value) → MayAsk v (asking.asks_rows sql t params)
+  rows sql (Err fault) params = tt
+  rows sql (Ok pieces) params = sole (map (prepared_from sql) pieces) params
+
+  exec : (active : Bool) (o : Option Prepared) (params : List Value) → MayAsk v (asking.asks_exec active o params)
+  exec active None params = tt
+  exec active (Some p) params = one active p params
+
+  prepared_query : (o : Option Prepared) (params : List Value) → MayAsk v (asking.asks_prepared_query o params)
+  prepared_query None params = tt
+  prepared_query (Some p) params = query p params
+
+  finalize : (o : Option Prepared) (id : ℕ) → MayAsk v (asking.asks_finalize o id)
+  finalize None id = tt
+  finalize (Some p) id = tt
+
+  room : (s : Session) (p : Prepared) (tail : Option ℕ) → MayAsk v (asking.with_room s p tail)
+  room s p tail = either (nat_le 64 (prepared_count s.statements)) _ (Prepares p tail) tt tt
+
+  pieces_too : (s : Session) (sql : List ℕ) (wide : Bool) (pieces : List Piece) → MayAsk v (asking.asks_prepare_pieces s sql wide pieces)
+  pieces_too s sql wide [] = tt
+  pieces_too s sql wide (p ∷ []) = either (is_left_out p.word) _ _ tt (room s (prepared_from sql p) (asking.tail_of wide p))
+  pieces_too s sql wide (p ∷ q ∷ ps) =
+      either (any_barred (map (prepared_from sql) (p ∷ q ∷ ps))) _ _ tt (either wide (asking.with_room s (prepared_from sql p) (asking.tail_of wide p)) _ (room s (prepared_from sql p) (asking.tail_of wide p)) tt)
+
+  prepare : (s : Session) (sql : List ℕ) (wide : Bool) (t : Result (List Piece) ScanFault) → MayAsk v (asking.asks_prepare s sql wide t)
+  prepare s sql wide (Err fault) = tt
+  prepare s sql wide (Ok pieces) = pieces_too s sql wide pieces
+
+  opening : (m : Machine) (g : Gateway) (s : Session) (name : List ℕ) (barriers : Bool) → MayAsk v (asking.asks_open v m g s name barriers)
+  opening m g s name barriers =
+      either (asking.has_database s) _ _ tt (either (not (asking.is_name name)) _ _ tt
+      (either (is_named m.names name) (Opens name barriers) _ tt (either (one_too_many m g name) _ _ tt (either (log_full v) _ (Creates name barriers) tt tt))))
+
+  adding : (id : ℕ) (address : List ℕ) → MayAsk v (asking.asks_add v.servers id address)
+  adding id address = either (asking.is_barred_node v.servers id address) _ (Changes _) tt tt
+
+  role_too : (id role : ℕ) → MayAsk v (asking.asks_role v id role)
+  role_too id role =
+      either (asking.is_promotion v.servers id role && nat_le 7 (length (voters v.servers))) _ _ tt
+      (either (asking.is_promotion v.servers id role && not (among v.even id)) _ (Changes _) tt tt)
+
+  assigning : (id role : ℕ) → MayAsk v (asking.asks_assign v id role)
+  assigning id role = either (not (has_server v.servers id)) _ _ tt (either (nat_lt 2 role) _ _ tt (of_other id (asking.asks_role v id role) (role_too id role)))
+
+  removing : (id : ℕ) → MayAsk v (asking.asks_remove v id)
+  removing id = either (has_server v.servers id) (asking.of_other v id (Changes _)) _ (of_other id (Changes _) tt) tt
+
+  transferring : (id : ℕ) → MayAsk v (asking.asks_transfer v id)
+  transferring id = either (among (voters v.servers) id) _ _ (either (asking.may_take_over v id) (Sets (HandsOver id)) _ tt tt) tt
+
+  connecting : (id : ℕ) → MayAsk v (asking.asks_connect v id)
+  connecting id = by v.links (asking.is_other_node v id) refl
+    where
+      by : (links other : Bool) → v.links ≡ links → MayAsk v (cond (links && other) (Sets (JoinsPeer id)) (Never BadNode))
+      by true true e = e
+      by true false e = tt
+      by false other e = tt
+
+  asked_too : (m : Machine) (g : Gateway) (s : Session) (request : Request) → MayAsk v (asked_by v m g s request)
+  unfolding asked_by
+  asked_too m g s requests.Leader = tt
+  asked_too m g s (requests.Client id) = tt
+  asked_too m g s (requests.Open name flags vfs) = leading (asking.asks_open v m g s name (asking.barriers_asked flags)) (opening m g s name (asking.barriers_asked flags))
+  asked_too m g s (requests.Prepare db sql wide) = served s db (asking.asks_prepare s sql wide (scan_of sql)) (prepare s sql wide (scan_of sql))
+  asked_too m g s (requests.Exec db id params wide) = served s db (asking.asks_exec (in_tx s) (prepared_at s.statements id) params) (exec (in_tx s) (prepared_at s.statements id) params)
+  asked_too m g s (requests.Query db id params wide) = served s db (asking.asks_prepared_query (prepared_at s.statements id) params) (prepared_query (prepared_at s.statements id) params)
+  asked_too m g s (requests.Finalize db id) = in_database s db (asking.asks_finalize (prepared_at s.statements id) id) (finalize (prepared_at s.statements id) id)
+  asked_too m g s (requests.ExecSql db sql params wide) = served s db (asking.asks_text (in_tx s) sql (scan_of sql) params) (text (in_tx s) sql (scan_of sql) params)
+  asked_too m g s (requests.QuerySql db sql params wide) = served s db (asking.asks_rows sql (scan_of sql) params) (rows sql (scan_of sql) params)
+  asked_too m g s (requests.Interrupt db) = in_database s db (Tells _) tt
+  asked_too m g s (requests.Connect id address) = connecting id
+  asked_too m g s (requests.Add id address) = leading _ (settled g (asking.asks_add v.servers id address) (adding id address))
+  asked_too m g s (requests.Assign id role) = leading _ (settled g (asking.asks_assign v id role) (assigning id role))
+  asked_too m g s (requests.Remove id) = leading _ (settled g (asking.asks_remove v id) (removing id))
+  asked_too m g s (requests.Dump name) = either (is_named m.names name) _ _ (either (nat_lt 16777216 (asking.body_size (asking.files_of name (m.base name).image))) _ (Tells _) tt tt) tt
+  asked_too m g s (requests.Cluster format) = either (nat_le format 1) (Tells _) _ tt tt
+  asked_too m g s (requests.Transfer id) = leading (asking.asks_transfer v id) (transferring id)
+  asked_too m g s (requests.Describe format) = either (format == 0) (Tells _) _ tt tt
+  asked_too m g s (requests.Weight weight) = tt
+
+  -- ---- what comes of it
+
+  turns : (b : Bool) (x y : Turned) → MayTurn v x → MayTurn v y → MayTurn v (cond b x y)
+  turns true x y a h = a
+  turns false x y a h = h
+
+  unless_too : (o : Option Cause) (t : Turned) → MayTurn v t → MayTurn v (rules.unless o t)
+  unless_too None t h = h
+  unless_too (Some cause) t h = tt
+
+  module _ (m : Machine) (g : Gateway) (conn : ℕ) (s : Session) where
+    outside_too : (ss : List Statement) (rs : Bool) (e : Ending) → MayTurn v (rules.outside v m g conn s ss rs e)
+    unfolding rules.outside rules.outside_write
+    outside_too ss rs Lacking = tt
+    outside_too ss rs (TooLarge answer) = search (unless_too, turns)
+    outside_too ss rs (Stopped fault) = tt
+    outside_too ss rs (Ended to answer) = search (unless_too, turns)
+
+    inside_too : (x : Transaction) (ss : List Statement) (rs : Bool) (e : Ending) → MayTurn v (rules.inside m g conn s x ss rs e)
+    unfolding rules.inside
+    inside_too x ss rs Lacking = tt
+    inside_too x ss rs (TooLarge answer) = search (unless_too, turns)
+    inside_too x ss rs (Stopped fault) = tt
+    inside_too x ss rs (Ended to answer) = search (unless_too, turns)
+
+    run_too : (o : Option Transaction) (ss : List Statement) (rs : Bool) (answers : List Answer) → MayTurn v (rules.run_in v m g conn s o ss rs answers)
+    run_too None ss rs answers = outside_too ss rs _
+    run_too (Some x) ss rs answers = inside_too x ss rs _
+
+    read_too : (o : Option Transaction) (statement : Statement) (answers : List Answer) → MayTurn v (rules.read_in v m g conn s o statement answers)
+    read_too None statement answers = search (turns, outside_too)
+    read_too (Some x) statement answers = run_too (Some x) (statement ∷ []) true answers
+
+    commit_too : (o : Option Transaction) → MayTurn v (rules.commit_in v m g conn s o)
+    unfolding rules.committed
+    commit_too None = tt
+    commit_too (Some x) = search (unless_too, turns)
+
+    does_too : (x : Asked) (answers : List Answer) → MayAsk v x → MayTurn v (does v m g conn s x answers)
+    unfolding does
+    does_too (Never cause) answers h = tt
+    does_too (Tells response) answers h = tt
+    does_too (Sets effect) answers h = h
+    does_too (Opens name barriers) answers h = tt
+    does_too (Creates name barriers) answers h = search (turns)
+    does_too (Prepares p tail) answers h = tt
+    does_too (Drops id) answers h = tt
+    does_too (Begins at_once) answers h = search (turns)
+    does_too Commits answers h = commit_too s.tx
+    does_too RollsBack answers h = tt
+    does_too (Changes servers) answers h = search (turns)
+    does_too (Runs ss) answers h = run_too s.tx ss false answers
+    does_too (Reads statement) answers h = search (turns, read_too)
+
+request_too : (v : View) (m : Machine) (g : Gateway) (conn : ℕ) (request : Request) (answers : List Answer) → MayTurn v (on_request v m g conn request answers)
+unfolding on_request
+request_too v m g conn request answers = does_too v m g conn (g.session conn) (asking.asked v m g conn request) answers (asked_too v m g (g.session conn) request)
+
+later_too : (v : View) (m : Machine) (g : Gateway) (conn : ℕ) (statement : Statement) (answers : List Answer) → MayTurn v (on_later v m g conn statement answers)
+unfolding on_later
+later_too v m g conn statement answers = search (turns, run_too)
+
+-- ---- acts
+
+-- the connection carries a peer's messages from now on
+abbrev pub IsPeer : Act → Type 0
+IsPeer (acts.Reply conn messages) = ⊥
+IsPeer (acts.Propose conn entries) = ⊥
+IsPeer (acts.Lend conn job) = ⊥
+IsPeer (acts.Transfer conn to reply) = ⊥
+IsPeer (acts.Peer conn id reply) = Unit {0}
+
+acts_for : (v : View) (g : Gateway) (conn : ℕ) (t : Turned) (now : Gateway) (act : GatewayAct) → MayTurn v t → Is v g conn t now act → IsPeer (act_on conn act) → v.links ≡ true
+acts_for v g conn (Refused cause) now act h is p = absurd (subst (λ (a : GatewayAct). IsPeer (act_on conn a)) is.1 p)
+acts_for v g conn Lacks now act h is p = absurd is
+acts_for v g conn (Answers s reply note) now act h is p = absurd (subst (λ (a : GatewayAct). IsPeer (act_on conn a)) is.1 p)
+acts_for v g conn (Proposes s contents note) now act h is p = absurd (subst (λ (a : GatewayAct). IsPeer (act_on conn a)) is.1 p)
+acts_for v g conn (Lends s job) now act h is p = absurd (subst (λ (a : GatewayAct). IsPeer (act_on conn a)) is.1 p)
+acts_for v g conn (Affects (HandsOver id)) now act h is p = absurd (subst (λ (a : GatewayAct). IsPeer (act_on conn a)) is.1 p)
+acts_for v g conn (Affects (JoinsPeer id)) now act h is p = h
+acts_for v g conn (Affects (Weighs weight)) now act h is p = absurd (subst (λ (a : GatewayAct). IsPeer (act_on conn a)) is.1 p)
+
+came_links : (c : EngineCall) (v : View) (m : Machine) (g : Gateway) (conn : ℕ) (r : Result Request MsgFault) (refused refused_now : ℕ) (now : Gateway) (act : Act)
+    → Comes c (scene v m g conn) r refused refused_now now act → IsPeer act → v.links ≡ true
+came_links c v m g conn (Ok request) refused refused_now now act x p =
+    acts_for v g conn (on_request v m g conn request x.turned.answers) now x.gateway_act (request_too v m g conn request x.turned.answers) x.turned.is (subst IsPeer x.act_is p)
+came_links c v m g conn (Err fault) refused refused_now now act x p = absurd (subst IsPeer x.act_is p)
+
+-- What comes of a message has a connection carry a peer's messages only where there are links.
+pub took_links : (c : EngineCall) (v : View) (m : Machine) (old : Clients) (refused refused_now : ℕ) (new : Clients) (act : Act) → TookOffer c v m old refused refused_now new act → IsPeer act → v.links ≡ true
+took_links c v m old refused refused_now new act x p = came_links c v m old.sessions x.offer.conn (request_of x.offer.message) refused refused_now new.sessions act x.came p
+
+-- Nor does what comes of a query that is run later.
+pub resumed_links : (c : EngineCall) (v : View) (m : Machine) (g : Gateway) (conn : ℕ) (o : Option Statement) (refused refused_now : ℕ) (now : Gateway) (act : Act)
+    → Resumes c (scene v m g conn) o refused refused_now now (Some act) → IsPeer act → v.links ≡ true
+resumed_links c v m g conn None refused refused_now now act x p = absurd x
+resumed_links c v m g conn (Some statement) refused refused_now now act x p =
+    let h = rules.without_later g conn in
+    acts_for v h conn (on_later v m h conn statement x.ran.answers) now x.gateway_act (later_too v m h conn statement x.ran.answers) x.ran.is (subst IsPeer x.act_is p)
