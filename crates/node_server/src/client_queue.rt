@@ -28,6 +28,8 @@ pub(crate) enum Write<L> {
     Send(u64, Waiting),
     /// The connection is closed.
     Close(u64),
+    /// The link is shut, and nothing more is written.
+    End,
 }
 
 /// The end at which a writer is told what to do, in order. There may be several, in several threads.
@@ -124,6 +126,11 @@ impl<L: Drop> ClientQueue<L> {
     pub fn cut<R: Wait>(&self, rt: &R, conn: u64) {
         self.place.cut(conn);
         self.close(rt, conn);
+    }
+
+    /// Has the writer shut its link behind what was handed over, and end.
+    pub fn end<R: Wait>(&self, rt: &R) {
+        let _ = self.queue.send(rt, Write::End);
     }
 
     /// Whether nothing more of the connection is to be read or written.

@@ -14,7 +14,8 @@ use wire_words::WireBytes;
 
 /// The queues to all threads that carry what a node says. None of its calls waits for one of them but for the moment in which that
 /// one touches the queue, and each queue is bounded.
-#[derive(Drop)]
+///
+/// Once it is dropped the writers shut their links and end, and the threads of peers end, each behind what waits.
 pub struct Queues<R: Wait + Copy + Drop, L: Drop, J: Drop> {
     /// For its waits.
     pub rt: R,
@@ -80,5 +81,23 @@ impl<R: Wait + Copy + Drop, L: Drop, J: Drop> Queues<R, L, J> {
             }
         }
         self.cut(conn);
+    }
+}
+
+impl<R: Wait + Copy + Drop, L: Drop, J: Drop> Drop for Queues<R, L, J> {
+    fn drop(self) {
+        let Queues {
+            rt,
+            writers,
+            peers,
+            readers: _,
+            heard: _,
+        } = self;
+        for writer in &writers {
+            writer.end(&rt);
+        }
+        for (_, peer) in &peers {
+            peer.close(&rt);
+        }
     }
 }

@@ -26,17 +26,20 @@ impl<R: Wait + Copy + Drop, L: Link> Writer<R, L> {
         }
     }
 
-    /// Writes until no other end of its queue is left.
+    /// Writes until it is told to end, or no other end of its queue is left.
     pub fn run(mut self) {
         for _ in 0..u64::MAX {
             let Some(write) = self.writes.next(&self.rt) else {
                 return;
             };
-            self.perform(write);
+            if !self.perform(write) {
+                return;
+            }
         }
     }
 
-    fn perform(&mut self, write: Write<L>) {
+    /// Does what it is told to, and says whether it goes on.
+    fn perform(&mut self, write: Write<L>) -> bool {
         match write {
             Write::Take(conn, link) => self.link = Some((conn, link)),
             Write::Send(conn, waiting) => {
@@ -44,7 +47,12 @@ impl<R: Wait + Copy + Drop, L: Link> Writer<R, L> {
                 self.writes.give(waiting);
             }
             Write::Close(conn) => self.close(conn),
+            Write::End => {
+                self.shut();
+                return false;
+            }
         }
+        true
     }
 
     /// Writes bytes of this connection.
@@ -63,12 +71,16 @@ impl<R: Wait + Copy + Drop, L: Link> Writer<R, L> {
 
     /// Shuts and drops the link, where it is that of this connection.
     fn close(&mut self, conn: u64) {
-        let Some((own, link)) = &mut self.link else {
-            return;
-        };
-        if *own == conn {
-            link.shut();
-            self.link = None;
+        if matches!(&self.link, Some((own, _)) if *own == conn) {
+            self.shut();
         }
+    }
+
+    /// Shuts and drops the link, if there is one.
+    fn shut(&mut self) {
+        if let Some((_, link)) = &mut self.link {
+            link.shut();
+        }
+        self.link = None;
     }
 }

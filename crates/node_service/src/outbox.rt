@@ -101,8 +101,11 @@ impl<'a, R: Wait + Copy + Drop, L: Drop, W: Notes> Outbox<Said> for Mouth<'a, R,
     ghost said = { λ _. None };
 
     fn put(&mut self, said: Said) {
-        let Said { outs, state } = said;
+        let Said { outs, state, shut } = said;
         self.hand_on(outs);
+        if let Some(conn) = shut {
+            self.queues.cut(conn);
+        }
         self.note_leader(&state);
         self.note_end(state.last);
     }

@@ -20,7 +20,7 @@ use crate::end::{ServeEnd, end_of_crew, end_of_loop, end_of_start};
 use crate::fault::CrewFault;
 use crate::notes::{Note, Notes};
 use crate::outbox::Mouth;
-use crate::steps::step_limits;
+use crate::steps::{MOST_SAID, step_limits};
 use crate::voters::voters;
 use disk_model::Disk;
 use gateway::{Read, ReadJob};
@@ -101,7 +101,15 @@ fn step_on<H: Host<Read>, D: Disk, E: Engine, W: Notes>(
     ensures count { D.faults disk.old ≤ D.faults disk.new }
 {
     let mut outbox = Mouth::new(queues, notes, words.id);
-    run_node(node, disk, engine, host, &mut outbox, words.events)
+    run_node(
+        node,
+        disk,
+        engine,
+        host,
+        &mut outbox,
+        words.events,
+        MOST_SAID,
+    )
 }
 
 /// Serves a node that has started.

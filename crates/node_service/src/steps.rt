@@ -1,6 +1,10 @@
-//! How many steps statements may take.
+//! How many steps statements may take, and how much a node may hold of what clients say.
 
 use gateway::StepLimits;
+
+/// How many bytes of what its clients have said a node holds before links are shut for it: 32 MiB, as much as one connection may have.
+/// `docs/serving.md` has the sum of which this is a part.
+pub(crate) const MOST_SAID: u64 = 33_554_432;
 
 /// The limits of steps of a served node. An engine visits some 1,000 to 2,000 rows in a millisecond, each of which is a step, and keeps
 /// some 30 bytes for one where it has to.

@@ -1,6 +1,6 @@
 -- Steps of a node that has its disk and its engine by reference, seen as those of the node, the disk and the engine.
-use Rattle.std.proofs.Common.{◌≡◌, ◌≤◌, ℕ, List, [], ◌∷◌, refl, sym, ap, subst, ◌∙◌, arith}
-use Rattle.std.specs.Prelude.{Bool, Option}
+use Rattle.std.proofs.Common.{◌≡◌, ◌≤◌, ℕ, List, [], ◌∷◌, refl, sym, ap, subst, ◌∙◌, arith, inl, inr}
+use Rattle.std.specs.Prelude.{◌⊎◌, Bool, Option, None}
 use Rattle.disk_model.specs.Disk.{Disk}
 use Rattle.disk_model.specs.Trait.{Text}
 use Rattle.sql_engine.specs.declared.kind.EngineKind.{EngineKind}
@@ -22,6 +22,7 @@ use Rattle.node_edge.specs.Looping.{Taken, Broke, Ends, Loops}
 use Rattle.sql_engine.specs.Meanings.{Meaning, Stays, Told}
 use Rattle.served_node.specs.declared.said.Said.{Said}
 use Rattle.served_node.specs.Bridge.{event_of}
+use Rattle.served_node.specs.Watching.{MayShut, speaker_of}
 use Rattle.served_node.specs.Serving.{IsStateOf, Lent, StaysLent, StepsByRules, StopsByRules}
 
 -- the same steps, seen otherwise
@@ -127,11 +128,12 @@ loop_lends see makes breaks was now before after said said_after budget end loop
 pub steps_well : (m : Meaning) (kind : EngineKind) (told_before told_now : Option Told) (tells : Bool) (before after : Disk Text → Type 0) (old new : Node)
     (event : Event Read) (e : core.Event) (said : Said) → e ≡ event_of event →
     ((opening : List Server) → StepsBy m kind (read_setup opening) old.running new.running e said.outs told_before told_now) →
-    (IsKept tells before (replica_of old) → IsKept tells after (replica_of new)) → applied_of new ≡ (raft_of new).commit → IsStateOf said.state new →
+    (IsKept tells before (replica_of old) → IsKept tells after (replica_of new)) → applied_of new ≡ (raft_of new).commit → IsStateOf said.state new → MayShut event said.shut →
     StepsByRules m kind told_before told_now tells before after old new event said
-steps_well m kind told_before told_now tells before after old new event e said is acts stored applied told = record {
+steps_well m kind told_before told_now tells before after old new event e said is acts stored applied told shuts = record {
   acts = λ opening. subst (λ (z : core.Event). StepsBy m kind (read_setup opening) old.running new.running z said.outs told_before told_now) is (acts opening);
   well = record { stored = stored; applied = applied; told = told };
+  shuts = shuts;
 }
 
 pub stops_short : (m : Meaning) (kind : EngineKind) (tells : Bool) (before after : Disk Text → Type 0) (old new : Node) (event : Event Read) (e : core.Event) →
@@ -142,3 +144,8 @@ stops_short m kind tells before after old new event e is down stops = record {
   down = down;
   stops = λ opening keeps. subst (λ (z : core.Event). Finds tells after (StopsBy m kind (read_setup opening) old.running z)) is (stops opening keeps);
 }
+
+-- of all links none is to be shut but the one of the piece
+pub shuts_own : (event : Event Read) (piece shut : Option ℕ) → piece ≡ speaker_of event → (shut ≡ None) ⊎ (shut ≡ piece) → MayShut event shut
+shuts_own event piece shut own (inl none) = inl none
+shuts_own event piece shut own (inr is) = inr (is ∙ own)

@@ -22,6 +22,7 @@ use Rattle.node_edge.specs.declared.looping.LoopEnd.{LoopEnd}
 use Rattle.node_edge.specs.Looping.{Taken, Loops}
 use Rattle.served_node.specs.declared.said.Said.{Said}
 use Rattle.served_node.specs.Bridge.{event_of}
+use Rattle.served_node.specs.Watching.{MayShut}
 
 -- a node with the disk and the engine that are its own
 pub record Seat (D E : Type 0) : Type 0 where
@@ -68,11 +69,13 @@ pub record StepsWell (tells : Bool) (before after : Disk Text → Type 0) (old n
   pub applied : applied_of new ≡ (raft_of new).commit
   pub told : IsStateOf state new
 
--- It makes the acts of the rules, whatever the servers are with which the cluster was opened, and says what they say.
+-- It makes the acts of the rules, whatever the servers are with which the cluster was opened, and says what they say; and of all links it
+-- has none shut but that of the connection whose bytes the event brought.
 pub record StepsByRules (m : Meaning) (kind : EngineKind) (told_before told_now : Option Told) (tells : Bool) (before after : Disk Text → Type 0)
     (old new : Node) (event : Event Read) (said : Said) : Type 0 where
   pub acts : (opening : List Server) → StepsBy m kind (read_setup opening) old.running new.running (event_of event) said.outs told_before told_now
   pub well : StepsWell tells before after old new said.state
+  pub shuts : MayShut event said.shut
 
 -- What a step leaves that failed: the node is down, and where the disk kept what Raft was, a load finds what the acts of the rules left.
 pub record StopsByRules (m : Meaning) (kind : EngineKind) (tells : Bool) (before after : Disk Text → Type 0) (old new : Node) (event : Event Read)

@@ -6,6 +6,7 @@ mod bridge;
 mod running;
 mod said;
 mod served;
+mod watch;
 
 pub use running::run_node;
 pub use said::Said;

@@ -8,6 +8,7 @@ ghost use Rattle.served_node.specs.Serving.{CanStep, Runs, RunsByRules};
 
 use crate::said::Said;
 use crate::served::ServedNode;
+use crate::watch::Watch;
 use disk_model::Disk;
 use gateway::Read;
 use node_core::Node;
@@ -42,6 +43,10 @@ impl<'n, 'd, 'e, D: Disk, E: Engine> ServedNode<'n, 'd, 'e, D, E> {
 /// Has a node make a step for each event that the inbox brings, and hands on what it says, until so many were taken. The disk and the
 /// engine are the node's: those that its start and its steps had before, and nobody else had since.
 ///
+/// Where the node is found to hold more than `most` bytes of what its clients have said, the outbox is asked to shut the link of the
+/// connection whose bytes were taken last, if more than a 64th of these are its own. It is looked at once a 64th of these bytes came since it
+/// was found to hold no more, where each piece counts for 4,096 at least, and then behind each piece as long as it holds too much.
+///
 /// `Closed` comes only where the inbox's count of faults rose, `DiskFault` only where the disk's did, `Spent` with the budget, after
 /// so many events. After `DiskFault` and `NoMemory` the last step has failed, and said nothing.
 pub fn run_node<D: Disk, E: Engine, I: Inbox<Read>, O: Outbox<Said>>(
@@ -51,6 +56,7 @@ pub fn run_node<D: Disk, E: Engine, I: Inbox<Read>, O: Outbox<Said>>(
     inbox: &mut I,
     outbox: &mut O,
     budget: u64,
+    most: u64,
 ) -> LoopEnd
     requires { CanStep (E.known engine.old) node }
     ensures runs { Runs D.tells D.states D.faults E.kind E.refused_openings node disk.old disk.new engine.old engine.new
@@ -67,6 +73,7 @@ pub fn run_node<D: Disk, E: Engine, I: Inbox<Read>, O: Outbox<Said>>(
         node: &mut node,
         disk,
         engine,
+        watch: Watch::new(most),
     };
     served.run(inbox, outbox, budget)
 }

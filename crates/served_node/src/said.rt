@@ -7,4 +7,7 @@ pub struct Said {
     pub outs: Outs,
     /// How the node stands behind the step.
     pub state: NodeState,
+    /// The connection whose link is to be shut, if one is, since the node holds too much of what its clients have said: the one whose
+    /// bytes were taken for the step. The node hears of it as of any other link that ends.
+    pub shut: Option<u64>,
 }

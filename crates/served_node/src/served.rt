@@ -6,18 +6,20 @@ ghost use Rattle.served_node.specs.Serving.{CanStep, StaysLent, StepsByRules, St
 
 use crate::bridge::{event_of, fault_of};
 use crate::said::Said;
+use crate::watch::{Watch, piece_of};
 use disk_model::Disk;
 use gateway::Read;
 use node_core::Node;
 use node_edge::{Core, Event, StepFault};
 use sql_engine::Engine;
 
-/// A node, and the disk and the engine that are lent to its steps.
+/// A node, the disk and the engine that are lent to its steps, and how much it may hold.
 #[derive(Drop)]
 pub(crate) struct ServedNode<'n, 'd, 'e, D: Disk, E: Engine> {
     pub(crate) node: &'n mut Node,
     pub(crate) disk: &'d mut D,
     pub(crate) engine: &'e mut E,
+    pub(crate) watch: Watch,
 }
 
 impl<'n, 'd, 'e, D: Disk, E: Engine> Core for ServedNode<'n, 'd, 'e, D, E> {
@@ -56,10 +58,12 @@ impl<'n, 'd, 'e, D: Disk, E: Engine> Core for ServedNode<'n, 'd, 'e, D, E> {
             (D.states self.new.disk.now) self.old.node.now self.new.node.now event) }
         ensures cause { StepCause (D.faults self.old.disk.now) (D.faults self.new.disk.now) result }
     {
+        let piece = piece_of(&event);
         match self.node.step(event_of(event), self.disk, self.engine) {
             Ok(outs) => Ok(Said {
                 outs,
                 state: self.node.state(),
+                shut: self.watch.shuts(&*self.node, piece),
             }),
             Err(fault) => Err(fault_of(fault)),
         }

@@ -167,7 +167,15 @@ fn life<R: Threads + Wait + Clock + Copy + Drop + Send + Sync + 'static>(
     let (heard, ()) = thread::join(
         &rt,
         move || {
-            run_node(node, &mut disk, &mut engine, &mut inbox, &mut desk, u64::MAX, SETTING.most);
+            run_node(
+                node,
+                &mut disk,
+                &mut engine,
+                &mut inbox,
+                &mut desk,
+                u64::MAX,
+                SETTING.most,
+            );
             desk.heard
         },
         move || reads(rt, alloc, theirs, lent, post),

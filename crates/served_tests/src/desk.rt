@@ -28,12 +28,13 @@ pub(crate) fn digit(number: u64) -> u8 {
     b'?'
 }
 
-/// What a message is to a client: `d` a database, `r` a result, `w` rows, `e` empty, a digit for the code of a failure.
+/// What a message is to a client: `d` a database, `s` a statement, `r` a result, `w` rows, `e` empty, a digit for the code of a failure.
 pub(crate) fn letter(message: &[u8]) -> u8 {
     let code = message.get(8).copied().unwrap_or(0);
     match message.get(4).copied().unwrap_or(b'?') {
         0 => digit(code as u64),
         4 => b'd',
+        5 => b's',
         6 => b'r',
         7 => b'w',
         8 => b'e',

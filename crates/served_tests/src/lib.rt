@@ -6,6 +6,8 @@
 #[cfg(test)]
 mod beside;
 #[cfg(test)]
+mod bounds;
+#[cfg(test)]
 mod desk;
 #[cfg(test)]
 mod feed;

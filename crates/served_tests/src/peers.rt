@@ -2,28 +2,19 @@
 
 use crate::lives::{Setting, THREE, What, hears};
 use crate::messages::Said;
+use What::{Connects, Says};
 use gateway::StepLimits;
 use sql_engine::CellEngine;
 use std::test::*;
 
-use What::{Connects, Says};
-
 /// What happens, and what is heard: a peer's message that says to be of another node closes its connection by reason 5.
 const ROWS: &[(&[What], &[u8])] = &[
     (
-        &[
-            Connects(1),
-            Says(1, Said::Connect),
-            Says(1, Said::Raft(2)),
-        ],
+        &[Connects(1), Says(1, Said::Connect), Says(1, Said::Raft(2))],
         b"1e",
     ),
     (
-        &[
-            Connects(1),
-            Says(1, Said::Connect),
-            Says(1, Said::Raft(3)),
-        ],
+        &[Connects(1), Says(1, Said::Connect), Says(1, Said::Raft(3))],
         b"1e1!15",
     ),
 ];

@@ -2,12 +2,11 @@
 
 use crate::lives::{ONE, Setting, What, hears};
 use crate::messages::Said;
+use Said::{Exec, Open, Query};
+use What::{Connects, Says, Timeout};
 use gateway::StepLimits;
 use sqlite_engine::SqliteEngine;
 use std::test::*;
-
-use Said::{Exec, Open, Query};
-use What::{Connects, Says, Timeout};
 
 /// One voter. A query is lent at its first step; what runs at the node, or at a reader, has more.
 const SETTING: Setting = Setting {

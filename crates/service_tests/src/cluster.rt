@@ -17,8 +17,8 @@ use std::thread;
 use std::thread::Threads;
 use std::time::{Clock, Duration};
 
-/// How many events each node takes before it ends.
-const EVENTS: &str = "400";
+/// How many events each node takes before it ends: enough for many elections, as some 80 come in a second.
+const EVENTS: &str = "1000";
 
 /// The version of the wire, and an OPEN of `d`.
 const OPEN: &[u8] =
@@ -28,10 +28,12 @@ const OPEN: &[u8] =
 const SET: &[u8] = b"\x02\0\0\0\x08\0\0\0\0\0\0\0\0\0\0\0SET 1 7\0";
 
 /// The version of the wire, and LEADER.
-const LEADER: &[u8] = b"\x01\0\0\0\0\0\0\0\x01\0\0\0\0\0\0\0\0\0\0\0\0\0\0\0";
+const VERSION: &[u8] = b"\x01\0\0\0\0\0\0\0";
 
-/// How many connections use a node up.
-const CONNECTIONS: u32 = 250;
+const LEADER: &[u8] = b"\x01\0\0\0\0\0\0\0\0\0\0\0\0\0\0\0";
+
+/// How many requests use a node up.
+const REQUESTS: u32 = 1_000;
 
 /// The numbers of the responses DB and STMT_RESULT.
 const DB: u8 = 4;
@@ -39,9 +41,9 @@ const DB: u8 = 4;
 const RESULT: u8 = 6;
 
 /// How often the nodes are asked, and how long a client waits in between, in milliseconds.
-const TRIES: u32 = 600;
+const TRIES: u32 = 200;
 
-const PAUSE: u64 = 20;
+const PAUSE: u64 = 100;
 
 /// The number of the next response; it is read to its end.
 fn response<L: Link>(alloc: Global, link: &mut L) -> Option<u8> {
@@ -77,14 +79,15 @@ fn writes<H: Host<Read>>(host: &mut H, alloc: Global, address: &str) -> Option<b
     Some(response(alloc, &mut link)? == RESULT)
 }
 
-/// Uses the events of the node at an address up, of which each connection takes three or more. Nothing is read: behind its end a node may
-/// leave a link that it never shuts.
-fn use_up<H: Host<Read>>(host: &mut H, address: &str) {
-    for _ in 0..CONNECTIONS {
-        if let Ok(mut link) = host.dial(address) {
-            let _ = link.write_all(LEADER);
-        }
+/// Uses the events of the node at an address up, by one request after the other, until its link ends.
+fn use_up<H: Host<Read>>(host: &mut H, alloc: Global, address: &str) -> Option<()> {
+    let mut link = host.dial(address).ok()?;
+    link.write_all(VERSION).ok()?;
+    for _ in 0..REQUESTS {
+        link.write_all(LEADER).ok()?;
+        response(alloc, &mut link)?;
     }
+    Some(())
 }
 
 /// Has a client write at one of two nodes, as soon as one does it, and then uses both up. Says whether a write was answered.
@@ -101,7 +104,7 @@ fn ask<H: Host<Read>>(host: &mut H, alloc: Global, addresses: &[&str]) -> bool {
         thread::sleep(&rt, Duration::from_millis(PAUSE));
     }
     for address in addresses {
-        use_up(host, address);
+        use_up(host, alloc, address);
     }
     is_done
 }

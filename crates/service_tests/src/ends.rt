@@ -18,14 +18,7 @@ use std::thread::Threads;
 use std::time::Clock;
 
 /// One voter over cells that takes one event.
-const LONE: &[&str] = &[
-    "1",
-    "localhost:9001",
-    "--engine",
-    "cells",
-    "--events",
-    "1",
-];
+const LONE: &[&str] = &["1", "localhost:9001", "--engine", "cells", "--events", "1"];
 
 /// What a disk is before a node is started over it.
 #[derive(Clone, Copy)]
@@ -36,12 +29,22 @@ enum Folder {
     Failing,
     /// It has two segments, of which the first is cut in its batch.
     Faulty,
+    /// Its metadata has the last version that there is, so that none can be written.
+    Last,
 }
+
+/// Metadata of format 2 and version 18,446,744,073,709,551,615, with term 1 and vote 1, and the first eight bytes of their SHA-256.
+const LAST: &[u8; 40] =
+    b"\x02\0\0\0\0\0\0\0\xff\xff\xff\xff\xff\xff\xff\xff\x01\0\0\0\0\0\0\0\x01\0\0\0\0\0\0\0\
+    \x58\x28\xe3\x7f\x33\x81\x64\xa9";
 
 /// What a start over no files leaves, and a voter's first timeout; a folder that doesn't load tells nothing.
 const NOTHING: &str = "term 0 vote 0\nsnapshot none\nlog none\n";
 
 const ELECTED: &str = "term 1 vote 1\nsnapshot none\nlog 1 1\n";
+
+/// What the last metadata stands for.
+const VOTED: &str = "term 1 vote 1\nsnapshot none\nlog none\n";
 
 /// A folder, how many timeouts the host brings, how serving ends, and the first lines of what the files stand for.
 const ROWS: &[(Folder, u64, ServeEnd, &str)] = &[
@@ -50,6 +53,7 @@ const ROWS: &[(Folder, u64, ServeEnd, &str)] = &[
     (Folder::Empty, 0, ServeEnd::HostFault, NOTHING),
     (Folder::Failing, 1, ServeEnd::DiskFault, NOTHING),
     (Folder::Faulty, 1, ServeEnd::Files, ""),
+    (Folder::Last, 1, ServeEnd::NoMemory, VOTED),
 ];
 
 /// Adds the entry of a new leader of term 1 in a segment of its own.
@@ -75,6 +79,7 @@ fn disk_of(alloc: Global, folder: Folder) -> Option<MemDisk> {
             add(alloc, &mut disk, 2)?;
             disk.cut("segment-0000000000000001", 40).ok()?;
         }
+        Folder::Last => disk.write_at("metadata1", 0, LAST).ok()?,
     }
     Some(disk)
 }
@@ -102,14 +107,7 @@ fn serve_over<R: Threads + Wait + Clock + Copy + Drop + Send + 'static>(
     let words = named(alloc, LONE)?;
     let mut host = host_of(rt, alloc, timeouts)?;
     let mut engine = CellEngine::new(alloc);
-    Some(serve(
-        alloc,
-        &words,
-        &mut host,
-        disk,
-        &mut engine,
-        &mut Silent,
-    ))
+    Some(serve(alloc, &words, &mut host, disk, &mut engine, &mut Silent))
 }
 
 /// Whether the files of a disk load, and begin so in words; of those that don't, the words are none.
