@@ -129,7 +129,7 @@ serves_well words done states runs host old new end disk disk_after host_was hos
 
 -- ---- the run
 
-module _ {D E H : Type 0} (tells : Bool) (states : D → Disk Text → Type 0) (faults : D → ℕ) (meaning : EngineKind → Meaning) (kind : E → EngineKind) (told : E → Option Told) (refused : E → ℕ) where
+module _ {D E : Type 0} (tells : Bool) (states : D → Disk Text → Type 0) (faults : D → ℕ) (meaning : EngineKind → Meaning) (kind : E → EngineKind) (told : E → Option Told) (refused : E → ℕ) where
   abbrev pub Ran : Serve → Surroundings D E → Surroundings D E → D → Node → LoopEnd → Type 0
   Ran words old new disk node end =
       RunsByRules tells states faults meaning kind told refused node disk new.disk old.engine new.engine old.events new.events None None words.events end
@@ -149,7 +149,7 @@ module _ {D E H : Type 0} (tells : Bool) (states : D → Disk Text → Type 0) (
     };
   }
 
-  went : (words : Serve) (done : H → Done) (host : H) (old new : Surroundings D E) (end : ServeEnd) (disk : D) (node : Node) → StartsOver (states old.disk) (states disk) (Ok node) → IsNodeOf words node →
+  went : {H : Type 0} (words : Serve) (done : H → Done) (host : H) (old new : Surroundings D E) (end : ServeEnd) (disk : D) (node : Node) → StartsOver (states old.disk) (states disk) (Ok node) → IsNodeOf words node →
       GoesOn (workers_of words) done (Ran words old new disk node) host (record old { disk = disk }) new end →
       (first : Disk Text) → states old.disk first → IsSeen (folder first) →
       NodeServed (meaning (kind old.engine)) (kind old.engine) (told old.engine) words tells (states new.disk) old.events new.events end first
@@ -170,13 +170,13 @@ module _ {D E H : Type 0} (tells : Bool) (states : D → Disk Text → Type 0) (
         starts is.starts is.id l.ran first was seen;
   }
 
-  by_answer : (words : Serve) (done : H → Done) (host : H) (old new : Surroundings D E) (end : ServeEnd) (disk : D) (answer : Result Node StartFault) → StartsOver (states old.disk) (states disk) answer → IfOk answer (IsNodeOf words) →
+  by_answer : {H : Type 0} (words : Serve) (done : H → Done) (host : H) (old new : Surroundings D E) (end : ServeEnd) (disk : D) (answer : Result Node StartFault) → StartsOver (states old.disk) (states disk) answer → IfOk answer (IsNodeOf words) →
       Follows (workers_of words) done (Ran words old new disk) answer host (record old { disk = disk }) new end →
       IsRunOfRules (meaning (kind old.engine)) (kind old.engine) (told old.engine) words tells (states old.disk) (states new.disk) old.events new.events end
   by_answer words done host old new end disk (Ok node) starts is follows = λ first was seen. inr (went words done host old new end disk node starts is follows.1 first was seen)
   by_answer words done host old new end disk (Err fault) starts is follows =
       no_start (meaning (kind old.engine)) (kind old.engine) (told old.engine) words tells (states old.disk) (states new.disk) old.events new.events end follows.0.left follows.0.taken (fault_ends fault end follows.1)
 
-  pub is_run : (words : Serve) (done : H → Done) (host : H) (old new : Surroundings D E) (end : ServeEnd) → Started words done states (Ran words old new) host old new end →
+  pub is_run : {H : Type 0} (words : Serve) (done : H → Done) (host : H) (old new : Surroundings D E) (end : ServeEnd) → Started words done states (Ran words old new) host old new end →
       IsRunOfRules (meaning (kind old.engine)) (kind old.engine) (told old.engine) words tells (states old.disk) (states new.disk) old.events new.events end
   is_run words done host old new end s = by_answer words done host old new end s.disk s.answer s.starts s.is_node s.follows
