@@ -152,6 +152,44 @@ pub words_not_six : (s : Status) → (s ≡ status.Words) ⊎ (s ≡ status.Writ
 words_not_six s (inl a) e = let bad : 1 ≡ 6 = sym (ap status_code a) ∙ e in cc
 words_not_six s (inr a) e = let bad : 4 ≡ 6 = sym (ap status_code a) ∙ e in cc
 
+-- ---- a script, a statement and refused words don't end with 5
+
+pub script_not_five : (code : ℕ) → IsScriptCode code → code ≡ 5 → ⊥
+script_not_five code (inl a) e = let bad : 0 ≡ 5 = sym a ∙ e in cc
+script_not_five code (inr (inl a)) e = let bad : 2 ≡ 5 = sym a ∙ e in cc
+script_not_five code (inr (inr (inl a))) e = let bad : 3 ≡ 5 = sym a ∙ e in cc
+script_not_five code (inr (inr (inr (inl a)))) e = let bad : 4 ≡ 5 = sym a ∙ e in cc
+script_not_five code (inr (inr (inr (inr (inl a))))) e = let bad : 7 ≡ 5 = sym a ∙ e in cc
+script_not_five code (inr (inr (inr (inr (inr a))))) e = let bad : 9 ≡ 5 = sym a ∙ e in cc
+
+pub statement_not_five : (code : ℕ) → IsStatementCode code → code ≡ 5 → ⊥
+statement_not_five code (inl a) e = let bad : 0 ≡ 5 = sym a ∙ e in cc
+statement_not_five code (inr (inl a)) e = let bad : 4 ≡ 5 = sym a ∙ e in cc
+statement_not_five code (inr (inr (inl a))) e = let bad : 7 ≡ 5 = sym a ∙ e in cc
+statement_not_five code (inr (inr (inr (inl a)))) e = let bad : 11 ≡ 5 = sym a ∙ e in cc
+statement_not_five code (inr (inr (inr (inr (inl a))))) e = let bad : 12 ≡ 5 = sym a ∙ e in cc
+statement_not_five code (inr (inr (inr (inr (inr a))))) e = let bad : 13 ≡ 5 = sym a ∙ e in cc
+
+pub words_not_five : (s : Status) → (s ≡ status.Words) ⊎ (s ≡ status.WriteFault) → status_code s ≡ 5 → ⊥
+words_not_five s (inl a) e = let bad : 1 ≡ 5 = sym (ap status_code a) ∙ e in cc
+words_not_five s (inr a) e = let bad : 4 ≡ 5 = sym (ap status_code a) ∙ e in cc
+
+pub disk_status : (s : Status) → status_code s ≡ 5 → s ≡ status.DiskFault
+disk_status status.DiskFault e = refl
+disk_status status.Done e = absurd cc
+disk_status status.Words e = absurd cc
+disk_status status.Script e = absurd cc
+disk_status status.ReadFault e = absurd cc
+disk_status status.WriteFault e = absurd cc
+disk_status status.HostFault e = absurd cc
+disk_status status.NoMemory e = absurd cc
+disk_status status.Files e = absurd cc
+disk_status status.Large e = absurd cc
+disk_status status.Spent e = absurd cc
+disk_status status.Refused e = absurd cc
+disk_status status.NoLeader e = absurd cc
+disk_status status.Unknown e = absurd cc
+
 pub host_status : (s : Status) → status_code s ≡ 6 → s ≡ status.HostFault
 host_status status.Spent e = absurd cc
 host_status status.Done e = absurd cc

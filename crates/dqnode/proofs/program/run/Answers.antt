@@ -1,4 +1,4 @@
-use Rattle.std.proofs.Common.{◌≡◌, ◌⊎◌, ℕ, Some, None, sym, ap, subst, ◌∙◌}
+use Rattle.std.proofs.Common.{◌≡◌, ◌⊎◌, inl, inr, ℕ, Some, None, sym, ap, subst, ◌∙◌}
 use Rattle.dq_base.specs.Faults.{Rose}
 use Rattle.program_words.specs.declared.asked.Asked.TheVariants as asks
 use Rattle.dqnode.specs.declared.status.Status.{Status}
@@ -7,7 +7,7 @@ use Rattle.node_service.specs.Rules.{GoesWell}
 use Rattle.dqnode.specs.Serving.{ServedBy}
 use Rattle.dqnode.proofs.Asked.{statement_code}
 use Rattle.dqnode.proofs.Generated.{generated_code, made_code}
-use Rattle.dqnode.proofs.ServeEnds.{script_not_ten, statement_not_ten, check_not_ten, words_not_ten, script_not_six, statement_not_six, check_not_six, words_not_six, host_status, moved, served_for}
+use Rattle.dqnode.proofs.ServeEnds.{script_not_ten, statement_not_ten, check_not_ten, words_not_ten, script_not_six, statement_not_six, check_not_six, words_not_six, script_not_five, statement_not_five, words_not_five, host_status, disk_status, moved, served_for}
 use Rattle.dqnode.proofs.program.run.Goals.{in-Some-Script, in-Some-Statement, in-Some-Check, in-Some-Generate-default-default-false, in-Some-Generate-default-default-true, in-Some-Serve, in-None}
 use Rattle.dqnode.proofs.program.run.Goals as goal
 
@@ -27,6 +27,25 @@ returns-clause-host_fault g c = λ e.
             (w.serve_node-status.ensures.host_fault (host_status _ (ap status_code (sym w.status-is) ∙ at))),
       )
       | in-None w ↦ absurd (words_not_six _ w.refuse_words-status.ensures.others (ap status_code (sym w.status-is) ∙ at))
+    ]
+
+pub returns-clause-disk_fault : goal.returns-clause-disk_fault
+returns-clause-disk_fault g c = λ e.
+    let at : status_code c.match-asked.status ≡ 5 = sym c.code.ensures ∙ e in
+    elim c.match-asked.branch [
+      | in-Some-Script w ↦ absurd (script_not_five _ (subst (λ (s : Status). IsScriptCode (status_code s)) (sym w.status-is) w.script-status.ensures.codes) at)
+      | in-Some-Statement w ↦ absurd (statement_not_five _ (subst (λ (s : Status). IsStatementCode (status_code s)) (sym w.status-is) (statement_code _ _ _ _ _ _ w.ask-status.ensures.ended)) at)
+      | in-Some-Check w ↦ (
+        inl (w.in-Some-Check.is ∙ ap Some w.in-Some-Check.field-0-is),
+        subst (λ disk. Rose (g.D.Disk.faults c.args.disk.now) (g.D.Disk.faults disk)) (sym w.disk-is) (w.tell-status.ensures.disk_fault (disk_status _ (ap status_code (sym w.status-is) ∙ at))),
+      )
+      | in-Some-Generate-default-default-false w ↦ absurd (script_not_five _ (subst (λ (s : Status). IsScriptCode (status_code s)) (sym w.status-is) (generated_code _ _ _ _ _ w.make_script-status.ensures.ended)) at)
+      | in-Some-Generate-default-default-true w ↦ absurd (script_not_five _ (subst (λ (s : Status). IsScriptCode (status_code s)) (sym w.status-is) (made_code _ _ _ _ _ _ w.run_made-status.ensures.ended)) at)
+      | in-Some-Serve w ↦ (
+        inr (w.in-Some-Serve.words, w.in-Some-Serve.is ∙ ap Some w.in-Some-Serve.field-0-is),
+        subst (λ disk. Rose (g.D.Disk.faults c.args.disk.now) (g.D.Disk.faults disk)) (sym w.disk-is) (w.serve_node-status.ensures.disk_fault (disk_status _ (ap status_code (sym w.status-is) ∙ at))),
+      )
+      | in-None w ↦ absurd (words_not_five _ w.refuse_words-status.ensures.others (ap status_code (sym w.status-is) ∙ at))
     ]
 
 pub returns-clause-of_spent : goal.returns-clause-of_spent
