@@ -69,6 +69,10 @@ end_code ends.Spent = inr (inr (inr (inr refl)))
 pub serve_code : (end : ServeEnd) (s : Status) → s ≡ serve_status end → IsServeCode (status_code s)
 serve_code end s is = subst (λ (x : Status). IsServeCode (status_code x)) (sym is) (end_code end)
 
+pub well_code : (end : ServeEnd) (s : Status) → s ≡ serve_status end → (end ≡ ends.Spent) ⊎ (end ≡ ends.NoMemory) → (status_code s ≡ 10) ⊎ (status_code s ≡ 7)
+well_code end s is (inl e) = inl (ap status_code (is ∙ ap serve_status e))
+well_code end s is (inr e) = inr (ap status_code (is ∙ ap serve_status e))
+
 pub end_disk : (end : ServeEnd) (s : Status) → s ≡ serve_status end → s ≡ status.DiskFault → end ≡ ends.DiskFault
 end_disk ends.Files s is e = let bad : status.Files ≡ status.DiskFault = sym is ∙ e in absurd cc
 end_disk ends.DiskFault s is e = refl

@@ -11,7 +11,8 @@ use Rattle.node_server.specs.declared.done.Done.{Done}
 use Rattle.served_node.specs.Serving.{RunsByRules}
 use Rattle.node_service.specs.declared.end.ServeEnd.{ServeEnd}
 use Rattle.node_service.specs.declared.end.ServeEnd.TheVariants as ends
-use Rattle.node_service.specs.Serving.{Serves, workers_of}
+use Rattle.node_service.specs.Rules.{IsRunOfRules}
+use Rattle.node_service.specs.Serving.{Serves}
 use Rattle.dqnode.specs.declared.status.Status.{Status}
 use Rattle.dqnode.specs.declared.status.Status.TheVariants as status
 use Rattle.dqnode.specs.Status.{status_code}
@@ -25,7 +26,7 @@ serve_status ends.NoMemory = status.NoMemory
 serve_status ends.Spent = status.Spent
 
 -- By an engine of the kind that the words name, which knew no image, the node was served over this disk, with the events of this host,
--- and came to an end for which this status stands.
+-- and came to an end for which this status stands. What was served is a run of the rules.
 pub record ServedBy {D H : Type 0} (tells : Bool) (states : D → Disk Text → Type 0) (faults : D → ℕ) (done : H → Done) (served : Serve)
     (host : H) (disk disk_after : D) (events events_after : Taken Read) (code : ℕ) : Type 0 where
   pub engine : AnyEngine
@@ -34,9 +35,10 @@ pub record ServedBy {D H : Type 0} (tells : Bool) (states : D → Disk Text → 
   pub is_new : any_known engine ≡ []
   pub end : ServeEnd
   pub code_is : code ≡ status_code (serve_status end)
-  pub serves : Serves (workers_of served) done states (λ started node. RunsByRules tells states faults any_meaning any_kind (λ known. None) any_refused node started disk_after
+  pub serves : Serves served done states (λ started node. RunsByRules tells states faults any_meaning any_kind (λ known. None) any_refused node started disk_after
       engine engine_after events events_after None None served.events) host (record { disk = disk; engine = engine; events = events })
       (record { disk = disk_after; engine = engine_after; events = events_after }) end
+  pub by_rules : IsRunOfRules (any_meaning served.engine) served.engine None served tells (states disk) (states disk_after) events events_after end
 
 -- there was not enough memory to read the words, and nothing was done
 pub record NotServed {D H : Type 0} (disk disk_after : D) (host host_after : H) (code : ℕ) : Type 0 where

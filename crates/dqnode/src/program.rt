@@ -13,6 +13,7 @@ ghost use Rattle.script_runner.specs.Ending.{MayFollow, Anything};
 ghost use Rattle.program_words.specs.declared.asked.Serve.{Serve};
 ghost use Rattle.program_words.specs.declared.asked.Statement.{Statement};
 ghost use Rattle.program_words.specs.Asking.{IsAskable};
+ghost use Rattle.node_service.specs.Rules.{GoesWell};
 ghost use Rattle.dqnode.specs.Asks.{asks_for, ForStatement, ForGenerated, ForRun, ForServed, IsScript, IsRun, IsStatement, IsServed, IsCheck, IsNothing, RunsWith};
 ghost use Rattle.dqnode.specs.Program.{words_error, Gives, Completes, BreaksOff, RunsSafely, RunsAreSafe};
 ghost use Rattle.dqnode.specs.Status.{IsStatus, IsBroken, IsServeCode};
@@ -111,6 +112,8 @@ fn run<S: Source, K: Sink, D: Disk, N: Dialer, H: Host<Read>, W: Notes>(
     ensures serves { (served : Serve) → ForServed served asked → ServedBy D.tells D.states D.faults H.done served network.old.host disk.old disk.new
         (record { left = H.left network.old.host; count = H.taken network.old.host }) (record { left = H.left network.new.host; count = H.taken network.new.host }) result }
     ensures spent { (served : Serve) → ForServed served asked → result ≡ 10 → H.taken network.new.host ≡ H.taken network.old.host + served.events }
+    ensures serves_well { IsServed asked → GoesWell (D.states disk.old) (D.faults disk.old) (D.faults disk.new) (H.faults network.old.host) (H.faults network.new.host) →
+        (result ≡ 10) ⊎ (result ≡ 7) }
     ensures host { ¬ (IsServed asked) → network.new.host ≡ network.old.host }
     ensures generated { (number writes : ℕ) → ForGenerated number writes asked → GenerateEnds number writes (K.written output.old) (K.written output.new) result }
     ensures made { (number writes : ℕ) → ForRun number writes asked → RunEnds number writes journal.new (K.written output.old) (K.written output.new) result }
@@ -260,6 +263,9 @@ pub fn dqnode<S: Source, K: Sink, D: Disk, N: Dialer, H: Host<Read>, W: Notes>(
         (record { left = H.left network.old.host; count = H.taken network.old.host }) (record { left = H.left network.new.host; count = H.taken network.new.host }) result
         ⊎ NotServed disk.old disk.new network.old.host network.new.host result }
     ensures spent { (served : Serve) → ForServed served (asks_for words.now) → result ≡ 10 → H.taken network.new.host ≡ H.taken network.old.host + served.events }
+    // Over the files of a node, where neither the disk nor the host failed, all events were taken, or memory ran out.
+    ensures serves_well { IsServed (asks_for words.now) → GoesWell (D.states disk.old) (D.faults disk.old) (D.faults disk.new) (H.faults network.old.host)
+        (H.faults network.new.host) → (result ≡ 10) ⊎ (result ≡ 7) }
     ensures host { ¬ (IsServed (asks_for words.now)) → network.new.host ≡ network.old.host }
     // The script of a number and a count of writes: with 0 it was written whole and nothing else; with 4 and 7, and there is no other
     // status, a front of it.

@@ -1,9 +1,10 @@
 //! Serving: a node over sockets.
 
-ghost use Rattle.std.specs.Prelude.{◌≡◌, ◌≤◌, ◌+◌, []};
+ghost use Rattle.std.specs.Prelude.{◌≡◌, ◌≤◌, ◌⊎◌, ◌+◌, []};
 ghost use Rattle.dq_base.specs.Faults.{Rose};
 ghost use Rattle.program_words.specs.Serving.{IsServable};
 ghost use Rattle.sqlite_engine.specs.Any.{any_kind, any_known};
+ghost use Rattle.node_service.specs.Rules.{GoesWell};
 ghost use Rattle.dqnode.specs.Serving.{serve_status, ServedBy};
 ghost use Rattle.dqnode.specs.Status.{IsServeCode, status_code};
 
@@ -57,6 +58,8 @@ pub(crate) fn serve_node<D: Disk, H: Host<Read>, W: Notes>(
     ensures host_fault { result ≡ Status.HostFault → Rose (H.faults host.old) (H.faults host.new) }
     ensures spent { result ≡ Status.Spent → H.taken host.new ≡ H.taken host.old + words.events }
     ensures count { D.faults disk.old ≤ D.faults disk.new }
+    ensures ends_well { GoesWell (D.states disk.old) (D.faults disk.old) (D.faults disk.new) (H.faults host.old) (H.faults host.new) →
+        (status_code result ≡ 10) ⊎ (status_code result ≡ 7) }
 {
     let mut engine = engine_of(alloc, words.engine);
     status_of(serve(alloc, &words, host, disk, &mut engine, notes))

@@ -1,3 +1,4 @@
 pub mod Configured
 pub mod Hiring
 pub mod Ends
+pub mod Ruled

@@ -1,4 +1,5 @@
 pub mod Crew
 pub mod Named
 pub mod Ending
+pub mod Rules
 pub mod Serving

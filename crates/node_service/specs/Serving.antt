@@ -1,5 +1,5 @@
 -- What comes of a node that is served.
-use Rattle.std.specs.Prelude.{◌≡◌, ◌≢◌, ◌⊎◌, ◌+◌, ℕ, length, Result, Ok, Err}
+use Rattle.std.specs.Prelude.{◌≡◌, ◌≢◌, ◌⊎◌, ◌+◌, ℕ, length, Result, Ok, Err, IfOk}
 use Rattle.disk_model.specs.Disk.{Disk}
 use Rattle.disk_model.specs.Trait.{Text}
 use Rattle.session_decisions.specs.declared.job.Read.{Read}
@@ -14,6 +14,7 @@ use Rattle.node_service.specs.declared.end.ServeEnd.{ServeEnd}
 use Rattle.node_service.specs.declared.end.ServeEnd.TheVariants as ends
 use Rattle.node_service.specs.Crew.{HasBegun}
 use Rattle.node_service.specs.Ending.{end_of_start, end_of_loop}
+use Rattle.node_service.specs.Rules.{IsNodeOf}
 
 -- how many threads work beside a node: a keeper and a writer at each of 72 places, a ticker and four readers, and one for each peer
 abbrev pub workers_of : Serve → ℕ
@@ -29,6 +30,7 @@ pub record Surroundings (D E : Type 0) : Type 0 where
 pub record StaysSo {D E : Type 0} (old new : Surroundings D E) : Type 0 where
   pub disk : new.disk ≡ old.disk
   pub engine : new.engine ≡ old.engine
+  pub left : new.events.left ≡ old.events.left
   pub taken : new.events.count ≡ old.events.count
 
 -- the host or memory failed before the loop
@@ -53,18 +55,19 @@ abbrev pub Follows : {D E H : Type 0} → ℕ → (H → Done) → (Node → Loo
 Follows workers done runs (Ok node) host old new end = (end ≢ ends.Files) × GoesOn workers done (runs node) host old new end
 Follows workers done runs (Err fault) host old new end = StaysSo old new × (end ≡ end_of_start fault)
 
--- The node was started over the disk, which then was this one, and this followed.
-pub record Started {D E H : Type 0} (workers : ℕ) (done : H → Done) (states : D → Disk Text → Type 0) (runs : D → Node → LoopEnd → Type 0)
+-- The node that the words name was started over the disk, which then was this one, and this followed.
+pub record Started {D E H : Type 0} (words : Serve) (done : H → Done) (states : D → Disk Text → Type 0) (runs : D → Node → LoopEnd → Type 0)
     (host : H) (old new : Surroundings D E) (end : ServeEnd) : Type 0 where
   pub answer : Result Node StartFault
   pub disk : D
   pub starts : StartsOver (states old.disk) (states disk) answer
-  pub follows : Follows workers done (runs disk) answer host (record old { disk = disk }) new end
+  pub is_node : IfOk answer (IsNodeOf words)
+  pub follows : Follows (workers_of words) done (runs disk) answer host (record old { disk = disk }) new end
 
 -- there was not enough memory to start
 pub record Unstarted {D E : Type 0} (old new : Surroundings D E) (end : ServeEnd) : Type 0 where
   pub stays : StaysSo old new
   pub end_is : end ≡ ends.NoMemory
 
-abbrev pub Serves : {D E H : Type 0} → ℕ → (H → Done) → (D → Disk Text → Type 0) → (D → Node → LoopEnd → Type 0) → H → Surroundings D E → Surroundings D E → ServeEnd → Type 0
-Serves workers done states runs host old new end = Unstarted old new end ⊎ Started workers done states runs host old new end
+abbrev pub Serves : {D E H : Type 0} → Serve → (H → Done) → (D → Disk Text → Type 0) → (D → Node → LoopEnd → Type 0) → H → Surroundings D E → Surroundings D E → ServeEnd → Type 0
+Serves words done states runs host old new end = Unstarted old new end ⊎ Started words done states runs host old new end

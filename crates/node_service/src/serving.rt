@@ -1,6 +1,6 @@
 //! A node that is served.
 
-ghost use Rattle.std.specs.Prelude.{◌≡◌, ◌≢◌, ◌≤◌, ◌+◌, [], None, IfOk, IfErr, OnOk};
+ghost use Rattle.std.specs.Prelude.{◌≡◌, ◌≢◌, ◌≤◌, ◌⊎◌, ◌+◌, [], None, IfOk, IfErr, OnOk};
 ghost use Rattle.dq_base.specs.Faults.{Rose};
 ghost use Rattle.program_words.specs.Serving.{IsServable};
 ghost use Rattle.raft_vote.specs.Servers.{IsConfiguration};
@@ -10,6 +10,8 @@ ghost use Rattle.served_node.specs.Serving.{CanStep, RunsByRules};
 ghost use Rattle.node_service.specs.declared.fault.CrewFault.TheVariants as crew;
 ghost use Rattle.node_service.specs.Crew.{HasBegun};
 ghost use Rattle.node_edge.specs.declared.looping.LoopEnd.TheVariants as loops;
+ghost use Rattle.node_service.specs.Named.{voters_of};
+ghost use Rattle.node_service.specs.Rules.{GoesWell, IsNodeOf, IsRunOfRules};
 ghost use Rattle.node_service.specs.Serving.{workers_of, GoesOn, Started, Serves};
 ghost use Rattle.node_service.specs.declared.end.ServeEnd.TheVariants as ends;
 
@@ -38,8 +40,10 @@ fn start<D: Disk>(
     servers: Servers,
     disk: &mut D,
 ) -> Result<Node, StartFault>
-    requires { IsConfiguration servers }
+    requires stand { IsConfiguration servers }
+    requires named { servers ≡ voters_of words.now }
     ensures starts { StartsOver (D.states disk.old) (D.states disk.new) result }
+    ensures is_node { IfOk result (IsNodeOf words.now) }
     ensures can_step { IfOk result (CanStep []) }
     ensures cause { StartCause (D.faults disk.old) (D.faults disk.new) result }
 {
@@ -155,9 +159,10 @@ fn serve_with<H: Host<Read>, D: Disk, E: Engine + Send + Drop + 'static, W: Note
     notes: &mut W,
 ) -> ServeEnd
     requires servable { IsServable words.now }
-    requires servers { IsConfiguration servers }
+    requires stand { IsConfiguration servers }
+    requires named { servers ≡ voters_of words.now }
     requires new { E.known engine.old ≡ [] }
-    ensures served { Started (workers_of words.now) H.done D.states (λ started node.
+    ensures served { Started words.now H.done D.states (λ started node.
         RunsByRules D.tells D.states D.faults E.meaning E.kind E.told E.refused_openings node started disk.new engine.old engine.new
         (record { left = H.left host.old; count = H.taken host.old }) (record { left = H.left host.new; count = H.taken host.new })
         None None words.now.events) host.old
@@ -193,17 +198,24 @@ pub fn serve<H: Host<Read>, D: Disk, E: Engine + Send + Drop + 'static, W: Notes
     requires servable { IsServable words.now }
     requires new { E.known engine.old ≡ [] }
     // The node was started over the disk, and made a step for each event that was taken.
-    ensures serves { Serves (workers_of words.now) H.done D.states (λ started node.
+    ensures serves { Serves words.now H.done D.states (λ started node.
         RunsByRules D.tells D.states D.faults E.meaning E.kind E.told E.refused_openings node started disk.new engine.old engine.new
         (record { left = H.left host.old; count = H.taken host.old }) (record { left = H.left host.new; count = H.taken host.new })
         None None words.now.events) host.old
         (record { disk = disk.old; engine = engine.old; events = record { left = H.left host.old; count = H.taken host.old } })
         (record { disk = disk.new; engine = engine.new; events = record { left = H.left host.new; count = H.taken host.new } }) result }
+    // What was served is a run of the rules: whatever the disk may have been, the node of the words was started with what its files stood
+    // for, made a step by the rules for each event that was taken, and the disk keeps at the end what the node has kept.
+    ensures by_rules { IsRunOfRules (E.meaning (E.kind engine.old)) (E.kind engine.old) (E.told engine.old) words.now D.tells (D.states disk.old)
+        (D.states disk.new) (record { left = H.left host.old; count = H.taken host.old }) (record { left = H.left host.new; count = H.taken host.new }) result }
     ensures disk_fault { result ≡ ends.DiskFault → Rose (D.faults disk.old) (D.faults disk.new) }
     ensures host_fault { result ≡ ends.HostFault → Rose (H.faults host.old) (H.faults host.new) }
     // As many events were taken as the words say.
     ensures spent { result ≡ ends.Spent → H.taken host.new ≡ H.taken host.old + words.now.events }
     ensures count { D.faults disk.old ≤ D.faults disk.new }
+    // Over the files of a node, where neither the disk nor the host failed, all events were taken, or memory ran out.
+    ensures ends_well { GoesWell (D.states disk.old) (D.faults disk.old) (D.faults disk.new) (H.faults host.old) (H.faults host.new) →
+        (result ≡ ends.Spent) ⊎ (result ≡ ends.NoMemory) }
 {
     match voters(alloc, words) {
         Ok(servers) => serve_with(alloc, words, servers, host, disk, engine, notes),

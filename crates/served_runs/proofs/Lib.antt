@@ -2,4 +2,4 @@ mod Onward
 mod Stepped
 mod Beside
 mod Alone
-mod Begun
+pub mod Begun

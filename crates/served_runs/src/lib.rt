@@ -26,8 +26,8 @@ pub fn served_alone_is_safe<E: Engine>()
     ensures { (kind : _) → AloneIsSafe (E.meaning kind) kind }
 {}
 
-/// A node that was started over a disk without files, and served: what it did is by the rules, and where the events were orderly, as those
-/// of a node alone are, it is a run, which is safe.
+/// A node that was started over a disk, and served: it has what the files stood for, and what it did is by the rules. Where there were no
+/// files, it has no links and the events were orderly, as those of a node alone are, that is a run, which is safe.
 pub fn started_node_serves<D: Disk, E: Engine>()
     ensures { StartServes D.tells D.states D.faults E.meaning E.kind E.told E.refused_openings }
 {}

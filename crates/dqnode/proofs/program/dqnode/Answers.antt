@@ -56,3 +56,6 @@ returns-in-Ok-clause-alike g c = keeps_alike
 
 pub returns-in-Err-clause-alike : goal.returns-in-Err-clause-alike
 returns-in-Err-clause-alike g c = keeps_alike
+
+pub returns-in-Ok-clause-serves_well : goal.returns-in-Ok-clause-serves_well
+returns-in-Ok-clause-serves_well g c = λ s. c.run.ensures.serves_well (subst IsServed (sym c.in-Ok.ensures.asked) s)

@@ -1,8 +1,9 @@
-use Rattle.std.proofs.Common.{◌≡◌, ℕ, Some, None, sym, ap, subst, ◌∙◌}
+use Rattle.std.proofs.Common.{◌≡◌, ◌⊎◌, ℕ, Some, None, sym, ap, subst, ◌∙◌}
 use Rattle.dq_base.specs.Faults.{Rose}
 use Rattle.program_words.specs.declared.asked.Asked.TheVariants as asks
 use Rattle.dqnode.specs.declared.status.Status.{Status}
 use Rattle.dqnode.specs.Status.{status_code, IsScriptCode, IsStatementCode, IsCheckCode}
+use Rattle.node_service.specs.Rules.{GoesWell}
 use Rattle.dqnode.specs.Serving.{ServedBy}
 use Rattle.dqnode.proofs.Asked.{statement_code}
 use Rattle.dqnode.proofs.Generated.{generated_code, made_code}
@@ -56,4 +57,18 @@ returns-clause-serves g c = λ served asked. elim c.match-asked.branch [
       w.serve_node-status.ensures.served)
       served (sym (w.in-Some-Serve.is ∙ ap Some w.in-Some-Serve.field-0-is) ∙ asked)
   | in-None w ↦ let bad : None ≡ Some (asks.Serve served) = sym w.in-None.is ∙ asked in absurd cc
+]
+
+pub returns-clause-serves_well : goal.returns-clause-serves_well
+returns-clause-serves_well g c = λ is. elim c.match-asked.branch [
+  | in-Some-Script w ↦ let bad : Some (asks.Script w.in-Some-Script.engine) ≡ Some (asks.Serve is.0) = sym (w.in-Some-Script.is ∙ ap Some w.in-Some-Script.field-0-is) ∙ is.1 in absurd cc
+  | in-Some-Statement w ↦ let bad : Some (asks.Statement w.in-Some-Statement.statement) ≡ Some (asks.Serve is.0) = sym (w.in-Some-Statement.is ∙ ap Some w.in-Some-Statement.field-0-is) ∙ is.1 in absurd cc
+  | in-Some-Check w ↦ let bad : Some asks.Check ≡ Some (asks.Serve is.0) = sym (w.in-Some-Check.is ∙ ap Some w.in-Some-Check.field-0-is) ∙ is.1 in absurd cc
+  | in-Some-Generate-default-default-false w ↦ let bad : Some (asks.Generate _ _ _) ≡ Some (asks.Serve is.0) = sym (w.in-Some-Generate-default-default-false.is ∙ ap Some w.in-Some-Generate-default-default-false.field-0-is) ∙ is.1 in absurd cc
+  | in-Some-Generate-default-default-true w ↦ let bad : Some (asks.Generate _ _ _) ≡ Some (asks.Serve is.0) = sym (w.in-Some-Generate-default-default-true.is ∙ ap Some w.in-Some-Generate-default-default-true.field-0-is) ∙ is.1 in absurd cc
+  | in-Some-Serve w ↦ moved _ _ _ _ _ _ _ w.disk-is w.network-is w.status-is c.code.ensures
+      (λ disk network code. GoesWell (g.D.Disk.states c.args.disk.now) (g.D.Disk.faults c.args.disk.now) (g.D.Disk.faults disk)
+      (g.H.Inbox.faults c.args.network.now.host) (g.H.Inbox.faults network.host) → (code ≡ 10) ⊎ (code ≡ 7))
+      w.serve_node-status.ensures.ends_well
+  | in-None w ↦ let bad : None ≡ Some (asks.Serve is.0) = sym w.in-None.is ∙ is.1 in absurd cc
 ]

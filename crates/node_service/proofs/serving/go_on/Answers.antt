@@ -7,7 +7,7 @@ use Rattle.node_service.proofs.serving.go_on.Goals as goal
 
 pub returns-in-Err-clause-goes : goal.returns-in-Err-clause-goes
 returns-in-Err-clause-goes g c = inl (record {
-  stays = record { disk = refl; engine = refl; taken = c.begin.ensures.events };
+  stays = record { disk = refl; engine = refl; left = c.begin.ensures.left; taken = c.begin.ensures.events };
   end_is = crew_ends _ _ c.end_of_crew.ensures;
 })
 

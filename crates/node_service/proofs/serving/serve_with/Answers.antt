@@ -8,6 +8,7 @@ returns-in-Ok-clause-served g c = record {
   answer = Ok c.in-Ok.node;
   disk = c.start.new.disk;
   starts = c.in-Ok.ensures.starts;
+  is_node = c.in-Ok.ensures.is_node;
   follows = (c.go_on.ensures.others, c.go_on.ensures.goes);
 }
 
@@ -19,7 +20,8 @@ returns-in-Err-clause-served g c = record {
   answer = Err c.in-Err.fault;
   disk = c.start.new.disk;
   starts = c.in-Err.ensures.starts;
-  follows = (record { disk = refl; engine = refl; taken = refl }, c.end_of_start.ensures);
+  is_node = tt;
+  follows = (record { disk = refl; engine = refl; left = refl; taken = refl }, c.end_of_start.ensures);
 }
 
 pub returns-in-Err-clause-disk_fault : goal.returns-in-Err-clause-disk_fault

@@ -1,5 +1,5 @@
 use Rattle.node_core.proofs.ConnStreams.{conns_both, conns_same}
-use Rattle.node_core.proofs.Turning.{turned_on, under_kind}
+use Rattle.node_core.proofs.Turning.{none_turned, turned_on, under_kind}
 use Rattle.raft_member.specs.Members.{read_setup}
 use Rattle.node_core.proofs.Finding.{more, kept_finds}
 use Rattle.node_core.specs.Account.{StopsBy, Underway}
@@ -18,6 +18,10 @@ pub returns-then-not-branch-clause-on : goal.returns-then-not-branch-clause-on
 returns-then-not-branch-clause-on g c = λ opening start event told u.
     under_kind g.E.Engine.meaning (g.E.Engine.kind c.args.engine.now) (g.E.Engine.kind c.loop.engine) (read_setup opening) start c.loop.self c.turn.new.self event c.loop.invariant.same_kind
     (c.in_ok-turn.ensures.on opening start event told) (c.loop.invariant.on opening start event told u)
+
+pub loop-init : goal.loop-init
+loop-init g c = none_turned g.E.Engine.meaning g.D.Disk.tells (g.D.Disk.states c.args.disk.now) (g.D.Disk.faults c.args.disk.now) (g.E.Engine.kind c.args.engine.now) (g.E.Engine.refused_openings c.args.engine.now)
+    (g.E.Engine.told c.args.engine.now) (g.E.Engine.known c.args.engine.now) c.args.self.now c.requires.going c.requires.led c.requires.agrees
 
 pub loop-preserved : goal.loop-preserved
 loop-preserved g c = turned_on g.E.Engine.meaning g.D.Disk.tells (g.D.Disk.states c.args.disk.now) (g.D.Disk.states c.loop.disk) (g.D.Disk.states c.turn.new.disk) (g.D.Disk.faults c.args.disk.now) (g.D.Disk.faults c.loop.disk) (g.D.Disk.faults c.turn.new.disk)

@@ -1,0 +1,4 @@
+pub mod Growing
+pub mod Paths
+pub mod Going
+pub mod Running

@@ -1,0 +1,11 @@
+use Rattle.script_repeats.proofs.Running.{fronts_repeat, runs_compare, whole_runs_repeat}
+use Rattle.script_repeats.proofs.scripts_repeat.Goals as goal
+
+pub returns-clause-compared : goal.returns-clause-compared
+returns-clause-compared g c = runs_compare g.N.AreNodes.nodes
+
+pub returns-clause-front : goal.returns-clause-front
+returns-clause-front g c = fronts_repeat g.N.AreNodes.nodes
+
+pub returns-clause-same : goal.returns-clause-same
+returns-clause-same g c = whole_runs_repeat g.N.AreNodes.nodes
