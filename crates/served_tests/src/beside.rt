@@ -161,9 +161,9 @@ fn life<R: Threads + Wait + Clock + Copy + Drop + Send + Sync + 'static>(
         left: HAPPENS.len(),
         heard: Vec::new(alloc),
     };
-    let node = started(alloc, &SETTING, &mut disk)?;
-    let mut engine = SqliteEngine::new(alloc);
     let theirs = gate.again().ok()?;
+    let mut engine = SqliteEngine::new(alloc);
+    let node = started(alloc, &SETTING, &mut disk)?;
     let (heard, ()) = thread::join(
         &rt,
         move || {

@@ -5,13 +5,13 @@ ghost use Rattle.served_node.specs.Serving.{CanStep};
 
 use crate::desk::Desk;
 use crate::feed::Feed;
-use crate::messages::{Said, bytes_of};
+use crate::messages::{Said as Says, bytes_of};
 use disk_model::{Disk, MemDisk};
 use gateway::StepLimits;
 use node_core::{Node, NodeSpec};
-use node_edge::Event;
+use node_edge::{Event, Inbox, Outbox};
 use raft_vote::read_servers;
-use served_node::run_node;
+use served_node::{Said, run_node};
 use session_decisions::Read;
 use sql_engine::Engine;
 use std::alloc::Global;
@@ -45,7 +45,7 @@ pub(crate) enum What {
     /// A client connects.
     Connects(u64),
     /// Something is said on a connection.
-    Says(u64, Said),
+    Says(u64, Says),
     /// A client hangs up.
     Hangs(u64),
 }
@@ -86,6 +86,22 @@ fn fed<R: Wait + Copy + Drop>(rt: R, alloc: Global, happens: &[What]) -> Option<
     Some(feed)
 }
 
+/// Has the node of a setting, over a disk of its own, make a step for each event of an inbox.
+fn live<E: Engine, I: Inbox<Read>, O: Outbox<Said>>(
+    alloc: Global,
+    setting: &Setting,
+    engine: &mut E,
+    inbox: &mut I,
+    outbox: &mut O,
+) -> Option<()>
+    requires { E.known engine.old ≡ [] }
+{
+    let mut disk = MemDisk::new(alloc);
+    let node = started(alloc, setting, &mut disk)?;
+    run_node(node, &mut disk, engine, inbox, outbox, EVENTS, setting.most);
+    Some(())
+}
+
 /// Whether this is heard in a life in which these things happen.
 pub(crate) fn hears<R: Wait + Copy + Drop, E: Engine + Drop>(
     rt: R,
@@ -98,8 +114,6 @@ pub(crate) fn hears<R: Wait + Copy + Drop, E: Engine + Drop>(
     requires { E.known engines.0 ≡ [] }
 {
     let (mut engine, reader) = engines;
-    let mut disk = MemDisk::new(alloc);
-    let node = started(alloc, setting, &mut disk)?;
     let mut feed = fed(rt, alloc, happens)?;
     let mut desk = Desk {
         alloc,
@@ -107,14 +121,6 @@ pub(crate) fn hears<R: Wait + Copy + Drop, E: Engine + Drop>(
         engine: reader,
         heard: Vec::new(alloc),
     };
-    run_node(
-        node,
-        &mut disk,
-        &mut engine,
-        &mut feed,
-        &mut desk,
-        EVENTS,
-        setting.most,
-    );
+    live(alloc, setting, &mut engine, &mut feed, &mut desk)?;
     Some(desk.heard.as_slice() == wanted)
 }

@@ -34,8 +34,8 @@ pub(crate) enum Said {
 
 /// A message of this type with a statement's text for the first database.
 fn statement(alloc: Global, kind: u8, text: &str) -> Option<Vec<u8>> {
-    let words = text.len() / 8 + 2;
-    let mut bytes = Vec::from_slice(alloc, &(words as u32).to_le_bytes()).ok()?;
+    let words = u32::try_from(text.len() / 8 + 2).ok()?;
+    let mut bytes = Vec::from_slice(alloc, &words.to_le_bytes()).ok()?;
     bytes.extend_from_slice(&[kind, 0, 0, 0]).ok()?;
     bytes.extend_from_slice(&[0; 8]).ok()?;
     bytes.extend_from_slice(text.as_bytes()).ok()?;
@@ -48,7 +48,9 @@ fn statement(alloc: Global, kind: u8, text: &str) -> Option<Vec<u8>> {
 /// The version, the header of a message of 16 MiB, and so many bytes of it.
 fn front(alloc: Global, count: usize) -> Option<Vec<u8>> {
     let mut bytes = Vec::from_slice(alloc, b"\x01\0\0\0\0\0\0\0\0\0\x20\0\x08\0\0\0").ok()?;
-    bytes.resize(16 + count, b' ').ok()?;
+    bytes
+        .extend_from_slice(spaces(alloc, count)?.as_slice())
+        .ok()?;
     Some(bytes)
 }
 
