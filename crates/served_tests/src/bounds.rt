@@ -38,7 +38,7 @@ const ROWS: &[(&[What], &[u8])] = &[
         ],
         b"2x1x3d",
     ),
-    // The texts of prepared statements count.
+    // The text of a prepared statement is kept without the space behind it, so these count for little.
     (
         &[
             Timeout,
@@ -51,7 +51,7 @@ const ROWS: &[(&[What], &[u8])] = &[
             Says(2, Prepare(3_000)),
             Says(2, Prepare(3_000)),
         ],
-        b"1d2d1s1s2s2s2x",
+        b"1d2d1s1s2s2s",
     ),
 ];
 
