@@ -80,15 +80,15 @@ taken_request v m g conn request journal = taken_does v m g conn (g.session conn
 yes_no : true ≡ false → ⊥
 yes_no e = cc
 
-outside_lacks : (v : View) (m : Machine) (g : Gateway) (conn : ℕ) (s : Session) (ss : List Statement) (rows : Bool) (e : Ending) → lacks (outside v m g conn s ss rows e) ≡ false → e ≡ Lacking → ⊥
+pub outside_lacks : (v : View) (m : Machine) (g : Gateway) (conn : ℕ) (s : Session) (ss : List Statement) (rows : Bool) (e : Ending) → lacks (outside v m g conn s ss rows e) ≡ false → e ≡ Lacking → ⊥
 unfolding outside
 outside_lacks v m g conn s ss rows e enough is = yes_no (sym (ap (λ (x : Ending). lacks (outside v m g conn s ss rows x)) is) ∙ enough)
 
-inside_lacks : (m : Machine) (g : Gateway) (conn : ℕ) (s : Session) (x : Transaction) (ss : List Statement) (rows : Bool) (e : Ending) → lacks (inside m g conn s x ss rows e) ≡ false → e ≡ Lacking → ⊥
+pub inside_lacks : (m : Machine) (g : Gateway) (conn : ℕ) (s : Session) (x : Transaction) (ss : List Statement) (rows : Bool) (e : Ending) → lacks (inside m g conn s x ss rows e) ≡ false → e ≡ Lacking → ⊥
 unfolding inside
 inside_lacks m g conn s x ss rows e enough is = yes_no (sym (ap (λ (y : Ending). lacks (inside m g conn s x ss rows y)) is) ∙ enough)
 
-read_lacks : (v : View) (m : Machine) (g : Gateway) (conn : ℕ) (s : Session) (statement : Statement) (e : Ending) → lacks (read_outside v m g conn s statement e) ≡ false → e ≡ Lacking → ⊥
+pub read_lacks : (v : View) (m : Machine) (g : Gateway) (conn : ℕ) (s : Session) (statement : Statement) (e : Ending) → lacks (read_outside v m g conn s statement e) ≡ false → e ≡ Lacking → ⊥
 unfolding outside
 read_lacks v m g conn s statement e enough is = yes_no (sym (by v.readers) ∙ sym (ap (λ (x : Ending). lacks (read_outside v m g conn s statement x)) is) ∙ enough)
   where
@@ -97,7 +97,7 @@ read_lacks v m g conn s statement e enough is = yes_no (sym (by v.readers) ∙ s
     by false = refl
 
 module _ (v : View) (m : Machine) (g : Gateway) (conn : ℕ) (a b : List Answer) where
-  run_same : (s : Session) (o : Option Transaction) (ss : List Statement) (rows : Bool)
+  pub run_same : (s : Session) (o : Option Transaction) (ss : List Statement) (rows : Bool)
       → AllowsAll cells Cells (ground m s o) ss a → AllowsAll cells Cells (ground m s o) ss b → AllByRecursion IsAmple a → AllByRecursion IsAmple b
       → lacks (run_in v m g conn s o ss rows a) ≡ false → lacks (run_in v m g conn s o ss rows b) ≡ false
       → plain_turned (run_in v m g conn s o ss rows a) ≡ plain_turned (run_in v m g conn s o ss rows b)

@@ -79,7 +79,7 @@ none_some : (f : EngineFault) → None ≡ Some f → ⊥
 none_some f e = cc
 
 -- the answers say the same
-abbrev IsSame : Answer → Answer → Type 0
+abbrev pub IsSame : Answer → Answer → Type 0
 IsSame (Ok a) (Ok b) = unnumbered a ≡ unnumbered b
 IsSame (Ok a) (Err f) = ⊥
 IsSame (Err f) (Ok b) = ⊥
@@ -97,7 +97,7 @@ ran_same i s a b tx tx' p q =
 ample_fault : (f : EngineFault) → IsAmple (Err f) → f ≢ faults.NoMemory
 ample_fault f h e = h (ap (λ (g : EngineFault). Err g) e)
 
-answer_same : (i : Image) (s : Statement) (a b : Answer) → Allows cells Cells i s a → Allows cells Cells i s b → IsAmple a → IsAmple b → IsSame a b
+pub answer_same : (i : Image) (s : Statement) (a b : Answer) → Allows cells Cells i s a → Allows cells Cells i s b → IsAmple a → IsAmple b → IsSame a b
 answer_same i s (Ok a) (Ok b) p q m n = ran_same i s a b p.0 q.0 p.1 q.1
 answer_same i s (Ok a) (Err g) p q m n = none_some g (sym (no_fault i s p.0 a p.1) ∙ fault_known i s g q (ample_fault g n))
 answer_same i s (Err f) (Ok b) p q m n = none_some f (sym (no_fault i s q.0 b q.1) ∙ fault_known i s f p (ample_fault f m))
@@ -105,7 +105,7 @@ answer_same i s (Err f) (Err g) p q m n = some_same f g (sym (fault_known i s f 
 
 -- ---- statements that run one after another
 
-rest_of : (b : Bool) (P : Type 0) → b ≡ true → AllowsRest b P → P
+pub rest_of : (b : Bool) (P : Type 0) → b ≡ true → AllowsRest b P → P
 rest_of b P e h = subst (λ (c : Bool). AllowsRest c P) e h
 
 pub runs_same : (ss : List Statement) (i : Image) (last other : Ran) (a b : List Answer) → unnumbered last ≡ unnumbered other

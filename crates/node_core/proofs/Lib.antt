@@ -4,6 +4,8 @@ mod Going
 mod RaftTurns
 mod Causes
 mod Applying
+mod ExactTurns
+mod ExactStarts
 mod Turning
 mod Waiting
 mod SnapshotOffice
@@ -39,3 +41,8 @@ mod StopsOfStep
 mod PeerActs
 mod ConnStreams
 mod HeardSo
+mod PlainGates
+mod RaftExactly
+mod CoreMoves
+mod CoreEntries
+mod ExactTurns

@@ -1,5 +1,11 @@
 pub mod Faults
 pub mod Values
+pub mod Plain
+pub mod Core
+pub mod Exact
+pub mod ExactRaft
+pub mod ExactParts
+pub mod ExactStart
 pub mod Whole
 pub mod Starting
 pub mod Stepping

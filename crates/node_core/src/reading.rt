@@ -5,6 +5,8 @@ ghost use Rattle.raft_world.specs.Members.{Setup};
 ghost use Rattle.node_core.specs.declared.event.Event.TheVariants as happens;
 ghost use Rattle.node_core.specs.Account.{SoFar, Happens};
 ghost use Rattle.node_core.specs.Conns.{ConnsOn, KeepsConns};
+ghost use Rattle.node_core.specs.Core.{core_of};
+ghost use Rattle.node_core.specs.ExactParts.{Answered, ResumesBy};
 ghost use Rattle.node_core.specs.Taking.{TurnsOn};
 ghost use Rattle.node_core.specs.Performing.{ReadsSo};
 ghost use Rattle.sql_engine.specs.Meanings.{Stays};
@@ -170,6 +172,8 @@ impl Running {
         ensures goes { (setup : Setup) (bytes : List ℕ) (joins : Option ℕ) →
             OnOk result (TurnsOn (E.meaning (E.kind engine.old)) (E.kind engine.old) setup bytes joins self.old self.new
             (E.told engine.old) (E.told engine.new)) }
+        ensures exact { OnOk result (Answered (E.told engine.old) (E.told engine.new)
+            (ResumesBy (E.meaning (E.kind engine.old)) (E.kind engine.old) conn (core_of self.old) (core_of self.new))) }
     {
         clients_turn::<E>();
         stretches_join::<E>();

@@ -280,7 +280,7 @@ crashes_mailed : (n pick : ℕ) → Goes (crashes n pick)
 crashes_mailed n pick w h = either_mailed (is_up w n) _ (quiet w) (turned w _ (Crashes n pick) h refl (sym (append-nil (map strip w.mail))) (λ r. tt)) h
 
 starts_mailed : (n : ℕ) (aim : Aim) → Goes (starts n aim)
-starts_mailed n aim w h = either_mailed (is_up w n) (quiet w) (asked n Start aim w w.outcomes) h (asked_mailed n Start aim w w.outcomes h (λ r. tt))
+starts_mailed n aim w h = either_mailed (is_up w n) (quiet w) (asked n (Start w.voters) aim w w.outcomes) h (asked_mailed n (Start w.voters) aim w w.outcomes h (λ r. tt))
 
 counted_so_mailed : (go : World → Went) → Goes go → (w : World) (o : Option Usage) → Mailed w → Mailed (counted_so go w o).world
 counted_so_mailed go g w None h = h

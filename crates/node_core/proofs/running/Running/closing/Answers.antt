@@ -1,5 +1,6 @@
+use Rattle.node_core.proofs.CoreMoves.{closes_exact, link_exact}
 use Rattle.node_core.proofs.ConnStreams.{closed_conn, link_conn}
-use Rattle.std.proofs.Common.{Some, refl}
+use Rattle.std.proofs.Common.{Some, refl, None}
 use Rattle.node_core.specs.declared.running.Running.{Running}
 use Rattle.node_core.proofs.ClientMoves.{closes_so}
 use Rattle.node_core.proofs.running.Running.closing.Goals as goal
@@ -18,3 +19,15 @@ returns-then-not-has-clause-goes c =
     let new : Running = record c.args.self.now { clients = c.close-reason.new.self; applied = record c.args.self.now.applied { machine = c.close-reason.new.machine } } in
     closes_so c.args.self.now new c.args.conn
     (record { replica = refl; index = refl; serving = refl; due = refl; machine = c.databases_stand-then-not-has.ensures; files = c.close-reason.ensures.files }) c.close-reason.ensures.closed
+
+pub returns-then-not-has-clause-exact : goal.returns-then-not-has-clause-exact
+returns-then-not-has-clause-exact c = λ links.
+    let new : Running = record c.args.self.now { clients = c.close-reason.new.self; applied = record c.args.self.now.applied { machine = c.close-reason.new.machine } } in
+    closes_exact c.args.self.now new c.args.conn c.close-reason.result c.close-reason.ensures.closed c.close-reason.ensures.told c.close-reason.ensures.files refl
+
+pub returns-in_default-clause-exact : goal.returns-in_default-clause-exact
+returns-in_default-clause-exact c = link_exact c.args.self.now c.args.self.now c.args.conn None c.has.result c.has.ensures.none c.if-not-has.false
+
+pub returns-clause-exact : goal.returns-clause-exact
+returns-clause-exact c =
+    link_exact c.args.self.now (record c.args.self.now { links = c.leave.new.self }) c.args.conn (Some c.in-Some.reason) c.has.result c.has.ensures.none c.if-not-has.false

@@ -1,4 +1,7 @@
-use Rattle.std.proofs.Common.{refl, sym, subst}
+use Rattle.node_core.proofs.CoreMoves.{performed, transferred}
+use Rattle.node_core.specs.Core.{core_of}
+use Rattle.client_sessions.specs.declared.act.Act.TheVariants as acts
+use Rattle.std.proofs.Common.{refl, sym, subst, Some}
 use Rattle.client_sessions.specs.declared.act.Act.{Act}
 use Rattle.node_core.specs.Conns.{ConnsBehind}
 use Rattle.node_core.specs.Values.{clients_in}
@@ -22,3 +25,24 @@ pub returns-in_ok-hand_over-in-Peer-clause-conns : goal.returns-in_ok-hand_over-
 returns-in_ok-hand_over-in-Peer-clause-conns c =
     subst (λ (a : Act). ConnsBehind a c.args.self.now c.hand_over.new.self) (sym c.in-Peer.is)
     (record { streams = gone_streams (clients_in c.args.self.now) (clients_in c.hand_over.new.self) c.in-Peer.conn c.in_ok-hand_over-in-Peer.ensures.gone })
+
+pub returns-in_ok-reply-in-Reply-clause-exact : goal.returns-in_ok-reply-in-Reply-clause-exact
+returns-in_ok-reply-in-Reply-clause-exact c =
+    performed c.args.act (acts.Reply c.in-Reply.conn c.in-Reply.messages) (core_of c.args.self.now) (core_of c.reply.new.self) c.in-Reply.is c.in_ok-reply-in-Reply.ensures.exact
+
+pub returns-in_ok-give-in-Propose-clause-exact : goal.returns-in_ok-give-in-Propose-clause-exact
+returns-in_ok-give-in-Propose-clause-exact c =
+    performed c.args.act (acts.Propose c.in-Propose.conn c.in-Propose.entries) (core_of c.args.self.now) (core_of c.give.new.self) c.in-Propose.is c.in_ok-give-in-Propose.ensures.exact
+
+pub returns-in_ok-lend-in-Lend-clause-exact : goal.returns-in_ok-lend-in-Lend-clause-exact
+returns-in_ok-lend-in-Lend-clause-exact c =
+    performed c.args.act (acts.Lend c.in-Lend.conn c.in-Lend.job) (core_of c.args.self.now) (core_of c.lend.new.self) c.in-Lend.is tt
+
+pub returns-in_ok-give-in-Transfer-clause-exact : goal.returns-in_ok-give-in-Transfer-clause-exact
+returns-in_ok-give-in-Transfer-clause-exact c =
+    transferred c.args.self.now _ c.give-in-Transfer.new.self c.args.act c.in-Transfer.conn c.in-Transfer.to c.in-Transfer.reply c.in-Transfer.is c.in_ok-push-in-Transfer.ensures.items refl
+    c.in_ok-give-in-Transfer.ensures.exact
+
+pub returns-in_ok-hand_over-in-Peer-clause-exact : goal.returns-in_ok-hand_over-in-Peer-clause-exact
+returns-in_ok-hand_over-in-Peer-clause-exact c =
+    performed c.args.act (acts.Peer c.in-Peer.conn c.in-Peer.id c.in-Peer.reply) (core_of c.args.self.now) (core_of c.hand_over.new.self) c.in-Peer.is tt

@@ -1,3 +1,4 @@
+use Rattle.node_core.proofs.CoreMoves.{hears_exact, unheard_exact}
 use Rattle.node_core.proofs.ConnStreams.{hears_begins, hears_none_begins}
 use Rattle.std.proofs.Common.{Some, refl}
 use Rattle.node_core.specs.declared.running.Running.{Running}
@@ -25,3 +26,13 @@ returns-clause-goes c =
     let new : Running = record c.args.self.now { links = c.receive-2.new.self; heard = Some c.args.conn } in
     hears_none c.args.self.now new c.args.conn c.args.bytes.now c.is_open.result (c.is_open.ensures c.args.self.now.applied.machine) c.if-is_open.false
     (record { replica = refl; index = refl; serving = refl; due = refl; machine = c.databases_stand.ensures; files = refl }) refl
+
+pub returns-then-is_open-clause-exact : goal.returns-then-is_open-clause-exact
+returns-then-is_open-clause-exact c = λ links.
+    let new : Running = record c.args.self.now { clients = c.receive.new.self; heard = Some c.args.conn } in
+    hears_exact c.args.self.now new c.args.conn c.args.bytes.now (c.in_ok-receive.ensures.heard c.args.self.now.applied.machine) refl
+
+pub returns-clause-exact : goal.returns-clause-exact
+returns-clause-exact c =
+    let new : Running = record c.args.self.now { links = c.receive-2.new.self; heard = Some c.args.conn } in
+    unheard_exact c.args.self.now new c.args.conn c.args.bytes.now c.is_open.result (c.is_open.ensures c.args.self.now.applied.machine) c.if-is_open.false c.receive-2.ensures.none refl

@@ -1,3 +1,4 @@
+use Rattle.node_core.proofs.CoreMoves.{later_by, no_later}
 use Rattle.node_core.specs.declared.running.Running.{Running}
 use Rattle.node_core.proofs.ConnStreams.{later_on, none_later}
 use Rattle.std.proofs.Common.{refl}
@@ -43,3 +44,16 @@ returns-in-None-clause-led g c =
     let kind = g.E.Engine.kind c.args.engine.now in
     none_led (g.E.Engine.meaning kind) kind c.args.self.now _ c.requires.going c.requires.led c.requires.idle refl c.databases_stand.ensures c.in_ok-act.ensures.files _ _ _ _
     c.args.conn c.in_ok-act.act c.in_ok-act.ensures.resumed c.in-None.is
+
+pub returns-in_ok-perform-in-Some-clause-exact : goal.returns-in_ok-perform-in-Some-clause-exact
+returns-in_ok-perform-in-Some-clause-exact g c =
+    let kind = g.E.Engine.kind c.args.engine.now in
+    let mid : Running = record c.args.self.now { clients = c.on_later.new.self; applied = record c.args.self.now.applied { machine = c.on_later.new.machine } } in
+    later_by (g.E.Engine.meaning kind) kind _ _ _ _ c.args.self.now mid c.args.conn c.perform.new.self c.in-Some.act c.in_ok-act.act refl c.in_ok-act.ensures.files c.in_ok-act.ensures.resumed c.in_ok-act.ensures.rest c.in-Some.is
+    c.in_ok-perform-in-Some.ensures.exact
+
+pub returns-in-None-clause-exact : goal.returns-in-None-clause-exact
+returns-in-None-clause-exact g c =
+    let kind = g.E.Engine.kind c.args.engine.now in
+    let new : Running = record c.args.self.now { clients = c.on_later.new.self; applied = record c.args.self.now.applied { machine = c.on_later.new.machine } } in
+    no_later (g.E.Engine.meaning kind) kind _ _ _ _ c.args.self.now new c.args.conn c.in_ok-act.act refl c.in_ok-act.ensures.files c.in_ok-act.ensures.resumed c.in_ok-act.ensures.rest c.in-None.is

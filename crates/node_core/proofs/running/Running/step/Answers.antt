@@ -3,7 +3,7 @@ use Rattle.std.proofs.Common.{refl, sym, ap, subst, ◌∙◌}
 use Rattle.raft_member.specs.Members.{read_setup}
 use Rattle.node_replica.specs.Replicas.{ReplicaValue, IsKept}
 use Rattle.node_core.specs.declared.running.Running.{Running}
-use Rattle.node_core.specs.Account.{moment_of}
+use Rattle.node_core.specs.Account.{moment_of, StopsBy, Stopped, Happens, Between, Underway}
 use Rattle.node_core.specs.Values.{seen}
 use Rattle.node_core.proofs.Accounting.{underway_starts}
 use Rattle.node_core.proofs.Causes.{always_ok}
@@ -12,8 +12,9 @@ use Rattle.node_core.proofs.Led.{led_same}
 use Rattle.node_core.proofs.Looping.{at_rest, steps_said}
 use Rattle.node_core.proofs.Turning.{under_kind}
 use Rattle.node_core.proofs.Finding.{more, kept_finds}
-use Rattle.node_core.specs.Account.{StopsBy, Stopped, Happens, Between, Underway}
 use Rattle.node_core.proofs.StopsOfStep.{always_err, first_stopped, stopped_here}
+use Rattle.node_core.specs.Core.{core_of}
+use Rattle.node_core.proofs.ExactTurns.{counted_core, said_of, step_of}
 use Rattle.node_core.proofs.running.Running.step.Goals as goal
 
 pub returns-clause-conns : goal.returns-clause-conns
@@ -105,3 +106,11 @@ returns-clause-stops g c = λ opening has.
     let ran = under_kind g.E.Engine.meaning kind k1 setup old c.begin.new.self c.run.new.self c.args.event same (c.in_ok-run.ensures.on opening old c.args.event (g.E.Engine.told c.args.engine.now)) started in
     always_err c.take_outs.result (kept_finds g.D.Disk.tells (g.D.Disk.states c.run.new.disk) c.run.new.self.replica P (stopped_here c.raft_steps_are_kept.ensures.stops m kind setup old c.args.event c.run.new.self ran)
     (c.in_ok-run.ensures.stored (c.in_ok-begin.ensures.stored (subst (λ (r : ReplicaValue). IsKept g.D.Disk.tells (g.D.Disk.states c.args.disk.now) r) (sym c.count_keeps.ensures) has))))
+
+pub returns-clause-exact : goal.returns-clause-exact
+returns-clause-exact g c =
+    let from : Running = record c.args.self.now { replica = c.count_keeps.new.self } in
+    step_of c.take_outs.result g.E.Engine.meaning (g.E.Engine.kind c.args.engine.now) (g.E.Engine.kind c.begin.new.engine) (g.E.Engine.told c.args.engine.now) (g.E.Engine.told c.begin.new.engine) (g.E.Engine.told c.run.new.engine) c.args.event
+    (core_of c.args.self.now) (core_of from) (core_of c.begin.new.self) (core_of c.run.new.self) (core_of c.take_outs.new.self) (counted_core c.args.self.now c.count_keeps.new.self c.count_keeps.ensures) c.begin.ensures.engine.kind
+    c.in_ok-begin.ensures.exact c.in_ok-run.ensures.exact
+    (said_of c.take_outs.result c.run.new.self c.take_outs.new.self c.take_outs.ensures.rest c.take_outs.ensures.quiet c.take_outs.ensures.said c.take_outs.ensures.messages)

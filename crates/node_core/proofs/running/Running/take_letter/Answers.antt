@@ -3,11 +3,10 @@ use Rattle.std.proofs.Common.{refl}
 use Rattle.node_core.specs.declared.running.Running.{Running}
 use Rattle.node_core.specs.Taking.{came, none_came}
 use Rattle.node_core.proofs.Led.{led_same}
-use Rattle.node_core.proofs.Finding.{more, kept_finds}
+use Rattle.node_core.proofs.Finding.{more, kept_finds, failed as always_err}
 use Rattle.node_core.specs.Finding.{BeganStops, StopsLetter, letter_stopped, no_letter}
 use Rattle.raft_member.specs.Members.{read_setup}
 use Rattle.raft_core.specs.declared.event.RaftEvent.TheVariants as raft_events
-use Rattle.node_core.proofs.Finding.{failed as always_err}
 use Rattle.node_core.proofs.running.Running.take_letter.Goals as goal
 
 pub returns-then-not-self-clause-conns : goal.returns-then-not-self-clause-conns
@@ -71,3 +70,15 @@ returns-in_err-take_raft-in-Some-Message-clause-stops g c = λ opening has.
 
 pub returns-then-not-self-clause-letter : goal.returns-then-not-self-clause-letter
 returns-then-not-self-clause-letter g c = λ opening. none_came (record { moment = refl; mail = refl; replies = refl; reads = refl; kept = refl; id = refl; links = refl }) refl
+
+pub returns-then-not-self-clause-unlinked : goal.returns-then-not-self-clause-unlinked
+returns-then-not-self-clause-unlinked g c = λ none. (refl, none)
+
+pub returns-in_ok-take_raft-in-Some-Message-clause-unlinked : goal.returns-in_ok-take_raft-in-Some-Message-clause-unlinked
+returns-in_ok-take_raft-in-Some-Message-clause-unlinked g c = λ none. let waits = c.in_ok-message.ensures.waits none in let is = c.in-Some-Message.is in absurd cc
+
+pub returns-in_ok-push-in-Some-Wrong-clause-unlinked : goal.returns-in_ok-push-in-Some-Wrong-clause-unlinked
+returns-in_ok-push-in-Some-Wrong-clause-unlinked g c = λ none. let waits = c.in_ok-message.ensures.waits none in let is = c.in-Some-Wrong.is in absurd cc
+
+pub returns-in-None-clause-unlinked : goal.returns-in-None-clause-unlinked
+returns-in-None-clause-unlinked g c = λ none. (refl, c.next.ensures.none none)
