@@ -39,6 +39,9 @@ mod Finding
 mod StopsOfTurns
 mod StopsOfStep
 mod PeerActs
+mod Carried
+mod PeerLinks
+mod Sending
 mod ConnStreams
 mod HeardSo
 mod PlainGates

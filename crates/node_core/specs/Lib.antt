@@ -19,5 +19,7 @@ pub mod Posting
 pub mod Taking
 pub mod Duties
 pub mod Finding
+pub mod Carrying
 pub mod Conns
 pub mod Heard
+pub mod Sent

@@ -91,7 +91,7 @@ impl Running {
         requires led { IsLed self.old }
         requires idle { self.old.due.items ≡ [] }
         requires agrees { Agrees (E.known engine.old) self.old.clients self.old.applied.machine }
-        ensures conns { OnOk result (ConnsOn self.old self.new) }
+        ensures conns { OnOk result (KeepsConns self.old self.new) }
         ensures going { OnOk result (IsGoing self.new) }
         ensures led { OnOk result (IsLed self.new) }
         ensures index { OnOk result (self.new.applied.index ≡ suc self.old.applied.index) }
@@ -138,6 +138,7 @@ impl Running {
         requires going { IsGoing self.old }
         requires more { self.old.applied.index < self.old.replica.raft.commit }
         ensures links { self.new.view.links ≡ self.old.view.links }
+        ensures id { self.new.view.id ≡ self.old.view.id }
         ensures going { OnOk result (IsGoing self.new) }
         ensures index { OnOk result (self.new.applied.index ≡ suc self.old.applied.index) }
         ensures replica { self.new.replica ≡ self.old.replica }
@@ -195,7 +196,7 @@ impl Running {
         requires led { IsLed self.old }
         requires idle { self.old.due.items ≡ [] }
         requires agrees { Agrees (E.known engine.old) self.old.clients self.old.applied.machine }
-        ensures conns { OnOk result (ConnsOn self.old self.new) }
+        ensures conns { OnOk result (KeepsConns self.old self.new) }
         ensures going { OnOk result (IsGoing self.new) }
         ensures led { OnOk result (IsLed self.new) }
         ensures replica { self.new.replica ≡ self.old.replica }

@@ -105,7 +105,7 @@ impl Running {
         requires led { IsLed self.old }
         requires idle { self.old.due.items ≡ [] }
         requires agrees { Agrees (E.known engine.old) self.old.clients self.old.applied.machine }
-        ensures conns { OnOk result (ConnsOn self.old self.new) }
+        ensures conns { OnOk result (KeepsConns self.old self.new) }
         ensures going { OnOk result (IsGoing self.new) }
         ensures led { OnOk result (IsLed self.new) }
         ensures replica { self.new.replica ≡ self.old.replica }
@@ -131,7 +131,7 @@ impl Running {
     /// The client of a query is told what its reader tells.
     fn tell_read(&mut self, conn: u64, read: Read) -> Result<(), NodeFault>
         requires going { IsGoing self.old }
-        ensures conns { OnOk result (ConnsOn self.old self.new) }
+        ensures conns { OnOk result (KeepsConns self.old self.new) }
         ensures going { OnOk result (IsGoing self.new) }
         ensures office { OnOk result (self.new.office ≡ self.old.office) }
         ensures replica { self.new.replica ≡ self.old.replica }
@@ -161,7 +161,7 @@ impl Running {
         requires led { IsLed self.old }
         requires idle { self.old.due.items ≡ [] }
         requires agrees { Agrees (E.known engine.old) self.old.clients self.old.applied.machine }
-        ensures conns { OnOk result (ConnsOn self.old self.new) }
+        ensures conns { OnOk result (KeepsConns self.old self.new) }
         ensures going { OnOk result (IsGoing self.new) }
         ensures led { OnOk result (IsLed self.new) }
         ensures replica { self.new.replica ≡ self.old.replica }

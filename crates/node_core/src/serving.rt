@@ -1,6 +1,6 @@
 //! A node's turn in which the message of a client or of a peer is handled, and connections that come and go.
 
-ghost use Rattle.std.specs.Prelude.{◌≡◌, ◌≢◌, ◌++◌, ◌∷◌, ℕ, List, Option, [], map, is_some, false, None, Err, OnOk, IfOk, IfErr};
+ghost use Rattle.std.specs.Prelude.{◌≡◌, ◌≢◌, ◌++◌, ◌∷◌, ℕ, List, Option, [], map, is_some, false, None, Err, OnOk, IfOk, IfErr, true};
 ghost use Rattle.page_apply.specs.Machines.{IsMachine};
 ghost use Rattle.session_rules.specs.Machine.{machine_of};
 ghost use Rattle.raft_member.specs.Members.{read_setup};
@@ -9,10 +9,11 @@ ghost use Rattle.raft_world.specs.Members.{Setup};
 ghost use Rattle.client_sessions.specs.Clients.{hung_up, joining, next_offer};
 ghost use Rattle.node_core.specs.declared.event.Event.TheVariants as happens;
 ghost use Rattle.node_core.specs.Account.{moment_of};
-ghost use Rattle.node_core.specs.Conns.{ClosesConn, ConnsBegin, ConnsBehind, ConnsOn, KeepsConns};
+ghost use Rattle.node_core.specs.Conns.{ClosesConn, ConnsBegin, ConnsBehind, ConnsOn, KeepsConns, link_for};
 ghost use Rattle.node_core.specs.Core.{clients_at, core_of, giving, hanging_up, hearing, joined_by};
 ghost use Rattle.node_core.specs.Exact.{OnHeard};
 ghost use Rattle.node_core.specs.ExactParts.{Answered, ClosesBy, OfferIf, PerformsBy};
+ghost use Rattle.node_core.specs.Carrying.{MovesLines, first_waiting};
 ghost use Rattle.node_core.specs.Performing.{ClosesSo, ComesOr, GoesOr, HearsSo, Performed, SaysNothing};
 ghost use Rattle.sql_engine.specs.Meanings.{Stays};
 ghost use Rattle.client_sessions.specs.Seen.{Agrees};
@@ -143,6 +144,7 @@ impl Running {
         ensures agrees { OnOk result (Agrees (E.known engine.new) self.new.clients self.new.applied.machine) }
         ensures engine { Stays (E.kind engine.old) (E.kind engine.new) (E.refused_openings engine.old) (E.refused_openings engine.new) }
         ensures none { IfOk result (λ more. more ≡ false → self.new ≡ record self.old { links = self.new.links }) }
+        ensures waits { IfOk result (λ more. more ≡ false → self.new.has_links ≡ true → first_waiting self.new.links.all.items ≡ None) }
         ensures letter { (opening : List ServerValue) →
             OnOk result (TookLetter (E.meaning (E.kind engine.old)) (E.kind engine.old) (read_setup opening) self.old self.new
             (E.told engine.old) (E.told engine.new)) }
@@ -195,6 +197,7 @@ impl Running {
         // Whose turn it is, and what came of the message is told by the answers of the engine.
         ensures exact { OnOk result (Answered (E.told engine.old) (E.told engine.new)
             (OfferIf (E.meaning (E.kind engine.old)) (E.kind engine.old) (next_offer (clients_at (core_of self.old))) (core_of self.old) (core_of self.new))) }
+        ensures moves { OnOk result (MovesLines self.old self.new []) }
     {
         clients_turn::<E>();
         stretches_join::<E>();
@@ -211,7 +214,9 @@ impl Running {
     }
 
     /// The node's id.
-    fn id(&self) -> u64 {
+    fn id(&self) -> u64
+        ensures { result ≡ self.now.view.id }
+    {
         self.view.id
     }
 
@@ -282,6 +287,7 @@ impl Running {
         ensures gone { OnOk result (clients_in self.new ≡ hung_up (clients_in self.old) conn) }
         ensures files { machine_of self.new.applied.machine ≡ machine_of self.old.applied.machine }
         ensures machine { OnOk result (IsMachine self.new.applied.machine) }
+        ensures joined { OnOk result (self.new.links.all.items ≡ self.old.links.all.items ++ link_for conn peer ((clients_in self.old).streams conn)) }
         ensures is { self.new ≡ record self.old {
           clients = self.new.clients;
           applied = record self.old.applied { machine = self.new.applied.machine };
@@ -306,6 +312,7 @@ impl Running {
         ensures wants { IfErr result (λ f. f ≡ fault.NoMemory) }
         ensures agrees { StaysAgreed self.old self.new }
         ensures none { IfOk result (λ more. more ≡ false → (self.new ≡ self.old) × (self.new.heard ≡ None)) }
+        ensures moves { OnOk result (MovesLines self.old self.new []) }
         ensures goes { OnOk result (ClosesSo self.old self.new) }
         ensures quiet { SaysNothing self.old self.new }
         ensures exact { IfOk result (λ more. (core_of self.old).links ≡ [] → OnHeard (core_of self.old).heard (core_of self.old) (core_of self.new) more) }

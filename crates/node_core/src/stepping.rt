@@ -6,6 +6,7 @@ ghost use Rattle.node_rules.specs.Accounts.{MayEnd};
 ghost use Rattle.node_core.specs.declared.event.Event.{Event as EventValue};
 ghost use Rattle.node_core.specs.declared.running.Running.{Running as RunningValue};
 ghost use Rattle.node_core.specs.Account.{AtRest, SoFar, Stopped, Happens, StepsBy, StopsBy, Underway, moment_of};
+ghost use Rattle.node_core.specs.Carrying.{first_waiting};
 ghost use Rattle.node_core.specs.Conns.{ConnsBegin, ConnsBy, ConnsOn, KeepsConns};
 ghost use Rattle.node_core.specs.Core.{core_of};
 ghost use Rattle.node_core.specs.Exact.{AttendsBy, BeginsBy, RunsBy, StepsExactly, UnlinkedTurn};
@@ -127,6 +128,7 @@ impl Running {
         ensures engine { Stays (E.kind engine.old) (E.kind engine.new) (E.refused_openings engine.old) (E.refused_openings engine.new) }
         ensures applied { OnOk result (self.new.applied.index ≡ self.new.replica.raft.commit) }
         ensures idle { OnOk result (self.new.due.items ≡ []) }
+        ensures letters { OnOk result (self.new.has_links ≡ true → first_waiting self.new.links.all.items ≡ None) }
         ensures turns { OnOk result ((clients_in self.new).turns ≡ []) }
         ensures heard { OnOk result (self.new.heard ≡ None) }
         ensures led { OnOk result (IsLed self.new) }

@@ -97,6 +97,7 @@ impl Running {
         requires office { InOffice self.old.office self.old.view.serving self.old.replica.raft }
         requires seen { self.old.view.servers ≡ self.old.applied.servers }
         ensures links { self.new.view.links ≡ self.old.view.links }
+        ensures id { self.new.view.id ≡ self.old.view.id }
         ensures going { OnOk result (IsGoing self.new) }
         ensures rest { self.new ≡ record self.old { view = self.new.view } }
         ensures serving { self.new.view.serving ≡ self.old.view.serving }
@@ -126,6 +127,7 @@ impl Running {
         requires holds { Holds self.old }
         requires office { InOffice self.old.office self.old.view.serving self.old.replica.raft }
         ensures links { self.new.view.links ≡ self.old.view.links }
+        ensures id { self.new.view.id ≡ self.old.view.id }
         ensures going { OnOk result (IsGoing self.new) }
         ensures rest { self.new ≡ record self.old { view = self.new.view } }
         ensures serving { self.new.view.serving ≡ self.old.view.serving }

@@ -3,6 +3,7 @@ use Rattle.node_core.proofs.ConnStreams.{not_full, comes_begins, carried_begins}
 use Rattle.std.proofs.Common.{◌++◌, refl, sym, ap, ◌∙◌}
 use Rattle.client_sessions.specs.declared.joining.Joining.{Joining}
 use Rattle.node_core.specs.Conns.{full_for}
+use Rattle.node_core.proofs.PeerLinks.{link_there, link_not}
 use Rattle.client_sessions.specs.Seen.{clients_of}
 use Rattle.node_core.specs.declared.running.Running.{Running}
 use Rattle.node_core.proofs.ClientMoves.{comes_so}
@@ -11,7 +12,9 @@ use Rattle.node_core.proofs.Waiting.{came_turns}
 use Rattle.node_core.proofs.running.Running.connect.Goals as goal
 
 pub returns-then-has-clause-conns : goal.returns-then-has-clause-conns
-returns-then-has-clause-conns c = carried_begins c.args.self.now c.args.conn c.has.result c.has.ensures.none c.if-has.true
+returns-then-has-clause-conns c =
+    let there = link_there _ c.has.result c.has.ensures c.if-has.true in
+    carried_begins c.args.self.now c.args.conn there.0 there.1
 
 pub returns-in-Joined : goal.returns-in-Joined
 returns-in-Joined c =
@@ -28,8 +31,8 @@ returns-in-Joined c =
       agrees = λ known a. c.in_ok-connect.ensures.agrees known machine a;
       goes = comes_so c.args.self.now new c.args.conn (record { replica = refl; index = refl; serving = refl; due = refl; machine = c.databases_stand.ensures; files = refl }) going.holds.clients.sound joined;
       quiet = record { mail = refl; replies = refl; reads = refl; members = refl; links = refl };
-      conns = comes_begins c.args.self.now new c.args.conn c.in_ok-connect.field-0 going.holds.clients.sound (c.in_ok-connect.ensures.told machine going.holds.clients) joined
-          (not_full c.args.self.now.outs.closed.items c.args.conn c.in_ok-connect.field-0 c.in-Joined.is) refl refl refl;
+      conns = comes_begins c.args.self.now new c.args.conn c.in_ok-connect.field-0 going.holds.clients.sound (link_not _ c.has.result c.has.ensures c.if-has.false)
+          (c.in_ok-connect.ensures.told machine going.holds.clients) joined (not_full c.args.self.now.outs.closed.items c.args.conn c.in_ok-connect.field-0 c.in-Joined.is) refl refl refl refl;
       exact = λ links. comes_exact c.args.self.now new c.args.conn c.in_ok-connect.field-0 joined (c.in_ok-connect.ensures.told machine going.holds.clients)
           (not_full c.args.self.now.outs.closed.items c.args.conn c.in_ok-connect.field-0 c.in-Joined.is) refl refl;
     }

@@ -10,7 +10,7 @@ use Rattle.node_core.proofs.running.Running.hang_up.Goals as goal
 pub returns-clause-conns : goal.returns-clause-conns
 returns-clause-conns c =
     let new : Running = record c.args.self.now { clients = c.hang_up.new.self; applied = record c.args.self.now.applied { machine = c.hang_up.new.machine }; links = c.leave.new.self } in
-    hangs_begins c.args.self.now new c.args.conn c.hang_up.ensures.left refl refl c.leave.ensures.none refl
+    hangs_begins c.args.self.now new c.args.conn c.hang_up.ensures.left refl refl c.leave.ensures.none c.leave.ensures.left refl refl
 
 pub returns-clause-going : goal.returns-clause-going
 returns-clause-going c = clients_moved c.args.self.now _ c.requires.going c.hang_up.ensures.stands (left_turns _ _ c.args.conn c.hang_up.ensures.left c.requires.going.holds.turns) refl

@@ -1,11 +1,11 @@
 use Rattle.node_core.proofs.CoreMoves.{performed, transferred}
 use Rattle.node_core.specs.Core.{core_of}
 use Rattle.client_sessions.specs.declared.act.Act.TheVariants as acts
-use Rattle.std.proofs.Common.{refl, sym, subst, Some}
+use Rattle.std.proofs.Common.{refl, sym, ap, subst, Some}
 use Rattle.client_sessions.specs.declared.act.Act.{Act}
 use Rattle.node_core.specs.Conns.{ConnsBehind}
-use Rattle.node_core.specs.Values.{clients_in}
-use Rattle.node_core.proofs.ConnStreams.{gone_streams}
+use Rattle.client_sessions.specs.Clients.{Clients}
+use Rattle.node_core.specs.declared.running.Running.{Running}
 use Rattle.node_core.proofs.Performing.{performed_propose, performed_transfer}
 use Rattle.node_core.proofs.running.Running.perform.Goals as goal
 
@@ -24,7 +24,14 @@ returns-in_ok-give-in-Transfer-clause-performed c =
 pub returns-in_ok-hand_over-in-Peer-clause-conns : goal.returns-in_ok-hand_over-in-Peer-clause-conns
 returns-in_ok-hand_over-in-Peer-clause-conns c =
     subst (λ (a : Act). ConnsBehind a c.args.self.now c.hand_over.new.self) (sym c.in-Peer.is)
-    (record { streams = gone_streams (clients_in c.args.self.now) (clients_in c.hand_over.new.self) c.in-Peer.conn c.in_ok-hand_over-in-Peer.ensures.gone })
+    (record {
+      streams = ap (λ (k : Clients). k.streams) c.in_ok-hand_over-in-Peer.ensures.gone;
+      links = c.in_ok-hand_over-in-Peer.ensures.joined;
+      heard = ap (λ (n : Running). n.heard) c.hand_over.ensures.is;
+      closed = ap (λ (n : Running). n.outs.closed.items) c.hand_over.ensures.is;
+      view = ap (λ (n : Running). n.view) c.hand_over.ensures.is;
+      has_links = ap (λ (n : Running). n.has_links) c.hand_over.ensures.is;
+    })
 
 pub returns-in_ok-reply-in-Reply-clause-exact : goal.returns-in_ok-reply-in-Reply-clause-exact
 returns-in_ok-reply-in-Reply-clause-exact c =

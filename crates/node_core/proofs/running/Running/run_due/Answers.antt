@@ -1,13 +1,13 @@
 use Rattle.node_core.proofs.CoreMoves.{first_found, none_found, due_by, none_due_by}
 use Rattle.std.proofs.Common.{sym, ap, refl}
 use Rattle.std.specs.Prelude.{is_some}
-use Rattle.node_core.proofs.ConnStreams.{conns_same}
+use Rattle.node_core.proofs.ConnStreams.{conns_same, kept_same}
 use Rattle.node_core.proofs.ClientTurns.{nothing_turns}
 use Rattle.node_core.proofs.Looping.{turns_kept}
 use Rattle.node_core.proofs.running.Running.run_due.Goals as goal
 
 pub returns-in_default-clause-conns : goal.returns-in_default-clause-conns
-returns-in_default-clause-conns g c = conns_same c.args.self.now
+returns-in_default-clause-conns g c = kept_same c.args.self.now
 
 pub returns-in_default-clause-goes : goal.returns-in_default-clause-goes
 returns-in_default-clause-goes g c = λ setup bytes joins.

@@ -1,3 +1,4 @@
+use Rattle.node_core.proofs.Carried.{lines_counted}
 use Rattle.node_core.proofs.ConnStreams.{outs_conns}
 use Rattle.std.proofs.Common.{refl, sym, ap, subst, ◌∙◌}
 use Rattle.raft_member.specs.Members.{read_setup}
@@ -41,9 +42,10 @@ returns-clause-acts g c = λ opening.
     let counted = ap (λ (r : ReplicaValue). record old { replica = r }) c.count_keeps.ensures in
     let going = counted_anew old from c.requires.rests.going counted in
     let rest = at_rest from going (c.requires.rests.applied ∙ ap (λ (n : Running). n.replica.raft.commit) (sym counted)) c.requires.rests.idle in
-    let started = underway_starts m kind setup old from c.begin.new.self c.args.event (record { same = ap seen counted; links = refl; mail = refl; replies = refl; reads = refl }) refl rest (c.in_ok-begin.ensures.begun opening) in
+    let started = underway_starts m kind setup old from c.begin.new.self c.args.event (record { same = ap seen counted; links = refl; mail = refl; replies = refl; reads = refl }) refl rest (lines_counted old c.count_keeps.new.self c.args.event c.begin.new.self c.in_ok-begin.ensures.conns.lines) (c.in_ok-begin.ensures.begun opening) in
     let ran = under_kind g.E.Engine.meaning kind (g.E.Engine.kind c.begin.new.engine) setup old c.begin.new.self c.run.new.self c.args.event c.begin.ensures.engine.kind (c.in_ok-run.ensures.on opening old c.args.event (g.E.Engine.told c.args.engine.now)) started in
-    steps_said m kind setup old c.run.new.self c.take_outs.new.self c.args.event c.take_outs.result ran c.in_ok-run.ensures.ends c.in_ok-run.ensures.going.holds.replica.id c.requires.rests.quiet c.take_outs.ensures.rest
+    steps_said m kind setup old c.run.new.self c.take_outs.new.self c.args.event c.take_outs.result ran c.in_ok-run.ensures.ends c.in_ok-run.ensures.going.holds.replica.id c.requires.rests.quiet c.in_ok-run.ensures.heard c.in_ok-run.ensures.letters
+    c.take_outs.ensures.rest
     c.take_outs.ensures.said c.take_outs.ensures.messages c.take_outs.ensures.reads
 
 pub returns-in_err-begin-clause-stops : goal.returns-in_err-begin-clause-stops
@@ -78,7 +80,7 @@ returns-in_err-run-clause-stops g c = λ opening has.
     let rest = at_rest from going (c.requires.rests.applied ∙ ap (λ (n : Running). n.replica.raft.commit) (sym counted)) c.requires.rests.idle in
     let between : Between old from = record { same = ap seen counted; links = refl; mail = refl; replies = refl; reads = refl } in
     let P = StopsBy m kind setup old c.args.event in
-    let started = underway_starts m kind setup old from c.begin.new.self c.args.event between refl rest (c.in_ok-begin.ensures.begun opening) in
+    let started = underway_starts m kind setup old from c.begin.new.self c.args.event between refl rest (lines_counted old c.count_keeps.new.self c.args.event c.begin.new.self c.in_ok-begin.ensures.conns.lines) (c.in_ok-begin.ensures.begun opening) in
     let same = c.begin.ensures.engine.kind in
     let k1 = g.E.Engine.kind c.begin.new.engine in
     more g.D.Disk.tells (g.D.Disk.states c.run.new.disk) (StopsBy (g.E.Engine.meaning k1) k1 setup old c.args.event) P
@@ -100,7 +102,7 @@ returns-clause-stops g c = λ opening has.
     let rest = at_rest from going (c.requires.rests.applied ∙ ap (λ (n : Running). n.replica.raft.commit) (sym counted)) c.requires.rests.idle in
     let between : Between old from = record { same = ap seen counted; links = refl; mail = refl; replies = refl; reads = refl } in
     let P = StopsBy m kind setup old c.args.event in
-    let started = underway_starts m kind setup old from c.begin.new.self c.args.event between refl rest (c.in_ok-begin.ensures.begun opening) in
+    let started = underway_starts m kind setup old from c.begin.new.self c.args.event between refl rest (lines_counted old c.count_keeps.new.self c.args.event c.begin.new.self c.in_ok-begin.ensures.conns.lines) (c.in_ok-begin.ensures.begun opening) in
     let same = c.begin.ensures.engine.kind in
     let k1 = g.E.Engine.kind c.begin.new.engine in
     let ran = under_kind g.E.Engine.meaning kind k1 setup old c.begin.new.self c.run.new.self c.args.event same (c.in_ok-run.ensures.on opening old c.args.event (g.E.Engine.told c.args.engine.now)) started in

@@ -1,7 +1,8 @@
 use Rattle.node_core.proofs.CoreMoves.{message_by, idle_by, offers_so}
 use Rattle.node_core.specs.declared.running.Running.{Running}
-use Rattle.node_core.proofs.ConnStreams.{message_on, idle_on}
+use Rattle.node_core.proofs.ConnStreams.{message_on, idle_on, kept_on, idle_kept}
 use Rattle.std.proofs.Common.{refl, Some, None}
+use Rattle.node_core.proofs.Carried.{kept_moves, message_moves}
 use Rattle.node_core.proofs.ClientTurns.{took_turns_on, idle_turns_on}
 use Rattle.node_core.proofs.Led.{took_led, idle_led, idle_sessions}
 use Rattle.node_core.proofs.Looping.{turns_kept}
@@ -15,7 +16,17 @@ returns-in_ok-perform-in-Some-clause-conns g c =
 pub returns-in-None-clause-conns : goal.returns-in-None-clause-conns
 returns-in-None-clause-conns g c =
     let new : Running = record c.args.self.now { clients = c.next.new.self; applied = record c.args.self.now.applied { machine = c.next.new.machine } } in
-    idle_on _ c.args.self.now new _ _ c.in_ok-act.act c.in_ok-act.ensures.turn c.in-None.is refl refl refl refl
+    kept_on c.args.self.now new (idle_kept _ c.args.self.now new _ _ c.in_ok-act.act c.in_ok-act.ensures.turn c.in-None.is refl refl refl refl refl)
+
+pub returns-in_ok-perform-in-Some-clause-moves : goal.returns-in_ok-perform-in-Some-clause-moves
+returns-in_ok-perform-in-Some-clause-moves g c =
+    let mid : Running = record c.args.self.now { clients = c.next.new.self; applied = record c.args.self.now.applied { machine = c.next.new.machine } } in
+    message_moves _ c.args.self.now mid c.perform.new.self _ _ c.in_ok-act.act c.in-Some.act c.in_ok-act.ensures.turn c.in-Some.is refl refl refl refl refl c.in_ok-perform-in-Some.ensures.conns
+
+pub returns-in-None-clause-moves : goal.returns-in-None-clause-moves
+returns-in-None-clause-moves g c =
+    let new : Running = record c.args.self.now { clients = c.next.new.self; applied = record c.args.self.now.applied { machine = c.next.new.machine } } in
+    kept_moves c.args.self.now new (idle_kept _ c.args.self.now new _ _ c.in_ok-act.act c.in_ok-act.ensures.turn c.in-None.is refl refl refl refl refl)
 
 pub returns-in_ok-perform-in-Some-clause-goes : goal.returns-in_ok-perform-in-Some-clause-goes
 returns-in_ok-perform-in-Some-clause-goes g c = λ setup bytes joins.

@@ -1,4 +1,5 @@
 use Rattle.node_core.proofs.ConnStreams.{conns_both, kept_on}
+use Rattle.node_core.proofs.Carried.{kept_moves}
 use Rattle.std.proofs.Common.{sym, subst}
 use Rattle.raft_member.specs.Members.{read_setup}
 use Rattle.node_replica.specs.Replicas.{ReplicaValue, IsKept}
@@ -16,7 +17,8 @@ pub returns-then-branch-clause-conns : goal.returns-then-branch-clause-conns
 returns-then-branch-clause-conns g c = kept_on c.args.self.now c.take_due.new.self c.in_ok-take_due.ensures.conns
 
 pub returns-then-self-view-clause-conns : goal.returns-then-self-view-clause-conns
-returns-then-self-view-clause-conns g c = conns_both c.args.self.now c.take_due.new.self c.apply_next.new.self (kept_on c.args.self.now c.take_due.new.self c.in_ok-take_due.ensures.conns) c.in_ok-apply_next.ensures.conns
+returns-then-self-view-clause-conns g c = conns_both c.args.self.now c.take_due.new.self c.apply_next.new.self (kept_on c.args.self.now c.take_due.new.self c.in_ok-take_due.ensures.conns)
+    (kept_on c.take_due.new.self c.apply_next.new.self c.in_ok-apply_next.ensures.conns)
 
 pub returns-clause-conns : goal.returns-clause-conns
 returns-clause-conns g c =
@@ -25,7 +27,7 @@ returns-clause-conns g c =
 pub returns-then-branch-clause-on : goal.returns-then-branch-clause-on
 returns-then-branch-clause-on g c = λ opening start event told u.
     let kind = g.E.Engine.kind c.args.engine.now in
-    goes_further (g.E.Engine.meaning kind) kind (read_setup opening) start event told c.args.self.now c.take_due.new.self u
+    goes_further (g.E.Engine.meaning kind) kind (read_setup opening) start event told c.args.self.now c.take_due.new.self u (kept_moves c.args.self.now c.take_due.new.self c.in_ok-take_due.ensures.conns)
     (λ bytes joins. owns_turns (g.E.Engine.meaning kind) kind opening bytes joins c.args.self.now c.take_due.new.self (c.in_ok-take_due.ensures.goes c.if-branch.true))
 
 pub returns-then-self-view-clause-stored : goal.returns-then-self-view-clause-stored
@@ -37,6 +39,7 @@ returns-then-self-view-clause-on g c = λ opening start event told u.
     let kind = g.E.Engine.kind c.args.engine.now in
     goes_further (g.E.Engine.meaning kind) kind (read_setup opening) start event told c.take_due.new.self c.apply_next.new.self
     (had_none (g.E.Engine.meaning kind) kind (read_setup opening) start event told c.args.self.now c.take_due.new.self u (c.in_ok-take_due.ensures.none c.if-branch.false))
+    (kept_moves c.take_due.new.self c.apply_next.new.self c.in_ok-apply_next.ensures.conns)
     (λ bytes joins. c.in_ok-apply_next.ensures.goes (read_setup opening) bytes joins)
 
 pub returns-clause-on : goal.returns-clause-on
