@@ -34,7 +34,8 @@ use Rattle.raft_core.specs.declared.event.RaftEvent.{RaftEvent}
 use Rattle.raft_core.specs.declared.event.RaftEvent.TheVariants as due
 use Rattle.node_core.specs.declared.outs.Outs.{Outs}
 use Rattle.node_core.specs.declared.running.Running.{Running}
-use Rattle.node_core.specs.Conns.{close_of, full_for}
+use Rattle.node_core.specs.declared.links.Link.{Link}
+use Rattle.node_core.specs.Carrying.{close_of, full_for, link_on}
 use Rattle.node_core.specs.Plain.{plain_session, plain_gate}
 use Rattle.node_core.specs.Core.{Core, core_of, clients_at, giving, replied, with_its, taking, idle, joined_by, heard_by, hearing, gone, gone_by, hanging_up, closed_for, closing_heard}
 use Rattle.node_core.specs.Exact.{TurnsTo, MessageBy, resuming, LaterBy, LaterIf, OnHeard}
@@ -337,8 +338,12 @@ links_core : (n : Running) → (core_of n).links ≡ [] → n.links.all.items �
 unfolding core_of
 links_core n e = e
 
-pub carried_exact : (n : Running) (conn : ℕ) (has : Bool) → (n.links.all.items ≡ [] → has ≡ false) → has ≡ true → (core_of n).links ≡ [] → core_of n ≡ joined_by (joining (core_of n).sessions conn) conn (core_of n)
-carried_exact n conn has none is links = absurd (true≢false (sym is ∙ none (links_core n links)))
+none_carried : (links : List Link) (conn : ℕ) (has : Bool) → has ≡ is_some (link_on conn links) → links ≡ [] → has ≡ false
+none_carried links conn has told none = told ∙ ap (λ (l : List Link). is_some (link_on conn l)) none
+
+pub carried_exact : (n : Running) (conn : ℕ) (has : Bool) → has ≡ is_some (link_on conn n.links.all.items) → has ≡ true → (core_of n).links ≡ []
+    → core_of n ≡ joined_by (joining (core_of n).sessions conn) conn (core_of n)
+carried_exact n conn has told is links = absurd (true≢false (sym is ∙ none_carried n.links.all.items conn has told (links_core n links)))
 
 -- bytes come on a client's connection
 heard_core : (old new : Running) (conn : ℕ) (bytes : List ℕ) (o : Option Conn) → (clients_in old).streams conn ≡ o → clients_in new ≡ heard_on (clients_in old) conn bytes o → new ≡ record old { clients = new.clients; heard = Some conn }
@@ -439,8 +444,9 @@ closes_exact old new conn reason left told files same = record {
   by = closed_core old new conn reason (closed_as (clients_in old) (clients_in new) conn reason left told) files same;
 }
 
-pub link_exact : (old new : Running) (conn : ℕ) (reason : Option CloseReason) (has : Bool) → (old.links.all.items ≡ [] → has ≡ false) → has ≡ true → (core_of old).links ≡ [] → ClosesBy conn reason (core_of old) (core_of new)
-link_exact old new conn reason has none is links = absurd (true≢false (sym is ∙ none (links_core old links)))
+pub link_exact : (old new : Running) (conn : ℕ) (reason : Option CloseReason) (has : Bool) → has ≡ is_some (link_on conn old.links.all.items) → has ≡ true → (core_of old).links ≡ []
+    → ClosesBy conn reason (core_of old) (core_of new)
+link_exact old new conn reason has told is links = absurd (true≢false (sym is ∙ none_carried old.links.all.items conn has told (links_core old links)))
 
 -- what was closed is said
 closed_said : (conn : ℕ) (w mid v : Core) (reason why : Option CloseReason) → reason ≡ why → mid ≡ gone_for reason conn w → v ≡ record mid { closed = mid.closed ++ close_of conn reason } → v ≡ closed_for why conn w

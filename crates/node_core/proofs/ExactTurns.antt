@@ -149,13 +149,13 @@ still_unlinked s u w mid old n same links = sym (links_in old) ∙ ap (λ (x : R
 pub letter_turn : (m : Meaning) (kind : EngineKind) (n : Meaning) (other : EngineKind) (setup : Setup) (old new : Running) (s t u : Option Told) (w v : Core) → t ≡ s
     → TookLetter n other setup old new t u → (w.links ≡ [] → ⊥) → Answered s u (AttendsBy m kind w v true)
 unfolding TellsAll
-letter_turn m kind n other setup old new s t u w v e (came message mid links is (takes since beside)) none = record {
+letter_turn m kind n other setup old new s t u w v e (came message mid links is (takes since beside) moves) none = record {
   answers = since.piece.answers;
   told = subst (λ (z : Option Told). TellsAll since.piece.answers z u) e since.heard;
   by = λ links. absurd (none links);
 }
-letter_turn m kind n other setup old new s t u w v e (came message mid links is (loses lost same told)) none = unanswered (AttendsBy m kind w v true) s u (sym told ∙ e) (λ links. absurd (none links))
-letter_turn m kind n other setup old new s t u w v e (none_came fresh told) none = unanswered (AttendsBy m kind w v true) s u (sym told ∙ e) (λ links. absurd (none links))
+letter_turn m kind n other setup old new s t u w v e (came message mid links is (loses lost same told) moves) none = unanswered (AttendsBy m kind w v true) s u (sym told ∙ e) (λ links. absurd (none links))
+letter_turn m kind n other setup old new s t u w v e (none_came fresh told moves) none = unanswered (AttendsBy m kind w v true) s u (sym told ∙ e) (λ links. absurd (none links))
 
 -- the connection whose bytes came was looked at, or nothing was left
 pub heard_turn : (r : Result Bool NodeFault) (m : Meaning) (kind : EngineKind) (s t u : Option Told) (w y z v : Core) → NoOffer s t w y → u ≡ t → (MayCompact y → ⊥) → (w.links ≡ [] → z ≡ y)

@@ -15,7 +15,7 @@ ghost use Rattle.node_state.specs.Applied.{with_entry};
 ghost use Rattle.node_state.specs.Content.{effect_of};
 ghost use Rattle.raft_world.specs.Members.{Setup};
 ghost use Rattle.node_core.specs.Applying.{TakesEntry, AppliesSo};
-ghost use Rattle.node_core.specs.Conns.{ConnsOn, KeepsConns};
+ghost use Rattle.node_core.specs.Conns.{KeepsConns};
 ghost use Rattle.node_core.specs.Core.{core_of, dutiful, entry_done, is_calm, is_settled, landing, serving_from};
 ghost use Rattle.node_core.specs.Duties.{DutySo, IsCalm, IsSettled, ServesFrom};
 ghost use Rattle.node_core.specs.Exact.{EntryBy, LaterIf};

@@ -4,7 +4,7 @@ ghost use Rattle.std.specs.Prelude.{◌≡◌, ◌<◌, ◌++◌, ◌∷◌, ℕ
 ghost use Rattle.raft_world.specs.Members.{Setup};
 ghost use Rattle.node_core.specs.declared.event.Event.TheVariants as happens;
 ghost use Rattle.node_core.specs.Account.{SoFar, Happens};
-ghost use Rattle.node_core.specs.Conns.{ConnsOn, KeepsConns};
+ghost use Rattle.node_core.specs.Conns.{KeepsConns};
 ghost use Rattle.node_core.specs.Core.{core_of};
 ghost use Rattle.node_core.specs.ExactParts.{Answered, ResumesBy};
 ghost use Rattle.node_core.specs.Taking.{TurnsOn};

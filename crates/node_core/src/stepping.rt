@@ -11,7 +11,6 @@ ghost use Rattle.node_core.specs.Conns.{ConnsBegin, ConnsBy, ConnsOn, KeepsConns
 ghost use Rattle.node_core.specs.Core.{core_of};
 ghost use Rattle.node_core.specs.Exact.{AttendsBy, BeginsBy, RunsBy, StepsExactly, UnlinkedTurn};
 ghost use Rattle.node_core.specs.ExactParts.{Answered, CompactsIf};
-ghost use Rattle.node_core.specs.Finding.{LeavesBy};
 ghost use Rattle.node_core.specs.Taking.{CompactsSo};
 ghost use Rattle.std.specs.Prelude.{◌≡◌, ◌≢◌, ℕ, List, Option, [], true, false, Err, IfOk, OnOk, IfErr};
 ghost use Rattle.sql_engine.specs.Meanings.{Stays, Told};

@@ -34,8 +34,8 @@ returns-then-not-has-clause-exact c = λ links.
     closes_exact c.args.self.now new c.args.conn c.close-reason.result c.close-reason.ensures.closed c.close-reason.ensures.told c.close-reason.ensures.files refl
 
 pub returns-in_default-clause-exact : goal.returns-in_default-clause-exact
-returns-in_default-clause-exact c = link_exact c.args.self.now c.args.self.now c.args.conn None c.has.result c.has.ensures.none c.if-not-has.false
+returns-in_default-clause-exact c = link_exact c.args.self.now c.args.self.now c.args.conn None c.has.result c.has.ensures c.if-not-has.false
 
 pub returns-clause-exact : goal.returns-clause-exact
 returns-clause-exact c =
-    link_exact c.args.self.now (record c.args.self.now { links = c.leave.new.self }) c.args.conn (Some c.in-Some.reason) c.has.result c.has.ensures.none c.if-not-has.false
+    link_exact c.args.self.now (record c.args.self.now { links = c.leave.new.self }) c.args.conn (Some c.in-Some.reason) c.has.result c.has.ensures c.if-not-has.false

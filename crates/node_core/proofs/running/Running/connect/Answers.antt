@@ -2,7 +2,7 @@ use Rattle.node_core.proofs.CoreMoves.{carried_exact, comes_exact}
 use Rattle.node_core.proofs.ConnStreams.{not_full, comes_begins, carried_begins}
 use Rattle.std.proofs.Common.{◌++◌, refl, sym, ap, ◌∙◌}
 use Rattle.client_sessions.specs.declared.joining.Joining.{Joining}
-use Rattle.node_core.specs.Conns.{full_for}
+use Rattle.node_core.specs.Carrying.{full_for}
 use Rattle.node_core.proofs.PeerLinks.{link_there, link_not}
 use Rattle.client_sessions.specs.Seen.{clients_of}
 use Rattle.node_core.specs.declared.running.Running.{Running}
@@ -38,7 +38,7 @@ returns-in-Joined c =
     }
 
 pub returns-then-has-clause-exact : goal.returns-then-has-clause-exact
-returns-then-has-clause-exact c = carried_exact c.args.self.now c.args.conn c.has.result c.has.ensures.none c.if-has.true
+returns-then-has-clause-exact c = carried_exact c.args.self.now c.args.conn c.has.result c.has.ensures c.if-has.true
 
 pub returns-in_ok-push-in-Full-clause-exact : goal.returns-in_ok-push-in-Full-clause-exact
 returns-in_ok-push-in-Full-clause-exact c = λ links.

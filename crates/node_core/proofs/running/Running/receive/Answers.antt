@@ -1,5 +1,5 @@
 use Rattle.node_core.proofs.CoreMoves.{hears_exact, unheard_exact}
-use Rattle.node_core.proofs.ConnStreams.{hears_begins, hears_none_begins, hears_open_begins, hears_link_begins}
+use Rattle.node_core.proofs.ConnStreams.{hears_open_begins, hears_link_begins}
 use Rattle.std.proofs.Common.{Some, refl}
 use Rattle.node_core.specs.declared.running.Running.{Running}
 use Rattle.node_core.proofs.ClientMoves.{hears_so, hears_none}

@@ -1,7 +1,7 @@
 use Rattle.node_core.proofs.CoreMoves.{first_found, none_found, due_by, none_due_by}
 use Rattle.std.proofs.Common.{sym, ap, refl}
 use Rattle.std.specs.Prelude.{is_some}
-use Rattle.node_core.proofs.ConnStreams.{conns_same, kept_same}
+use Rattle.node_core.proofs.ConnStreams.{kept_same}
 use Rattle.node_core.proofs.ClientTurns.{nothing_turns}
 use Rattle.node_core.proofs.Looping.{turns_kept}
 use Rattle.node_core.proofs.running.Running.run_due.Goals as goal

@@ -1,6 +1,6 @@
 use Rattle.node_core.proofs.CoreMoves.{message_by, idle_by, offers_so}
 use Rattle.node_core.specs.declared.running.Running.{Running}
-use Rattle.node_core.proofs.ConnStreams.{message_on, idle_on, kept_on, idle_kept}
+use Rattle.node_core.proofs.ConnStreams.{message_on, kept_on, idle_kept}
 use Rattle.std.proofs.Common.{refl, Some, None}
 use Rattle.node_core.proofs.Carried.{kept_moves, message_moves}
 use Rattle.node_core.proofs.ClientTurns.{took_turns_on, idle_turns_on}
