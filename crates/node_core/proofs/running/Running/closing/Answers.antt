@@ -3,6 +3,8 @@ use Rattle.node_core.proofs.ConnStreams.{closed_conn, link_conn, link_kept_conn}
 use Rattle.std.proofs.Common.{Some, refl, None, sym, ◌∙◌}
 use Rattle.node_core.proofs.PeerLinks.{link_there, link_not, reason_of_link}
 use Rattle.node_core.specs.declared.running.Running.{Running}
+use Rattle.node_core.specs.Carrying.{link_on}
+use Rattle.node_core.specs.Values.{clients_in}
 use Rattle.node_core.proofs.ClientMoves.{closes_so}
 use Rattle.node_core.proofs.running.Running.closing.Goals as goal
 
@@ -15,12 +17,12 @@ pub returns-clause-conns : goal.returns-clause-conns
 returns-clause-conns c =
     let there = link_there _ c.has.result c.has.ensures c.if-not-has.false in
     link_conn c.args.self.now (record c.args.self.now { links = c.leave.new.self }) c.args.conn there.0 c.in-Some.reason there.1
-    (reason_of_link _ there.0 (Some c.in-Some.reason) _ there.1 (sym c.in-Some.is ∙ c.reason.ensures)) c.leave.ensures.left refl refl refl refl refl
+    (reason_of_link (link_on c.args.conn c.args.self.now.links.all.items) there.0 (Some c.in-Some.reason) ((clients_in c.args.self.now).streams c.args.conn) there.1 (sym c.in-Some.is ∙ c.reason.ensures)) c.leave.ensures.left refl refl refl refl refl
 
 pub returns-in_default-clause-conns : goal.returns-in_default-clause-conns
 returns-in_default-clause-conns c =
     let there = link_there _ c.has.result c.has.ensures c.if-not-has.false in
-    link_kept_conn c.args.self.now c.args.conn there.0 None there.1 (reason_of_link _ there.0 None _ there.1 (sym c.in_default.is ∙ c.reason.ensures)) refl
+    link_kept_conn c.args.self.now c.args.conn there.0 None there.1 (reason_of_link (link_on c.args.conn c.args.self.now.links.all.items) there.0 None ((clients_in c.args.self.now).streams c.args.conn) there.1 (sym c.in_default.is ∙ c.reason.ensures)) refl
 
 pub returns-then-not-has-clause-goes : goal.returns-then-not-has-clause-goes
 returns-then-not-has-clause-goes c =

@@ -56,10 +56,10 @@ returns-in_ok-push-in-Some-Wrong-clause-led g c = led_same c.args.self.now _ c.r
 pub returns-in-None-clause-letter : goal.returns-in-None-clause-letter
 returns-in-None-clause-letter g c = λ opening.
     none_came (record { moment = refl; mail = refl; replies = refl; reads = refl; kept = refl; id = refl; links = refl }) refl
-    (same_moves c.args.self.now (record c.args.self.now { links = c.next.new.self }) (λ i. record (lines_in c.args.self.now) { links = (none_left _ _ _ _ c.in_ok-message.ensures.took c.in-None.is).0 i }) refl)
+    (same_moves c.args.self.now (record c.args.self.now { links = c.next.new.self }) (λ i. record (lines_in c.args.self.now) { links = (none_left c.id-me.result c.args.self.now.links.all.items c.next.new.self.all.items c.in_ok-message.field-0 c.in_ok-message.ensures.took c.in-None.is).0 i }) refl)
 
 pub returns-in-None-clause-waits : goal.returns-in-None-clause-waits
-returns-in-None-clause-waits g c = λ none linked. (none_left _ _ _ _ c.in_ok-message.ensures.took c.in-None.is).1
+returns-in-None-clause-waits g c = λ none linked. (none_left c.id-me.result c.args.self.now.links.all.items c.next.new.self.all.items c.in_ok-message.field-0 c.in_ok-message.ensures.took c.in-None.is).1
 
 pub returns-then-not-self-clause-waits : goal.returns-then-not-self-clause-waits
 returns-then-not-self-clause-waits g c = λ none linked. absurd (true≢false (sym linked ∙ c.if-not-self.true))
