@@ -1,5 +1,5 @@
 use Rattle.node_core.proofs.CoreEntries.{entry_by}
-use Rattle.node_core.proofs.ConnStreams.{conns_both, kept_on, kept_both}
+use Rattle.node_core.proofs.ConnStreams.{kept_both}
 use Rattle.node_core.proofs.Led.{led_applies}
 use Rattle.node_core.proofs.Looping.{on_ok_then, entry_turn}
 use Rattle.node_core.proofs.running.Running.apply_next.Goals as goal
