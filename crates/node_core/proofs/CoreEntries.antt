@@ -94,16 +94,15 @@ configured (Configures servers) is w = refl
 configured Other is w = absurd cc
 
 -- The entry is applied, and the sessions' view has not followed yet.
-entered_core : (old new : Running) (entry : Entry) → new.applied ≡ with_entry old.applied entry → IsMachine old.applied.machine → clients_in new ≡ clients_in old → new.members ≡ settled old.members (suc old.applied.index)
-    → new ≡ record old { applied = new.applied; members = new.members } → core_of new ≡ entered (entry_seen entry).content (core_of old)
+entered_core : (old new : Running) (entry : Entry) → new.applied ≡ with_entry old.applied entry → machine_of new.applied.machine ≡ done (machine_of old.applied.machine) (entry_seen entry).content
+    → clients_in new ≡ clients_in old → new.members ≡ settled old.members (suc old.applied.index) → new ≡ record old { applied = new.applied; members = new.members } → core_of new ≡ entered (entry_seen entry).content (core_of old)
 unfolding core_of
-entered_core old new entry applied stand same members is =
-    let content = (entry_seen entry).content in
+entered_core old new entry applied files same members is =
     let clients : clients_of old.clients new.applied.machine ≡ clients_in old = sym (ap clients_in is) ∙ same in
     ap core_of is ∙ (λ i. record (core_of old) {
       applied = (applied i).index;
       servers = (applied i).servers;
-      files = (ap (λ (a : Applied). machine_of a.machine) applied ∙ entry_made old.applied.machine content stand) i;
+      files = files i;
       members = members i;
       sessions = plain_gate (clients i).sessions;
       streams = (clients i).streams;
@@ -112,28 +111,28 @@ entered_core old new entry applied stand same members is =
 
 -- Nothing else follows where no configuration was applied.
 pub takes_other : (old new : Running) (entry : Entry) (effect : Effect) → slice_get old.replica.raft.entries (old.applied.index - old.replica.raft.base) ≡ Some entry → effect ≡ effect_of (entry_seen entry).content → effect ≢ effects.Configured
-    → new.applied ≡ with_entry old.applied entry → IsMachine old.applied.machine → clients_in new ≡ clients_in old → new.members ≡ settled old.members (suc old.applied.index) → new ≡ record old { applied = new.applied; members = new.members }
-    → TakesBy entered_shown (core_of old) (core_of new) effect
-takes_other old new entry effect is told apart applied stand same members rest =
+    → new.applied ≡ with_entry old.applied entry → machine_of new.applied.machine ≡ done (machine_of old.applied.machine) (entry_seen entry).content → clients_in new ≡ clients_in old
+    → new.members ≡ settled old.members (suc old.applied.index) → new ≡ record old { applied = new.applied; members = new.members } → TakesBy entered_shown (core_of old) (core_of new) effect
+takes_other old new entry effect is told apart applied files same members rest =
     let content = (entry_seen entry).content in
     record {
       entry = entry;
       is = next_entry old entry is;
       told = told;
-      by = entered_core old new entry applied stand same members rest ∙ sym (not_configured content (λ e. apart (told ∙ e)) (entered content (core_of old)));
+      by = entered_core old new entry applied files same members rest ∙ sym (not_configured content (λ e. apart (told ∙ e)) (entered content (core_of old)));
     }
 
 -- the sessions see its servers where one was
 pub takes_servers : (old mid new : Running) (entry : Entry) (effect : Effect) → slice_get old.replica.raft.entries (old.applied.index - old.replica.raft.base) ≡ Some entry → effect ≡ effect_of (entry_seen entry).content → effect ≡ effects.Configured
-    → mid.applied ≡ with_entry old.applied entry → IsMachine old.applied.machine → clients_in mid ≡ clients_in old → mid.members ≡ settled old.members (suc old.applied.index) → mid ≡ record old { applied = mid.applied; members = mid.members }
-    → core_of new ≡ showing_servers (core_of mid) → TakesBy entered_shown (core_of old) (core_of new) effect
-takes_servers old mid new entry effect is told one applied stand same members rest seen =
+    → mid.applied ≡ with_entry old.applied entry → machine_of mid.applied.machine ≡ done (machine_of old.applied.machine) (entry_seen entry).content → clients_in mid ≡ clients_in old
+    → mid.members ≡ settled old.members (suc old.applied.index) → mid ≡ record old { applied = mid.applied; members = mid.members } → core_of new ≡ showing_servers (core_of mid) → TakesBy entered_shown (core_of old) (core_of new) effect
+takes_servers old mid new entry effect is told one applied files same members rest seen =
     let content = (entry_seen entry).content in
     record {
       entry = entry;
       is = next_entry old entry is;
       told = told;
-      by = seen ∙ ap showing_servers (entered_core old mid entry applied stand same members rest) ∙ sym (configured content (sym told ∙ one) (entered content (core_of old)));
+      by = seen ∙ ap showing_servers (entered_core old mid entry applied files same members rest) ∙ sym (configured content (sym told ∙ one) (entered content (core_of old)));
     }
 
 -- whoever waited for it is told

@@ -156,9 +156,10 @@ impl Running {
         let entry = self.replica.entry(index).unwrap();
         let effect = apply(self.alloc, &mut self.applied, entry)?;
         self.members.settle(index);
-        if changes_servers(&effect) {
-            self.look_at_servers()?;
+        if !changes_servers(&effect) {
+            return Ok(effect);
         }
+        self.look_at_servers()?;
         Ok(effect)
     }
 
