@@ -48,4 +48,3 @@ mod PlainGates
 mod RaftExactly
 mod CoreMoves
 mod CoreEntries
-mod ExactTurns
