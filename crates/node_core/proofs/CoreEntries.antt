@@ -1,9 +1,9 @@
 -- What an entry, a leader's duties and an own snapshot make of what decides at a node.
 use Rattle.std.proofs.Common.{◌≡◌, ◌≢◌, ◌<◌, ◌≤◌, ◌-◌, ℕ, zero, suc, Bool, true, false, true≢false, cond, List, [], ◌∷◌, ◌++◌, length, drop, map, get_or, Option, Some, None, Ok, Err, Result, refl, sym, ap, subst, ◌∙◌, arith}
-use Rattle.std.specs.Prelude.{◌==◌, ◌&&◌, IfOk, OnOk, not, is_none, is_some}
+use Rattle.std.specs.Prelude.{◌==◌, ◌&&◌, ◌+◌, IfOk, OnOk, not, is_none, is_some, slice_index_or}
 use Rattle.std.specs.List.{list_all, slice_get}
 use Rattle.std.proofs.lemmas.Bool.{and_left, and_right, cases_Bool, cond-true, eqb-true, eq-eqb, ne_eqb}
-use Rattle.std.proofs.lemmas.List.{drop_at, length-replicate}
+use Rattle.std.proofs.lemmas.List.{drop_at, length-append, length-replicate}
 use Rattle.dq_base.specs.declared.pages.PageSet.{PageSet}
 use Rattle.page_apply.specs.declared.database.Database.{Database}
 use Rattle.page_apply.specs.Databases.{named, tx_pending}
@@ -53,6 +53,7 @@ use Rattle.node_core.specs.Exact as whole_turns
 use Rattle.node_core.specs.Exact.{LaterIf, EntryBy, MayCompact, CompactsBy}
 use Rattle.node_core.specs.ExactParts.{Answered, TakesBy, entered_shown, CompactsIf}
 use Rattle.node_core.specs.Values.{clients_in}
+use Rattle.node_core.proofs.ApplyingTurns.{entry_read}
 use Rattle.node_core.proofs.PlainGates.{applied_plain, told_plain}
 
 -- ---- an entry
@@ -70,6 +71,16 @@ made_by_entry (Err fault) old new entry stand is = tt
 -- what is held is the log behind the cut
 held_is : (h : NodeValue) → drop h.base (node_of h).log ≡ h.entries
 held_is h = drop_at (compacted h.snapshot h.base) h.entries h.base (length-replicate h.base _)
+
+-- the entry behind the applied ones, as the next index finds it
+pub next_found : (h : NodeValue) (applied index : ℕ) (e : Entry) → index ≡ suc applied → (h.base < index) × (index ≤ length (node_of h).log) → e ≡ slice_index_or h.entries (index - h.base - 1) e
+    → slice_get h.entries (applied - h.base) ≡ Some e
+next_found h applied index e is held found =
+    let long : length (node_of h).log ≡ length (compacted h.snapshot h.base) + length h.entries = length-append (compacted h.snapshot h.base) h.entries in
+    let cut : length (compacted h.snapshot h.base) ≡ h.base = length-replicate h.base _ in
+    let under : h.base < index = held.0 in
+    let within : index ≤ length (node_of h).log = held.1 in
+    entry_read h.entries index applied h.base e is (omega (arith, is, under)) (omega (arith, long, cut, under, within)) found
 
 next_entry : (n : Running) (entry : Entry) → slice_get n.replica.raft.entries (n.applied.index - n.replica.raft.base) ≡ Some entry → entry_at (core_of n) ≡ Some entry
 unfolding core_of
