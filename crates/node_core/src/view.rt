@@ -104,10 +104,17 @@ impl Running {
         ensures exact { OnOk result (core_of self.new ≡ looked (core_of self.old)) }
     {
         let raft = self.replica.view();
+        self.see(raft);
+        self.look_at_peers()
+    }
+
+    /// How Raft stands.
+    fn see(&mut self, raft: RaftView)
+        ensures { self.new ≡ record self.old { view = record self.old.view { leader = raft.leader; term = raft.term; last = raft.last.index } } }
+    {
         self.view.term = raft.term;
         self.view.last = raft.last.index;
         self.view.leader = raft.leader;
-        self.look_at_peers()
     }
 
     /// The peers whose log is known to reach a leader's last index.
@@ -133,8 +140,16 @@ impl Running {
         ensures serving { self.new.view.serving ≡ self.old.view.serving }
         ensures exact { OnOk result (core_of self.new ≡ showing_servers (core_of self.old)) }
     {
-        self.view.servers = copied(self.alloc, self.applied.servers.as_slice())?;
+        let servers = copied(self.alloc, self.applied.servers.as_slice())?;
+        self.show(servers);
         self.look()
+    }
+
+    /// These are the servers that it sees.
+    fn show(&mut self, servers: Servers)
+        ensures { self.new ≡ record self.old { view = record self.old.view { servers = servers } } }
+    {
+        self.view.servers = servers;
     }
 
     /// Whether it follows.
