@@ -1,5 +1,5 @@
 -- What an entry, a leader's duties and an own snapshot make of what decides at a node.
-use Rattle.std.proofs.Common.{◌≡◌, ◌≢◌, ◌<◌, ◌≤◌, ◌-◌, ℕ, zero, suc, Bool, true, false, true≢false, cond, List, [], ◌∷◌, ◌++◌, length, drop, map, get_or, Option, Some, None, Ok, Err, Result, refl, sym, ap, subst, ◌∙◌, arith}
+use Rattle.std.proofs.Common.{rules, deque_len, ◌≡◌, ◌≢◌, ◌<◌, ◌≤◌, ◌-◌, ℕ, zero, suc, Bool, true, false, true≢false, cond, List, [], ◌∷◌, ◌++◌, length, drop, map, get_or, Option, Some, None, Ok, Err, Result, refl, sym, ap, subst, ◌∙◌, arith}
 use Rattle.std.specs.Prelude.{◌==◌, ◌&&◌, ◌+◌, IfOk, OnOk, not, is_none, is_some, slice_index_or}
 use Rattle.std.specs.List.{list_all, slice_get}
 use Rattle.std.proofs.lemmas.Bool.{and_left, and_right, cases_Bool, cond-true, eqb-true, eq-eqb, ne_eqb}
@@ -228,19 +228,29 @@ due_none : (es : List RaftEvent) → (length es == 0) ≡ true → none_due es �
 due_none [] e = refl
 due_none (x ∷ es) e = absurd (cc (eqb-true (suc (length es)) 0 e))
 
-pub unsettled_due : (n : Running) → (length n.due.items == 0) ≡ false → false ≡ is_settled (core_of n)
+unsettled_due : (n : Running) → (length n.due.items == 0) ≡ false → false ≡ is_settled (core_of n)
 unsettled_due n e =
     sym (settled_core n ∙ and_left (none_due n.due.items && (n.applied.index == n.view.last)) (is_calm (machine_of n.applied.machine)) (and_left (none_due n.due.items) (n.applied.index == n.view.last) (due_some n.due.items e)))
+
+pub unsettled_queue : (n : Running) → (deque_len n.due == 0) ≡ false → false ≡ is_settled (core_of n)
+unsettled_queue n e =
+    let long : deque_len n.due ≡ length n.due.items = search rules in
+    unsettled_due n (ap (λ (k : ℕ). k == 0) (sym long) ∙ e)
 
 pub unsettled_last : (n : Running) → n.applied.index ≢ n.view.last → false ≡ is_settled (core_of n)
 unsettled_last n e =
     sym (settled_core n ∙ and_left (none_due n.due.items && (n.applied.index == n.view.last)) (is_calm (machine_of n.applied.machine)) (and_right (none_due n.due.items) (n.applied.index == n.view.last) (ne_eqb n.applied.index n.view.last e)))
 
-pub settled_if : (n : Running) (calm : Bool) → (length n.due.items == 0) ≡ true → n.applied.index ≡ n.view.last → calm ≡ is_calm (machine_of n.applied.machine) → calm ≡ is_settled (core_of n)
+settled_if : (n : Running) (calm : Bool) → (length n.due.items == 0) ≡ true → n.applied.index ≡ n.view.last → calm ≡ is_calm (machine_of n.applied.machine) → calm ≡ is_settled (core_of n)
 settled_if n calm idle all is =
     is
     ∙ (λ i. sym (due_none n.due.items idle) i && sym (eq-eqb n.applied.index n.view.last all) i && is_calm (machine_of n.applied.machine))
     ∙ sym (settled_core n)
+
+pub settled_queue : (n : Running) (calm : Bool) → (deque_len n.due == 0) ≡ true → n.applied.index ≡ n.view.last → calm ≡ is_calm (machine_of n.applied.machine) → calm ≡ is_settled (core_of n)
+settled_queue n calm e all is =
+    let long : deque_len n.due ≡ length n.due.items = search rules in
+    settled_if n calm (ap (λ (k : ℕ). k == 0) (sym long) ∙ e) all is
 
 -- ---- it serves
 
