@@ -1,5 +1,8 @@
+pub mod CellAnswers
 pub mod PlainAsking
 pub mod Unlinked
+pub mod SameEndings
+pub mod SameRequests
 pub mod SameAnswers
 pub mod SameSteps
 pub mod SameTurns

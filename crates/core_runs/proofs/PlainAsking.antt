@@ -175,7 +175,7 @@ handed_later_plain v m g conn s = refl
 -- ---- what comes of it
 
 -- a choice that is the same where both sides are
-both : (b : Bool) (x y u v : Turned) → plain_turned x ≡ plain_turned u → plain_turned y ≡ plain_turned v → plain_turned (cond b x y) ≡ plain_turned (cond b u v)
+pub both : (b : Bool) (x y u v : Turned) → plain_turned x ≡ plain_turned u → plain_turned y ≡ plain_turned v → plain_turned (cond b x y) ≡ plain_turned (cond b u v)
 both true x y u v p q = p
 both false x y u v p q = q
 
@@ -183,7 +183,7 @@ both false x y u v p q = q
 either : (b c : Bool) (x y u v : Turned) → b ≡ c → plain_turned x ≡ plain_turned u → plain_turned y ≡ plain_turned v → plain_turned (cond b x y) ≡ plain_turned (cond c u v)
 either b c x y u v e p q = ap (λ (d : Bool). plain_turned (cond d x y)) e ∙ both c x y u v p q
 
-unless_both : (o : Option Cause) (x u : Turned) → plain_turned x ≡ plain_turned u → plain_turned (unless o x) ≡ plain_turned (unless o u)
+pub unless_both : (o : Option Cause) (x u : Turned) → plain_turned x ≡ plain_turned u → plain_turned (unless o x) ≡ plain_turned (unless o u)
 unless_both None x u p = p
 unless_both (Some cause) x u p = refl
 

@@ -1,4 +1,4 @@
--- What comes of a request, and of a query that is run later, is the same by any answers of cells; and so are the answers.
+-- What comes of a query that is run later is the same by any answers of cells; and so are the answers to it, and to a request.
 use Rattle.std.proofs.Common.{◌≡◌, ℕ, suc, Bool, true, false, List, [], ◌∷◌, length, map, Ok, Err, Option, Some, None, inl, inr, arith, refl, sym, ap, ◌∙◌, subst}
 use Rattle.std.specs.List.{AllByRecursion}
 use Rattle.std.proofs.lemmas.Bool.{cases_Bool, cond-true, cond-false}
@@ -12,56 +12,17 @@ use Rattle.page_apply.specs.Files.{image_after}
 use Rattle.session_rules.specs.Causes.{NotLeader}
 use Rattle.session_rules.specs.Machine.{Machine}
 use Rattle.session_rules.specs.Engines.{Answer, Handed, Lacking, TooLarge, takes, no_answer, runs, used, used_for, AllowsAll, AllowsFor}
-use Rattle.session_rules.specs.Sessions.{Reply, Refusal, Single, Rows, Kind, Opening, Configuring, Writing, Committing, Querying, Flight, Transaction, Session, Gateway, View, Turned, Refused, Lacks, Answers, Proposes, Lends, Affects}
+use Rattle.session_rules.specs.Sessions.{Transaction, Session, Gateway, View, Refused}
 use Rattle.session_rules.specs.Asking.{Asked, Never, Tells, Sets, Opens, Creates, Prepares, Drops, Begins, Commits, RollsBack, Changes, Runs, Reads, asked}
 use Rattle.session_rules.specs.Requests.{run_in, read_in, waits_first, barrier_first, does, on_request, on_later, ground, handed_over, handed_for, handed, handed_later}
 use Rattle.session_world.specs.Alone.{lacks}
-use Rattle.node_core.specs.Plain.{plain_ran, plain_reply, plain_kind, plain_flight, plain_session}
-use Rattle.cell_runs.specs.Ample.{IsAmple}
-use Rattle.cell_runs.proofs.CellAnswers.{answer_same, rest_of}
-use Rattle.cell_runs.proofs.Unnumbered as cells
-use Rattle.cell_runs.proofs.Asking.{outside_lacks, inside_lacks, read_lacks, run_same, request_same}
-use Rattle.core_runs.specs.Decided.{plain_answer}
+use Rattle.node_core.specs.Plain.{plain_ran}
+use Rattle.core_runs.specs.Decided.{IsAmple, plain_answer}
+use Rattle.core_runs.proofs.CellAnswers.{answer_same, rest_of}
+use Rattle.core_runs.proofs.SameRequests.{outside_lacks, inside_lacks, read_lacks, run_same}
 use Rattle.core_runs.proofs.PlainAsking.{plain_turned}
 
--- ---- the two plain forms are one
-
-reply_one : (r : Reply) → cells.plain_reply r ≡ plain_reply r
-reply_one (Refusal cause) = refl
-reply_one (Single response) = refl
-reply_one (Rows answer) = refl
-
-kind_one : (k : Kind) → cells.plain_kind k ≡ plain_kind k
-kind_one Opening = refl
-kind_one Configuring = refl
-kind_one (Writing reply) = ap (λ (r : Reply). Writing r) (reply_one reply)
-kind_one Committing = refl
-kind_one (Querying statement) = refl
-
-flight_one : (o : Option Flight) → cells.plain_flight o ≡ plain_flight o
-flight_one None = refl
-flight_one (Some f) = ap (λ (k : Kind). Some (record { name = f.name; first = f.first; last = f.last; term = f.term; pages = f.pages; kind = k })) (kind_one f.kind)
-
-session_one : (s : Session) → cells.plain_session s ≡ plain_session s
-session_one s = ap (λ (o : Option Flight). record { there = s.there; hung = s.hung; database = s.database; barriers = s.barriers; later = s.later; statements = s.statements; tx = s.tx; flight = o }) (flight_one s.flight)
-
-turned_one : (t : Turned) → cells.plain_turned t ≡ plain_turned t
-turned_one (Refused cause) = refl
-turned_one Lacks = refl
-turned_one (Answers s reply note) = λ i. Answers (session_one s i) (reply_one reply i) note
-turned_one (Proposes s contents note) = λ i. Proposes (session_one s i) contents note
-turned_one (Lends s job) = λ i. Lends (session_one s i) job
-turned_one (Affects effect) = refl
-
-turned_too : (t u : Turned) → cells.plain_turned t ≡ cells.plain_turned u → plain_turned t ≡ plain_turned u
-turned_too t u e = sym (turned_one t) ∙ e ∙ turned_one u
-
--- ---- what comes of it
-
-pub asked_same : (v : View) (m : Machine) (g : Gateway) (conn : ℕ) (r : Request) (a b : List Answer)
-    → AllowsFor cells Cells (handed v m g conn r) a → AllowsFor cells Cells (handed v m g conn r) b → AllByRecursion IsAmple a → AllByRecursion IsAmple b
-    → lacks (on_request v m g conn r a) ≡ false → lacks (on_request v m g conn r b) ≡ false → plain_turned (on_request v m g conn r a) ≡ plain_turned (on_request v m g conn r b)
-asked_same v m g conn r a b p q n k x y = turned_too (on_request v m g conn r a) (on_request v m g conn r b) (request_same v m g conn r a b p q n k x y)
+-- ---- what comes of a query that is run later
 
 pub later_same : (v : View) (m : Machine) (g : Gateway) (conn : ℕ) (q : Statement) (a b : List Answer)
     → AllowsFor cells Cells (handed_later v m g conn q) a → AllowsFor cells Cells (handed_later v m g conn q) b → AllByRecursion IsAmple a → AllByRecursion IsAmple b
@@ -75,8 +36,7 @@ later_same v m g conn q a b p r n k x y =
           let one = cond-true v.serving (run_in v m g conn s s.tx (q ∷ []) true a) (Refused NotLeader) on in
           let other = cond-true v.serving (run_in v m g conn s s.tx (q ∷ []) true b) (Refused NotLeader) on in
           ap plain_turned one
-          ∙ turned_too (run_in v m g conn s s.tx (q ∷ []) true a) (run_in v m g conn s s.tx (q ∷ []) true b)
-          (run_same v m g conn a b s s.tx (q ∷ []) true (subst (λ (o : Option Handed). AllowsFor cells Cells o a) over p) (subst (λ (o : Option Handed). AllowsFor cells Cells o b) over r) n k (sym (ap lacks one) ∙ x) (sym (ap lacks other) ∙ y))
+          ∙ run_same v m g conn a b s s.tx (q ∷ []) true (subst (λ (o : Option Handed). AllowsFor cells Cells o a) over p) (subst (λ (o : Option Handed). AllowsFor cells Cells o b) over r) n k (sym (ap lacks one) ∙ x) (sym (ap lacks other) ∙ y)
           ∙ sym (ap plain_turned other)
       | inr off ↦ ap plain_turned (cond-false v.serving (run_in v m g conn s s.tx (q ∷ []) true a) (Refused NotLeader) off ∙ sym (cond-false v.serving (run_in v m g conn s s.tx (q ∷ []) true b) (Refused NotLeader) off))
     ]

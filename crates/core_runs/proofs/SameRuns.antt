@@ -17,8 +17,7 @@ use Rattle.node_core.specs.declared.event.Event.TheVariants as events
 use Rattle.node_core.specs.Core.{Core, core_of, joined_by, heard_by, gone_by, silent}
 use Rattle.node_core.specs.Exact.{RunsIn, BeginsBy}
 use Rattle.node_core.specs.ExactStart.{started}
-use Rattle.cell_runs.specs.Ample.{IsAmple}
-use Rattle.core_runs.specs.Decided.{plain_answer, IsAlone, IsUnread, StepsAreDecided, StartsAreDecided, KeptIsOfCore}
+use Rattle.core_runs.specs.Decided.{IsAmple, plain_answer, IsAlone, IsUnread, StepsAreDecided, StartsAreDecided, KeptIsOfCore}
 use Rattle.core_runs.proofs.SameSteps.{raft_same, raft_beside, beside}
 use Rattle.core_runs.proofs.SameTurns.{AreAlike, turn_same, turn_alone, alone_of}
 

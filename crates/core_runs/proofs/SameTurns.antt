@@ -28,10 +28,10 @@ use Rattle.node_core.specs.declared.links.Link.{Link}
 use Rattle.node_core.specs.Plain.{plain_gate}
 use Rattle.node_core.specs.Core.{Core, clients_at, entry_done, is_settled, owing, waiting, duty_of, dutiful, replied, taking, idle, closed_for}
 use Rattle.node_core.specs.Exact.{TurnsTo, AskedBy, MessageBy, resuming, LaterBy, LaterIf, EntryBy, MayCompact, CompactsBy, OnHeard, OnOffer, OnQuery, OnCommit, OnDue, TurnBy}
-use Rattle.cell_runs.specs.Ample.{IsAmple}
-use Rattle.core_runs.specs.Decided.{plain_answer, IsAlone}
+use Rattle.core_runs.specs.Decided.{IsAmple, plain_answer, IsAlone}
 use Rattle.core_runs.proofs.PlainAsking.{plain_turned, session_twice, responses_plain, handed_plain, handed_later_plain, request_plain, later_plain, without_plain}
-use Rattle.core_runs.proofs.SameAnswers.{asked_same, later_same, asked_alike, later_alike}
+use Rattle.core_runs.proofs.SameRequests.{asked_same}
+use Rattle.core_runs.proofs.SameAnswers.{later_same, asked_alike, later_alike}
 use Rattle.core_runs.proofs.SameSteps.{own_same, compacts_same, beside, own_beside, compacts_beside}
 use Rattle.core_runs.proofs.Unlinked.{IsTold, request_told, later_told}
 

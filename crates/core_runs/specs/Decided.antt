@@ -1,6 +1,7 @@
 -- With the engine of cells the step of a whole node is decided by what was before it.
-use Rattle.std.specs.Prelude.{◌≡◌, ℕ, false, List, [], map, Ok, Err}
+use Rattle.std.specs.Prelude.{◌≡◌, ◌≢◌, ℕ, false, List, [], map, Ok, Err}
 use Rattle.std.specs.List.{AllByRecursion}
+use Rattle.sql_engine.specs.declared.fault.EngineFault.TheVariants.{NoMemory}
 use Rattle.sql_engine.specs.declared.kind.EngineKind.TheVariants.{Cells}
 use Rattle.sql_engine.specs.Cells.{cells}
 use Rattle.session_rules.specs.Engines.{Answer}
@@ -16,7 +17,10 @@ use Rattle.node_core.specs.Core.{Core, core_of}
 use Rattle.node_core.specs.Exact.{StepsExactly}
 use Rattle.node_core.specs.ExactStart.{StartsExactly}
 use Rattle.node_replica.specs.Replicas.{kept_of}
-use Rattle.cell_runs.specs.Ample.{IsAmple}
+
+-- the engine did not want memory
+abbrev pub IsAmple : Answer → Type 0
+IsAmple answer = answer ≢ Err NoMemory
 
 -- an answer without the number of the transaction that its pages are told under
 abbrev pub plain_answer : Answer → Answer

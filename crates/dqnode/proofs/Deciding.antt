@@ -8,14 +8,15 @@ use Rattle.sql_engine.specs.declared.kind.EngineKind.TheVariants.{Cells}
 use Rattle.sql_engine.specs.Cells.{cells}
 use Rattle.script_nodes.specs.Knowing.{with_over}
 use Rattle.script_nodes.specs.Outcomes.{Outcome, Item, Turn}
-use Rattle.script_nodes.specs.Run.{Fault}
-use Rattle.script_runner.specs.Run.{run, printed}
+use Rattle.script_nodes.specs.Run.{Fault, fault_text}
+use Rattle.script_runner.specs.Run.{Run, run, text_of, printed}
 use Rattle.script_runner.specs.Ending.{Anything, MayFollow}
 use Rattle.script_runs.specs.Mails.{ByNodes, OverByNode}
 use Rattle.script_runs.specs.Seats.{setup_of}
 use Rattle.script_repeats.specs.Nodes.{GoesWell}
-use Rattle.script_repeats.specs.Repeats.{IsWhole, StartWith}
-use Rattle.cell_scripts.specs.Decided.{IsOfCells, BrokeOffCells, CellBrokenRepeat, CellScriptsRepeat}
+use Rattle.script_repeats.specs.Plain.{plain_items, plain_turns}
+use Rattle.script_repeats.specs.Repeats.{AreAlike, Compared, Same, Shorter, Longer, IsWhole, StartWith}
+use Rattle.cell_scripts.specs.Decided.{IsOfCells, BrokeOffCells, CellBrokenRepeat, CellScriptsCompare}
 use Rattle.dqnode.specs.Program.{BreaksOff, Gives}
 use Rattle.dqnode.specs.Decided.{WentWell, BrokeWell, WroteSame, WroteFront, BrokenDecideBy, ScriptsDecide, BrokenScriptsDecide}
 
@@ -34,19 +35,33 @@ module _ (fault : Option Fault) (journal : List Item) (left left' written writte
   is_whole : IsWhole (run (gives.read ++ rest) (gives.outcomes ++ [])).fault
   is_whole = subst IsWhole (sym (gives.ends rest may [])) well.whole
 
-pub scripts_decide : CellScriptsRepeat → ScriptsDecide
-scripts_decide repeat fault other journal items left left' written written' from from' shown shown' one also well fine rest more may follows same =
+-- two runs that are whole are alike
+whole_alike : (one other : Run) → Compared one other → IsWhole one.fault → IsWhole other.fault → AreAlike one other
+whole_alike one other (Same s) whole also = s
+whole_alike one other (Shorter s) whole also = absurd (whole s.early)
+whole_alike one other (Longer s) whole also = absurd (also s.early)
+
+pub scripts_decide : CellScriptsCompare → ScriptsDecide
+scripts_decide compare fault other journal items left left' written written' from from' shown shown' one also well fine rest more may follows same =
     let script = one.read ++ rest in
     let moved : IsOfCells script (also.outcomes ++ []) =
     subst (λ (bytes : List ℕ). IsOfCells bytes (also.outcomes ++ [])) (sym same) (of_cells other items from from' shown shown' also fine more follows) in
     let whole : IsWhole (run script (also.outcomes ++ [])).fault =
     subst (λ (bytes : List ℕ). IsWhole (run bytes (also.outcomes ++ [])).fault) (sym same) (is_whole other items from from' shown shown' also fine more follows) in
-    let both = repeat script (one.outcomes ++ []) (also.outcomes ++ []) (of_cells fault journal left left' written written' one well rest may) moved (is_whole fault journal left left' written written' one well rest may) whole in
+    let both : AreAlike (run script (one.outcomes ++ [])) (run script (also.outcomes ++ [])) =
+    whole_alike (run script (one.outcomes ++ [])) (run script (also.outcomes ++ []))
+    (compare script (one.outcomes ++ []) (also.outcomes ++ []) (of_cells fault journal left left' written written' one well rest may) moved)
+    (is_whole fault journal left left' written written' one well rest may) whole in
+    let texts : printed (run script (one.outcomes ++ [])) ≡ printed (run script (also.outcomes ++ [])) = λ i. text_of (both.said i) ++ fault_text (both.fault i) in
     record {
       text = printed (run script (one.outcomes ++ []));
       one = one.text rest may [];
-      also = subst (Appends shown shown') (ap (λ (bytes : List ℕ). printed (run bytes (also.outcomes ++ []))) (sym same) ∙ sym both.0) (also.text more follows []);
-      faults = sym (one.ends rest may []) ∙ both.1 ∙ ap (λ (bytes : List ℕ). (run bytes (also.outcomes ++ [])).fault) same ∙ also.ends more follows [];
+      also = subst (Appends shown shown') (ap (λ (bytes : List ℕ). printed (run bytes (also.outcomes ++ []))) (sym same) ∙ sym texts) (also.text more follows []);
+      faults = sym (one.ends rest may []) ∙ both.fault ∙ ap (λ (bytes : List ℕ). (run bytes (also.outcomes ++ [])).fault) same ∙ also.ends more follows [];
+      came = ap plain_turns (sym (one.has rest may [])) ∙ both.turns ∙ ap (λ (bytes : List ℕ). plain_turns (run bytes (also.outcomes ++ [])).turns) same ∙ ap plain_turns (also.has more follows []);
+      noted =
+          ap plain_items (sym (one.notes rest may [])) ∙ both.journal ∙ ap (λ (bytes : List ℕ). plain_items (run bytes (also.outcomes ++ [])).journal) same
+          ∙ ap plain_items (also.notes more follows []);
     }
 
 -- ---- one that broke off

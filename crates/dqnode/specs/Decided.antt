@@ -5,10 +5,11 @@ use Rattle.std.specs.Io.KnownBytes.{Appends}
 use Rattle.dq_base.specs.Sink.{AppendsFront}
 use Rattle.sql_engine.specs.declared.kind.EngineKind.TheVariants.{Cells}
 use Rattle.script_nodes.specs.Knowing.{with_over}
-use Rattle.script_nodes.specs.Outcomes.{Item}
+use Rattle.script_nodes.specs.Outcomes.{Item, Turn}
 use Rattle.script_nodes.specs.Run.{Fault}
 use Rattle.script_places.specs.Safe.{IsFairTo, IsFairOver}
 use Rattle.script_repeats.specs.Nodes.{GoesWell}
+use Rattle.script_repeats.specs.Plain.{plain_items, plain_turns}
 use Rattle.script_repeats.specs.Repeats.{IsWhole}
 use Rattle.script_runner.specs.Ending.{Anything, MayFollow}
 use Rattle.dqnode.specs.Program.{BreaksOff, Gives}
@@ -29,12 +30,16 @@ pub record BrokeWell {follows : List ℕ → Type 0} {left left' written written
   pub fair_last : IsFairOver Cells breaks.nodes.voters breaks.turns breaks.over breaks.nodes.last
   pub well : AllByRecursion GoesWell (with_over breaks.turns breaks.over)
 
--- The same text was written behind what was written before, and the faults are the same.
-pub record WroteSame (fault other : Option Fault) (written written' shown shown' : Option (List ℕ)) : Type 0 where
+-- The same text was written behind what was written before, and the faults are the same. So is what happened at nodes, with what came of it,
+-- and what is noted, but for the numbers of transactions.
+pub record WroteSame (fault other : Option Fault) (turns others : List Turn) (journal items : List Item) (written written' shown shown' : Option (List ℕ))
+    : Type 0 where
   pub text : List ℕ
   pub one : Appends written written' text
   pub also : Appends shown shown' text
   pub faults : fault ≡ other
+  pub came : plain_turns turns ≡ plain_turns others
+  pub noted : plain_items journal ≡ plain_items items
 
 -- So it is of two calls that ran one script, from the same bytes and whatever may follow those that they read, where all went well in both.
 abbrev pub ScriptsDecide : Type 0
@@ -42,7 +47,7 @@ ScriptsDecide =
     (fault other : Option Fault) (journal items : List Item) (left left' written written' from from' shown shown' : Option (List ℕ))
     (one : Gives Cells fault journal left left' written written') (also : Gives Cells other items from from' shown shown') →
     WentWell one → WentWell also → (rest more : List ℕ) → MayFollow left' rest → MayFollow from' more → one.read ++ rest ≡ also.read ++ more →
-    WroteSame fault other written written' shown shown'
+    WroteSame fault other one.turns also.turns journal items written written' shown shown'
 
 -- The one wrote a front of the text that the other wrote behind what was written before.
 pub record WroteFront (written written' shown shown' : Option (List ℕ)) : Type 0 where

@@ -219,9 +219,10 @@ pub fn dqnode<S: Source, K: Sink, D: Disk, N: Dialer, H: Host<Read>, W: Notes>(
     ensures safe { IsScript (asks_for words.now) → RunsWith (asks_for words.now) (λ kind. RunsSafely kind (S.left input.old) (S.left input.new)) }
     // So is the run of every script where what came of its events is what whole nodes do.
     ensures always_safe { RunsAreSafe }
-    // With an engine of cells a script alone decides what is written and how it ends: two calls that ran one script wrote the same behind what
-    // was there, and named the same fault, where in both no call of a disk stopped or failed, and no checksum matched by chance in what a
-    // start found.
+    // With an engine of cells a script alone decides what comes of its events, what is written and how it ends: in two calls that ran one script
+    // the same happened at nodes and was noted, but for the numbers of transactions, the same was written behind what was there, and the
+    // fault is the same, where in both no call of a disk stopped or failed, no engine wanted memory, and no checksum matched by chance in what
+    // a start found.
     ensures determined { ScriptsDecide }
     // And one that broke off, by a fault of the outside or for want of memory, wrote a front of what another one wrote.
     ensures determined_front { BrokenScriptsDecide }

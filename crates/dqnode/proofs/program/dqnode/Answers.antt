@@ -2,7 +2,7 @@ use Rattle.std.proofs.Common.{◌⊎◌, inl, Option, ◌∙◌, sym, subst}
 use Rattle.program_words.specs.declared.asked.Asked.{Asked}
 use Rattle.script_runner.proofs.Agreement.{keeps_alike}
 use Rattle.dqnode.specs.Asks.{IsScript, IsRun, IsStatement, IsCheck, IsServed}
-use Rattle.cell_scripts.proofs.Deciding.{cells_broken, cells_repeat}
+use Rattle.cell_scripts.proofs.Deciding.{cells_broken, cells_compare}
 use Rattle.dqnode.proofs.Deciding.{broken_scripts_decide, scripts_decide}
 use Rattle.dqnode.proofs.Endings.{runs_are_safe}
 use Rattle.dqnode.proofs.program.dqnode.Goals as goal
@@ -60,10 +60,10 @@ pub returns-in-Err-clause-alike : goal.returns-in-Err-clause-alike
 returns-in-Err-clause-alike g c = keeps_alike
 
 pub returns-in-Ok-clause-determined : goal.returns-in-Ok-clause-determined
-returns-in-Ok-clause-determined g c = scripts_decide cells_repeat
+returns-in-Ok-clause-determined g c = scripts_decide cells_compare
 
 pub returns-in-Err-clause-determined : goal.returns-in-Err-clause-determined
-returns-in-Err-clause-determined g c = scripts_decide cells_repeat
+returns-in-Err-clause-determined g c = scripts_decide cells_compare
 
 pub returns-in-Ok-clause-determined_front : goal.returns-in-Ok-clause-determined_front
 returns-in-Ok-clause-determined_front g c = broken_scripts_decide cells_broken

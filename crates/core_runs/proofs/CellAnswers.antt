@@ -15,17 +15,15 @@ use Rattle.sql_engine.specs.Meanings.{Answers, Faults, Refusal, constraint, sql,
 use Rattle.sql_engine.specs.Cells.{Outcome, outcome_of, cells}
 use Rattle.page_apply.specs.Files.{image_after}
 use Rattle.session_rules.specs.Engines.{Answer, Ending, Lacking, TooLarge, Stopped, Ended, takes, runs, Allows, AllowsRest, AllowsAll}
-use Rattle.cell_runs.specs.Ample.{IsAmple}
+use Rattle.node_core.specs.Plain.{plain_ran}
+use Rattle.core_runs.specs.Decided.{IsAmple}
 
--- an answer whose pages are for no transaction
-abbrev pub unnumbered : Ran → Ran
-unnumbered ran = record { after = record { tx = 0; pages = ran.after.pages }; affected = ran.affected; columns = ran.columns; rows = ran.rows }
-
-abbrev pub unnumbered_end : Ending → Ending
-unnumbered_end Lacking = Lacking
-unnumbered_end (TooLarge ran) = TooLarge (unnumbered ran)
-unnumbered_end (Stopped fault) = Stopped fault
-unnumbered_end (Ended to ran) = Ended to (unnumbered ran)
+-- an ending without the number of the transaction that its pages are told under
+abbrev pub plain_end : Ending → Ending
+plain_end Lacking = Lacking
+plain_end (TooLarge ran) = TooLarge (plain_ran ran)
+plain_end (Stopped fault) = Stopped fault
+plain_end (Ended to ran) = Ended to (plain_ran ran)
 
 -- ---- one answer
 
@@ -80,12 +78,12 @@ none_some f e = cc
 
 -- the answers say the same
 abbrev pub IsSame : Answer → Answer → Type 0
-IsSame (Ok a) (Ok b) = unnumbered a ≡ unnumbered b
+IsSame (Ok a) (Ok b) = plain_ran a ≡ plain_ran b
 IsSame (Ok a) (Err f) = ⊥
 IsSame (Err f) (Ok b) = ⊥
 IsSame (Err f) (Err g) = f ≡ g
 
-ran_same : (i : Image) (s : Statement) (a b : Ran) (tx tx' : ℕ) → Answers cells i s tx a → Answers cells i s tx' b → unnumbered a ≡ unnumbered b
+ran_same : (i : Image) (s : Statement) (a b : Ran) (tx tx' : ℕ) → Answers cells i s tx a → Answers cells i s tx' b → plain_ran a ≡ plain_ran b
 ran_same i s a b tx tx' p q =
     let e = outcome_ok i s (record { after = p.after; reply = reply_of a }) (record { after = q.after; reply = reply_of b }) p.runs q.runs in
     let pages : a.after.pages ≡ b.after.pages = ap (λ set. set.pages) p.pages ∙ ap (λ (o : Outcome). changed i o.after) e ∙ sym (ap (λ set. set.pages) q.pages) in
@@ -108,9 +106,9 @@ answer_same i s (Err f) (Err g) p q m n = some_same f g (sym (fault_known i s f 
 pub rest_of : (b : Bool) (P : Type 0) → b ≡ true → AllowsRest b P → P
 rest_of b P e h = subst (λ (c : Bool). AllowsRest c P) e h
 
-pub runs_same : (ss : List Statement) (i : Image) (last other : Ran) (a b : List Answer) → unnumbered last ≡ unnumbered other
+pub runs_same : (ss : List Statement) (i : Image) (last other : Ran) (a b : List Answer) → plain_ran last ≡ plain_ran other
     → AllowsAll cells Cells i ss a → AllowsAll cells Cells i ss b → AllByRecursion IsAmple a → AllByRecursion IsAmple b
-    → (runs i last ss a ≡ Lacking → ⊥) → (runs i other ss b ≡ Lacking → ⊥) → unnumbered_end (runs i last ss a) ≡ unnumbered_end (runs i other ss b)
+    → (runs i last ss a ≡ Lacking → ⊥) → (runs i other ss b ≡ Lacking → ⊥) → plain_end (runs i last ss a) ≡ plain_end (runs i other ss b)
 unfolding runs
 runs_same [] i last other a b e p q m n x y = ap (λ (r : Ran). Ended i r) e
 runs_same (s ∷ ss) i last other [] b e p q m n x y = absurd (x refl)
@@ -120,7 +118,7 @@ runs_same (s ∷ ss) i last other (Ok r ∷ a) (Err g ∷ b) e p q m n x y = abs
 runs_same (s ∷ ss) i last other (Err f ∷ a) (Ok t ∷ b) e p q m n x y = absurd (answer_same i s (Err f) (Ok t) p q.0 m.0 n.0)
 runs_same (s ∷ ss) i last other (Err f ∷ a) (Err g ∷ b) e p q m n x y = ap (λ (h : EngineFault). Stopped h) (answer_same i s (Err f) (Err g) p q m.0 n.0)
 runs_same (s ∷ ss) i last other (Ok r ∷ a) (Ok t ∷ b) e p q m n x y =
-    let same : unnumbered r ≡ unnumbered t = answer_same i s (Ok r) (Ok t) p.0 q.0 m.0 n.0 in
+    let same : plain_ran r ≡ plain_ran t = answer_same i s (Ok r) (Ok t) p.0 q.0 m.0 n.0 in
     let pages : r.after.pages ≡ t.after.pages = ap (λ (u : Ran). u.after.pages) same in
     elim (cases_Bool (takes r.after.pages)) [
       | inl taken ↦
@@ -129,13 +127,13 @@ runs_same (s ∷ ss) i last other (Ok r ∷ a) (Ok t ∷ b) e p q m n x y =
           let two = cond-true (takes t.after.pages) (runs (image_after i t.after.pages) t ss b) (TooLarge t) also in
           let there : AllowsAll cells Cells (image_after i r.after.pages) ss b = subst (λ ps. AllowsAll cells Cells (image_after i ps) ss b) (sym pages) (rest_of (takes t.after.pages) (AllowsAll cells Cells (image_after i t.after.pages) ss b) also q.1) in
           let moved : runs (image_after i r.after.pages) t ss b ≡ runs (image_after i t.after.pages) t ss b = ap (λ ps. runs (image_after i ps) t ss b) pages in
-          ap unnumbered_end one
+          ap plain_end one
           ∙ runs_same ss (image_after i r.after.pages) r t a b same (rest_of (takes r.after.pages) (AllowsAll cells Cells (image_after i r.after.pages) ss a) taken p.1) there m.1 n.1 (λ l. x (one ∙ l)) (λ l. y (two ∙ sym moved ∙ l))
-          ∙ ap unnumbered_end moved
-          ∙ sym (ap unnumbered_end two)
+          ∙ ap plain_end moved
+          ∙ sym (ap plain_end two)
       | inr refused ↦
           let also : takes t.after.pages ≡ false = ap takes (sym pages) ∙ refused in
-          ap unnumbered_end (cond-false (takes r.after.pages) (runs (image_after i r.after.pages) r ss a) (TooLarge r) refused)
+          ap plain_end (cond-false (takes r.after.pages) (runs (image_after i r.after.pages) r ss a) (TooLarge r) refused)
           ∙ ap (λ (u : Ran). TooLarge u) same
-          ∙ sym (ap unnumbered_end (cond-false (takes t.after.pages) (runs (image_after i t.after.pages) t ss b) (TooLarge t) also))
+          ∙ sym (ap plain_end (cond-false (takes t.after.pages) (runs (image_after i t.after.pages) t ss b) (TooLarge t) also))
     ]

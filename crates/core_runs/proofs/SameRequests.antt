@@ -16,66 +16,10 @@ use Rattle.session_rules.specs.Sessions.{Lent, Gateway, Session, Transaction, Vi
 use Rattle.session_rules.specs.Asking.{Asked, Never, Tells, Sets, Opens, Creates, Prepares, Drops, Begins, Commits, RollsBack, Changes, Runs, Reads, asked}
 use Rattle.session_rules.specs.Requests.{with_later, outside, inside, run_in, waits_first, barrier_first, job_of, read_outside, read_in, does, on_request, ground, handed_over, handed_for, handed}
 use Rattle.session_world.specs.Alone.{lacks}
-use Rattle.cell_runs.specs.Ample.{IsAmple}
-use Rattle.cell_runs.proofs.CellAnswers.{runs_same}
-use Rattle.cell_runs.proofs.Unnumbered.{plain_turned, outside_same, inside_same, read_same}
-
--- ---- answers behind those that are used
-
-taken_runs : (ss : List Statement) (i : Image) (last : Ran) (journal : List Answer) → runs i last ss (take (used i ss journal) journal) ≡ runs i last ss journal
-unfolding runs used
-taken_runs [] i last journal = refl
-taken_runs (s ∷ ss) i last [] = refl
-taken_runs (s ∷ ss) i last (Err fault ∷ journal) = refl
-taken_runs (s ∷ ss) i last (Ok ran ∷ journal) =
-    elim (cases_Bool (takes ran.after.pages)) [
-      | inl taken ↦
-          let to = image_after i ran.after.pages in
-          ap (λ (n : ℕ). cond (takes ran.after.pages) (runs to ran ss (take n journal)) (TooLarge ran)) (cond-true (takes ran.after.pages) (used to ss journal) 0 taken)
-          ∙ ap (λ (e : Ending). cond (takes ran.after.pages) e (TooLarge ran)) (taken_runs ss to ran journal)
-      | inr refused ↦
-          let to = image_after i ran.after.pages in
-          cond-false (takes ran.after.pages) (runs to ran ss (take (cond (takes ran.after.pages) (used to ss journal) 0) journal)) (TooLarge ran) refused
-          ∙ sym (cond-false (takes ran.after.pages) (runs to ran ss journal) (TooLarge ran) refused)
-    ]
-
-taken_in : (v : View) (m : Machine) (g : Gateway) (conn : ℕ) (s : Session) (o : Option Transaction) (ss : List Statement) (rows : Bool) (journal : List Answer) → run_in v m g conn s o ss rows (take (used (ground m s o) ss journal) journal) ≡ run_in v m g conn s o ss rows journal
-taken_in v m g conn s None ss rows journal = ap (outside v m g conn s ss rows) (taken_runs ss (m.base s.database).image no_answer journal)
-taken_in v m g conn s (Some x) ss rows journal = ap (inside m g conn s x ss rows) (taken_runs ss x.working no_answer journal)
-
-taken_read : (v : View) (m : Machine) (g : Gateway) (conn : ℕ) (s : Session) (o : Option Transaction) (statement : Statement) (journal : List Answer) → read_in v m g conn s o statement (take (used (ground m s o) (statement ∷ []) journal) journal) ≡ read_in v m g conn s o statement journal
-taken_read v m g conn s None statement journal = ap (read_outside v m g conn s statement) (taken_runs (statement ∷ []) (m.base s.database).image no_answer journal)
-taken_read v m g conn s (Some x) statement journal = taken_in v m g conn s (Some x) (statement ∷ []) true journal
-
-taken_does : (v : View) (m : Machine) (g : Gateway) (conn : ℕ) (s : Session) (x : Asked) (journal : List Answer) → does v m g conn s x (take (used_for (handed_for m s x) journal) journal) ≡ does v m g conn s x journal
-unfolding does
-taken_does v m g conn s (Never cause) journal = refl
-taken_does v m g conn s (Tells response) journal = refl
-taken_does v m g conn s (Sets effect) journal = refl
-taken_does v m g conn s (Opens name barriers) journal = refl
-taken_does v m g conn s (Creates name barriers) journal = refl
-taken_does v m g conn s (Prepares p tail) journal = refl
-taken_does v m g conn s (Drops id) journal = refl
-taken_does v m g conn s (Begins at_once) journal = refl
-taken_does v m g conn s Commits journal = refl
-taken_does v m g conn s RollsBack journal = refl
-taken_does v m g conn s (Changes servers) journal = refl
-taken_does v m g conn s (Runs ss) journal = taken_in v m g conn s s.tx ss false journal
-taken_does v m g conn s (Reads statement) journal = elim (cases_Bool (waits_first s)) [
-  | inl waits ↦ cond-true (waits_first s) (barrier_first v s statement) _ waits ∙ sym (cond-true (waits_first s) (barrier_first v s statement) _ waits)
-  | inr goes ↦
-      cond-false (waits_first s) (barrier_first v s statement) _ goes
-      ∙ ap (λ (o : Option Handed). read_in v m g conn s s.tx statement (take (used_for o journal) journal)) (cond-false (waits_first s) None _ goes)
-      ∙ taken_read v m g conn s s.tx statement journal
-      ∙ sym (cond-false (waits_first s) (barrier_first v s statement) _ goes)
-]
-
--- what comes of a request rests on the answers that it uses
-pub taken_request : (v : View) (m : Machine) (g : Gateway) (conn : ℕ) (request : Request) (journal : List Answer) → on_request v m g conn request (take (used_for (handed v m g conn request) journal) journal) ≡ on_request v m g conn request journal
-unfolding on_request handed
-taken_request v m g conn request journal = taken_does v m g conn (g.session conn) (asked v m g conn request) journal
-
--- ---- answers of cells
+use Rattle.core_runs.specs.Decided.{IsAmple}
+use Rattle.core_runs.proofs.CellAnswers.{runs_same}
+use Rattle.core_runs.proofs.PlainAsking.{plain_turned}
+use Rattle.core_runs.proofs.SameEndings.{outside_same, inside_same, read_same}
 
 yes_no : true ≡ false → ⊥
 yes_no e = cc
@@ -144,9 +88,9 @@ module _ (v : View) (m : Machine) (g : Gateway) (conn : ℕ) (a b : List Answer)
   ]
 
 -- A request comes to the same by any answers of cells that are enough, but for the numbers of transactions.
-pub request_same : (v : View) (m : Machine) (g : Gateway) (conn : ℕ) (request : Request) (a b : List Answer)
+pub asked_same : (v : View) (m : Machine) (g : Gateway) (conn : ℕ) (request : Request) (a b : List Answer)
     → AllowsFor cells Cells (handed v m g conn request) a → AllowsFor cells Cells (handed v m g conn request) b → AllByRecursion IsAmple a → AllByRecursion IsAmple b
     → lacks (on_request v m g conn request a) ≡ false → lacks (on_request v m g conn request b) ≡ false
     → plain_turned (on_request v m g conn request a) ≡ plain_turned (on_request v m g conn request b)
 unfolding on_request handed
-request_same v m g conn request a b p q n k l r = does_same v m g conn a b (g.session conn) (asked v m g conn request) p q n k l r
+asked_same v m g conn request a b p q n k l r = does_same v m g conn a b (g.session conn) (asked v m g conn request) p q n k l r
