@@ -21,7 +21,7 @@ ELSEWHERE = re.compile(r"/.*|out/.*|(.*[/.])?[A-Z]{2,}([/.].*)?")
 
 def tracked():
     listed = subprocess.run(["git", "ls-files", "-co", "--exclude-standard"], cwd=TOP, capture_output=True, text=True, check=True)
-    return listed.stdout.split("\n")[:-1]
+    return [file for file in listed.stdout.split("\n") if os.path.isfile(f"{TOP}/{file}")]
 
 
 def text_of(file):
