@@ -162,7 +162,8 @@ fn tick<E: Engine + Send + Drop + 'static, H: Host<Read>>(
     Ok(())
 }
 
-/// Has a reader answer queries by an engine of its own.
+/// Has a reader answer queries by an engine of its own. At most one of its answers waits for the node while it makes the next one, so that
+/// they don't gather where the node is slower.
 #[tactic(auto, using(crate::proofs::Hiring::no_host))]
 fn read<E: Engine + Send + Drop + 'static, H: Host<Read>>(
     alloc: Global,
@@ -185,7 +186,7 @@ fn read<E: Engine + Send + Drop + 'static, H: Host<Read>>(
         rt,
         reader,
         jobs,
-        post: host.post()?,
+        post: host.post()?.metered(alloc, 1)?,
     });
     beside(host, worker)?;
     Ok(queue)
