@@ -12,7 +12,7 @@ use Rattle.raft_vote.specs.declared.message.RaftMessage.{RaftMessage}
 use Rattle.raft_world.specs.Members.{Setup}
 use Rattle.store_laws.specs.Store.{Kept}
 use Rattle.cluster_world.specs.Clusters.{Act as RuleAct}
-use Rattle.node_rules.specs.Steps.{Letter, StartStopsSo}
+use Rattle.node_rules.specs.Steps.{Letter, StartStopsSo, StartsSo}
 use Rattle.node_core.specs.declared.event.Event as core
 use Rattle.node_core.specs.declared.running.Running.{Running}
 use Rattle.node_core.specs.Account.{Sends, Begin, Happens, Comes, Compacts, IsMore, AreOf, IsAlone}
@@ -27,7 +27,7 @@ use Rattle.node_runs.specs.Steps.{Leads, used_in, AreAmong, StopRuns}
 use Rattle.node_runs.proofs.Stepping.{step_at, stop_at}
 use Rattle.node_runs.proofs.Starting.{leads_by}
 use Rattle.script_nodes.specs.Outcomes.{Standing, Outs, Ending, Steps, Starts, Stops, Fails, Unreadable, Doing, Timeout, Beat, Connect, Bytes, Hangup, Receive, Start, Turn, Does, Crashes}
-use Rattle.script_runs.specs.Seats.{Seat, Runs, Rests, EventIs, StepDone, StopDone, StartDone, EndsSo, CrashesSo, TurnSo, PathSo}
+use Rattle.script_runs.specs.Seats.{Seat, Runs, Rests, EventIs, StepDone, StopDone, StartDone, EndsSo, CrashesSo, TurnSo, PathSo, setup_of}
 use Rattle.script_runs.specs.Turns.{actor, turns_at, messages_of, messages_in, WasSent, SentTo, AllSentTo, IsDown, EndShows, TurnRuns, AreRun, events_of}
 use Rattle.script_runs.specs.Laws.{TurnsAreRuns, RunsHold, NodesAreSafe, LatersAreSafe}
 use Rattle.script_runs.proofs.Bringing.{Brought, true_false, brought, by_doing}

@@ -234,7 +234,8 @@ asked_mailed : (n : ℕ) (doing : Doing) (aim : Aim) (w : World) (outcomes : Lis
 asked_mailed n doing aim w [] h came = h
 asked_mailed n doing aim w (outcome ∷ left) h came =
     let went = after_ending n outcome.ending (with_turn w n doing aim outcome left) in
-    many_mailed w went went.halt h (ended n outcome.ending doing aim outcome left w refl h came)
+    let many : World = record w { over = Some (Does n doing aim outcome) } in
+    many_mailed many went went.halt (same_mail w many refl refl h) (ended n outcome.ending doing aim outcome left w refl h came)
 
 -- one of two
 either_mailed : (b : Bool) (x y : Went) → Mailed x.world → Mailed y.world → Mailed (if b then x else y).world

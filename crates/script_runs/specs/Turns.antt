@@ -1,5 +1,5 @@
 -- The turns of a script as a run of whole nodes.
-use Rattle.std.specs.Prelude.{◌≢◌, Bool, true, false, Option, None, ◌≡◌, ℕ, ◌==◌, cond, List, [], ◌∷◌, ◌++◌, Some, slice_get}
+use Rattle.std.specs.Prelude.{◌≢◌, Bool, true, false, Option, None, ◌≡◌, ℕ, List, [], ◌∷◌, ◌++◌, Some, slice_get}
 use Rattle.sql_engine.specs.declared.kind.EngineKind.{EngineKind}
 use Rattle.sql_engine.specs.Meanings.{Meaning}
 use Rattle.session_rules.specs.Engines.{Answer}
