@@ -9,6 +9,7 @@ use Rattle.raft_world.specs.Members.{Setup}
 use Rattle.store_laws.specs.Store.{Kept}
 use Rattle.node_replica.specs.Keeping.{kept_at}
 use Rattle.node_replica.specs.Replicas.{kept_of}
+use Rattle.node_state.specs.Snapshot.{contents_in}
 use Rattle.node_core.specs.declared.event.Event as core
 use Rattle.node_core.specs.declared.event.Event.TheVariants as events
 use Rattle.node_core.specs.declared.outs.Outs as core_outs
@@ -16,6 +17,7 @@ use Rattle.node_core.specs.declared.running.Running.{Running}
 use Rattle.node_core.specs.Core.{Core, core_of}
 use Rattle.node_core.specs.Exact.{StepsExactly}
 use Rattle.node_core.specs.ExactStart.{StartsExactly}
+use Rattle.node_core.specs.Values.{seen}
 use Rattle.node_world.specs.Runs.{nothing_kept}
 use Rattle.core_runs.specs.Decided.{IsAlone, IsUnread, IsSame, StepsAreDecided, StartsAreDecided, KeptIsOfCore}
 use Rattle.core_runs.proofs.SameRuns.{steps_decided, starts_decided, kept_of_core}
@@ -141,7 +143,7 @@ module _ (steps : StepsAreDecided) (starts : StartsAreDecided) where
       at : TurnsAt n (seat_of old) turn (seat_of new)
       lone : IsLone new
 
-    stands_so : (node : Running) (standing : Standing) → StandsSo _ standing → standing.databases ≡ _ → standing ≡ stands_at (core_of node)
+    stands_so : (node : Running) (standing : Standing) → StandsSo (seen node) standing → standing.databases ≡ contents_in (core_of node).files → standing ≡ stands_at (core_of node)
     unfolding core_of
     stands_so node standing s files = λ i. record { term = s.term i; role = s.role i; applied = s.applied i; databases = files i }
 
