@@ -1,17 +1,14 @@
 -- What a request makes of a session is the same by any answers of cells.
-use Rattle.std.proofs.Common.{◌≡◌, ℕ, Bool, true, false, cond, List, [], ◌∷◌, take, Ok, Err, Option, Some, None, inl, inr, refl, sym, ap, ◌∙◌, subst}
+use Rattle.std.proofs.Common.{◌≡◌, ℕ, Bool, true, false, cond, List, [], ◌∷◌, Option, Some, None, inl, inr, refl, sym, ap, ◌∙◌, subst}
 use Rattle.std.specs.Prelude.{◌&&◌}
 use Rattle.std.specs.List.{AllByRecursion}
 use Rattle.std.proofs.lemmas.Bool.{cases_Bool, cond-true, cond-false}
-use Rattle.dq_base.specs.declared.images.Image.{Image}
 use Rattle.wire_msgs.specs.declared.request.Request.{Request}
-use Rattle.sql_engine.specs.declared.answer.Ran.{Ran}
 use Rattle.sql_engine.specs.declared.kind.EngineKind.TheVariants.{Cells}
 use Rattle.sql_engine.specs.Replies.{Statement}
 use Rattle.sql_engine.specs.Cells.{cells}
-use Rattle.page_apply.specs.Files.{image_after}
 use Rattle.session_rules.specs.Machine.{Machine}
-use Rattle.session_rules.specs.Engines.{Answer, Handed, Ending, Lacking, TooLarge, takes, no_answer, runs, used, used_for, AllowsAll, AllowsFor}
+use Rattle.session_rules.specs.Engines.{Answer, Handed, Ending, Lacking, no_answer, runs, AllowsAll, AllowsFor}
 use Rattle.session_rules.specs.Sessions.{Lent, Gateway, Session, Transaction, View, Lends}
 use Rattle.session_rules.specs.Asking.{Asked, Never, Tells, Sets, Opens, Creates, Prepares, Drops, Begins, Commits, RollsBack, Changes, Runs, Reads, asked}
 use Rattle.session_rules.specs.Requests.{with_later, outside, inside, run_in, waits_first, barrier_first, job_of, read_outside, read_in, does, on_request, ground, handed_over, handed_for, handed}

@@ -1,5 +1,5 @@
 -- What the calls of a place do by the rules of nodes, and which turns have led to a place.
-use Rattle.std.specs.Prelude.{◌≡◌, ℕ, Bool, true, false, List, Option, Some, None, Ok, Err, if◌then◌else◌}
+use Rattle.std.specs.Prelude.{◌≡◌, ℕ, Bool, true, false, List, [], Option, Some, None, Ok, Err, if◌then◌else◌}
 use Rattle.sql_engine.specs.declared.kind.EngineKind.{EngineKind}
 use Rattle.sqlite_engine.specs.declared.any.AnyEngine.{AnyEngine}
 use Rattle.sqlite_engine.specs.Any.{any_kind, any_meaning}
