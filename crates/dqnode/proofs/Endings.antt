@@ -34,12 +34,13 @@ runs_are_safe kind voters script outcomes front rest e nodes =
 stays_safe : (kind : EngineKind) (voters : ℕ) (early middle : List Turn) → IsSafe (any_meaning kind) kind (setup_of voters) (early ++ middle) → IsSafeLater (any_meaning kind) kind (setup_of voters) early middle
 stays_safe kind voters early middle safe = laters_are_safe_hold (any_meaning kind) kind (setup_of voters) early middle safe.is
 
-pub safe_turns : (kind : EngineKind) (script : List ℕ) (outcomes : List Came) (turns rest : List Turn) → (run script outcomes).turns ≡ turns ++ rest → AreOfNodes kind turns → SafeTurns kind turns
-safe_turns kind script outcomes turns rest e nodes =
+pub safe_turns : (kind : EngineKind) (script : List ℕ) (outcomes : List Came) (turns rest : List Turn) (over : Option Turn) → (run script outcomes).turns ≡ turns ++ rest → AreOfNodes kind turns over → SafeTurns kind turns
+safe_turns kind script outcomes turns rest over e nodes =
     let safe : (early late : List Turn) → turns ≡ early ++ late → IsFairTo kind nodes.voters turns nodes.lives early → IsSafe (any_meaning kind) kind (setup_of nodes.voters) early =
     λ early late parts fair.
     runs_are_safe kind nodes.voters script outcomes early (late ++ rest) (e ∙ ap (λ (t : List Turn). t ++ rest) parts ∙ append_assoc early late rest) (nodes.by_nodes early late parts fair) in
     record {
+      over = over;
       nodes = nodes;
       safe = safe;
       later = λ early middle late parts fair. stays_safe kind nodes.voters early middle (safe (early ++ middle) late parts fair);
@@ -59,7 +60,9 @@ module _ (kind : EngineKind) where
     text = p.text;
     notes = p.notes;
     has = p.has;
-    nodes = places_tell kind p.turns p.led;
+    over = p.over;
+    beside = p.beside;
+    nodes = places_tell kind p.turns p.over p.led;
   }
 
   breaks : (follows : List ℕ → Type 0) (left left' a b : Option (List ℕ)) → PrintsFront (Knows kind) follows left left' a b → BreaksOff kind follows left left' a b
@@ -70,7 +73,10 @@ module _ (kind : EngineKind) where
     taken = p.taken;
     front = p.front;
     begins = p.begins;
-    nodes = places_tell kind p.turns p.led;
+    over = p.over;
+    beside = p.beside;
+    nodes = places_tell kind p.turns p.over p.led;
+    uses = p.uses;
   }
 
   pub outcome_ends : (why : Outcome) (journal : List Item) (left left' a b : Option (List ℕ)) → Ended (Knows kind) why journal left left' a b → OutcomeEnds kind journal why left left' a b
@@ -102,7 +108,7 @@ module _ (kind : EngineKind) (left left' : Option (List ℕ)) where
         turns = x.turns;
         taken = x.taken;
         begins = λ more follow later. x.begins more (may more follow) later;
-        safe = safe_turns kind (x.read ++ []) (x.outcomes ++ []) x.turns begins.0 begins.1 x.nodes;
+        safe = safe_turns kind (x.read ++ []) (x.outcomes ++ []) x.turns begins.0 x.over begins.1 x.nodes;
       }
 
   gives_safely : (fault : Option Fault) (journal : List Item) (a b : Option (List ℕ)) → Gives kind fault journal left left' a b → RunsSafely kind left left'
@@ -112,7 +118,7 @@ module _ (kind : EngineKind) (left left' : Option (List ℕ)) where
     turns = x.turns;
     taken = x.taken;
     begins = λ more follow later. ([], x.has more follow later ∙ sym (append-nil x.turns));
-    safe = safe_turns kind (x.read ++ []) (x.outcomes ++ []) x.turns [] (x.has [] (λ end. refl) [] ∙ sym (append-nil x.turns)) x.nodes;
+    safe = safe_turns kind (x.read ++ []) (x.outcomes ++ []) x.turns [] x.over (x.has [] (λ end. refl) [] ∙ sym (append-nil x.turns)) x.nodes;
   }
 
   pub ends_safely : (why : Outcome) (journal : List Item) (a b : Option (List ℕ)) → OutcomeEnds kind journal why left left' a b → RunsSafely kind left left'
@@ -134,7 +140,10 @@ module _ (kind : EngineKind) (left written : Option (List ℕ)) where
     taken = Consumes-nothing left;
     front = λ more may later. AppendsFront-nothing written _;
     begins = λ more may later. (_, refl);
-    nodes = places_tell kind [] (none_told (Knows kind));
+    over = None;
+    beside = λ more may later. tt;
+    nodes = places_tell kind [] None (none_told (Knows kind));
+    uses = refl;
   }
 
   pub unread_safely : RunsSafely kind left left

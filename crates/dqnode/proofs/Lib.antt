@@ -5,3 +5,4 @@ pub mod Idle
 pub mod Made
 pub mod Generated
 pub mod ServeEnds
+mod Deciding

@@ -5,3 +5,4 @@ pub mod Statements
 pub mod Checks
 pub mod Generating
 pub mod Serving
+pub mod Decided

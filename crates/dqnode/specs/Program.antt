@@ -4,10 +4,11 @@ use Rattle.std.specs.Io.KnownBytes.{Appends, Consumes, IsAtEnd}
 use Rattle.dq_base.specs.Sink.{AppendsFront}
 use Rattle.sql_engine.specs.declared.kind.EngineKind.{EngineKind}
 use Rattle.sqlite_engine.specs.Any.{any_meaning}
+use Rattle.script_nodes.specs.Knowing.{outcomes_in, outcomes_over}
 use Rattle.script_nodes.specs.Outcomes.{Outcome, Item, Turn}
 use Rattle.script_nodes.specs.Run.{Fault}
 use Rattle.script_places.specs.Safe.{AreOfNodes, IsFairTo}
-use Rattle.script_runner.specs.Ending.{MayFollow, BeginWith}
+use Rattle.script_runner.specs.Ending.{MayFollow, BeginWith, IsBeside}
 use Rattle.script_runner.specs.Run.{run, printed}
 use Rattle.script_runs.specs.Complete.{IsComplete}
 use Rattle.script_runs.specs.Laws.{IsSafe, IsSafeLater}
@@ -23,7 +24,8 @@ words_error = codes "error words\n"
 -- The turns of a run are safe: each moment of it, and each with a later one, up to where a checksum matches by chance in what a start finds;
 -- and each request of a connection that stays open is answered once, and in its order.
 pub record SafeTurns (kind : EngineKind) (turns : List Turn) : Type 0 where
-  pub nodes : AreOfNodes kind turns
+  pub over : Option Turn
+  pub nodes : AreOfNodes kind turns over
   pub safe : (early late : List Turn) → turns ≡ early ++ late → IsFairTo kind nodes.voters turns nodes.lives early
       → IsSafe (any_meaning kind) kind (setup_of nodes.voters) early
   pub later : (early middle late : List Turn) → turns ≡ (early ++ middle) ++ late → IsFairTo kind nodes.voters turns nodes.lives (early ++ middle)
@@ -44,7 +46,9 @@ pub record Gives (kind : EngineKind) (fault : Option Fault) (journal : List Item
   pub text : (more : List ℕ) → MayFollow left' more → (later : List Outcome) → Appends written written' (printed (run (read ++ more) (outcomes ++ later)))
   pub notes : (more : List ℕ) → MayFollow left' more → (later : List Outcome) → (run (read ++ more) (outcomes ++ later)).journal ≡ journal
   pub has : (more : List ℕ) → MayFollow left' more → (later : List Outcome) → (run (read ++ more) (outcomes ++ later)).turns ≡ turns
-  pub nodes : AreOfNodes kind turns
+  pub over : Option Turn
+  pub beside : (more : List ℕ) → MayFollow left' more → (later : List Outcome) → (run (read ++ more) (outcomes ++ later)).over ≡ over
+  pub nodes : AreOfNodes kind turns over
 
 -- the script was read to its end, and has no fault
 abbrev pub Completes : EngineKind → List Item → Option (List ℕ) → Option (List ℕ) → Option (List ℕ) → Option (List ℕ) → Type 0
@@ -59,7 +63,11 @@ pub record BreaksOff (kind : EngineKind) (follows : List ℕ → Type 0) (left l
   pub taken : Consumes left left' read
   pub front : (more : List ℕ) → follows more → (later : List Outcome) → AppendsFront written written' (printed (run (read ++ more) (outcomes ++ later)))
   pub begins : (more : List ℕ) → follows more → (later : List Outcome) → BeginWith (run (read ++ more) (outcomes ++ later)).turns turns
-  pub nodes : AreOfNodes kind turns
+  pub over : Option Turn
+  pub beside : (more : List ℕ) → follows more → (later : List Outcome) → IsBeside turns over (run (read ++ more) (outcomes ++ later))
+  pub nodes : AreOfNodes kind turns over
+  -- no other outcomes came
+  pub uses : outcomes_in turns ++ outcomes_over over ≡ outcomes
 
 -- However the script ended: whatever may follow the bytes read, its run begins with turns that are safe; they are all that it has where it
 -- came to its end or to a fault of the script.

@@ -19,6 +19,7 @@ ghost use Rattle.dqnode.specs.Program.{words_error, Gives, Completes, BreaksOff,
 ghost use Rattle.dqnode.specs.Status.{IsStatus, IsBroken, IsServeCode};
 ghost use Rattle.dqnode.specs.Statements.{StatementEnds, IsAnswered, IsOfStatement, HasLinked};
 ghost use Rattle.dqnode.specs.Checks.{CheckEnds};
+ghost use Rattle.dqnode.specs.Decided.{BrokenScriptsDecide, ScriptsDecide};
 ghost use Rattle.dqnode.specs.Generating.{GenerateEnds, RunEnds};
 ghost use Rattle.dqnode.specs.Serving.{ServedBy, NotServed};
 
@@ -218,6 +219,13 @@ pub fn dqnode<S: Source, K: Sink, D: Disk, N: Dialer, H: Host<Read>, W: Notes>(
     ensures safe { IsScript (asks_for words.now) → RunsWith (asks_for words.now) (λ kind. RunsSafely kind (S.left input.old) (S.left input.new)) }
     // So is the run of every script where what came of its events is what whole nodes do.
     ensures always_safe { RunsAreSafe }
+    // With an engine of cells a script alone decides what comes of its events, what is written and how it ends: in two calls that ran one script
+    // the same happened at nodes and was noted, but for the numbers of transactions, the same was written behind what was there, and the
+    // fault is the same, where in both no call of a disk stopped or failed, no engine wanted memory, and no checksum matched by chance in what
+    // a start found.
+    ensures determined { ScriptsDecide }
+    // And one that broke off, by a fault of the outside or for want of memory, wrote a front of what another one wrote.
+    ensures determined_front { BrokenScriptsDecide }
     // A run has one list of commands: at every moment machines that have applied as many of them hold the same files and
     // pending pages, and are shown so. The files of each are together at most 67,108,864 bytes long.
     ensures alike { (script : List ℕ) (outcomes : List Outcome) → KeepsAlike script outcomes }

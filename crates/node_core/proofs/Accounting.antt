@@ -3,6 +3,7 @@ use Rattle.std.proofs.Common.{◌≡◌, ◌⊎◌, inl, inr, ⊎_elim, ℕ, Boo
 use Rattle.std.specs.Prelude.{map, ◌||◌, Option, None}
 use Rattle.std.specs.List.{AllByRecursion, flat_map}
 use Rattle.std.proofs.lemmas.List.{map-append}
+use Rattle.std.proofs.lemmas.List.Concat.{flat_map-append}
 use Rattle.wire_msgs.specs.declared.request.Request.{Request}
 use Rattle.client_connection.specs.Connection.{Conn}
 use Rattle.sql_engine.specs.declared.kind.EngineKind.{EngineKind}
@@ -29,9 +30,11 @@ use Rattle.node_core.specs.declared.event.Event.TheVariants as events
 use Rattle.node_core.specs.declared.outs.Outs.{Outs}
 use Rattle.node_core.specs.declared.running.Running.{Running}
 use Rattle.node_core.specs.Values.{seen, clients_in, waiting_on}
-use Rattle.node_core.specs.Account.{moment_of, letter_of, lived, responses_in, sent_so, Sends, Says, Brought, IsOwn, Adds, Turns, KnowsServers, Since, Begin, IsLost, Brings, Comes_in, Takes, AtRest, none_made, made_both, Act, Acts, Stopped, Fresh, SoFar, Between, Went, IsMore, Happens, Comes, Compacts, NoneAsks, heard_on, acts_asks, AreOf, IsAlone, AreAlone, Underway, StepsBy, StopsBy}
+use Rattle.node_core.specs.Account.{moment_of, letter_of, lived, responses_in, sent_so, Sends, Says, Brought, IsOwn, Adds, Turns, KnowsServers, Since, Begin, IsLost, Brings, Comes_in, Takes, AtRest, none_made, made_both, Act, Acts, Stopped, Fresh, SoFar, Between, Went, IsMore, Happens, Comes, Compacts, message_by, messages_of, NoneAsks, heard_on, acts_asks, AreOf, IsAlone, AreAlone, Underway, StepsBy, StopsBy}
 use Rattle.node_core.specs.Taking.{TurnsOn}
 use Rattle.node_core.specs.Voters.{Beside, MayBe}
+use Rattle.node_core.specs.Carrying.{MovesLines, LinesSince, LinesBy, LinesUpTo}
+use Rattle.node_core.proofs.Carried.{since_still, since_on as lines_on, since_up_to}
 use Rattle.node_core.proofs.Besides.{beside_none, beside_on, tells_act, tells_begun}
 
 -- ---- what is said
@@ -322,9 +325,10 @@ went_asks before mid now m kind setup a b c d begins begin ys w between act says
 
 -- what is said at the end is what was said since the begin, where nothing had been
 pub went_steps : {before now : Option Told} (m : Meaning) (kind : EngineKind) (setup : Setup) (a b c : Running) (begins : List Begin) (event : Event) (outs : Outs) → a.mail ≡ no_mail → a.outs.replies.items ≡ [] → a.outs.reads.items ≡ [] → AreOf event begins →
-    (w : Went m kind setup a b begins before now) → seen c ≡ seen b → outs.messages.items ≡ sent b.mail → outs.replies.items ≡ b.outs.replies.items → outs.reads.items ≡ b.outs.reads.items → c.has_links ≡ a.has_links → AreAlone a begins
+    (w : Went m kind setup a b begins before now) → seen c ≡ seen b → outs.messages.items ≡ sent b.mail → outs.replies.items ≡ b.outs.replies.items → outs.reads.items ≡ b.outs.reads.items → c.has_links ≡ a.has_links → AreAlone a begins → LinesBy event a c outs (messages_of begins)
     → Brings a (Happens event) (acts_asks m kind setup a b begins w.made w.acts) → StepsBy m kind setup a c event outs before now
-went_steps m kind setup a b c begins event outs quiet silent unread are w same messages replies reads links alone asks = record {
+went_steps m kind setup a b c begins event outs quiet silent unread are w same messages replies reads links alone lines asks = record {
+  lines = lines;
   asks = subst (Brings a (Happens event)) (λ i. λ conn. sym (acts_asks_still m kind setup a b c begins w.made w.acts same conn) i) asks;
   links = links;
   alone = alone;
@@ -341,9 +345,10 @@ went_steps m kind setup a b c begins event outs quiet silent unread are w same m
 }
 
 -- what the last act left, behind those before it
-pub went_stops : {before now : Option Told} (m : Meaning) (kind : EngineKind) (setup : Setup) (a b c : Running) (begins : List Begin) (last : Begin) (event : Event) (kept : Kept) → AreOf event (begins ++ last ∷ []) → Went m kind setup a b begins before now → Between b c → Stopped m kind setup c last kept → AreAlone a (begins ++ last ∷ []) → StopsBy m kind setup a event kept
-went_stops m kind setup a b c begins last event kept are w between stopped alone = record {
+pub went_stops : {before now : Option Told} (m : Meaning) (kind : EngineKind) (setup : Setup) (a b c : Running) (begins : List Begin) (last : Begin) (event : Event) (kept : Kept) → AreOf event (begins ++ last ∷ []) → Went m kind setup a b begins before now → Between b c → Stopped m kind setup c last kept → AreAlone a (begins ++ last ∷ []) → LinesUpTo event a (messages_of (begins ++ last ∷ [])) → StopsBy m kind setup a event kept
+went_stops m kind setup a b c begins last event kept are w between stopped alone lines = record {
   alone = alone;
+  lines = lines;
   begins = begins;
   last = last;
   are = are;
@@ -383,10 +388,17 @@ are_more event (first ∷ begins) begin next are more = (are.0, all begins are.1
     all [] h = (h.0, (more, tt))
     all (x ∷ xs) h = (h.0, all xs h.1)
 
+-- and another act
+pub since_next : (event : Event) (a b d : Running) (begins : List Begin) (next : Begin) → LinesSince event a b (messages_of begins) → MovesLines b d (message_by next) → LinesSince event a d (messages_of (begins ++ next ∷ []))
+since_next event a b d begins next since moves =
+    subst (LinesSince event a d) (ap (λ (l : List RaftMessage). messages_of begins ++ l) (sym (append-nil (message_by next))) ∙ sym (flat_map-append message_by begins (next ∷ [])))
+    (lines_on event a b d (messages_of begins) (message_by next) since moves)
+
 -- the event's act has begun
 pub underway_starts : {before now : Option Told} (m : Meaning) (kind : EngineKind) (setup : Setup) (a from b : Running) (event : Event) → Between a from → (clients_in from).streams ≡ (clients_in a).streams → AtRest from
-    → SoFar m kind setup from b (Happens event) before now → Underway m kind setup a b event before now
-underway_starts m kind setup a from b event between streams stood so_far = record {
+    → LinesSince event a b [] → SoFar m kind setup from b (Happens event) before now → Underway m kind setup a b event before now
+underway_starts m kind setup a from b event between streams stood lines so_far = record {
+  lines = lines;
   asks = brings_same from a event so_far.brought.asks streams so_far.comes.asks;
   begins = [];
   begin = Happens event;
@@ -421,8 +433,9 @@ brought_on : {before mid now : Option Told} (m : Meaning) (kind : EngineKind) (s
 unfolding so_far_on
 brought_on m kind setup a b c begin f t = refl
 
-pub underway_on : {before mid now : Option Told} (m : Meaning) (kind : EngineKind) (setup : Setup) (a b c : Running) (event : Event) → Underway m kind setup a b event before mid → ((bytes : List ℕ) (joins : Option ℕ) → TurnsOn m kind setup bytes joins b c mid now) → Underway m kind setup a c event before now
-underway_on m kind setup a b c event u t = record {
+pub underway_on : {before mid now : Option Told} (m : Meaning) (kind : EngineKind) (setup : Setup) (a b c : Running) (event : Event) → Underway m kind setup a b event before mid → MovesLines b c [] → ((bytes : List ℕ) (joins : Option ℕ) → TurnsOn m kind setup bytes joins b c mid now) → Underway m kind setup a c event before now
+underway_on m kind setup a b c event u moves t = record {
+  lines = since_still event a b c (messages_of (u.begins ++ u.begin ∷ [])) u.lines moves;
   begins = u.begins;
   begin = u.begin;
   are = u.are;
@@ -468,11 +481,12 @@ asked_then earlier first rest all is none conn = sym (is conn) ∙ sym (append-n
 
 -- the node rests again, and another act has begun
 pub underway_next : {before mid now : Option Told} (m : Meaning) (kind : EngineKind) (setup : Setup) (a b c d : Running) (event : Event) → Underway m kind setup a b event before mid → MayEnd (moment_of b) → b.replica.raft.id ≡ b.replica.id → Between b c → AtRest c → (next : Begin) → IsMore next →
-    (a.has_links ≡ false → IsAlone next) → SoFar m kind setup c d next mid now → Underway m kind setup a d event before now
-underway_next m kind setup a b c d event u end id between stood next more alone so_far =
+    (a.has_links ≡ false → IsAlone next) → MovesLines b d (message_by next) → SoFar m kind setup c d next mid now → Underway m kind setup a d event before now
+underway_next m kind setup a b c d event u end id between stood next more alone moves so_far =
     let f = u.so_far in
     let r = since_ends m kind setup f.brought f.late u.from b u.begin u.stood f.comes f.since f.beside end id in
     record {
+      lines = since_next event a b d (u.begins ++ u.begin ∷ []) next u.lines moves;
       begins = u.begins ++ u.begin ∷ [];
       begin = next;
       are = are_more event u.begins u.begin next u.are more;
@@ -494,14 +508,16 @@ underway_next m kind setup a b c d event u end id between stood next more alone 
     }
 
 -- the step ends, and what was said is taken from it
-pub underway_ends : {before now : Option Told} (m : Meaning) (kind : EngineKind) (setup : Setup) (a b c : Running) (event : Event) (outs : Outs) → Underway m kind setup a b event before now → MayEnd (moment_of b) → b.replica.raft.id ≡ b.replica.id →
-    a.mail ≡ no_mail → a.outs.replies.items ≡ [] → a.outs.reads.items ≡ [] → seen c ≡ seen b → outs.messages.items ≡ sent b.mail → outs.replies.items ≡ b.outs.replies.items → outs.reads.items ≡ b.outs.reads.items → c.has_links ≡ b.has_links → StepsBy m kind setup a c event outs before now
-underway_ends m kind setup a b c event outs u end id quiet silent unread same messages replies reads links =
+pub underway_ends : {before now : Option Told} (m : Meaning) (kind : EngineKind) (setup : Setup) (a b c : Running) (event : Event) (outs : Outs) (u : Underway m kind setup a b event before now) → MayEnd (moment_of b) → b.replica.raft.id ≡ b.replica.id →
+    a.mail ≡ no_mail → a.outs.replies.items ≡ [] → a.outs.reads.items ≡ [] → seen c ≡ seen b → outs.messages.items ≡ sent b.mail → outs.replies.items ≡ b.outs.replies.items → outs.reads.items ≡ b.outs.reads.items → c.has_links ≡ b.has_links
+    → LinesBy event a c outs (messages_of (u.begins ++ u.begin ∷ [])) → StepsBy m kind setup a c event outs before now
+underway_ends m kind setup a b c event outs u end id quiet silent unread same messages replies reads links lines =
     let f = u.so_far in
     let r = since_ends m kind setup f.brought f.late u.from b u.begin u.stood f.comes f.since f.beside end id in
-    went_steps m kind setup a b c (u.begins ++ u.begin ∷ []) event outs quiet silent unread u.are (went_on m kind setup a u.mid u.from b u.begins u.begin r.0 u.went u.between r.1 r.2 r.3) same messages replies reads (links ∙ u.links) u.alone
+    went_steps m kind setup a b c (u.begins ++ u.begin ∷ []) event outs quiet silent unread u.are (went_on m kind setup a u.mid u.from b u.begins u.begin r.0 u.went u.between r.1 r.2 r.3) same messages replies reads (links ∙ u.links) u.alone lines
     (subst (Brings a (Happens event)) (λ i. λ conn. sym (ended_asks m kind setup a b event u end id conn) i) u.asks)
 
 -- the act under way was stopped
 pub underway_stops : {before now : Option Told} (m : Meaning) (kind : EngineKind) (setup : Setup) (a b : Running) (event : Event) (kept : Kept) (u : Underway m kind setup a b event before now) → Stopped m kind setup u.from u.begin kept → StopsBy m kind setup a event kept
-underway_stops m kind setup a b event kept u stopped = went_stops m kind setup a u.mid u.from u.begins u.begin event kept u.are u.went u.between stopped u.alone
+underway_stops m kind setup a b event kept u stopped =
+    went_stops m kind setup a u.mid u.from u.begins u.begin event kept u.are u.went u.between stopped u.alone (since_up_to event a b (messages_of (u.begins ++ u.begin ∷ [])) u.lines)

@@ -25,3 +25,12 @@ all_taken (suc p) (x ∷ xs) h = ap (λ l. x ∷ l) (all_taken p xs (omega (arit
 
 pub alike : {A : Type 0} (p : ℕ) (xs ys : List A) → take p xs ≡ take p ys → length xs ≤ p → length xs ≡ length ys → xs ≡ ys
 alike p xs ys t h len = sym (all_taken p xs h) ∙ t ∙ all_taken p ys (omega (arith, h, len))
+
+-- they differ where they do at a place
+same_at : {A : Type 0} (p : ℕ) (xs : List A) (d e : A) → p < length xs → slice_index_or xs p d ≡ slice_index_or xs p e
+same_at p [] d e within = absurd (omega (arith, within))
+same_at zero (x ∷ xs) d e within = refl
+same_at (suc p) (x ∷ xs) d e within = same_at p xs d e (omega (arith, within))
+
+pub differ_at : {A : Type 0} (p : ℕ) (xs ys : List A) (one other : A) → one ≡ slice_index_or xs p one → other ≡ slice_index_or ys p other → p < length xs → (one ≡ other → ⊥) → xs ≡ ys → ⊥
+differ_at p xs ys one other i j within apart same = apart (i ∙ same_at p xs one other within ∙ ap (λ l. slice_index_or l p other) same ∙ sym j)

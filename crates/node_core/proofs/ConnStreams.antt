@@ -21,7 +21,9 @@ use Rattle.node_core.specs.declared.event.Event.{Event}
 use Rattle.node_core.specs.declared.event.Event.TheVariants as events
 use Rattle.node_core.specs.declared.outs.Outs.{Outs}
 use Rattle.node_core.specs.declared.running.Running.{Running}
-use Rattle.node_core.specs.Conns.{StreamOn, StreamsOn, brought, come_by, heard_by, close_of, close_on, closes_in, full_for, closes_by}
+use Rattle.node_core.specs.declared.links.Link.{Link}
+use Rattle.node_core.specs.Carrying.{BeginsLines, lines_in, link_on, without_link, heard_link, close_of, full_for, reason_at, gone_at}
+use Rattle.node_core.specs.Conns.{StreamOn, StreamsOn, brought, come_by, heard_by, close_on, closes_in, closes_by}
 use Rattle.node_core.specs.Conns.{HasNoPeers, IsUnlinked, KeepsConns, ConnsOn, LeavesConns, ConnsBehind, ClosesConn, ConnsBegin, ConnsBy}
 use Rattle.client_sessions.specs.Calls.{TookOffer, TookTurn, WasIdle, bytes_of}
 use Rattle.client_sessions.specs.Later.{Resumes, Finishes, turn_for}
@@ -29,7 +31,8 @@ use Rattle.client_sessions.proofs.Offers.{next_is_first}
 use Rattle.node_replica.specs.Replicas.{ReplicaValue}
 use Rattle.node_core.specs.Values.{clients_in}
 use Rattle.node_core.specs.Whole.{IsQuiet}
-use Rattle.node_core.proofs.PeerActs.{IsPeer, took_links, resumed_links}
+use Rattle.node_core.proofs.Carried.{timeout_lines, beat_lines, peer_lines, read_lines, comes_lines, carried_lines, hears_lines, link_hears_lines, hangs_lines, client_gone, link_stays, link_gone}
+use Rattle.node_core.proofs.PeerActs.{IfPeer, IsConnect, IsNoPeer, took_peer, resumed_none}
 
 -- ---- one stream
 
@@ -69,7 +72,12 @@ kept_both a b c x y = record {
   closed = y.closed ∙ x.closed;
   links = y.links ∙ x.links;
   view = y.view ∙ x.view;
+  id = y.id ∙ x.id;
+  has_links = y.has_links ∙ x.has_links;
 }
+
+pub kept_same : (n : Running) → KeepsConns n n
+kept_same n = record { streams = refl; heard = refl; closed = refl; links = refl; view = refl; id = refl; has_links = refl }
 
 pub conns_both : (a b c : Running) → ConnsOn a b → ConnsOn b c → ConnsOn a c
 conns_both a b c x y = record {
@@ -87,23 +95,24 @@ conns_same n = record { streams = λ conn. stays_on ((clients_in n).streams conn
 -- ---- an event
 
 begins_on : (event : Event) (old new : Running) → ((conn : ℕ) → brought event conn ((clients_in old).streams conn) ≡ (clients_in old).streams conn)
-    → closes_by event (clients_in old) ≡ [] → ConnsOn old new → ConnsBegin event old new
-begins_on event old new same none on = record {
+    → closes_by event (clients_in old) ≡ [] → BeginsLines event old new → ConnsOn old new → ConnsBegin event old new
+begins_on event old new same none lines on = record {
+  lines = lines;
   streams = λ conn. subst (λ (s : Option Conn). StreamOn s ((clients_in new).streams conn)) (sym (same conn)) (on.streams conn);
   closes = λ said heard u. let x = on.closes u in (x.0, x.1 ∙ (λ i. said i ++ close_on (heard i) (clients_in old).streams) ∙ sym none);
 }
 
 pub timeout_begins : (old new : Running) → KeepsConns old new → ConnsBegin events.Timeout old new
-timeout_begins old new k = begins_on events.Timeout old new (λ conn. refl) refl (kept_on old new k)
+timeout_begins old new k = begins_on events.Timeout old new (λ conn. refl) refl (timeout_lines old new k) (kept_on old new k)
 
 pub beat_begins : (old new : Running) → KeepsConns old new → ConnsBegin events.Beat old new
-beat_begins old new k = begins_on events.Beat old new (λ conn. refl) refl (kept_on old new k)
+beat_begins old new k = begins_on events.Beat old new (λ conn. refl) refl (beat_lines old new k) (kept_on old new k)
 
 pub peer_begins : (message : _) (old new : Running) → KeepsConns old new → ConnsBegin (events.Peer message) old new
-peer_begins message old new k = begins_on (events.Peer message) old new (λ conn. refl) refl (kept_on old new k)
+peer_begins message old new k = begins_on (events.Peer message) old new (λ conn. refl) refl (peer_lines message old new k) (kept_on old new k)
 
-pub read_begins : (conn : ℕ) (read : _) (old new : Running) → ConnsOn old new → ConnsBegin (events.ReadDone conn read) old new
-read_begins conn read old new on = begins_on (events.ReadDone conn read) old new (λ other. refl) refl on
+pub read_begins : (conn : ℕ) (read : _) (old new : Running) → KeepsConns old new → ConnsBegin (events.ReadDone conn read) old new
+read_begins conn read old new k = begins_on (events.ReadDone conn read) old new (λ other. refl) refl (read_lines conn read old new k) (kept_on old new k)
 
 -- ---- connections that come
 
@@ -145,13 +154,14 @@ not_full xs conn how (inl e) = sym (append-nil xs) ∙ ap (λ (h : Joining). xs 
 not_full xs conn how (inr e) = sym (append-nil xs) ∙ ap (λ (h : Joining). xs ++ full_for conn h) (sym e)
 
 -- A connection comes: it has a stream where it gets a session, and is closed where there is no room.
-pub comes_begins : (old new : Running) (conn : ℕ) (how : Joining) → Sound (clients_in old) → how ≡ joining (clients_in old).sessions conn
+pub comes_begins : (old new : Running) (conn : ℕ) (how : Joining) → Sound (clients_in old) → link_on conn old.links.all.items ≡ None → how ≡ joining (clients_in old).sessions conn
     → clients_in new ≡ joined (clients_in old) conn → new.outs.closed.items ≡ old.outs.closed.items ++ full_for conn how → new.heard ≡ old.heard → new.links ≡ old.links
-    → new.view ≡ old.view → ConnsBegin (events.Connect conn) old new
-comes_begins old new conn how sound told is closed heard links view =
+    → new.view ≡ old.view → new.has_links ≡ old.has_links → ConnsBegin (events.Connect conn) old new
+comes_begins old new conn how sound free_link told is closed heard links view has_links =
     let k = clients_in old in
     let free : joining k.sessions conn ≡ joinings.Joined → k.streams conn ≡ None = λ e. free_stream (k.streams conn) (k.sessions.session conn) (sound.fits conn) (joins_free k.sessions conn e) in
     record {
+      lines = comes_lines old new conn how free_link told is closed heard links view has_links;
       streams = λ other. subst (λ (l : Clients). StreamOn (come_by (k.streams other) conn other) (l.streams other)) (sym is) (come_streams k conn (joining k.sessions conn) free other);
       closes = λ said none u. (
         record { links = ap (λ l. l.all.items) links ∙ u.links; view = ap (λ v. v.links) view ∙ u.view },
@@ -159,11 +169,19 @@ comes_begins old new conn how sound told is closed heard links view =
       );
     }
 
+-- a node without links has no connection that carries a peer's messages
+no_link : (conn : ℕ) (link : Link) (links : List Link) → links ≡ [] → link_on conn links ≡ Some link → ⊥
+no_link conn link links none is = never (sym (ap (link_on conn) none) ∙ is)
+  where
+    never : None ≡ Some link → ⊥
+    never e = cc
+
 -- where it carries a peer's messages already nothing happens; a node without links has no such connection
-pub carried_begins : (old : Running) (conn : ℕ) (has : Bool) → (old.links.all.items ≡ [] → has ≡ false) → has ≡ true → ConnsBegin (events.Connect conn) old old
-carried_begins old conn has none is = record {
+pub carried_begins : (old : Running) (conn : ℕ) (link : Link) → link_on conn old.links.all.items ≡ Some link → ConnsBegin (events.Connect conn) old old
+carried_begins old conn link is = record {
+  lines = carried_lines old conn link is;
   streams = λ other. comes_not ((clients_in old).streams other) conn other;
-  closes = λ said heard u. absurd (true≢false (sym is ∙ none u.links));
+  closes = λ said heard u. absurd (no_link conn link old.links.all.items u.links is);
 }
 
 -- ---- bytes
@@ -197,13 +215,14 @@ unfolding heard
 heard_is k l conn bytes is = is
 
 -- Bytes come on a connection of a client, or on none that is open.
-pub hears_begins : (old new : Running) (conn : ℕ) (bytes : List ℕ) → clients_in new ≡ heard (clients_in old) conn bytes → new.outs ≡ old.outs → new.heard ≡ Some conn
-    → (old.links.all.items ≡ [] → new.links.all.items ≡ []) → new.view ≡ old.view → ConnsBegin (events.Bytes conn bytes) old new
-hears_begins old new conn bytes came outs heard links view =
+pub hears_begins : (old new : Running) (conn : ℕ) (bytes : List ℕ) → BeginsLines (events.Bytes conn bytes) old new → clients_in new ≡ heard (clients_in old) conn bytes → new.outs ≡ old.outs
+    → new.heard ≡ Some conn → (old.links.all.items ≡ [] → new.links.all.items ≡ []) → new.view ≡ old.view → ConnsBegin (events.Bytes conn bytes) old new
+hears_begins old new conn bytes lines came outs heard links view =
     let k = clients_in old in
     let is = heard_is k (clients_in new) conn bytes came in
     let here : (clients_in new).streams conn ≡ heard_by (k.streams conn) conn conn bytes = ap (λ (l : Clients). l.streams conn) is ∙ hear_here k conn bytes (k.streams conn) refl in
     record {
+      lines = lines;
       streams = λ other. subst (λ (l : Clients). StreamOn (heard_by (k.streams other) conn other bytes) (l.streams other)) (sym is) (hear_streams k conn bytes (k.streams conn) refl other);
       closes = λ said none u. (
         record { links = links u.links; view = ap (λ v. v.links) view ∙ u.view },
@@ -219,11 +238,25 @@ not_open : (o : Option Conn) (is_open : Bool) → is_open ≡ not (is_none o) �
 not_open None is_open e f = refl
 not_open (Some c) is_open e f = absurd (cc (e, f))
 
-pub hears_none_begins : (old new : Running) (conn : ℕ) (bytes : List ℕ) (is_open : Bool) → is_open ≡ not (is_none ((clients_in old).streams conn)) → is_open ≡ false
-    → clients_in new ≡ clients_in old → new.outs ≡ old.outs → new.heard ≡ Some conn → (old.links.all.items ≡ [] → new.links.all.items ≡ []) → new.view ≡ old.view
+pub stream_of : (o : Option Conn) (is_open : Bool) → is_open ≡ not (is_none o) → is_open ≡ true → (stream : Conn) × (o ≡ Some stream)
+stream_of None is_open e f = absurd (cc (e, f))
+stream_of (Some c) is_open e f = (c, refl)
+
+-- on a client's
+pub hears_open_begins : (old new : Running) (conn : ℕ) (bytes : List ℕ) (is_open : Bool) → is_open ≡ not (is_none ((clients_in old).streams conn)) → is_open ≡ true
+    → clients_in new ≡ heard (clients_in old) conn bytes → new.outs ≡ old.outs → new.heard ≡ Some conn → new.links ≡ old.links → new.view ≡ old.view → new.has_links ≡ old.has_links
     → ConnsBegin (events.Bytes conn bytes) old new
-hears_none_begins old new conn bytes is_open e f is outs heard links view =
-    hears_begins old new conn bytes (is ∙ not_heard (clients_in old) conn bytes (not_open ((clients_in old).streams conn) is_open e f)) outs heard links view
+hears_open_begins old new conn bytes is_open e f is outs heard links view has_links =
+    let stream = stream_of ((clients_in old).streams conn) is_open e f in
+    hears_begins old new conn bytes (hears_lines old new conn bytes stream.0 stream.1 is outs heard links view has_links) is outs heard (λ none. ap (λ l. l.all.items) links ∙ none) view
+
+-- on a peer's, or on none that is open
+pub hears_link_begins : (old new : Running) (conn : ℕ) (bytes : List ℕ) (is_open : Bool) → is_open ≡ not (is_none ((clients_in old).streams conn)) → is_open ≡ false
+    → clients_in new ≡ clients_in old → new.outs ≡ old.outs → new.heard ≡ Some conn → (old.links.all.items ≡ [] → new.links.all.items ≡ [])
+    → new.links.all.items ≡ heard_link conn bytes old.links.all.items → new.view ≡ old.view → new.has_links ≡ old.has_links → ConnsBegin (events.Bytes conn bytes) old new
+hears_link_begins old new conn bytes is_open e f is outs heard none links view has_links =
+    let closed = not_open ((clients_in old).streams conn) is_open e f in
+    hears_begins old new conn bytes (link_hears_lines old new conn bytes closed is outs heard links view has_links) (is ∙ not_heard (clients_in old) conn bytes closed) outs heard none view
 
 -- ---- connections that go
 
@@ -251,8 +284,10 @@ gone_streams k l conn is other = subst (λ (x : Clients). StreamOn (k.streams ot
 
 -- A connection hangs up.
 pub hangs_begins : (old new : Running) (conn : ℕ) → clients_in new ≡ hung_up (clients_in old) conn → new.outs ≡ old.outs → new.heard ≡ old.heard
-    → (old.links.all.items ≡ [] → new.links.all.items ≡ []) → new.view ≡ old.view → ConnsBegin (events.Hangup conn) old new
-hangs_begins old new conn is outs heard links view = record {
+    → (old.links.all.items ≡ [] → new.links.all.items ≡ []) → new.links.all.items ≡ without_link conn old.links.all.items → new.view ≡ old.view → new.has_links ≡ old.has_links
+    → ConnsBegin (events.Hangup conn) old new
+hangs_begins old new conn is outs heard links left view has_links = record {
+  lines = hangs_lines old new conn is outs heard left view has_links;
   streams = λ other. gone_streams (clients_in old) (clients_in new) conn is other;
   closes = λ said none u. (
     record { links = links u.links; view = ap (λ v. v.links) view ∙ u.view },
@@ -261,21 +296,37 @@ hangs_begins old new conn is outs heard links view = record {
 }
 
 -- One is closed, if it is a client's that is to be.
-pub closed_conn : (old new : Running) (conn : ℕ) (reason : Option CloseReason) → clients_in new ≡ closed (clients_in old) conn → reason ≡ closing ((clients_in old).streams conn)
-    → new.outs ≡ old.outs → new.links ≡ old.links → new.view ≡ old.view → ClosesConn old new conn reason
-closed_conn old new conn reason is told outs links view = record {
-  streams = λ other. subst (λ (x : Clients). StreamOn ((clients_in old).streams other) (x.streams other)) (sym is) (closed_streams (clients_in old) conn other);
-  closed = ap (λ o. o.closed.items) outs;
-  closes = λ u. (record { links = ap (λ l. l.all.items) links ∙ u.links; view = ap (λ v. v.links) view ∙ u.view }, told);
+pub closed_conn : (old new : Running) (conn : ℕ) (reason : Option CloseReason) → link_on conn old.links.all.items ≡ None → clients_in new ≡ closed (clients_in old) conn → reason ≡ closing ((clients_in old).streams conn)
+    → new.outs ≡ old.outs → new.links ≡ old.links → new.view ≡ old.view → new.has_links ≡ old.has_links → new.heard ≡ old.heard → ClosesConn old new conn reason
+closed_conn old new conn reason none is told outs links view has_links heard =
+    let gone = client_gone old new conn reason none told is links view has_links heard in record {
+      why = gone.0;
+      lines = gone.1;
+      streams = λ other. subst (λ (x : Clients). StreamOn ((clients_in old).streams other) (x.streams other)) (sym is) (closed_streams (clients_in old) conn other);
+      closed = ap (λ o. o.closed.items) outs;
+      closes = λ u. (record { links = ap (λ l. l.all.items) links ∙ u.links; view = ap (λ v. v.links) view ∙ u.view }, told);
+    }
+
+-- one that carries a peer's messages, which a node without links has none of: it stays where there is no reason
+pub link_kept_conn : (old : Running) (conn : ℕ) (link : Link) (reason : Option CloseReason) → link_on conn old.links.all.items ≡ Some link
+    → reason ≡ reason_at (link_on conn old.links.all.items) ((clients_in old).streams conn) → reason ≡ None → ClosesConn old old conn reason
+link_kept_conn old conn link reason is why none = record {
+  streams = λ other. stays_on ((clients_in old).streams other);
+  closed = refl;
+  closes = λ u. absurd (no_link conn link old.links.all.items u.links is);
+  why = why;
+  lines = link_stays old conn link reason is why none;
 }
 
--- one that carries a peer's messages, which a node without links has none of
-pub link_conn : (old new : Running) (conn : ℕ) (reason : Option CloseReason) (has : Bool) → (old.links.all.items ≡ [] → has ≡ false) → has ≡ true
-    → clients_in new ≡ clients_in old → new.outs ≡ old.outs → ClosesConn old new conn reason
-link_conn old new conn reason has none is same outs = record {
+pub link_conn : (old new : Running) (conn : ℕ) (link : Link) (reason : CloseReason) → link_on conn old.links.all.items ≡ Some link
+    → Some reason ≡ reason_at (link_on conn old.links.all.items) ((clients_in old).streams conn) → new.links.all.items ≡ without_link conn old.links.all.items
+    → clients_in new ≡ clients_in old → new.outs ≡ old.outs → new.view ≡ old.view → new.has_links ≡ old.has_links → new.heard ≡ old.heard → ClosesConn old new conn (Some reason)
+link_conn old new conn link reason is why left same outs view has_links heard = record {
   streams = same_streams (clients_in old).streams (clients_in new).streams (ap (λ (k : Clients). k.streams) same);
   closed = ap (λ o. o.closed.items) outs;
-  closes = λ u. absurd (true≢false (sym is ∙ none u.links));
+  closes = λ u. absurd (no_link conn link old.links.all.items u.links is);
+  why = why;
+  lines = link_gone old new conn link reason is left same view has_links heard;
 }
 
 -- the connection whose bytes came was looked at, and closed if it was to be
@@ -326,12 +377,23 @@ takes_on old new offer first is outs heard links view =
     }
 
 -- What came of it was done: a connection leaves the clients for a peer's messages only where the node has links.
-pub behind_on : (act : Act) (old new : Running) → (IsPeer act → old.view.links ≡ true) → ConnsBehind act old new → ConnsOn old new
-behind_on (acts.Reply conn messages) old new never x = kept_on old new x
-behind_on (acts.Propose conn entries) old new never x = kept_on old new x
-behind_on (acts.Lend conn job) old new never x = kept_on old new x
-behind_on (acts.Transfer conn to reply) old new never x = kept_on old new x
-behind_on (acts.Peer conn id reply) old new never x = record { streams = x.streams; closes = λ u. absurd (true≢false (sym (never tt) ∙ u.view)) }
+pub behind_on : (P : ℕ → ℕ → Type 0) (act : Act) (old new : Running) → IfPeer P act → ((conn id : ℕ) → P conn id → old.view.links ≡ true) → ConnsBehind act old new → ConnsOn old new
+behind_on P (acts.Reply conn messages) old new p links x = kept_on old new x
+behind_on P (acts.Propose conn entries) old new p links x = kept_on old new x
+behind_on P (acts.Lend conn job) old new p links x = kept_on old new x
+behind_on P (acts.Transfer conn to reply) old new p links x = kept_on old new x
+behind_on P (acts.Peer conn id reply) old new p links x = record {
+  streams = λ other. subst (λ (s : ℕ → Option Conn). StreamOn ((clients_in old).streams other) (s other)) (sym x.streams) (hung_streams (clients_in old) conn other);
+  closes = λ u. absurd (true≢false (sym (links conn id p) ∙ u.view));
+}
+
+-- no connection leaves them
+pub behind_kept : (act : Act) (old new : Running) → IsNoPeer act → ConnsBehind act old new → KeepsConns old new
+behind_kept (acts.Reply conn messages) old new p x = x
+behind_kept (acts.Propose conn entries) old new p x = x
+behind_kept (acts.Lend conn job) old new p x = x
+behind_kept (acts.Transfer conn to reply) old new p x = x
+behind_kept (acts.Peer conn id reply) old new p x = absurd p
 
 -- ---- a step
 
@@ -353,7 +415,7 @@ pub outs_conns : {F : Type 0} (r : Result Outs F) (event : Event) (old : Running
     → ConnsBegin event (record old { replica = replica }) mid → ConnsOn mid last → last.heard ≡ None → new ≡ record last { outs = new.outs; mail = new.mail }
     → IfOk r (λ outs. (outs.replies.items ≡ last.outs.replies.items) × (outs.closed.items ≡ last.outs.closed.items)) → IfOk r (λ outs. ConnsBy event old new outs)
 outs_conns (Ok outs) event old replica mid last new quiet heard begun ran none rest said =
-    let start : ConnsBegin event old mid = record { streams = begun.streams; closes = λ c h u. begun.closes c h (record { links = u.links; view = u.view }) } in
+    let start : ConnsBegin event old mid = record { streams = begun.streams; closes = λ c h u. begun.closes c h (record { links = u.links; view = u.view }); lines = record { is = begun.lines.is; closed = begun.lines.closed } } in
     step_conns event old mid last new outs quiet.closed heard start ran none said.1 (ap clients_in rest) (ap (λ (n : Running). n.links) rest) (ap (λ (n : Running). n.view) rest)
 outs_conns (Err f) event old replica mid last new quiet heard begun ran none rest said = tt
 
@@ -368,75 +430,82 @@ message_on c old mid new refused refused_now given act t is outs heard links vie
     subst (TookTurn c old.view (machine_of old.applied.machine) (clients_in old) refused refused_now (clients_in mid)) is t in
     conns_both old mid new
     (takes_on old mid x.offer (next_is_first (clients_in old) x.offer x.next) (ap (λ (k : Clients). k.streams) x.rest) outs heard links view)
-    (behind_on act mid new (λ p. ap (λ (v : View). v.links) view ∙ took_links c old.view (machine_of old.applied.machine) (clients_in old) refused refused_now (clients_in mid) act x p) done)
+    (behind_on (IsConnect old.view x.offer.conn x.offer.message) act mid new (took_peer c old.view (machine_of old.applied.machine) (clients_in old) refused refused_now (clients_in mid) act x)
+    (λ conn id p. ap (λ (v : View). v.links) view ∙ p.links) done)
 
 -- or none was left
-pub idle_on : (c : EngineCall) (old new : Running) (refused refused_now : ℕ) (given : Option Act)
+pub idle_kept : (c : EngineCall) (old new : Running) (refused refused_now : ℕ) (given : Option Act)
     → TookTurn c old.view (machine_of old.applied.machine) (clients_in old) refused refused_now (clients_in new) given → given ≡ None
-    → new.outs ≡ old.outs → new.heard ≡ old.heard → new.links ≡ old.links → new.view ≡ old.view → ConnsOn old new
-idle_on c old new refused refused_now given t is outs heard links view =
+    → new.outs ≡ old.outs → new.heard ≡ old.heard → new.links ≡ old.links → new.view ≡ old.view → new.has_links ≡ old.has_links → KeepsConns old new
+idle_kept c old new refused refused_now given t is outs heard links view has_links =
     let x : WasIdle (clients_in old) c.told_before c.told_now (clients_in new) = subst (TookTurn c old.view (machine_of old.applied.machine) (clients_in old) refused refused_now (clients_in new)) is t in
-    kept_on old new (record {
+    record {
       streams = ap (λ (k : Clients). k.streams) x.rest;
       heard = heard;
       closed = ap (λ (o : Outs). o.closed.items) outs;
       links = ap (λ l. l.all.items) links;
       view = ap (λ (v : View). v.links) view;
-    })
+      id = ap (λ (v : View). v.id) view;
+      has_links = has_links;
+    }
 
 -- the sessions are others, and connections have a turn
-freed_on : (old mid : Running) (sessions : Gateway) (conns : List ℕ) → clients_in mid ≡ freed (clients_in old) sessions conns
-    → mid.outs ≡ old.outs → mid.heard ≡ old.heard → mid.links ≡ old.links → mid.view ≡ old.view → ConnsOn old mid
-freed_on old mid sessions conns is outs heard links view = kept_on old mid (record {
+pub freed_kept : (old mid : Running) (sessions : Gateway) (conns : List ℕ) → clients_in mid ≡ freed (clients_in old) sessions conns
+    → mid.outs ≡ old.outs → mid.heard ≡ old.heard → mid.links ≡ old.links → mid.view ≡ old.view → mid.has_links ≡ old.has_links → KeepsConns old mid
+freed_kept old mid sessions conns is outs heard links view has_links = record {
   streams = ap (λ (k : Clients). k.streams) is;
   heard = heard;
   closed = ap (λ (o : Outs). o.closed.items) outs;
   links = ap (λ l. l.all.items) links;
   view = ap (λ (v : View). v.links) view;
-})
+  id = ap (λ (v : View). v.id) view;
+  has_links = has_links;
+}
 
 -- A query that was yet to be answered was run.
-pub later_on : (c : EngineCall) (old mid new : Running) (conn refused refused_now : ℕ) (given : Option Act) (act : Act)
+pub later_kept : (c : EngineCall) (old mid new : Running) (conn refused refused_now : ℕ) (given : Option Act) (act : Act)
     → Resumes c (scene old.view (machine_of old.applied.machine) (clients_in old).sessions conn) (later_query ((clients_in old).sessions.session conn).later) refused refused_now (clients_in mid).sessions given
     → clients_in mid ≡ freed (clients_in old) (clients_in mid).sessions (turn_for conn given) → given ≡ Some act
-    → mid.outs ≡ old.outs → mid.heard ≡ old.heard → mid.links ≡ old.links → mid.view ≡ old.view → ConnsBehind act mid new → ConnsOn old new
-later_on c old mid new conn refused refused_now given act t rest is outs heard links view done =
+    → mid.outs ≡ old.outs → mid.heard ≡ old.heard → mid.links ≡ old.links → mid.view ≡ old.view → mid.has_links ≡ old.has_links → ConnsBehind act mid new → KeepsConns old new
+later_kept c old mid new conn refused refused_now given act t rest is outs heard links view has_links done =
     let g = (clients_in old).sessions in
     let o = later_query (g.session conn).later in
     let x = subst (Resumes c (scene old.view (machine_of old.applied.machine) g conn) o refused refused_now (clients_in mid).sessions) is t in
-    conns_both old mid new (freed_on old mid (clients_in mid).sessions (turn_for conn given) rest outs heard links view)
-    (behind_on act mid new (λ p. ap (λ (v : View). v.links) view ∙ resumed_links c old.view (machine_of old.applied.machine) g conn o refused refused_now (clients_in mid).sessions act x p) done)
+    kept_both old mid new (freed_kept old mid (clients_in mid).sessions (turn_for conn given) rest outs heard links view has_links)
+    (behind_kept act mid new (resumed_none c old.view (machine_of old.applied.machine) g conn o refused refused_now (clients_in mid).sessions act x) done)
 
 pub none_later : (old mid : Running) (conn : ℕ) (given : Option Act) → clients_in mid ≡ freed (clients_in old) (clients_in mid).sessions (turn_for conn given)
-    → mid.outs ≡ old.outs → mid.heard ≡ old.heard → mid.links ≡ old.links → mid.view ≡ old.view → ConnsOn old mid
-none_later old mid conn given rest outs heard links view = freed_on old mid (clients_in mid).sessions (turn_for conn given) rest outs heard links view
+    → mid.outs ≡ old.outs → mid.heard ≡ old.heard → mid.links ≡ old.links → mid.view ≡ old.view → mid.has_links ≡ old.has_links → KeepsConns old mid
+none_later old mid conn given rest outs heard links view has_links = freed_kept old mid (clients_in mid).sessions (turn_for conn given) rest outs heard links view has_links
 
 -- what a reader tells is a reply
-reads_reply : (g : Gateway) (conn : ℕ) (o : Option Statement) (r : Option Reply) (now : Gateway) (given : Option Act) (act : Act) → Finishes g conn o r now given → given ≡ Some act → IsPeer act → ⊥
-reads_reply g conn None r now given act x is p = absurd (cc (x.1, is))
-reads_reply g conn (Some statement) None now given act x is p = absurd (cc (x.1, is))
-reads_reply g conn (Some statement) (Some reply) now given act x is p =
-    subst (λ (a : Act). IsPeer a) (some_act act (acts.Reply conn (bytes_of (responses_of reply))) (sym is ∙ x.1)) p
+reads_reply : (g : Gateway) (conn : ℕ) (o : Option Statement) (r : Option Reply) (now : Gateway) (given : Option Act) (act : Act) → Finishes g conn o r now given → given ≡ Some act → IsNoPeer act
+reads_reply g conn None r now given act x is = absurd (cc (x.1, is))
+reads_reply g conn (Some statement) None now given act x is = absurd (cc (x.1, is))
+reads_reply g conn (Some statement) (Some reply) now given act x is =
+    subst IsNoPeer (sym (some_act act (acts.Reply conn (bytes_of (responses_of reply))) (sym is ∙ x.1))) tt
   where
     some_act : (a b : Act) → Some a ≡ Some b → a ≡ b
     some_act a b e = cc
 
-pub read_on : (old mid new : Running) (conn : ℕ) (o : Option Statement) (r : Option Reply) (given : Option Act) (act : Act)
+pub read_kept : (old mid new : Running) (conn : ℕ) (o : Option Statement) (r : Option Reply) (given : Option Act) (act : Act)
     → Finishes (clients_in old).sessions conn o r (clients_in mid).sessions given → clients_in mid ≡ freed (clients_in old) (clients_in mid).sessions (turn_for conn given) → given ≡ Some act
-    → mid.outs ≡ old.outs → mid.heard ≡ old.heard → mid.links ≡ old.links → mid.view ≡ old.view → ConnsBehind act mid new → ConnsOn old new
-read_on old mid new conn o r given act x rest is outs heard links view done =
-    conns_both old mid new (freed_on old mid (clients_in mid).sessions (turn_for conn given) rest outs heard links view)
-    (behind_on act mid new (λ p. absurd (reads_reply (clients_in old).sessions conn o r (clients_in mid).sessions given act x is p)) done)
+    → mid.outs ≡ old.outs → mid.heard ≡ old.heard → mid.links ≡ old.links → mid.view ≡ old.view → mid.has_links ≡ old.has_links → ConnsBehind act mid new → KeepsConns old new
+read_kept old mid new conn o r given act x rest is outs heard links view has_links done =
+    kept_both old mid new (freed_kept old mid (clients_in mid).sessions (turn_for conn given) rest outs heard links view has_links)
+    (behind_kept act mid new (reads_reply (clients_in old).sessions conn o r (clients_in mid).sessions given act x is) done)
 
 -- a job is out no more
-pub lent_on : (old mid : Running) (lent : _) (readers : Bool) → mid ≡ record old { lent = lent; view = record old.view { readers = readers } } → ConnsOn old mid
-lent_on old mid lent readers is = kept_on old mid (record {
+pub lent_kept : (old mid : Running) (lent : _) (readers : Bool) → mid ≡ record old { lent = lent; view = record old.view { readers = readers } } → KeepsConns old mid
+lent_kept old mid lent readers is = record {
   streams = ap (λ (n : Running). (clients_in n).streams) is;
   heard = ap (λ (n : Running). n.heard) is;
   closed = ap (λ (n : Running). n.outs.closed.items) is;
   links = ap (λ (n : Running). n.links.all.items) is;
   view = ap (λ (n : Running). n.view.links) is;
-})
+  id = ap (λ (n : Running). n.view.id) is;
+  has_links = ap (λ (n : Running). n.has_links) is;
+}
 
 -- ---- a peer's message on a connection
 

@@ -4,6 +4,8 @@ mod Going
 mod RaftTurns
 mod Causes
 mod Applying
+mod ExactTurns
+mod ExactStarts
 mod Turning
 mod Waiting
 mod SnapshotOffice
@@ -37,5 +39,12 @@ mod Finding
 mod StopsOfTurns
 mod StopsOfStep
 mod PeerActs
+mod Carried
+mod PeerLinks
+mod Sending
 mod ConnStreams
 mod HeardSo
+mod PlainGates
+mod RaftExactly
+mod CoreMoves
+mod CoreEntries

@@ -22,7 +22,7 @@ use Rattle.node_rules.proofs.Stretches.{nothing_goes_holds, goes_on_holds, sent_
 use Rattle.node_core.specs.declared.event.Event.{Event}
 use Rattle.node_core.specs.declared.outs.Outs.{Outs}
 use Rattle.node_core.specs.declared.running.Running.{Running}
-use Rattle.node_core.specs.Account.{proposals_in, moment_of, Comes, Compacts, AtRest, Fresh, Underway, StepsBy}
+use Rattle.node_core.specs.Account.{proposals_in, moment_of, Comes, Compacts, AtRest, Fresh, Underway, StepsBy, messages_of}
 use Rattle.node_core.specs.Applying.{AppliesSo}
 use Rattle.node_core.specs.Duties.{DutySo}
 use Rattle.node_core.specs.Performing.{SaysNothing, GoesOr, ClosesSo}
@@ -34,6 +34,9 @@ use Rattle.node_core.specs.Whole.{IsGoing, IsQuiet}
 use Rattle.node_core.specs.Voters.{Beside, RestsBeside}
 use Rattle.node_core.proofs.Accounting.{QuietTurns, says_none, says_join, heard_none, heard_join, adds_none, adds_join, underway_on, underway_next, underway_ends}
 use Rattle.node_core.proofs.Besides.{rests_same, beside_rest, beside_none, beside_on, beside_then}
+use Rattle.node_core.specs.Carrying.{MovesLines, lines_in, first_waiting}
+use Rattle.node_core.specs.Conns.{KeepsConns}
+use Rattle.node_core.proofs.Carried.{kept_moves, same_moves, since_ends}
 use Rattle.node_core.proofs.Beginning.{begins_raft, begins_compact, with_letter}
 use Rattle.node_core.proofs.ClientTurns.{sends_so}
 use Rattle.node_core.proofs.TurnsOf.{turns_stays, turns_hangs, turns_applies, turns_owes, turns_serves}
@@ -159,12 +162,12 @@ module _ (m : Meaning) (kind : EngineKind) (setup : Setup) (start : Running) (ev
   abbrev So : Running → Option Told → Type 0
   So n now = Underway m kind setup start n event told now
 
-  pub goes_further : {mid now : Option Told} (a b : Running) → So a mid → ((bytes : List ℕ) (joins : Option ℕ) → TurnsOn m kind setup bytes joins a b mid now) → So b now
-  goes_further a b u t = underway_on m kind setup start a b event u t
+  pub goes_further : {mid now : Option Told} (a b : Running) → So a mid → MovesLines a b [] → ((bytes : List ℕ) (joins : Option ℕ) → TurnsOn m kind setup bytes joins a b mid now) → So b now
+  goes_further a b u moves t = underway_on m kind setup start a b event u moves t
 
   -- nothing was due
   pub had_none : {now : Option Told} (a b : Running) → So a now → HadNone a b → So b now
-  had_none a b u h = goes_further a b u (λ bytes joins. fresh_turn m kind setup bytes joins a b (record {
+  had_none a b u h = goes_further a b u (same_moves a b (ap lines_in h.is) (ap (λ (n : Running). n.outs.closed.items) h.is)) (λ bytes joins. fresh_turn m kind setup bytes joins a b (record {
     moment = ap moment_of h.is ∙ (λ i. record { node = seen a; applied = a.applied.index; due = (ap proposals_in h.now ∙ sym (ap proposals_in h.was)) i });
     mail = ap (λ (n : Running). n.mail) h.is;
     replies = ap (λ (n : Running). n.outs.replies.items) h.is;
@@ -175,17 +178,17 @@ module _ (m : Meaning) (kind : EngineKind) (setup : Setup) (start : Running) (ev
   }))
 
   -- an own snapshot is an act of its own
-  pub compacts : {now : Option Told} → SnapshotGoes m kind → (a b : Running) → So a now → IsGoing a → MayEnd (moment_of a) → AtRest a → CompactsSo setup a b → So b now
-  compacts law a b u going end rest c =
-      underway_next m kind setup start a a b event u end going.holds.replica.id (record { same = refl; links = refl; mail = refl; replies = refl; reads = refl }) rest (Compacts a.applied.index) tt (λ none. tt) (begins_compact m kind setup a b law c)
+  pub compacts : {now : Option Told} → SnapshotGoes m kind → (a b : Running) → So a now → IsGoing a → MayEnd (moment_of a) → AtRest a → KeepsConns a b → CompactsSo setup a b → So b now
+  compacts law a b u going end rest keeps c =
+      underway_next m kind setup start a a b event u end going.holds.replica.id (record { same = refl; links = refl; mail = refl; replies = refl; reads = refl }) rest (Compacts a.applied.index) tt (λ none. tt) (kept_moves a b keeps) (begins_compact m kind setup a b law c)
 
   -- and so is a message of a peer that came on a connection
   pub letter_came : {mid now : Option Told} (a b : Running) → So a mid → IsGoing a → MayEnd (moment_of a) → AtRest a → TookLetter m kind setup a b mid now → So b now
-  letter_came a b u going end rest (none_came f same) = subst (So b) same (goes_further a b u (λ bytes joins. fresh_turn m kind setup bytes joins a b f))
-  letter_came a b u going end rest (came message mid linked is began) =
+  letter_came a b u going end rest (none_came f same moves) = subst (So b) same (goes_further a b u moves (λ bytes joins. fresh_turn m kind setup bytes joins a b f))
+  letter_came a b u going end rest (came message mid linked is began moves) =
       underway_next m kind setup start a mid b event u end going.holds.replica.id
       (record { same = ap seen is; links = ap (λ (n : Running). n.has_links) is; mail = ap (λ (n : Running). n.mail) is; replies = ap (λ (n : Running). n.outs.replies.items) is; reads = ap (λ (n : Running). n.outs.reads.items) is })
-      (subst AtRest (sym is) (record { rests = rest.rests; at = rest.at; id = rest.id })) (Comes message) tt (λ none. absurd (true≢false (sym linked ∙ u.links ∙ none))) (begins_raft m kind setup mid b (Comes message) (raft_events.Message message) (with_letter mid message) began)
+      (subst AtRest (sym is) (record { rests = rest.rests; at = rest.at; id = rest.id })) (Comes message) tt (λ none. absurd (true≢false (sym linked ∙ u.links ∙ none))) moves (begins_raft m kind setup mid b (Comes message) (raft_events.Message message) (with_letter mid message) began)
 
 -- ---- along an engine, whose kind stays
 
@@ -193,15 +196,15 @@ module _ (M : EngineKind → Meaning) (setup : Setup) (start : Running) (event :
   abbrev On : EngineKind → Running → Option Told → Type 0
   On l n now = Underway (M l) l setup start n event told now
 
-  pub further_at : {mid now : Option Told} (l : EngineKind) (a b : Running) → l ≡ k → On k a mid → ((bytes : List ℕ) (joins : Option ℕ) → TurnsOn (M l) l setup bytes joins a b mid now) → On k b now
-  further_at {mid} {now} l a b e u t = subst (λ z. On z b now) e (goes_further (M l) l setup start event told a b (subst (λ z. On z a mid) (sym e) u) t)
+  pub further_at : {mid now : Option Told} (l : EngineKind) (a b : Running) → l ≡ k → On k a mid → MovesLines a b [] → ((bytes : List ℕ) (joins : Option ℕ) → TurnsOn (M l) l setup bytes joins a b mid now) → On k b now
+  further_at {mid} {now} l a b e u moves t = subst (λ z. On z b now) e (goes_further (M l) l setup start event told a b (subst (λ z. On z a mid) (sym e) u) moves t)
 
   pub letter_at : {mid now : Option Told} (l : EngineKind) (a b : Running) → l ≡ k → On k a mid → IsGoing a → MayEnd (moment_of a) → AtRest a → TookLetter (M l) l setup a b mid now → On k b now
   letter_at {mid} {now} l a b e u going end rest t = subst (λ z. On z b now) e (letter_came (M l) l setup start event told a b (subst (λ z. On z a mid) (sym e) u) going end rest t)
 
-  pub closed_at : {F : Type 0} {now : Option Told} (r : Result Bool F) (a b : Running) → On k a now → b.replica ≡ a.replica → OnOk r (ClosesSo a b) → SaysNothing a b → OnOk r (On k b now)
-  closed_at (Ok more) a b u replica c quiet = goes_further (M k) k setup start event told a b u (λ bytes joins. closes_turn (M k) k setup bytes joins a b replica c quiet)
-  closed_at (Err f) a b u replica c quiet = tt
+  pub closed_at : {F : Type 0} {now : Option Told} (r : Result Bool F) (a b : Running) → On k a now → b.replica ≡ a.replica → OnOk r (ClosesSo a b) → OnOk r (MovesLines a b []) → SaysNothing a b → OnOk r (On k b now)
+  closed_at (Ok more) a b u replica c moves quiet = goes_further (M k) k setup start event told a b u moves (λ bytes joins. closes_turn (M k) k setup bytes joins a b replica c quiet)
+  closed_at (Err f) a b u replica c moves quiet = tt
 
 -- where nothing was left but to look at a connection
 pub ends_closed : {F : Type 0} (r : Result Bool F) (a b : Running) → MayEnd (moment_of a) → IfOk r (λ more. more ≡ false → (b ≡ a) × (b.heard ≡ None)) → IfOk r (λ more. more ≡ false → MayEnd (moment_of b))
@@ -218,9 +221,11 @@ ends_behind old a b same going applied due replica index dues turns none session
 
 -- ---- what the step says
 
-pub steps_said : {F : Type 0} {before now : Option Told} (m : Meaning) (kind : EngineKind) (setup : Setup) (a b c : Running) (event : Event) (r : Result Outs F) → Underway m kind setup a b event before now → MayEnd (moment_of b) → b.replica.raft.id ≡ b.replica.id → IsQuiet a
+pub steps_said : {F : Type 0} {before now : Option Told} (m : Meaning) (kind : EngineKind) (setup : Setup) (a b c : Running) (event : Event) (r : Result Outs F) → Underway m kind setup a b event before now → MayEnd (moment_of b) → b.replica.raft.id ≡ b.replica.id → IsQuiet a → b.heard ≡ None → (b.has_links ≡ true → first_waiting b.links.all.items ≡ None)
     → c ≡ record b { outs = c.outs; mail = c.mail } → IfOk r (λ outs. (outs.replies.items ≡ b.outs.replies.items) × (outs.closed.items ≡ b.outs.closed.items)) → IfOk r (λ outs. outs.messages.items ≡ sent b.mail)
     → IfOk r (λ outs. outs.reads.items ≡ b.outs.reads.items) → IfOk r (λ outs. StepsBy m kind setup a c event outs before now)
-steps_said m kind setup a b c event (Ok outs) u end id quiet rest said messages reads =
+steps_said m kind setup a b c event (Ok outs) u end id quiet heard none rest said messages reads =
     underway_ends m kind setup a b c event outs u end id quiet.mail quiet.replies quiet.reads (ap seen rest) messages said.0 reads (ap (λ (n : Running). n.has_links) rest)
-steps_said m kind setup a b c event (Err f) u end id quiet rest said messages reads = tt
+    (since_ends event a b c outs (messages_of (u.begins ++ u.begin ∷ [])) u.lines quiet.closed (ap lines_in rest) said.1 (ap (λ (n : Running). n.heard) rest ∙ heard)
+    (subst (λ (n : Running). n.has_links ≡ true → first_waiting n.links.all.items ≡ None) (sym rest) none))
+steps_said m kind setup a b c event (Err f) u end id quiet heard none rest said messages reads = tt

@@ -20,14 +20,16 @@ use Rattle.node_rules.specs.RaftTurns.{IsFirst, StopLeaves}
 use Rattle.node_core.specs.declared.event.Event.{Event}
 use Rattle.node_core.specs.declared.event.Event.TheVariants as happens
 use Rattle.node_core.specs.declared.running.Running.{Running}
-use Rattle.node_core.specs.Account.{moment_of, Brought, Since, Begin, Happens, Comes, Compacts, BytesAsk, told_of, AtRest, Stopped, none_made, Between, Comes_in, IsOwn, IsMore, IsAlone, Underway, StopsBy}
+use Rattle.node_core.specs.Account.{moment_of, Brought, Since, Begin, Happens, Comes, Compacts, BytesAsk, told_of, AtRest, Stopped, none_made, Between, Comes_in, IsOwn, IsMore, IsAlone, message_by, messages_of, Underway, StopsBy}
 use Rattle.node_core.specs.Finding.{StopsIn, unchanged_yet, in_change, StopsOwn, before_own, in_own, StopsCompacting, BeganStops, at_once, later_on, StopsLetter, letter_stopped, no_letter}
 use Rattle.node_core.specs.Posting.{told_inputs}
 use Rattle.node_core.specs.Voters.{MayBe}
 use Rattle.node_core.specs.Taking.{bytes_with, came_by}
 use Rattle.node_core.specs.Values.{seen, clients_in, waiting_on}
 use Rattle.node_core.specs.Whole.{IsOutside}
-use Rattle.node_core.proofs.Accounting.{begun_stops, since_stops, since_within, begin_within, since_ends, went_on, went_stops, are_more, all_then, since_on, underway_stops}
+use Rattle.node_core.proofs.Accounting.{begun_stops, since_stops, since_within, begin_within, since_ends, went_on, went_stops, are_more, all_then, since_next, since_on, underway_stops}
+use Rattle.node_core.specs.Carrying.{MovesLines}
+use Rattle.node_core.proofs.Carried.{no_moves, none_yet, since_up_to}
 use Rattle.node_core.proofs.Besides.{tells_stop, tells_begun}
 use Rattle.node_core.proofs.Beginning.{BeginsWith, with_letter}
 use Rattle.node_core.proofs.Bridges.{asked_more}
@@ -92,18 +94,19 @@ module _ (law : StopLeaves) (m : Meaning) (kind : EngineKind) (setup : Setup) wh
         (ap (λ (is : List raft.Input). (u.so_far.since.piece.inputs ++ is) ++ i ∷ []) t.is ∙ append_assoc u.so_far.since.piece.inputs (told_inputs told) (i ∷ []))) s)
 
     -- at the begin of another act
-    pub stopped_next : (b : Running) (next : Begin) (kept : Kept) → MayEnd (moment_of a) → a.replica.raft.id ≡ a.replica.id → Between a b → IsMore next → (a.has_links ≡ false → IsAlone next) → Stopped m kind setup b next kept → StopsBy m kind setup start event kept
-    stopped_next b next kept end id between more alone stopped =
+    pub stopped_next : (b : Running) (next : Begin) (kept : Kept) → MayEnd (moment_of a) → a.replica.raft.id ≡ a.replica.id → Between a b → IsMore next → (a.has_links ≡ false → IsAlone next) → MovesLines a b (message_by next) → Stopped m kind setup b next kept → StopsBy m kind setup start event kept
+    stopped_next b next kept end id between more alone moves stopped =
         let f = u.so_far in
         let r = since_ends m kind setup f.brought f.late u.from a u.begin u.stood f.comes f.since f.beside end id in
         went_stops m kind setup start a b (u.begins ++ u.begin ∷ []) next event kept (are_more event u.begins u.begin next u.are more)
         (went_on m kind setup start u.mid u.from a u.begins u.begin r.0 u.went u.between r.1 r.2 r.3) between stopped
         (λ none. all_then (u.begins ++ u.begin ∷ []) next (u.alone none) (alone (u.links ∙ none)))
+        (since_up_to event start b (messages_of ((u.begins ++ u.begin ∷ []) ++ next ∷ [])) (since_next event start a b (u.begins ++ u.begin ∷ []) next u.lines moves))
 
     -- in an own snapshot
     pub stopped_compacting : (kept : Kept) → MayEnd (moment_of a) → a.replica.raft.id ≡ a.replica.id → AtRest a → MayBe setup a [] (raft.Local (raft.Snapped a.applied.index) ∷ []) → StopsCompacting setup [] a kept → StopsBy m kind setup start event kept
     stopped_compacting kept end id stood may s =
-        stopped_next a (Compacts a.applied.index) kept end id (record { same = refl; links = refl; mail = refl; replies = refl; reads = refl }) tt (λ none. tt)
+        stopped_next a (Compacts a.applied.index) kept end id (record { same = refl; links = refl; mail = refl; replies = refl; reads = refl }) tt (λ none. tt) (no_moves a)
         (begin_within m kind setup (record { inputs = raft.Local (raft.Snapped a.applied.index) ∷ []; bytes = []; joins = None; read = None; asks = λ conn. [] }) a (Compacts a.applied.index) (raft.Local (raft.Snapped a.applied.index)) kept stood
         (record { inputs = inl refl; bytes = refl; joins = refl; read = refl; asks = λ conn. refl }) refl (λ conn. refl) may
         (λ known. law setup a.replica.id [] None (moment_of a) (raft.Local (raft.Snapped a.applied.index)) kept tt (s known)))
@@ -111,10 +114,10 @@ module _ (law : StopLeaves) (m : Meaning) (kind : EngineKind) (setup : Setup) wh
     -- at the begin of a message of a peer
     pub stopped_letter : (kept : Kept) → MayEnd (moment_of a) → a.replica.raft.id ≡ a.replica.id → AtRest a → StopsLetter m kind setup a kept → StopsBy m kind setup start event kept
     stopped_letter kept end id stood (no_letter e) = subst (StopsBy m kind setup start event) (sym e) stopped_here
-    stopped_letter kept end id stood (letter_stopped message mid linked is s) =
+    stopped_letter kept end id stood (letter_stopped message mid linked is moves s) =
         stopped_next mid (Comes message) kept end id
         (record { same = ap seen is; links = ap (λ (n : Running). n.has_links) is; mail = ap (λ (n : Running). n.mail) is; replies = ap (λ (n : Running). n.outs.replies.items) is; reads = ap (λ (n : Running). n.outs.reads.items) is }) tt
-        (λ none. absurd (true≢false (sym linked ∙ none)))
+        (λ none. absurd (true≢false (sym linked ∙ none))) moves
         (began_stopped mid (Comes message) (raft_events.Message message) kept (subst AtRest (sym is) (record { rests = stood.rests; at = stood.at; id = stood.id })) (with_letter mid message) tt s)
 
 -- ---- the begin of a step
@@ -169,4 +172,5 @@ first_stopped m kind setup start from event kept between stopped = record {
   acts = (between.same, refl);
   stopped = stopped;
   alone = λ none. (tt, tt);
+  lines = none_yet event start;
 }

@@ -35,6 +35,7 @@ use Rattle.node_core.specs.declared.event.Event.{Event}
 use Rattle.node_core.specs.declared.event.Event.TheVariants as events
 use Rattle.node_core.specs.declared.outs.Outs.{Outs}
 use Rattle.node_core.specs.declared.running.Running.{Running}
+use Rattle.node_core.specs.Carrying.{LinesSince, LinesBy, LinesUpTo}
 use Rattle.node_core.specs.Values.{seen, clients_in, requests_in, waiting_on}
 use Rattle.node_core.specs.Voters.{Beside}
 
@@ -358,6 +359,15 @@ IsAlone (Compacts index) = Unit {0}
 abbrev pub AreAlone : Running → List Begin → Type 0
 AreAlone n begins = n.has_links ≡ false → AllByRecursion IsAlone begins
 
+-- the messages of peers that came on connections, in order
+abbrev pub message_by : Begin → List RaftMessage
+message_by (Happens event) = []
+message_by (Comes message) = message ∷ []
+message_by (Compacts index) = []
+
+abbrev pub messages_of : List Begin → List RaftMessage
+messages_of begins = flat_map message_by begins
+
 -- nothing is said between two acts, and only what the rules don't see changes
 pub record Between (old new : Running) : Type 0 where
   pub same : seen new ≡ seen old
@@ -402,13 +412,15 @@ pub record Underway (m : Meaning) (kind : EngineKind) (setup : Setup) (start now
   pub asks : Brings start (Happens event) (λ conn. acts_asks m kind setup start mid begins went.made went.acts conn ++ so_far.brought.asks conn)
   pub links : now.has_links ≡ start.has_links
   pub alone : AreAlone start (begins ++ begin ∷ [])
+  pub lines : LinesSince event start now (messages_of (begins ++ begin ∷ []))
 
 -- ---- what a step shows
 
 -- A step that ended well: its acts are those of the rules, the first one that of the event, and it says what they say: of the Appends and
 -- Installs to one peer the last one. It hands to readers what they lend, and the engine told the answers that they use, and no others.
 -- Connections ask what the event's bytes bring to the streams that they had before. A node without links takes no peer's message from a
--- connection, and stays without them.
+-- connection, and stays without them. The messages of peers that it takes from connections, and whom it closes, are those of the moves that it
+-- makes there.
 pub record StepsBy (m : Meaning) (kind : EngineKind) (setup : Setup) (old new : Running) (event : Event) (outs : Outs) (told_before told_now : Option Told)
     : Type 0 where
   pub begins : List Begin
@@ -424,6 +436,7 @@ pub record StepsBy (m : Meaning) (kind : EngineKind) (setup : Setup) (old new : 
   pub asks : Brings old (Happens event) (acts_asks m kind setup old new begins made acts)
   pub links : new.has_links ≡ old.has_links
   pub alone : AreAlone old begins
+  pub lines : LinesBy event old new outs (messages_of begins)
 
 -- A step that failed or was stopped: what is kept is what the last of its acts left, and those before it ended well.
 pub record StopsBy (m : Meaning) (kind : EngineKind) (setup : Setup) (old : Running) (event : Event) (kept : Kept) : Type 0 where
@@ -435,3 +448,4 @@ pub record StopsBy (m : Meaning) (kind : EngineKind) (setup : Setup) (old : Runn
   pub acts : Acts m kind setup old mid begins made
   pub stopped : Stopped m kind setup mid last kept
   pub alone : AreAlone old (begins ++ last ∷ [])
+  pub lines : LinesUpTo event old (messages_of (begins ++ last ∷ []))

@@ -2,18 +2,17 @@
 use Rattle.std.specs.Prelude.{◌≡◌, ℕ, Bool, ◌==◌, false, cond, List, [], ◌∷◌, ◌++◌, Option, Some, None}
 use Rattle.wire_words.specs.declared.message.Message.{Message}
 use Rattle.client_connection.specs.declared.connection.CloseReason.{CloseReason}
-use Rattle.client_connection.specs.declared.connection.CloseReason.TheVariants.{Limit}
 use Rattle.client_connection.specs.Connection.{Conn, opened, received}
 use Rattle.client_sessions.specs.declared.act.Act.{Act}
 use Rattle.client_sessions.specs.declared.act.Act.TheVariants as acts
-use Rattle.client_sessions.specs.declared.joining.Joining.{Joining}
-use Rattle.client_sessions.specs.declared.joining.Joining.TheVariants as joinings
-use Rattle.client_sessions.specs.Clients.{Clients, closing, joining}
+use Rattle.client_sessions.specs.Clients.{Clients, closing, hung_up, joining}
 use Rattle.node_core.specs.declared.event.Event.{Event}
 use Rattle.node_core.specs.declared.event.Event.TheVariants as events
 use Rattle.node_core.specs.declared.node.Node.{Node}
 use Rattle.node_core.specs.declared.outs.Outs.{Outs}
 use Rattle.node_core.specs.declared.running.Running.{Running}
+use Rattle.node_core.specs.declared.links.Link.{Link}
+use Rattle.node_core.specs.Carrying.{BeginsLines, lines_in, close_of, full_for, link_on, reason_at, gone_at}
 use Rattle.node_core.specs.Values.{clients_in}
 
 -- ---- streams
@@ -47,10 +46,6 @@ brought (events.ReadDone other read) conn stream = stream
 
 -- ---- which are closed
 
-abbrev pub close_of : ℕ → Option CloseReason → List (ℕ × CloseReason)
-close_of conn None = []
-close_of conn (Some reason) = (conn, reason) ∷ []
-
 -- the connection whose bytes came, where its stream has ended
 abbrev pub close_on : Option ℕ → (ℕ → Option Conn) → List (ℕ × CloseReason)
 close_on None streams = []
@@ -59,12 +54,6 @@ close_on (Some conn) streams = close_of conn (closing (streams conn))
 -- those that are closed so far in a step, and the one that will be
 abbrev pub closes_in : Running → List (ℕ × CloseReason)
 closes_in n = n.outs.closed.items ++ close_on n.heard (clients_in n).streams
-
--- no room was left for one that comes
-abbrev pub full_for : ℕ → Joining → List (ℕ × CloseReason)
-full_for conn joinings.Joined = []
-full_for conn joinings.Full = (conn, Limit) ∷ []
-full_for conn joinings.Taken = []
 
 -- Those that an event closes at a node without links: one that comes where no session is left for it, and the one whose bytes come where
 -- its stream then is at its end, or had no room for a byte.
@@ -100,15 +89,27 @@ pub record KeepsConns (old new : Running) : Type 0 where
   pub closed : new.outs.closed.items ≡ old.outs.closed.items
   pub links : new.links.all.items ≡ old.links.all.items
   pub view : new.view.links ≡ old.view.links
+  pub id : new.view.id ≡ old.view.id
+  pub has_links : new.has_links ≡ old.has_links
 
 -- No connection comes, and no bytes come: of a node without links those that are closed so far, and the one that will be, are the same.
 pub record ConnsOn (old new : Running) : Type 0 where
   pub streams : StreamsOn (clients_in old).streams (clients_in new).streams
   pub closes : IsUnlinked old → IsUnlinked new × (closes_in new ≡ closes_in old)
 
+-- a connection that carries this peer's messages from now on, if its stream is there
+abbrev pub link_for : ℕ → ℕ → Option Conn → List Link
+link_for conn peer None = []
+link_for conn peer (Some stream) = (record { conn = conn; peer = peer; stream = stream }) ∷ []
+
 -- A connection that carries a peer's messages from now on has left the clients.
-pub record LeavesConns (old new : Running) : Type 0 where
-  pub streams : StreamsOn (clients_in old).streams (clients_in new).streams
+pub record LeavesConns (old new : Running) (conn peer : ℕ) : Type 0 where
+  pub streams : (clients_in new).streams ≡ (hung_up (clients_in old) conn).streams
+  pub links : new.links.all.items ≡ old.links.all.items ++ link_for conn peer ((clients_in old).streams conn)
+  pub heard : new.heard ≡ old.heard
+  pub closed : new.outs.closed.items ≡ old.outs.closed.items
+  pub view : new.view ≡ old.view
+  pub has_links : new.has_links ≡ old.has_links
 
 -- so behind what came of a message
 abbrev pub ConnsBehind : Act → Running → Running → Type 0
@@ -116,18 +117,21 @@ ConnsBehind (acts.Reply conn messages) old new = KeepsConns old new
 ConnsBehind (acts.Propose conn entries) old new = KeepsConns old new
 ConnsBehind (acts.Lend conn job) old new = KeepsConns old new
 ConnsBehind (acts.Transfer conn to reply) old new = KeepsConns old new
-ConnsBehind (acts.Peer conn id reply) old new = LeavesConns old new
+ConnsBehind (acts.Peer conn id reply) old new = LeavesConns old new conn id
 
 -- A connection was closed, if it was to be, and for this reason.
 pub record ClosesConn (old new : Running) (conn : ℕ) (reason : Option CloseReason) : Type 0 where
   pub streams : StreamsOn (clients_in old).streams (clients_in new).streams
   pub closed : new.outs.closed.items ≡ old.outs.closed.items
   pub closes : IsUnlinked old → IsUnlinked new × (reason ≡ closing ((clients_in old).streams conn))
+  pub why : reason ≡ reason_at (link_on conn old.links.all.items) ((clients_in old).streams conn)
+  pub lines : lines_in new ≡ gone_at (link_on conn old.links.all.items) (lines_in old) conn reason
 
 -- An event was given to clients, or happened at Raft.
 pub record ConnsBegin (event : Event) (old new : Running) : Type 0 where
   pub streams : (conn : ℕ) → StreamOn (brought event conn ((clients_in old).streams conn)) ((clients_in new).streams conn)
   pub closes : old.outs.closed.items ≡ [] → old.heard ≡ None → IsUnlinked old → IsUnlinked new × (closes_in new ≡ closes_by event (clients_in old))
+  pub lines : BeginsLines event old new
 
 -- A step: each stream has what the event brought to it, and messages were taken from its front; and of a node without links exactly these
 -- connections are closed.

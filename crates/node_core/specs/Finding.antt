@@ -25,6 +25,7 @@ use Rattle.node_core.specs.declared.running.Running.{Running}
 use Rattle.node_core.specs.Account.{moment_of, bytes_in, IsOwn, KnowsServers, Since}
 use Rattle.node_core.specs.Posting.{ToldOr, told_inputs, FollowsSo, InstallsSo}
 use Rattle.node_core.specs.Taking.{bytes_with, came_by}
+use Rattle.node_core.specs.Carrying.{MovesLines}
 use Rattle.node_core.specs.Voters.{MayBe}
 
 -- ---- a load
@@ -102,5 +103,5 @@ pub data BeganStops (m : Meaning) (kind : EngineKind) (setup : Setup) (old : Run
 -- A message of a peer that came on a connection was stopped; or nothing was kept yet.
 pub data StopsLetter (m : Meaning) (kind : EngineKind) (setup : Setup) (old : Running) (kept : Kept) : Type 0 where
   letter_stopped : (message : RaftMessage) (mid : Running) → old.has_links ≡ true → mid ≡ record old { links = mid.links } →
-      BeganStops m kind setup mid (events.Message message) kept → StopsLetter m kind setup old kept
+      MovesLines old mid (message ∷ []) → BeganStops m kind setup mid (events.Message message) kept → StopsLetter m kind setup old kept
   no_letter : kept ≡ kept_of old.replica → StopsLetter m kind setup old kept

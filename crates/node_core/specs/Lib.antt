@@ -1,5 +1,11 @@
 pub mod Faults
 pub mod Values
+pub mod Plain
+pub mod Core
+pub mod Exact
+pub mod ExactRaft
+pub mod ExactParts
+pub mod ExactStart
 pub mod Whole
 pub mod Starting
 pub mod Stepping
@@ -13,5 +19,7 @@ pub mod Posting
 pub mod Taking
 pub mod Duties
 pub mod Finding
+pub mod Carrying
 pub mod Conns
 pub mod Heard
+pub mod Sent

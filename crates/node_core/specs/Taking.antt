@@ -14,6 +14,7 @@ use Rattle.node_rules.specs.RaftTurns.{TakesSnapshot}
 use Rattle.node_rules.specs.Steps.{Letter, AllSent}
 use Rattle.node_core.specs.declared.running.Running.{Running}
 use Rattle.node_core.specs.Account.{moment_of, bytes_in, Says, Brought, Turns, KnowsServers, Since, LosesMessage, Fresh}
+use Rattle.node_core.specs.Carrying.{MovesLines}
 use Rattle.node_core.specs.Voters.{Beside}
 
 -- ---- turns
@@ -52,8 +53,9 @@ pub data BeganBy (m : Meaning) (kind : EngineKind) (setup : Setup) (old new : Ru
 -- or nothing came that the rules see.
 pub data TookLetter (m : Meaning) (kind : EngineKind) (setup : Setup) (old new : Running) (told_before told_now : Option Told) : Type 0 where
   came : (message : RaftMessage) (mid : Running) → old.has_links ≡ true → mid ≡ record old { links = mid.links } →
-      BeganBy m kind setup mid new (events.Message message) told_before told_now → TookLetter m kind setup old new told_before told_now
-  none_came : Fresh old new → told_before ≡ told_now → TookLetter m kind setup old new told_before told_now
+      BeganBy m kind setup mid new (events.Message message) told_before told_now → MovesLines old new (message ∷ []) →
+      TookLetter m kind setup old new told_before told_now
+  none_came : Fresh old new → told_before ≡ told_now → MovesLines old new [] → TookLetter m kind setup old new told_before told_now
 
 -- ---- an own snapshot
 

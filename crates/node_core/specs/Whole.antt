@@ -21,6 +21,7 @@ use Rattle.node_rules.specs.Accounts.{Moment}
 use Rattle.node_rules.specs.RaftTurns.{HasEnded}
 use Rattle.node_core.specs.declared.running.Running.{Running}
 use Rattle.node_core.specs.Account.{moment_of}
+use Rattle.node_core.specs.Carrying.{first_waiting}
 use Rattle.node_core.specs.Values.{clients_in}
 use Rattle.node_core.specs.Waiting.{HasTurns}
 
@@ -116,11 +117,12 @@ pub record Rests (n : Running) : Type 0 where
 abbrev pub IsSound : Node → Type 0
 IsSound n = n.is_down ≡ false → Rests n.running
 
--- Nothing is left to do: nothing is due at Raft, no message's turn is left, no connection is to be looked at, and all that is committed is
--- applied.
+-- Nothing is left to do: nothing is due at Raft, no message's turn is left, none of a peer waits where there are links, no connection is to
+-- be looked at, and all that is committed is applied.
 pub record IsIdle (n : Running) : Type 0 where
   pub due : n.due.items ≡ []
   pub turns : (clients_in n).turns ≡ []
+  pub letters : n.has_links ≡ true → first_waiting n.links.all.items ≡ None
   pub heard : n.heard ≡ None
   pub applied : n.applied.index ≡ n.replica.raft.commit
 

@@ -9,6 +9,8 @@ ghost use Rattle.raft_world.specs.Members.{any_change, is_change};
 ghost use Rattle.raft_member.specs.Members.{AllStand, read_setup};
 ghost use Rattle.node_replica.specs.Replicas.{IsWhole};
 ghost use Rattle.node_core.specs.declared.fault.NodeFault.TheVariants as fault;
+ghost use Rattle.node_core.specs.Core.{core_of};
+ghost use Rattle.node_core.specs.Exact.{ToldBy, change_for};
 ghost use Rattle.node_core.specs.Faults.{StepCause};
 ghost use Rattle.node_core.specs.Finding.{LeavesBy, StopsChanging};
 ghost use Rattle.node_core.specs.Posting.{HoldsCommit, IsUnfit, MayOrNot, MayTake, ToldChange, has_change};
@@ -86,6 +88,7 @@ impl Running {
         requires members { AllStand self.old.members }
         requires own { IsOwnDue event.now }
         requires takes { MayTake event.now self.old.replica.raft }
+        ensures exact { OnOk result (ToldBy (change_for event.now self.old.replica.raft.role) (core_of self.old) (core_of self.new)) }
         ensures told { OnOk result (HasTold self.old self.new) }
         ensures tells { OnOk result (ToldChange self.old self.new event.now) }
         ensures stored { StaysStored D.tells (D.states disk.old) (D.states disk.new) self.old.replica self.new.replica result }

@@ -1,8 +1,10 @@
 //! What is known of nodes that start.
 
 ghost use Rattle.node_core.specs.Heard.{HeardBegins, HeardOn};
+ghost use Rattle.node_core.specs.Sent.{BeginsApart, CarryingBegins, CarryingHears, CarryingSends, CarryingStays, EventsStayApart, MovesStayApart};
 ghost use Rattle.node_core.specs.Starting.{BegunStands};
 
+use client_connection::peer_pieces_are_joined;
 use node_rules::starts_tell_voters;
 
 /// A law: what a start makes of what was kept stands for each node that had stored it, as it is loaded, and for a life that
@@ -19,3 +21,15 @@ pub fn requests_are_spelled()
     ensures begins { HeardBegins }
     ensures on { HeardOn }
 {}
+
+/// A law: each connection is a client's or carries the messages of one peer; and of the latter each message that happens at Raft is
+/// the next one of those that all bytes spell which have come on it, and its peer has sent it, in whatever pieces and steps they came.
+pub fn letters_are_spelled()
+    ensures apart { BeginsApart × EventsStayApart × MovesStayApart }
+    ensures begins { CarryingBegins }
+    ensures hears { CarryingHears }
+    ensures sends { CarryingSends }
+    ensures stays { CarryingStays }
+{
+    peer_pieces_are_joined();
+}

@@ -1,19 +1,25 @@
 //! A node's turn in which it applies an entry, and what a leader does then.
 
-ghost use Rattle.std.specs.Prelude.{◌≡◌, ◌≢◌, ◌<◌, ◌^◌, ◌++◌, suc, true, false, ℕ, List, [], Option, Err, OnOk, IfOk, IfErr};
+ghost use Rattle.std.specs.Prelude.{◌≡◌, ◌≢◌, ◌<◌, ◌^◌, ◌++◌, suc, is_some, true, false, ℕ, List, [], Option, Err, OnOk, IfOk, IfErr};
 ghost use Rattle.sql_engine.specs.Known.{Known};
 ghost use Rattle.raft_vote.specs.Servers.{IsConfiguration};
 ghost use Rattle.client_sessions.specs.declared.clients.Clients.{Clients as Held};
 ghost use Rattle.node_state.specs.declared.effect.Effect.TheVariants as effects;
 ghost use Rattle.sql_engine.specs.Meanings.{Stays};
-ghost use Rattle.session_rules.specs.Machine.{machine_of};
+ghost use Rattle.session_rules.specs.Machine.{machine_of, done};
+ghost use Rattle.session_rules.specs.Seen.{entry_seen};
+ghost use Rattle.gateway.specs.Later.{first_due};
 ghost use Rattle.client_sessions.specs.Calls.{landed_at, told_at};
 ghost use Rattle.client_sessions.specs.Seen.{clients_of, Agrees, StandOver};
 ghost use Rattle.node_state.specs.Applied.{with_entry};
+ghost use Rattle.node_state.specs.Content.{effect_of};
 ghost use Rattle.raft_world.specs.Members.{Setup};
 ghost use Rattle.node_core.specs.Applying.{TakesEntry, AppliesSo};
-ghost use Rattle.node_core.specs.Conns.{ConnsOn, KeepsConns};
+ghost use Rattle.node_core.specs.Conns.{KeepsConns};
+ghost use Rattle.node_core.specs.Core.{core_of, dutiful, entry_done, is_calm, is_settled, landing, serving_from};
 ghost use Rattle.node_core.specs.Duties.{DutySo, IsCalm, IsSettled, ServesFrom};
+ghost use Rattle.node_core.specs.Exact.{EntryBy, LaterIf};
+ghost use Rattle.node_core.specs.ExactParts.{Answered, TakesBy, entered_shown};
 ghost use Rattle.node_core.specs.Taking.{TurnsOn};
 ghost use Rattle.node_core.specs.Performing.{SaysNothing};
 ghost use Rattle.node_core.specs.Waiting.{NoneIsDue};
@@ -35,7 +41,8 @@ use std::alloc::{AllocError, Global};
 
 /// Whether an entry changed the servers.
 fn changes_servers(effect: &Effect) -> bool
-    ensures { result ≡ false → effect.now ≢ effects.Configured }
+    ensures is { result ≡ true → effect.now ≡ effects.Configured }
+    ensures not { result ≡ false → effect.now ≢ effects.Configured }
 {
     match effect {
         Effect::Configured => true,
@@ -53,6 +60,8 @@ fn apply(alloc: Global, applied: &mut Applied, entry: &Entry) -> Result<Effect, 
     ensures entry { OnOk result (applied.new ≡ with_entry applied.old entry.now) }
     ensures clients { (held : Held) → StandOver held applied.old.machine → clients_of held applied.new.machine ≡ clients_of held applied.old.machine }
     ensures agrees { (known : List Known) (held : Held) → Agrees known held applied.old.machine → Agrees known held applied.new.machine }
+    ensures told { IfOk result (λ effect. effect ≡ effect_of (entry_seen entry.now).content) }
+    ensures files { OnOk result (machine_of applied.new.machine ≡ done (machine_of applied.old.machine) (entry_seen entry.now).content) }
 {
     let _before = applied.machine.databases();
     let effect = applied.apply(alloc, entry);
@@ -63,7 +72,8 @@ fn apply(alloc: Global, applied: &mut Applied, entry: &Entry) -> Result<Effect, 
 /// Whether no pages are pending in these databases, which are all of a machine's.
 fn are_calm(machine: &Machine, databases: &[Database]) -> bool
     requires { databases.now ≡ machine.now }
-    ensures { result ≡ true → IsCalm (machine_of databases.now) }
+    ensures calm { result ≡ true → IsCalm (machine_of databases.now) }
+    ensures is { result ≡ is_calm (machine_of databases.now) }
 {
     for database in databases {
         if machine.pending(database.name().as_str()).is_some() {
@@ -81,7 +91,7 @@ impl Running {
         requires led { IsLed self.old }
         requires idle { self.old.due.items ≡ [] }
         requires agrees { Agrees (E.known engine.old) self.old.clients self.old.applied.machine }
-        ensures conns { OnOk result (ConnsOn self.old self.new) }
+        ensures conns { OnOk result (KeepsConns self.old self.new) }
         ensures going { OnOk result (IsGoing self.new) }
         ensures led { OnOk result (IsLed self.new) }
         ensures index { OnOk result (self.new.applied.index ≡ suc self.old.applied.index) }
@@ -92,6 +102,9 @@ impl Running {
         ensures goes { (setup : Setup) (bytes : List ℕ) (joins : Option ℕ) →
             OnOk result (TurnsOn (E.meaning (E.kind engine.old)) (E.kind engine.old) setup bytes joins self.old self.new
             (E.told engine.old) (E.told engine.new)) }
+        // What it was decides all that follows, but for the answers to a query whose barrier it was.
+        ensures exact { OnOk result (Answered (E.told engine.old) (E.told engine.new)
+            (EntryBy (E.meaning (E.kind engine.old)) (E.kind engine.old) (core_of self.old) (core_of self.new))) }
     {
         let effect = self.apply_one()?;
         self.run_due(engine)?;
@@ -111,6 +124,7 @@ impl Running {
         ensures due { self.new.due.items ≡ self.old.due.items }
         ensures office { self.new.office ≡ self.old.office }
         ensures applies { OnOk result (AppliesSo self.old self.new) }
+        ensures exact { IfOk result (λ effect. TakesBy entry_done (core_of self.old) (core_of self.new) effect) }
     {
         self.databases_stand();
         let effect = self.apply_entry()?;
@@ -124,6 +138,7 @@ impl Running {
         requires going { IsGoing self.old }
         requires more { self.old.applied.index < self.old.replica.raft.commit }
         ensures links { self.new.view.links ≡ self.old.view.links }
+        ensures id { self.new.view.id ≡ self.old.view.id }
         ensures going { OnOk result (IsGoing self.new) }
         ensures index { OnOk result (self.new.applied.index ≡ suc self.old.applied.index) }
         ensures replica { self.new.replica ≡ self.old.replica }
@@ -135,14 +150,16 @@ impl Running {
         ensures rest { self.new ≡ record self.old { applied = self.new.applied; members = self.new.members; view = self.new.view } }
         ensures serving { self.new.view.serving ≡ self.old.view.serving }
         ensures settled { OnOk result (SettlesAt self.old.members self.new.members (suc self.old.applied.index)) }
+        ensures exact { IfOk result (λ effect. TakesBy entered_shown (core_of self.old) (core_of self.new) effect) }
     {
         let index = one_more(self.applied.index)?;
         let entry = self.replica.entry(index).unwrap();
         let effect = apply(self.alloc, &mut self.applied, entry)?;
         self.members.settle(index);
-        if changes_servers(&effect) {
-            self.look_at_servers()?;
+        if !changes_servers(&effect) {
+            return Ok(effect);
         }
+        self.look_at_servers()?;
         Ok(effect)
     }
 
@@ -165,6 +182,7 @@ impl Running {
           applied = record self.old.applied { machine = self.new.applied.machine };
           outs = self.new.outs;
         } }
+        ensures exact { OnOk result (core_of self.new ≡ landing (core_of self.old)) }
     {
         let index = self.applied.index;
         let told = self.clients.on_applied(index, &mut self.applied.machine)?;
@@ -179,7 +197,7 @@ impl Running {
         requires led { IsLed self.old }
         requires idle { self.old.due.items ≡ [] }
         requires agrees { Agrees (E.known engine.old) self.old.clients self.old.applied.machine }
-        ensures conns { OnOk result (ConnsOn self.old self.new) }
+        ensures conns { OnOk result (KeepsConns self.old self.new) }
         ensures going { OnOk result (IsGoing self.new) }
         ensures led { OnOk result (IsLed self.new) }
         ensures replica { self.new.replica ≡ self.old.replica }
@@ -193,6 +211,10 @@ impl Running {
         ensures goes { (setup : Setup) (bytes : List ℕ) (joins : Option ℕ) →
             OnOk result (TurnsOn (E.meaning (E.kind engine.old)) (E.kind engine.old) setup bytes joins self.old self.new
             (E.told engine.old) (E.told engine.new)) }
+        ensures due { IfOk result (λ more. more ≡ is_some (first_due (core_of self.old).sessions)) }
+        // The first of those that are due is run, and what came of it is told by the answers of the engine.
+        ensures exact { OnOk result (Answered (E.told engine.old) (E.told engine.new)
+            (LaterIf (E.meaning (E.kind engine.old)) (E.kind engine.old) (first_due (core_of self.old).sessions) (core_of self.old) (core_of self.new))) }
     {
         stretches_join::<E>();
         let Some(conn) = self.clients.next_due() else {
@@ -215,6 +237,7 @@ impl Running {
         ensures agrees { StaysAgreed self.old self.new }
         ensures quiet { SaysNothing self.old self.new }
         ensures duties { OnOk result (DutySo self.old self.new) }
+        ensures exact { OnOk result (core_of self.new ≡ dutiful effect.now (core_of self.old)) }
     {
         self.databases_stand();
         let Some(office) = &mut self.office else {
@@ -235,6 +258,7 @@ impl Running {
     fn begin_service(&mut self, serves: bool)
         ensures served { ServesFrom self.old self.new }
         ensures unless { serves ≡ false → self.new ≡ self.old }
+        ensures exact { core_of self.new ≡ serving_from serves (core_of self.old) }
     {
         if !serves {
             return;
@@ -250,7 +274,8 @@ impl Running {
     /// Whether nothing is to be given to Raft, all of the log is applied, and no pages are pending. So it is where an office has come
     /// to its end; it is looked at once more before the node serves.
     fn is_settled(&self) -> bool
-        ensures { result ≡ true → IsSettled self.now }
+        ensures settled { result ≡ true → IsSettled self.now }
+        ensures is { result ≡ is_settled (core_of self.now) }
     {
         if !self.due.is_empty() {
             return false;

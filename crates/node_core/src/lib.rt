@@ -22,6 +22,6 @@ mod view;
 
 pub use event::{Event, NodeSpec, NodeState};
 pub use fault::{NodeFault, StartFault};
-pub use laws::{requests_are_spelled, starts_stand};
+pub use laws::{letters_are_spelled, requests_are_spelled, starts_stand};
 pub use node::Node;
 pub use outs::Outs;

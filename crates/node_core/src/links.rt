@@ -1,6 +1,10 @@
 //! Connections that carry the messages of peers.
 
-ghost use Rattle.std.specs.Prelude.{◌≡◌, ◌<◌, false, [], None, IfOk, length, MatchOption};
+ghost use Rattle.std.specs.Prelude.{◌≡◌, ◌≢◌, ◌++◌, ◌∷◌, false, [], None, IfOk, OnOk, MatchOption, is_some};
+ghost use Rattle.page_apply.specs.ByName.{FirstAt};
+ghost use Rattle.raft_vote.specs.declared.fault.PeerFault.TheVariants as faults;
+ghost use Rattle.node_core.specs.Carrying.{first_waiting, heard_link, is_of, link_on, link_reason, peers_message, without_link, LinkTook, TookFirst};
+ghost use Rattle.node_core.specs.declared.links.Link.{Link as LinkValue};
 
 use client_connection::{CloseReason, PeerStream};
 use raft_vote::{PeerFault, RaftMessage, read_message};
@@ -32,7 +36,9 @@ pub(crate) enum Letter {
 }
 
 /// Only want of memory is a reason to give up; any other fault says that the bytes are no message.
-fn give_up_for_memory(fault: PeerFault) -> Result<(), AllocError> {
+fn give_up_for_memory(fault: PeerFault) -> Result<(), AllocError>
+    ensures { OnOk result (fault ≢ faults.NoMemory) }
+{
     match fault {
         PeerFault::NoMemory => Err(AllocError),
         _ => Ok(()),
@@ -45,7 +51,9 @@ fn message_of(
     message: &Message,
     peer: u64,
     me: u64,
-) -> Result<Option<RaftMessage>, AllocError> {
+) -> Result<Option<RaftMessage>, AllocError>
+    ensures { IfOk result (λ found. found ≡ peers_message me peer message.now) }
+{
     match read_message(alloc, message, me) {
         Ok(read) if read.from == peer => Ok(Some(read)),
         Ok(_) => Ok(None),
@@ -56,12 +64,19 @@ fn message_of(
     }
 }
 
+/// Whether it is the link of this connection.
+fn is_of(link: &Link, conn: u64) -> bool
+    ensures { result ≡ is_of conn link.now }
+{
+    link.conn == conn
+}
+
 /// The place of a connection among links.
 fn place_of(links: &[Link], conn: u64) -> Option<usize>
-    ensures { MatchOption result (Unit {0}) (λ place. place < length links.now) }
+    ensures { MatchOption result (link_on conn links.now ≡ None) (FirstAt (is_of conn) links.now) }
 {
     for (place, link) in links.iter().enumerate() {
-        if link.conn == conn {
+        if is_of(link, conn) {
             return Some(place);
         }
     }
@@ -70,7 +85,9 @@ fn place_of(links: &[Link], conn: u64) -> Option<usize>
 
 impl Link {
     /// Takes the next message that waits, which is for the node of this id.
-    fn next(&mut self, alloc: Global, me: u64) -> Result<Option<Letter>, AllocError> {
+    fn next(&mut self, alloc: Global, me: u64) -> Result<Option<Letter>, AllocError>
+        ensures { IfOk result (λ letter. LinkTook me self.old self.old.stream.waiting self.new letter) }
+    {
         let Some(message) = self.stream.next() else {
             return Ok(None);
         };
@@ -82,8 +99,11 @@ impl Link {
 }
 
 /// Takes the next message that waits on one of these.
-fn next_of(alloc: Global, links: &mut Vec<Link>, me: u64) -> Result<Option<Letter>, AllocError> {
-    for place in 0..links.len() {
+fn next_of(alloc: Global, links: &mut Vec<Link>, me: u64) -> Result<Option<Letter>, AllocError>
+    ensures { IfOk result (λ letter. TookFirst me (first_waiting links.old.items) links.old.items links.new.items letter) }
+{
+    let count = links.as_slice().len();
+    for place in 0..count {
         if let Some(letter) = links[place].next(alloc, me)? {
             return Ok(Some(letter));
         }
@@ -104,7 +124,7 @@ impl Links {
 
     /// Whether a connection carries a peer's messages.
     pub(crate) fn has(&self, conn: u64) -> bool
-        ensures none { self.now.all.items ≡ [] → result ≡ false }
+        ensures { result ≡ is_some (link_on conn self.now.all.items) }
     {
         place_of(self.all.as_slice(), conn).is_some()
     }
@@ -115,7 +135,9 @@ impl Links {
         conn: u64,
         peer: u64,
         stream: PeerStream,
-    ) -> Result<(), AllocError> {
+    ) -> Result<(), AllocError>
+        ensures { OnOk result (self.new.all.items ≡ self.old.all.items ++ (record { conn = conn; peer = peer; stream = stream }) ∷ []) }
+    {
         self.all.push(Link { conn, peer, stream })?;
         Ok(())
     }
@@ -123,6 +145,7 @@ impl Links {
     /// A connection is gone, and what waits on it.
     pub(crate) fn leave(&mut self, conn: u64)
         ensures none { self.old.all.items ≡ [] → self.new.all.items ≡ [] }
+        ensures left { self.new.all.items ≡ without_link conn self.old.all.items }
     {
         self.all.retain(|link| link.conn != conn);
     }
@@ -130,6 +153,7 @@ impl Links {
     /// The next bytes come on a connection. Where it isn't one of these nothing happens.
     pub(crate) fn receive(&mut self, conn: u64, bytes: &[u8]) -> Result<(), AllocError>
         ensures none { self.old.all.items ≡ [] → self.new.all.items ≡ [] }
+        ensures heard { OnOk result (self.new.all.items ≡ heard_link conn bytes.now self.old.all.items) }
     {
         match place_of(self.all.as_slice(), conn) {
             Some(place) => self.all[place].stream.receive(bytes),
@@ -141,15 +165,18 @@ impl Links {
     pub(crate) fn next(&mut self, me: u64) -> Result<Option<Letter>, AllocError>
         ensures none { self.old.all.items ≡ [] → self.new.all.items ≡ [] }
         ensures waits { self.old.all.items ≡ [] → IfOk result (λ letter. letter ≡ None) }
+        ensures took { IfOk result (TookFirst me (first_waiting self.old.all.items) self.old.all.items self.new.all.items) }
     {
-        if self.all.is_empty() {
+        if self.all.as_slice().is_empty() {
             return Ok(None);
         }
         next_of(self.alloc, &mut self.all, me)
     }
 
     /// Why a connection is to be closed, if it carries a peer's messages and is at its end.
-    pub(crate) fn reason(&self, conn: u64) -> Option<CloseReason> {
+    pub(crate) fn reason(&self, conn: u64) -> Option<CloseReason>
+        ensures { result ≡ link_reason (link_on conn self.now.all.items) }
+    {
         match place_of(self.all.as_slice(), conn) {
             Some(place) => self.all[place].stream.close_reason(),
             None => None,

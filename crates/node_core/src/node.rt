@@ -11,9 +11,15 @@ ghost use Rattle.raft_core.specs.Queries.{leader_at};
 ghost use Rattle.node_core.specs.declared.fault.NodeFault.TheVariants as fault;
 ghost use Rattle.node_core.specs.Faults.{StartCause, StepCause};
 ghost use Rattle.raft_member.specs.Members.{read_setup};
+ghost use Rattle.page_apply.specs.Databases.{contents_of};
+ghost use Rattle.node_state.specs.Snapshot.{contents_in};
 ghost use Rattle.node_rules.specs.Steps.{StartsSo};
 ghost use Rattle.node_core.specs.Account.{StepsBy, StopsBy};
 ghost use Rattle.node_core.specs.Conns.{ConnsBy, StartsUnlinked};
+ghost use Rattle.node_core.specs.Core.{core_of};
+ghost use Rattle.node_core.specs.Exact.{StepsExactly};
+ghost use Rattle.node_core.specs.ExactParts.{Answered};
+ghost use Rattle.node_core.specs.ExactStart.{StartsExactly};
 ghost use Rattle.node_core.specs.Finding.{LeavesBy};
 ghost use Rattle.node_core.specs.Starting.{StartsOver};
 ghost use Rattle.node_core.specs.Stepping.{IsDown, IsUp, StaysDown, StaysStored};
@@ -61,9 +67,13 @@ impl Node {
         ensures agrees { IfOk result (Agrees []) }
         ensures keeps { IfOk result (λ node. keeps_of node ≡ 0) }
         ensures cause { StartCause (D.faults disk.old) (D.faults disk.new) result }
+        // What was kept decides what it begins with.
+        ensures exact { IfOk result (λ node. StartsExactly spec.id spec.links spec.readers spec.servers (kept_by node) (core_of node.running)) }
+        ensures files { IfOk result (λ node. contents_of (databases_of node) ≡ contents_in (core_of node.running).files) }
     {
         let (store, kept) = Store::load(alloc, disk)?;
         let running = Running::over(alloc, spec, store, kept)?;
+        running.databases_stand();
         Ok(Node {
             running,
             is_down: false,
@@ -106,6 +116,11 @@ impl Node {
             (StopsBy (E.meaning (E.kind engine.old)) (E.kind engine.old) (read_setup opening) self.old.running event) }
         ensures cause { StepCause (D.faults disk.old) (D.faults disk.new) result }
         ensures engine { Stays (E.kind engine.old) (E.kind engine.new) (E.refused_openings engine.old) (E.refused_openings engine.new) }
+        // What was before it decides what it leaves and says, but for the answers that the engine told.
+        ensures exact { IfOk result (λ outs. Answered (E.told engine.old) (E.told engine.new)
+            (StepsExactly (E.meaning (E.kind engine.old)) (E.kind engine.old) event (core_of self.old.running) (core_of self.new.running) outs)) }
+        // Its databases are those of its core.
+        ensures files { OnOk result (contents_of (databases_of self.new) ≡ contents_in (core_of self.new.running).files) }
     {
         if self.is_down {
             return Err(NodeFault::Down);
@@ -113,6 +128,7 @@ impl Node {
         // It is down until the step has ended well.
         self.is_down = true;
         let outs = self.running.step(event, disk, engine)?;
+        self.running.databases_stand();
         self.is_down = false;
         Ok(outs)
     }

@@ -1,7 +1,7 @@
 //! What a step says.
 
 ghost use Rattle.std.specs.Prelude.{◌≡◌, ◌++◌, ℕ, List, [], map, OnOk};
-ghost use Rattle.node_core.specs.Conns.{close_of};
+ghost use Rattle.node_core.specs.Carrying.{close_of};
 
 use client_connection::CloseReason;
 use dq_base::Items;

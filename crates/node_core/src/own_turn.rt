@@ -9,6 +9,8 @@ ghost use Rattle.raft_member.specs.Members.{read_setup};
 ghost use Rattle.node_replica.specs.Replicas.{IsWhole};
 ghost use Rattle.node_core.specs.declared.fault.NodeFault.TheVariants as fault;
 ghost use Rattle.node_core.specs.Conns.{KeepsConns};
+ghost use Rattle.node_core.specs.Core.{core_of};
+ghost use Rattle.node_core.specs.Exact.{DueIf, OwnBy};
 ghost use Rattle.node_core.specs.Faults.{StepCause};
 ghost use Rattle.node_core.specs.Finding.{LeavesBy, StopsOwn, StopsTelling};
 ghost use Rattle.node_core.specs.Posting.{HadNone, MayTake, OwnsSo, ToldOr, WasDue};
@@ -28,6 +30,7 @@ impl Running {
     pub(crate) fn take_due<D: Disk>(&mut self, disk: &mut D) -> Result<bool, NodeFault>
         requires going { IsGoing self.old }
         requires led { IsLed self.old }
+        ensures exact { IfOk result (λ more. DueIf self.old.due.items (core_of self.old) (core_of self.new) more) }
         ensures conns { OnOk result (KeepsConns self.old self.new) }
         ensures going { OnOk result (IsGoing self.new) }
         ensures led { OnOk result (IsLed self.new) }
@@ -53,6 +56,7 @@ impl Running {
         requires takes { MayTake event self.old.replica.raft }
         requires going { IsGoing self.old }
         requires led { IsLed self.old }
+        ensures exact { OnOk result (OwnBy event (core_of self.old) (core_of self.new)) }
         ensures conns { OnOk result (KeepsConns self.old self.new) }
         ensures going { OnOk result (IsGoing self.new) }
         ensures led { OnOk result (IsLed self.new) }

@@ -1,7 +1,7 @@
 //! A node's turn in which an event of Raft happens: what it leaves is kept and posted, and then sessions, databases,
 //! configurations and office follow.
 
-ghost use Rattle.std.specs.Prelude.{◌≡◌, ◌≢◌, ◌<◌, ◌==◌, ◌&&◌, true, false, ℕ, List, [], None, Err, OnOk, IfOk, MatchOption, IfErr};
+ghost use Rattle.std.specs.Prelude.{◌≡◌, ◌≢◌, ◌<◌, ◌==◌, ◌&&◌, suc, true, false, ℕ, List, [], drop, Some, None, Err, OnOk, IfOk, MatchOption, IfErr};
 ghost use Rattle.sql_engine.specs.Meanings.{Stays};
 ghost use Rattle.page_apply.specs.declared.database.Database.{Database};
 ghost use Rattle.page_apply.specs.Machines.{IsMachine};
@@ -10,13 +10,18 @@ ghost use Rattle.raft_rules.specs.Laws.{HasShortTerm};
 ghost use Rattle.raft_rules.specs.Node.{Candidate, Server as ServerValue, Local, UseServers, is_leader};
 ghost use Rattle.raft_rules.specs.NodeValues.{node_of};
 ghost use Rattle.raft_vote.specs.Servers.{IsConfiguration};
-ghost use Rattle.raft_member.specs.Members.{AllStand, read_setup};
+ghost use Rattle.raft_member.specs.Members.{AllStand, all_changed, first_of, read_setup};
 ghost use Rattle.raft_core.specs.Events.{EventFits, input_of};
 ghost use Rattle.node_replica.specs.Replicas.{IsIntake, IsWhole};
 ghost use Rattle.node_rules.specs.Voting.{FromSnapshot};
+ghost use Rattle.node_state.specs.Snapshot.{NodeSnapshot};
 ghost use Rattle.node_core.specs.declared.fault.NodeFault.TheVariants as fault;
 ghost use Rattle.node_core.specs.Account.{moment_of};
 ghost use Rattle.node_core.specs.Conns.{KeepsConns};
+ghost use Rattle.node_core.specs.Core.{are_others, core_of, ended, followed, losing, won};
+ghost use Rattle.node_core.specs.Exact as exactly;
+ghost use Rattle.node_core.specs.Exact.{InstallsBy, RaftBy, StepBy, ToldBy, told_behind};
+ghost use Rattle.node_core.specs.ExactRaft.{EndsBy, FollowedBy, IsFrom, OffersBy};
 ghost use Rattle.node_core.specs.Faults.{StepCause};
 ghost use Rattle.node_core.specs.Finding.{BeganStops, LeavesBy, StopsBehind, StopsFollowing, StopsIn, StopsInstalling, StopsTelling};
 ghost use Rattle.node_core.specs.Posting.{FollowsOn, InstallsOn, LeavesSo, LosesSo, OfficeSo, Posts, TellsCurrent, ToldBehind, ends_office};
@@ -55,7 +60,8 @@ impl Running {
     /// place of entries.
     fn offered(&self, event: &RaftEvent) -> Result<Offer, AllocError>
         requires going { IsGoing self.now }
-        ensures { IfOk result (IsOffer self.now event.now) }
+        ensures offer { IfOk result (IsOffer self.now event.now) }
+        ensures exact { IfOk result (OffersBy event.now (core_of self.now)) }
     {
         let RaftEvent::Message(message) = event else {
             return Ok(Offer::Nothing);
@@ -86,6 +92,8 @@ impl Running {
         requires led { IsLed self.old }
         requires idle { self.old.due.items ≡ [] }
         requires agrees { Agrees (E.known engine.old) self.old.clients self.old.applied.machine }
+        ensures exact { OnOk result (RaftBy event (core_of self.old) (core_of self.new)) }
+        ensures untold { OnOk result (E.told engine.new ≡ E.told engine.old) }
         ensures conns { OnOk result (KeepsConns self.old self.new) }
         ensures going { OnOk result (IsGoing self.new) }
         ensures led { OnOk result (IsLed self.new) }
@@ -129,6 +137,7 @@ impl Running {
         requires whole { IsWhole self.old.replica }
         requires fits { EventFits self.old.replica.raft event }
         requires intake { IsIntake event }
+        ensures exact { IfOk result (λ batch. StepBy event batch (core_of self.old) (core_of self.new)) }
         ensures made { IfOk result (λ batch. HasMade self.old self.new event batch) }
         ensures posts { OnOk result (Posts self.old self.new (input_of event)) }
         ensures stored { StaysStored D.tells (D.states disk.old) (D.states disk.new) self.old.replica self.new.replica result }
@@ -165,6 +174,7 @@ impl Running {
         requires idle { self.old.due.items ≡ [] }
         requires fits { EventFits self.old.replica.raft event }
         requires intake { IsIntake event }
+        ensures exact { IfOk result (λ batch. EndsBy event batch (core_of self.old) (core_of self.new)) }
         ensures conns { OnOk result (KeepsConns self.old self.new) }
         ensures stepped { IfOk result (λ batch. HasStepped self.old self.new event batch) }
         ensures posts { OnOk result (Posts self.old self.new (input_of event)) }
@@ -191,6 +201,7 @@ impl Running {
         requires going { IsGoing self.old }
         requires led { IsLed self.old }
         requires idle { self.old.due.items ≡ [] }
+        ensures exact { OnOk result (exactly.FollowsBy event (core_of self.old) (core_of self.new)) }
         ensures conns { OnOk result (KeepsConns self.old self.new) }
         ensures going { OnOk result (IsGoing self.new) }
         ensures led { OnOk result (IsLed self.new) }
@@ -216,6 +227,8 @@ impl Running {
         requires stand { AllStand self.old.members }
         requires past { MatchOption batch (Unit {0}) (λ first. (self.old.replica.raft.base < first) × (self.old.members.at < first)) }
         ensures is { self.new ≡ record self.old { members = self.new.members } }
+        ensures exact { OnOk result (core_of self.new ≡ followed batch (core_of self.old)) }
+        ensures others { IfOk result (λ others. others ≡ are_others batch (core_of self.old)) }
         ensures stand { OnOk result (AllStand self.new.members) }
         ensures at { OnOk result (self.new.members.at ≡ self.old.members.at) }
         ensures stays { IfOk result (λ others. others ≡ false → self.new ≡ self.old) }
@@ -237,6 +250,7 @@ impl Running {
         requires office { InOffice self.old.office self.old.view.serving self.old.replica.raft }
         requires past { MatchOption batch (Unit {0}) (λ first. (self.old.replica.raft.base < first) × (self.old.members.at < first)) }
         requires machine { IsMachine self.old.applied.machine }
+        ensures exact { OnOk result (FollowedBy batch (core_of self.old) (core_of self.new)) }
         ensures followed { OnOk result (HasFollowed self.old self.new) }
         ensures tells { OnOk result (ToldBehind self.old self.new) }
         ensures follows { OnOk result (FollowsBy self.old.members self.new.members (node_of self.old.replica.raft).log batch) }
@@ -265,6 +279,7 @@ impl Running {
         requires going { IsGoing self.old }
         requires led { IsLed self.old }
         requires idle { self.old.due.items ≡ [] }
+        ensures exact { (s : NodeSnapshot) → IsFrom s applied → OnOk result (InstallsBy event applied.index s (core_of self.old) (core_of self.new)) }
         ensures conns { OnOk result (KeepsConns self.old self.new) }
         ensures going { OnOk result (IsGoing self.new) }
         ensures led { OnOk result (IsLed self.new) }
@@ -289,6 +304,9 @@ impl Running {
     fn replace(&mut self, applied: Applied) -> Result<(), NodeFault>
         requires whole { IsWhole self.old.replica }
         requires servers { IsConfiguration applied.servers }
+        ensures members { OnOk result (self.new.members ≡
+            all_changed (first_of applied.servers self.old.replica.snap.index) (suc self.old.replica.snap.index)
+            (drop self.old.replica.snap.index (node_of self.old.replica.raft).log)) }
         ensures applied { OnOk result (self.new.applied ≡ applied) }
         ensures at { OnOk result (self.new.members.at ≡ self.old.replica.snap.index) }
         ensures from { OnOk result (FromSnapshot applied.servers self.old.replica.snap.index (node_of self.old.replica.raft).log self.new.members) }
@@ -312,6 +330,7 @@ impl Running {
         requires stands { IsConfiguration servers }
         requires settled { self.old.replica.raft.role ≢ Candidate }
         requires machine { IsMachine self.old.applied.machine }
+        ensures exact { OnOk result (ToldBy (Some servers) (core_of self.old) (core_of self.new)) }
         ensures told { OnOk result (HasTold self.old self.new) }
         ensures tells { OnOk result (LeavesSo self.old self.new (Local (UseServers servers))) }
         ensures stored { StaysStored D.tells (D.states disk.old) (D.states disk.new) self.old.replica self.new.replica result }
@@ -333,6 +352,7 @@ impl Running {
         requires stand { AllStand self.old.members }
         requires office { InOffice self.old.office self.old.view.serving self.old.replica.raft }
         requires machine { IsMachine self.old.applied.machine }
+        ensures exact { OnOk result (ToldBy (told_behind true (core_of self.old)) (core_of self.old) (core_of self.new)) }
         ensures told { OnOk result (HasTold self.old self.new) }
         ensures tells { OnOk result (TellsCurrent self.old self.new) }
         ensures office { OnOk result (InOffice self.new.office self.new.view.serving self.new.replica.raft) }
@@ -354,6 +374,7 @@ impl Running {
         requires unserved { self.old.office ≡ None → self.old.view.serving ≡ false }
         requires stand { StandOver self.old.clients self.old.applied.machine }
         requires turns { HasTurns (clients_in self.old) }
+        ensures exact { OnOk result (core_of self.new ≡ ended (core_of self.old)) }
         ensures conns { OnOk result (KeepsConns self.old self.new) }
         ensures stand { OnOk result (StandOver self.new.clients self.new.applied.machine) }
         ensures turns { OnOk result (HasTurns (clients_in self.new)) }
@@ -406,6 +427,7 @@ impl Running {
     fn lose(&mut self) -> Result<(), NodeFault>
         requires stand { StandOver self.old.clients self.old.applied.machine }
         requires turns { HasTurns (clients_in self.old) }
+        ensures exact { OnOk result (core_of self.new ≡ losing (core_of self.old)) }
         ensures conns { OnOk result (KeepsConns self.old self.new) }
         ensures stand { OnOk result (StandOver self.new.clients self.new.applied.machine) }
         ensures turns { OnOk result (HasTurns (clients_in self.new)) }
@@ -435,6 +457,7 @@ impl Running {
         ensures serves { ServesLast self.old.office self.old.view.serving → ServesLast self.new.office self.new.view.serving }
         ensures stays { self.new.office ≡ None → self.old.office ≡ None }
         ensures is { self.new ≡ record self.old { office = self.new.office } }
+        ensures exact { core_of self.new ≡ won (core_of self.old) }
     {
         if self.office.is_some() {
             return;

@@ -4,7 +4,9 @@ ghost use Rattle.std.specs.Prelude.{◌≡◌, ◌<◌, ◌++◌, ◌∷◌, ℕ
 ghost use Rattle.raft_world.specs.Members.{Setup};
 ghost use Rattle.node_core.specs.declared.event.Event.TheVariants as happens;
 ghost use Rattle.node_core.specs.Account.{SoFar, Happens};
-ghost use Rattle.node_core.specs.Conns.{ConnsOn, KeepsConns};
+ghost use Rattle.node_core.specs.Conns.{KeepsConns};
+ghost use Rattle.node_core.specs.Core.{core_of};
+ghost use Rattle.node_core.specs.ExactParts.{Answered, ResumesBy};
 ghost use Rattle.node_core.specs.Taking.{TurnsOn};
 ghost use Rattle.node_core.specs.Performing.{ReadsSo};
 ghost use Rattle.sql_engine.specs.Meanings.{Stays};
@@ -103,7 +105,7 @@ impl Running {
         requires led { IsLed self.old }
         requires idle { self.old.due.items ≡ [] }
         requires agrees { Agrees (E.known engine.old) self.old.clients self.old.applied.machine }
-        ensures conns { OnOk result (ConnsOn self.old self.new) }
+        ensures conns { OnOk result (KeepsConns self.old self.new) }
         ensures going { OnOk result (IsGoing self.new) }
         ensures led { OnOk result (IsLed self.new) }
         ensures replica { self.new.replica ≡ self.old.replica }
@@ -129,7 +131,7 @@ impl Running {
     /// The client of a query is told what its reader tells.
     fn tell_read(&mut self, conn: u64, read: Read) -> Result<(), NodeFault>
         requires going { IsGoing self.old }
-        ensures conns { OnOk result (ConnsOn self.old self.new) }
+        ensures conns { OnOk result (KeepsConns self.old self.new) }
         ensures going { OnOk result (IsGoing self.new) }
         ensures office { OnOk result (self.new.office ≡ self.old.office) }
         ensures replica { self.new.replica ≡ self.old.replica }
@@ -159,7 +161,7 @@ impl Running {
         requires led { IsLed self.old }
         requires idle { self.old.due.items ≡ [] }
         requires agrees { Agrees (E.known engine.old) self.old.clients self.old.applied.machine }
-        ensures conns { OnOk result (ConnsOn self.old self.new) }
+        ensures conns { OnOk result (KeepsConns self.old self.new) }
         ensures going { OnOk result (IsGoing self.new) }
         ensures led { OnOk result (IsLed self.new) }
         ensures replica { self.new.replica ≡ self.old.replica }
@@ -170,6 +172,8 @@ impl Running {
         ensures goes { (setup : Setup) (bytes : List ℕ) (joins : Option ℕ) →
             OnOk result (TurnsOn (E.meaning (E.kind engine.old)) (E.kind engine.old) setup bytes joins self.old self.new
             (E.told engine.old) (E.told engine.new)) }
+        ensures exact { OnOk result (Answered (E.told engine.old) (E.told engine.new)
+            (ResumesBy (E.meaning (E.kind engine.old)) (E.kind engine.old) conn (core_of self.old) (core_of self.new))) }
     {
         clients_turn::<E>();
         stretches_join::<E>();

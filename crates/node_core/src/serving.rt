@@ -1,15 +1,19 @@
 //! A node's turn in which the message of a client or of a peer is handled, and connections that come and go.
 
-ghost use Rattle.std.specs.Prelude.{◌≡◌, ◌≢◌, ◌++◌, ◌∷◌, ℕ, List, Option, [], map, false, None, Err, OnOk, IfOk, IfErr};
+ghost use Rattle.std.specs.Prelude.{◌≡◌, ◌≢◌, ◌++◌, ◌∷◌, ℕ, List, Option, [], map, is_some, false, None, Err, OnOk, IfOk, IfErr, true};
 ghost use Rattle.page_apply.specs.Machines.{IsMachine};
 ghost use Rattle.session_rules.specs.Machine.{machine_of};
 ghost use Rattle.raft_member.specs.Members.{read_setup};
 ghost use Rattle.raft_rules.specs.Node.{Server as ServerValue};
 ghost use Rattle.raft_world.specs.Members.{Setup};
-ghost use Rattle.client_sessions.specs.Clients.{hung_up};
+ghost use Rattle.client_sessions.specs.Clients.{hung_up, joining, next_offer};
 ghost use Rattle.node_core.specs.declared.event.Event.TheVariants as happens;
 ghost use Rattle.node_core.specs.Account.{moment_of};
-ghost use Rattle.node_core.specs.Conns.{ClosesConn, ConnsBegin, ConnsBehind, ConnsOn, KeepsConns};
+ghost use Rattle.node_core.specs.Conns.{ClosesConn, ConnsBegin, ConnsBehind, ConnsOn, KeepsConns, link_for};
+ghost use Rattle.node_core.specs.Core.{clients_at, core_of, giving, hanging_up, hearing, joined_by};
+ghost use Rattle.node_core.specs.Exact.{OnHeard};
+ghost use Rattle.node_core.specs.ExactParts.{Answered, ClosesBy, OfferIf, PerformsBy};
+ghost use Rattle.node_core.specs.Carrying.{MovesLines, first_waiting};
 ghost use Rattle.node_core.specs.Performing.{ClosesSo, ComesOr, GoesOr, HearsSo, Performed, SaysNothing};
 ghost use Rattle.sql_engine.specs.Meanings.{Stays};
 ghost use Rattle.client_sessions.specs.Seen.{Agrees};
@@ -45,6 +49,7 @@ impl Running {
         ensures agrees { StaysAgreed self.old self.new }
         ensures due { OnOk result (self.new.due.items ≡ self.old.due.items ++ event ∷ []) }
         ensures is { self.new ≡ record self.old { due = self.new.due } }
+        ensures exact { OnOk result (core_of self.new ≡ giving event (core_of self.old)) }
     {
         self.due.push_back(event)?;
         Ok(())
@@ -63,6 +68,8 @@ impl Running {
         ensures agrees { StaysAgreed self.old self.new }
         ensures goes { OnOk result (ComesOr self.old self.new conn) }
         ensures quiet { OnOk result (SaysNothing self.old self.new) }
+        ensures exact { OnOk result ((core_of self.old).links ≡ [] →
+            core_of self.new ≡ joined_by (joining (core_of self.old).sessions conn) conn (core_of self.old)) }
     {
         self.databases_stand();
         if self.links.has(conn) {
@@ -88,6 +95,7 @@ impl Running {
         ensures agrees { StaysAgreed self.old self.new }
         ensures goes { OnOk result (HearsSo self.old self.new conn bytes.now) }
         ensures quiet { SaysNothing self.old self.new }
+        ensures exact { OnOk result ((core_of self.old).links ≡ [] → core_of self.new ≡ hearing conn bytes.now (core_of self.old)) }
     {
         self.heard = Some(conn);
         self.databases_stand();
@@ -110,6 +118,7 @@ impl Running {
         ensures agrees { StaysAgreed self.old self.new }
         ensures goes { GoesOr self.old self.new conn }
         ensures quiet { SaysNothing self.old self.new }
+        ensures exact { (core_of self.old).links ≡ [] → core_of self.new ≡ hanging_up conn (core_of self.old) }
     {
         self.links.leave(conn);
         self.clients.hang_up(conn, &mut self.applied.machine);
@@ -135,12 +144,15 @@ impl Running {
         ensures agrees { OnOk result (Agrees (E.known engine.new) self.new.clients self.new.applied.machine) }
         ensures engine { Stays (E.kind engine.old) (E.kind engine.new) (E.refused_openings engine.old) (E.refused_openings engine.new) }
         ensures none { IfOk result (λ more. more ≡ false → self.new ≡ record self.old { links = self.new.links }) }
+        ensures waits { IfOk result (λ more. more ≡ false → self.new.has_links ≡ true → first_waiting self.new.links.all.items ≡ None) }
         ensures letter { (opening : List ServerValue) →
             OnOk result (TookLetter (E.meaning (E.kind engine.old)) (E.kind engine.old) (read_setup opening) self.old self.new
             (E.told engine.old) (E.told engine.new)) }
         ensures stops { (opening : List ServerValue) → LeavesBy D.tells (D.states disk.old) (D.states disk.new) self.old.replica result
             (StopsLetter (E.meaning (E.kind engine.old)) (E.kind engine.old) (read_setup opening) self.old) }
         ensures runs { result ≢ Err fault.Down }
+        ensures unlinked { self.old.links.all.items ≡ [] → IfOk result (λ more. (more ≡ false) × (self.new.links.all.items ≡ [])) }
+        ensures untold { IfOk result (λ more. more ≡ false → E.told engine.new ≡ E.told engine.old) }
     {
         if !self.has_links {
             return Ok(false);
@@ -181,6 +193,11 @@ impl Running {
             OnOk result (TurnsOn (E.meaning (E.kind engine.old)) (E.kind engine.old) setup bytes joins self.old self.new
             (E.told engine.old) (E.told engine.new)) }
         ensures sessions { IfOk result (λ more. more ≡ false → (clients_in self.new).sessions ≡ (clients_in self.old).sessions) }
+        ensures offers { IfOk result (λ more. more ≡ is_some (next_offer (clients_at (core_of self.old)))) }
+        // Whose turn it is, and what came of the message is told by the answers of the engine.
+        ensures exact { OnOk result (Answered (E.told engine.old) (E.told engine.new)
+            (OfferIf (E.meaning (E.kind engine.old)) (E.kind engine.old) (next_offer (clients_at (core_of self.old))) (core_of self.old) (core_of self.new))) }
+        ensures moves { OnOk result (MovesLines self.old self.new []) }
     {
         clients_turn::<E>();
         stretches_join::<E>();
@@ -197,7 +214,9 @@ impl Running {
     }
 
     /// The node's id.
-    fn id(&self) -> u64 {
+    fn id(&self) -> u64
+        ensures { result ≡ self.now.view.id }
+    {
         self.view.id
     }
 
@@ -218,6 +237,7 @@ impl Running {
         ensures wants { IfErr result (λ f. f ≡ fault.NoMemory) }
         ensures agrees { StaysAgreed self.old self.new }
         ensures performed { OnOk result (Performed self.old self.new act) }
+        ensures exact { OnOk result (PerformsBy act (core_of self.old) (core_of self.new)) }
     {
         self.databases_stand();
         match act {
@@ -247,6 +267,9 @@ impl Running {
         ensures said { OnOk result (self.new.outs.replies.items ≡ self.old.outs.replies.items ++ map (λ (m : List ℕ). (conn, m)) messages) }
         ensures unread { self.new.outs.reads.items ≡ self.old.outs.reads.items }
         ensures is { self.new ≡ record self.old { outs = self.new.outs } }
+        ensures exact { OnOk result (core_of self.new ≡ record (core_of self.old) {
+          replies = (core_of self.old).replies ++ map (λ (m : List ℕ). (conn, m)) messages;
+        }) }
     {
         self.outs.reply(conn, messages)?;
         Ok(())
@@ -264,6 +287,7 @@ impl Running {
         ensures gone { OnOk result (clients_in self.new ≡ hung_up (clients_in self.old) conn) }
         ensures files { machine_of self.new.applied.machine ≡ machine_of self.old.applied.machine }
         ensures machine { OnOk result (IsMachine self.new.applied.machine) }
+        ensures joined { OnOk result (self.new.links.all.items ≡ self.old.links.all.items ++ link_for conn peer ((clients_in self.old).streams conn)) }
         ensures is { self.new ≡ record self.old {
           clients = self.new.clients;
           applied = record self.old.applied { machine = self.new.applied.machine };
@@ -288,8 +312,10 @@ impl Running {
         ensures wants { IfErr result (λ f. f ≡ fault.NoMemory) }
         ensures agrees { StaysAgreed self.old self.new }
         ensures none { IfOk result (λ more. more ≡ false → (self.new ≡ self.old) × (self.new.heard ≡ None)) }
+        ensures moves { OnOk result (MovesLines self.old self.new []) }
         ensures goes { OnOk result (ClosesSo self.old self.new) }
         ensures quiet { SaysNothing self.old self.new }
+        ensures exact { IfOk result (λ more. (core_of self.old).links ≡ [] → OnHeard (core_of self.old).heard (core_of self.old) (core_of self.new) more) }
     {
         self.databases_stand();
         let Some(conn) = self.heard else {
@@ -314,6 +340,7 @@ impl Running {
         ensures agrees { StaysAgreed self.old self.new }
         ensures goes { GoesOr self.old self.new conn }
         ensures quiet { SaysNothing self.old self.new }
+        ensures exact { (core_of self.old).links ≡ [] → ClosesBy conn result (core_of self.old) (core_of self.new) }
     {
         self.databases_stand();
         if !self.links.has(conn) {

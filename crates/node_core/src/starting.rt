@@ -1,6 +1,6 @@
 //! A node starts over its disk.
 
-ghost use Rattle.std.specs.Prelude.{◌≡◌, ◌<◌, ◌≤◌, ◌+◌, ◌-◌, ◌++◌, suc, List, []};
+ghost use Rattle.std.specs.Prelude.{◌≡◌, ◌<◌, ◌≤◌, ◌+◌, ◌-◌, ◌++◌, suc, List, [], Some};
 ghost use Rattle.std.specs.Prelude.{IfErr, IfOk, length, drop};
 ghost use Rattle.segment_store.specs.Open.{Open};
 ghost use Rattle.store_format.specs.FilesRead.{snap_kept, HasIndex};
@@ -8,13 +8,15 @@ ghost use Rattle.raft_rules.specs.Log.{Entry as EntryValue};
 ghost use Rattle.raft_rules.specs.Node.{Server as ServerValue};
 ghost use Rattle.raft_vote.specs.Servers.{IsConfiguration};
 ghost use Rattle.raft_world.specs.Members.{configuration};
-ghost use Rattle.raft_member.specs.Members.{AllStand, IsOf, read_setup};
+ghost use Rattle.raft_member.specs.Members.{AllStand, IsOf, all_changed, first_of, read_setup};
 ghost use Rattle.store_format.specs.Starts.{CanStart};
 ghost use Rattle.node_replica.specs.Replicas.{kept_of};
 ghost use Rattle.node_state.specs.Applied.{HasNoPins};
-ghost use Rattle.node_state.specs.Snapshot.{IsRestored};
+ghost use Rattle.node_state.specs.Snapshot.{IsRestored, snapshot_in, snapshot_value};
 ghost use Rattle.node_rules.specs.Steps.{StartsSo};
 ghost use Rattle.node_core.specs.Conns.{HasNoPeers};
+ghost use Rattle.node_core.specs.Core.{core_of};
+ghost use Rattle.node_core.specs.ExactStart.{AppliesExactly, StartsExactly, kept_members};
 ghost use Rattle.node_core.specs.Starting.{AppliesKept, HasStarted, IsUnread, ShowsFront};
 ghost use Rattle.node_core.specs.Values.{seen};
 ghost use Rattle.client_sessions.specs.Seen.{Agrees};
@@ -47,6 +49,7 @@ fn restored(alloc: Global, index: u64, bytes: &[u8]) -> Result<Applied, StartFau
     ensures servers { IfOk result (λ applied. IsConfiguration applied.servers) }
     ensures unpinned { IfOk result (λ applied. HasNoPins applied.machine) }
     ensures front { IfOk result (ShowsFront index bytes.now) }
+    ensures exact { IfOk result (λ applied. snapshot_in bytes.now ≡ Some (snapshot_value applied)) }
     ensures unread { IfErr result (IsUnread index bytes.now) }
 {
     match Applied::from_snapshot(alloc, index, bytes)? {
@@ -56,6 +59,7 @@ fn restored(alloc: Global, index: u64, bytes: &[u8]) -> Result<Applied, StartFau
 }
 
 /// What is applied of what was kept: the snapshot, or nothing.
+#[tactic(auto, using(crate::proofs::ExactStarts::restored_applies, crate::proofs::ExactStarts::none_applies))]
 fn applied_at_start(
     alloc: Global,
     opening: Servers,
@@ -64,6 +68,7 @@ fn applied_at_start(
     requires opening { IsConfiguration opening }
     requires index { HasIndex snapshot.now }
     ensures applies { IfOk result (AppliesKept opening (snap_kept snapshot.now)) }
+    ensures exact { IfOk result (AppliesExactly opening (snap_kept snapshot.now)) }
     ensures unread { IfErr result (IsUnread (snap_kept snapshot.now).index (snap_kept snapshot.now).bytes) }
 {
     match snapshot {
@@ -85,6 +90,7 @@ fn members_of(
     requires within { at < first + length entries.now }
     ensures at { IfOk result (λ members. members.at ≡ at) }
     ensures stand { IsConfiguration servers → IfOk result AllStand }
+    ensures exact { IfOk result (λ members. members ≡ all_changed (first_of servers at) (suc at) (drop (suc at - first) entries.now)) }
     ensures is { (opening : List ServerValue) (front : List EntryValue) → length front ≡ at → configuration (read_setup opening) front ≡ servers →
         IfOk result (IsOf (read_setup opening) (front ++ drop (suc at - first) entries.now)) }
 {
@@ -101,6 +107,7 @@ fn members_at_start(alloc: Global, applied: &Applied, kept: &Kept) -> Result<Mem
     requires servers { IsConfiguration applied.now.servers }
     ensures at { IfOk result (λ members. members.at ≡ applied.now.index) }
     ensures stand { IfOk result AllStand }
+    ensures exact { IfOk result (λ members. members ≡ kept_members applied.now.servers kept.now) }
     ensures is { (opening : List ServerValue) (front : List EntryValue) → length front ≡ kept.now.snap.index →
         configuration (read_setup opening) front ≡ applied.now.servers →
         IfOk result (IsOf (read_setup opening) (front ++ drop (suc kept.now.snap.index - kept.now.log.first) kept.now.log.entries)) }
@@ -129,6 +136,7 @@ impl Running {
         ensures keeps { IfOk result (λ node. node.replica.keeps ≡ 0) }
         ensures links { IfOk result (λ node. node.has_links ≡ spec.links) }
         ensures peers { IfOk result (HasNoPeers spec.links) }
+        ensures exact { IfOk result (λ node. StartsExactly spec.id spec.links spec.readers spec.servers kept (core_of node)) }
         ensures unread { IfErr result (IsUnread kept.snap.index kept.snap.bytes) }
     {
         let NodeSpec {

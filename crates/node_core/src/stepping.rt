@@ -6,8 +6,11 @@ ghost use Rattle.node_rules.specs.Accounts.{MayEnd};
 ghost use Rattle.node_core.specs.declared.event.Event.{Event as EventValue};
 ghost use Rattle.node_core.specs.declared.running.Running.{Running as RunningValue};
 ghost use Rattle.node_core.specs.Account.{AtRest, SoFar, Stopped, Happens, StepsBy, StopsBy, Underway, moment_of};
+ghost use Rattle.node_core.specs.Carrying.{first_waiting};
 ghost use Rattle.node_core.specs.Conns.{ConnsBegin, ConnsBy, ConnsOn, KeepsConns};
-ghost use Rattle.node_core.specs.Finding.{LeavesBy};
+ghost use Rattle.node_core.specs.Core.{core_of};
+ghost use Rattle.node_core.specs.Exact.{AttendsBy, BeginsBy, RunsBy, StepsExactly, UnlinkedTurn};
+ghost use Rattle.node_core.specs.ExactParts.{Answered, CompactsIf};
 ghost use Rattle.node_core.specs.Taking.{CompactsSo};
 ghost use Rattle.std.specs.Prelude.{◌≡◌, ◌≢◌, ℕ, List, Option, [], true, false, Err, IfOk, OnOk, IfErr};
 ghost use Rattle.sql_engine.specs.Meanings.{Stays, Told};
@@ -59,6 +62,9 @@ impl Running {
         ensures acts { (opening : List ServerValue) →
             IfOk result (λ outs. StepsBy (E.meaning (E.kind engine.old)) (E.kind engine.old) (read_setup opening) self.old self.new event outs
             (E.told engine.old) (E.told engine.new)) }
+        // What was before it decides what it leaves and says, but for the answers that the engine told.
+        ensures exact { IfOk result (λ outs. Answered (E.told engine.old) (E.told engine.new)
+            (StepsExactly (E.meaning (E.kind engine.old)) (E.kind engine.old) event (core_of self.old) (core_of self.new) outs)) }
     {
         raft_steps_are_kept();
         self.replica.count_keeps();
@@ -92,6 +98,7 @@ impl Running {
             LeavesBy D.tells (D.states disk.old) (D.states disk.new) self.old.replica result
             (Stopped (E.meaning (E.kind engine.old)) (E.kind engine.old) (read_setup opening) self.old (Happens event)) }
         ensures runs { result ≢ Err fault.Down }
+        ensures exact { OnOk result (Answered (E.told engine.old) (E.told engine.new) (BeginsBy event (core_of self.old) (core_of self.new))) }
     {
         self.databases_stand();
         raft_steps_are_kept();
@@ -120,6 +127,7 @@ impl Running {
         ensures engine { Stays (E.kind engine.old) (E.kind engine.new) (E.refused_openings engine.old) (E.refused_openings engine.new) }
         ensures applied { OnOk result (self.new.applied.index ≡ self.new.replica.raft.commit) }
         ensures idle { OnOk result (self.new.due.items ≡ []) }
+        ensures letters { OnOk result (self.new.has_links ≡ true → first_waiting self.new.links.all.items ≡ None) }
         ensures turns { OnOk result ((clients_in self.new).turns ≡ []) }
         ensures heard { OnOk result (self.new.heard ≡ None) }
         ensures led { OnOk result (IsLed self.new) }
@@ -134,6 +142,8 @@ impl Running {
             LeavesBy D.tells (D.states disk.old) (D.states disk.new) self.old.replica result
             (StopsBy (E.meaning (E.kind engine.old)) (E.kind engine.old) (read_setup opening) start event) }
         ensures runs { result ≢ Err fault.Down }
+        ensures exact { OnOk result (Answered (E.told engine.old) (E.told engine.new)
+            (RunsBy (E.meaning (E.kind engine.old)) (E.kind engine.old) (core_of self.old) (core_of self.new))) }
     {
         raft_steps_are_kept();
         for _ in 0..u64::MAX {
@@ -172,6 +182,8 @@ impl Running {
             LeavesBy D.tells (D.states disk.old) (D.states disk.new) self.old.replica result
             (StopsBy (E.meaning (E.kind engine.old)) (E.kind engine.old) (read_setup opening) start event) }
         ensures runs { result ≢ Err fault.Down }
+        ensures exact { IfOk result (λ more. Answered (E.told engine.old) (E.told engine.new)
+            (UnlinkedTurn (E.meaning (E.kind engine.old)) (E.kind engine.old) (core_of self.old) (core_of self.new) more)) }
     {
         raft_steps_are_kept();
         if self.take_due(disk)? {
@@ -214,6 +226,8 @@ impl Running {
             LeavesBy D.tells (D.states disk.old) (D.states disk.new) self.old.replica result
             (StopsBy (E.meaning (E.kind engine.old)) (E.kind engine.old) (read_setup opening) start event) }
         ensures runs { result ≢ Err fault.Down }
+        ensures exact { IfOk result (λ more. Answered (E.told engine.old) (E.told engine.new)
+            (AttendsBy (E.meaning (E.kind engine.old)) (E.kind engine.old) (core_of self.old) (core_of self.new) more)) }
     {
         raft_turns::<E>();
         raft_steps_are_kept();
@@ -249,6 +263,8 @@ impl Running {
         ensures takes { (opening : List ServerValue) → IfOk result (λ more. more ≡ true → CompactsSo (read_setup opening) self.old self.new) }
         ensures agrees { StaysAgreed self.old self.new }
         ensures runs { result ≢ Err fault.Down }
+        // One is taken where one may be, and only there.
+        ensures exact { IfOk result (λ more. CompactsIf (core_of self.old) (core_of self.new) more) }
     {
         let index = self.applied.index;
         if !self.replica.is_due(index) {

@@ -1,12 +1,15 @@
 //! What a node is for its sessions.
 
-ghost use Rattle.std.specs.Prelude.{◌≡◌, ◌≢◌, true, false, IfOk, OnOk};
+ghost use Rattle.std.specs.Prelude.{◌≡◌, ◌≢◌, ◌++◌, [], ◌∷◌, None, true, false, IfOk, OnOk};
 ghost use Rattle.raft_rules.specs.Node.{Follower};
+ghost use Rattle.raft_rules.specs.NodeValues.{node_of};
+ghost use Rattle.node_core.specs.Core.{core_of, evens, looked, showing_servers};
 ghost use Rattle.node_core.specs.Whole.{Holds, InOffice, IsGoing};
 
 use crate::running::Running;
 use dq_base::Items;
 use gateway::{StepLimits, View};
+use node_replica::Replica;
 use raft_core::{RaftRole, RaftView};
 use raft_vote::{Server, Servers};
 use std::alloc::{AllocError, Global};
@@ -39,6 +42,17 @@ pub(crate) fn starting_view(
     ensures last { result.last ≡ raft.last.index }
     ensures servers { result.servers ≡ servers }
     ensures links { result.links ≡ links }
+    ensures exact { result ≡ record {
+      id = id;
+      leader = None;
+      serving = false;
+      term = raft.term;
+      last = raft.last.index;
+      servers = servers;
+      links = links;
+      readers = readers;
+      even = [];
+    } }
 {
     View {
         id,
@@ -54,6 +68,27 @@ pub(crate) fn starting_view(
     }
 }
 
+/// Adds the id of a peer, where its log is known to reach a leader's last index.
+fn add_even(even: &mut Vec<u64>, replica: &Replica, server: &Server) -> Result<(), AllocError>
+    ensures { OnOk result (even.new.items ≡ even.old.items ++ evens (node_of replica.now.raft) (server.now ∷ [])) }
+{
+    if replica.even(server.id) {
+        even.push(server.id)?;
+    }
+    Ok(())
+}
+
+/// Puts the ids of these peers whose log is known to reach a leader's last index in the place of what is there.
+fn refill(even: &mut Vec<u64>, replica: &Replica, servers: &[Server]) -> Result<(), AllocError>
+    ensures { OnOk result (even.new.items ≡ evens (node_of replica.now.raft) servers.now) }
+{
+    even.clear();
+    for server in servers {
+        add_even(even, replica, server)?;
+    }
+    Ok(())
+}
+
 impl Running {
     /// What it is for its sessions, after a step of Raft. Refills what it has.
     #[tactic(auto, unfolding(raft_rules::specs::Log::log_end))]
@@ -62,29 +97,34 @@ impl Running {
         requires office { InOffice self.old.office self.old.view.serving self.old.replica.raft }
         requires seen { self.old.view.servers ≡ self.old.applied.servers }
         ensures links { self.new.view.links ≡ self.old.view.links }
+        ensures id { self.new.view.id ≡ self.old.view.id }
         ensures going { OnOk result (IsGoing self.new) }
         ensures rest { self.new ≡ record self.old { view = self.new.view } }
         ensures serving { self.new.view.serving ≡ self.old.view.serving }
+        ensures exact { OnOk result (core_of self.new ≡ looked (core_of self.old)) }
     {
         let raft = self.replica.view();
+        self.see(raft);
+        self.look_at_peers()
+    }
+
+    /// How Raft stands.
+    fn see(&mut self, raft: RaftView)
+        ensures { self.new ≡ record self.old { view = record self.old.view { leader = raft.leader; term = raft.term; last = raft.last.index } } }
+    {
         self.view.term = raft.term;
         self.view.last = raft.last.index;
         self.view.leader = raft.leader;
-        self.look_at_peers()
     }
 
     /// The peers whose log is known to reach a leader's last index.
     fn look_at_peers(&mut self) -> Result<(), AllocError>
-        ensures { self.new ≡ record self.old { view = record self.old.view { even = self.new.view.even } } }
+        ensures is { self.new ≡ record self.old { view = record self.old.view { even = self.new.view.even } } }
+        ensures even { OnOk result (self.new.view.even ≡ evens (node_of self.old.replica.raft) self.old.view.servers) }
     {
         let kept = mem::replace(&mut self.view.even, Items::new(Vec::new(self.alloc)));
         let mut even = kept.into_vec();
-        even.clear();
-        for server in self.view.servers.as_slice() {
-            if self.replica.even(server.id) {
-                even.push(server.id)?;
-            }
-        }
+        refill(&mut even, &self.replica, self.view.servers.as_slice())?;
         self.view.even = Items::new(even);
         Ok(())
     }
@@ -94,12 +134,22 @@ impl Running {
         requires holds { Holds self.old }
         requires office { InOffice self.old.office self.old.view.serving self.old.replica.raft }
         ensures links { self.new.view.links ≡ self.old.view.links }
+        ensures id { self.new.view.id ≡ self.old.view.id }
         ensures going { OnOk result (IsGoing self.new) }
         ensures rest { self.new ≡ record self.old { view = self.new.view } }
         ensures serving { self.new.view.serving ≡ self.old.view.serving }
+        ensures exact { OnOk result (core_of self.new ≡ showing_servers (core_of self.old)) }
     {
-        self.view.servers = copied(self.alloc, self.applied.servers.as_slice())?;
+        let servers = copied(self.alloc, self.applied.servers.as_slice())?;
+        self.show(servers);
         self.look()
+    }
+
+    /// These are the servers that it sees.
+    fn show(&mut self, servers: Servers)
+        ensures { self.new ≡ record self.old { view = record self.old.view { servers = servers } } }
+    {
+        self.view.servers = servers;
     }
 
     /// Whether it follows.

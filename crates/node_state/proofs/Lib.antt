@@ -1,5 +1,5 @@
 mod Following
-mod Names
+pub mod Names
 mod EachName
 mod Spellings
 mod Snapshots

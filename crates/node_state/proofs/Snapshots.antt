@@ -20,7 +20,7 @@ use Rattle.page_apply.specs.Pins.{Pinning, at_place, is_live_in, IsPinned}
 use Rattle.page_apply.specs.Restoring.{snapshot_of, restored_at, restored_from, restored}
 use Rattle.page_apply.specs.Snapshot.{snapshot_text, IsSnapshot}
 use Rattle.page_apply.proofs.SnapshotLaws.{snapshot_passed, snapshot_stood}
-use Rattle.session_rules.specs.Machine.{files}
+use Rattle.session_rules.specs.Machine.{machine_of, files}
 use Rattle.session_rules.specs.Seen.{log_seen}
 use Rattle.node_state.specs.declared.applied.Applied.{Applied}
 use Rattle.node_state.specs.Applied.{ShowsFiles, HasApplied}
@@ -111,3 +111,6 @@ pub made_is : (a : Applied) → IsMachine a.machine → (opening : List Server) 
 made_is a stand opening lacks front h =
     let same : contents_of a.machine ≡ contents_in (files (log_seen front)) = sym (own_contents a.machine stand.in_order) ∙ sym (ap contents_in h.databases.1) in
     λ i. record { servers = h.servers i; contents = same i }
+
+pub bytes_are : (a : Applied) → IsMachine a.machine → (bytes : List ℕ) → SpellsSnapshot (snapshot_value a) bytes → bytes ≡ servers_bytes a.servers ++ snapshot_text (contents_in (machine_of a.machine))
+bytes_are a stand bytes spelled = spelled.parts ∙ ap (λ (contents : List Content). servers_bytes a.servers ++ snapshot_text contents) (sym (own_contents a.machine stand.in_order))

@@ -1,16 +1,18 @@
 //! A node's snapshot, both ways.
 
-ghost use Rattle.std.specs.Prelude.{◌≡◌, ℕ, List, drop, length, Some, IfOk};
+ghost use Rattle.std.specs.Prelude.{◌≡◌, ◌++◌, ℕ, List, drop, length, Some, IfOk};
 ghost use Rattle.std.specs.Option.{option_map};
 ghost use Rattle.page_apply.specs.Databases.{contents_of};
 ghost use Rattle.page_apply.specs.Machines.{names_of};
 ghost use Rattle.page_apply.specs.Restoring.{snapshot_of};
+ghost use Rattle.page_apply.specs.Snapshot.{snapshot_text};
 ghost use Rattle.raft_rules.specs.Log.{Entry as EntryValue};
 ghost use Rattle.raft_rules.specs.Node.{Server as ServerValue};
-ghost use Rattle.raft_vote.specs.Servers.{IsConfiguration};
+ghost use Rattle.raft_vote.specs.Servers.{IsConfiguration, servers_bytes};
+ghost use Rattle.session_rules.specs.Machine.{machine_of};
 ghost use Rattle.node_state.specs.Applied.{HasApplied};
 ghost use Rattle.node_state.specs.Reading.{contents_read};
-ghost use Rattle.node_state.specs.Snapshot.{snapshot_value, SpellsSnapshot, snapshot_in, with_databases, IsBehind, IsRestoredIf, IsSameIf, HasNoPinsIf, HasAppliedIf, offered_to, made_by, commits_of};
+ghost use Rattle.node_state.specs.Snapshot.{snapshot_value, SpellsSnapshot, snapshot_in, with_databases, IsBehind, IsRestoredIf, IsSameIf, HasNoPinsIf, HasAppliedIf, contents_in, offered_to, made_by, commits_of};
 
 use crate::applied::Applied;
 use crate::reading::{machine_in, servers_in};
@@ -122,6 +124,8 @@ impl Applied {
         ensures spelled { IfOk result (SpellsSnapshot (snapshot_value self.now)) }
         // It is that of the front of a log that was applied.
         ensures front { IfOk result (λ bytes. (opening : List ServerValue) (lacks : List ℕ → ℕ) (front : List EntryValue) → HasApplied opening lacks front self.now → SpellsSnapshot (made_by opening front) bytes) }
+        // Marks, and the order in which the databases were opened, decide nothing of it.
+        ensures exact { IfOk result (λ bytes. bytes ≡ servers_bytes self.now.servers ++ snapshot_text (contents_in (machine_of self.now.machine))) }
     {
         let _databases = self.machine.databases();
         spelled(alloc, &self.machine, self.servers.as_slice())

@@ -20,7 +20,7 @@ use Rattle.script_lines.specs.declared.grammar.Aim.TheVariants.{Nothing}
 use Rattle.script_nodes.specs.declared.said.Said.TheVariants as says
 use Rattle.script_nodes.specs.World.{Letter, with_link, without, without_node, closings, node_of, connects, on_link, hangs_up, is_node, arriving, arrived_at, delivered, delivers, arrives, crashes, fallen, exists, takes, happens, settles, settled_so, first_waiting, all_start}
 use Rattle.script_nodes.specs.World.{Place, World, Halt, NotThere, TooMany, Went, quiet, halted, then_on, onward, said_before, asked, asked_so, unless_many, at_node, starts, empty_place, counted, counted_so}
-use Rattle.script_nodes.specs.Knowing.{Knowing, AllKnow, CanHold, messages_of}
+use Rattle.script_nodes.specs.Knowing.{Knowing, AllKnow, KnowsOver, CanHold, messages_of, messages_in, outcomes_of, outcomes_in, outcomes_over}
 use Rattle.script_nodes.specs.Seen.{answers_in}
 use Rattle.script_nodes.specs.Places.{Comes, TellsEnding, place_after, place_after_crash}
 use Rattle.script_nodes.specs.Holding.{Held, beside, outside_of, world_of, places_after, Asks, Overruns, Leads, HaltsAt, Halts, DoesBy, Does, TellsAll}
@@ -30,6 +30,15 @@ use Rattle.script_nodes.specs.Holding.{Held, beside, outside_of, world_of, place
 -- by this turn the places are led on
 abbrev pub Led : {P : Type 0} → Knowing P → ℕ → List P → List P → Turn → Type 0
 Led knows voters old new turn = (earlier : List Turn) → AllKnow knows voters old earlier → AllKnow knows voters new (earlier ++ turn ∷ [])
+
+-- so it is where the wire can hold what it says; and in any case it leads the place of its node on
+pub record LedBy {P : Type 0} (knows : Knowing P) (voters : ℕ) (old new : List P) (turn : Turn) : Type 0 where
+  pub held : AllByRecursion CanHold (messages_in turn) → Led knows voters old new turn
+  pub over : (earlier : List Turn) → AllKnow knows voters old earlier → KnowsOver knows voters earlier (Some turn)
+
+outcomes_join : (turns more : List Turn) → outcomes_in (turns ++ more) ≡ outcomes_in turns ++ outcomes_in more
+outcomes_join [] more = refl
+outcomes_join (turn ∷ turns) more = ap (λ (outcomes : List Outcome). outcomes_of turn ++ outcomes) (outcomes_join turns more) ∙ sym (append_assoc (outcomes_of turn) (outcomes_in turns) (outcomes_in more))
 
 pub none_more : {P : Type 0} (knows : Knowing P) (voters : ℕ) (nodes : List P) (earlier : List Turn) → AllKnow knows voters nodes earlier → AllKnow knows voters nodes (earlier ++ [])
 none_more knows voters nodes earlier k = subst (AllKnow knows voters nodes) (sym (append-nil earlier)) k
@@ -43,6 +52,7 @@ quiet_does knows go h said same = record {
   goes = λ earlier later. same earlier later ∙ ap (λ (turns : List Turn). quiet (world_of h turns later)) (sym (append-nil earlier));
   says = sym (append-nil said);
   know = λ earlier k. none_more knows h.voters h.nodes earlier k;
+  uses = refl;
 }
 
 -- it is the same as something that is done to another world
@@ -55,15 +65,19 @@ by_way_of knows go way old mid new before now None same does keeps = record {
   goes = λ earlier later. same earlier (does.outcomes ++ later) ∙ does.goes earlier later;
   says = does.says;
   know = λ earlier k. does.know earlier (keeps earlier k);
+  uses = does.uses;
 }
 by_way_of knows go way old mid new before now (Some why) same does keeps = record {
   outcomes = does.outcomes;
   turns = does.turns;
   more = does.more;
   nodes = does.nodes;
-  halts = λ earlier later. subst (HaltsAt why new.journal does.more (earlier ++ does.turns)) (sym (same earlier (does.outcomes ++ later))) (does.halts earlier later);
+  over = does.over;
+  halts = λ earlier later. subst (HaltsAt why new.journal does.more (earlier ++ does.turns) does.over) (sym (same earlier (does.outcomes ++ later))) (does.halts earlier later);
   says = does.says;
   know = λ earlier k. does.know earlier (keeps earlier k);
+  last = λ earlier k. does.last earlier (keeps earlier k);
+  uses = does.uses;
 }
 
 -- the same of an answer
@@ -74,9 +88,9 @@ in_result knows go way old mid new before now (Err faults.NotThere) same does ke
 in_result knows go way old mid new before now (Err faults.TooMany) same does keeps = by_way_of knows go way old mid new before now (Some TooMany) same does keeps
 in_result knows go way old mid new before now (Err faults.NoMemory) same does keeps = tt
 
-halts_behind : (why : Halt) (journal : List Item) (said more : List Said) (turns : List Turn) (went : Went) → HaltsAt why journal more turns went → HaltsAt why journal (said ++ more) turns (said_before said went)
-halts_behind why journal said more turns went at =
-    record { halt = at.halt; said_is = ap (λ (all : List Said). said ++ all) at.said_is; journal_is = at.journal_is; turns_are = at.turns_are }
+halts_behind : (why : Halt) (journal : List Item) (said more : List Said) (turns : List Turn) (over : Option Turn) (went : Went) → HaltsAt why journal more turns over went → HaltsAt why journal (said ++ more) turns over (said_before said went)
+halts_behind why journal said more turns over went at =
+    record { halt = at.halt; said_is = ap (λ (all : List Said). said ++ all) at.said_is; journal_is = at.journal_is; turns_are = at.turns_are; over_is = at.over_is }
 
 -- one thing, and then another
 pub then_does : {P : Type 0} (knows : Knowing P) (first next : World → Went) (old mid new : Held P) (before between now : List Said) (fault : Option Halt) → Leads knows first old mid before between → DoesBy knows next fault mid new between now
@@ -92,23 +106,30 @@ then_does knows first next old mid new before between now None a b = record {
       ∙ ap (λ (turns : List Turn). record { world = world_of new turns later; said = a.more ++ b.more; halt = None }) (append_assoc earlier a.turns b.turns);
   says = b.says ∙ ap (λ (all : List Said). all ++ b.more) a.says ∙ append_assoc before a.more b.more;
   know = λ earlier k. subst (AllKnow knows new.voters new.nodes) (append_assoc earlier a.turns b.turns) (b.know (earlier ++ a.turns) (a.know earlier k));
+  uses = (λ i. a.uses i ++ b.uses i) ∙ sym (outcomes_join a.turns b.turns);
 }
 then_does knows first next old mid new before between now (Some why) a b = record {
   outcomes = a.outcomes ++ b.outcomes;
   turns = a.turns ++ b.turns;
   more = a.more ++ b.more;
   nodes = b.nodes;
+  over = b.over;
   halts = λ earlier later.
-      subst (λ (turns : List Turn). HaltsAt why new.journal (a.more ++ b.more) turns (then_on next (first (world_of old earlier ((a.outcomes ++ b.outcomes) ++ later))))) (append_assoc earlier a.turns b.turns)
-      (subst (HaltsAt why new.journal (a.more ++ b.more) ((earlier ++ a.turns) ++ b.turns))
+      subst (λ (turns : List Turn). HaltsAt why new.journal (a.more ++ b.more) turns b.over (then_on next (first (world_of old earlier ((a.outcomes ++ b.outcomes) ++ later))))) (append_assoc earlier a.turns b.turns)
+      (subst (HaltsAt why new.journal (a.more ++ b.more) ((earlier ++ a.turns) ++ b.turns) b.over)
       (sym (ap (λ (outcomes : List Outcome). then_on next (first (world_of old earlier outcomes))) (append_assoc a.outcomes b.outcomes later) ∙ ap (then_on next) (a.goes earlier (b.outcomes ++ later))))
-      (halts_behind why new.journal a.more b.more ((earlier ++ a.turns) ++ b.turns) (next (world_of mid (earlier ++ a.turns) (b.outcomes ++ later))) (b.halts (earlier ++ a.turns) later)));
+      (halts_behind why new.journal a.more b.more ((earlier ++ a.turns) ++ b.turns) b.over (next (world_of mid (earlier ++ a.turns) (b.outcomes ++ later))) (b.halts (earlier ++ a.turns) later)));
   says = b.says ∙ ap (λ (all : List Said). all ++ b.more) a.says ∙ append_assoc before a.more b.more;
   know = λ earlier k. subst (AllKnow knows new.voters b.nodes) (append_assoc earlier a.turns b.turns) (b.know (earlier ++ a.turns) (a.know earlier k));
+  last = λ earlier k. subst (λ (turns : List Turn). KnowsOver knows new.voters turns b.over) (append_assoc earlier a.turns b.turns) (b.last (earlier ++ a.turns) (a.know earlier k));
+  uses =
+      (λ i. a.uses i ++ b.uses i)
+      ∙ sym (append_assoc (outcomes_in a.turns) (outcomes_in b.turns) (outcomes_over b.over))
+      ∙ ap (λ (outcomes : List Outcome). outcomes ++ outcomes_over b.over) (sym (outcomes_join a.turns b.turns));
 }
 
-onward_halts : (next : World → Went) (why : Halt) (journal : List Item) (more : List Said) (turns : List Turn) (went : Went) → HaltsAt why journal more turns went → HaltsAt why journal more turns (then_on next went)
-onward_halts next why journal more turns went at = subst (HaltsAt why journal more turns) (sym (ap (onward next went) at.halt)) at
+onward_halts : (next : World → Went) (why : Halt) (journal : List Item) (more : List Said) (turns : List Turn) (over : Option Turn) (went : Went) → HaltsAt why journal more turns over went → HaltsAt why journal more turns over (then_on next went)
+onward_halts next why journal more turns over went at = subst (HaltsAt why journal more turns over) (sym (ap (onward next went) at.halt)) at
 
 -- where the first halts, all does
 pub then_halts : {P : Type 0} (knows : Knowing P) (first next : World → Went) (why : Halt) (old new : Held P) (before now : List Said) → Halts knows first why old new before now → Halts knows (λ (w : World). then_on next (first w)) why old new before now
@@ -117,9 +138,12 @@ then_halts knows first next why old new before now a = record {
   turns = a.turns;
   more = a.more;
   nodes = a.nodes;
-  halts = λ earlier later. onward_halts next why new.journal a.more (earlier ++ a.turns) (first (world_of old earlier (a.outcomes ++ later))) (a.halts earlier later);
+  over = a.over;
+  halts = λ earlier later. onward_halts next why new.journal a.more (earlier ++ a.turns) a.over (first (world_of old earlier (a.outcomes ++ later))) (a.halts earlier later);
   says = a.says;
   know = a.know;
+  last = a.last;
+  uses = a.uses;
 }
 
 -- ---- an event at a node
@@ -137,6 +161,10 @@ placed n (Stops keeps) places = refl
 placed n (Fails keeps) places = refl
 placed n Unreadable places = sym (keeps_same places (n - 1))
 
+-- the world at which events end where what came has too many bytes of messages
+abbrev over_at : {P : Type 0} → ℕ → Doing → Aim → Held P → List Turn → Outcome → List Outcome → World
+over_at n doing aim h earlier outcome later = record (world_of h earlier (outcome ∷ later)) { over = Some (Did n doing aim outcome) }
+
 -- what came is noted and said
 asked_leads : {P : Type 0} (knows : Knowing P) (n : ℕ) (doing : Doing) (aim : Aim) (voters : ℕ) (nodes now_nodes : List P) (places : List Place) (old new : Outside) (answers : List Answer) (ending : Ending) (before now : List Said)
     → Asks n aim answers (get_or places (n - 1) empty_place).failed ending (outside_of voters places old) (outside_of voters (places_after n ending places) new) before now
@@ -147,43 +175,48 @@ asked_leads knows n doing aim voters nodes now_nodes places old new answers endi
   turns = Did n doing aim (record { answers = answers; ending = ending }) ∷ [];
   more = a.more;
   goes = λ earlier later.
-      ap (asked_so (world_of (beside voters nodes places old) earlier (record { answers = answers; ending = ending } ∷ later))) (a.goes (earlier ++ Did n doing aim (record { answers = answers; ending = ending }) ∷ []) later);
+      ap (asked_so (over_at n doing aim (beside voters nodes places old) earlier (record { answers = answers; ending = ending }) later)) (a.goes (earlier ++ Did n doing aim (record { answers = answers; ending = ending }) ∷ []) later);
   says = a.says;
   know = led a.hold;
+  uses = refl;
 }
 
-overrun : (w : World) (went : Went) (journal : List Item) (turns : List Turn) → went.halt ≡ Some TooMany → journal ≡ w.journal → turns ≡ w.turns → HaltsAt TooMany journal [] turns (asked_so w went)
+overrun : (w : World) (went : Went) (journal : List Item) (turns : List Turn) → went.halt ≡ Some TooMany → journal ≡ w.journal → turns ≡ w.turns → HaltsAt TooMany journal [] turns w.over (asked_so w went)
 overrun w went journal turns halts same behind =
-    subst (HaltsAt TooMany journal [] turns) (sym (ap (unless_many w went) halts)) (record { halt = refl; said_is = refl; journal_is = sym same; turns_are = sym behind })
+    subst (HaltsAt TooMany journal [] turns w.over) (sym (ap (unless_many w went) halts)) (record { halt = refl; said_is = refl; journal_is = sym same; turns_are = sym behind; over_is = refl })
 
 asked_halts : {P : Type 0} (knows : Knowing P) (n : ℕ) (doing : Doing) (aim : Aim) (voters : ℕ) (nodes later_nodes : List P) (places later_places : List Place) (old new : Outside) (answers : List Answer) (ending : Ending) (before now : List Said)
     → Overruns n aim answers (get_or places (n - 1) empty_place).failed ending (outside_of voters places old) → new ≡ old → now ≡ before
+    → ((earlier : List Turn) → AllKnow knows voters nodes earlier → KnowsOver knows voters earlier (Some (Did n doing aim (record { answers = answers; ending = ending }))))
     → Halts knows (λ (w : World). asked n doing aim w w.outcomes) TooMany (beside voters nodes places old) (beside voters later_nodes later_places new) before now
-asked_halts knows n doing aim voters nodes later_nodes places later_places old new answers ending before now a same silent = record {
+asked_halts knows n doing aim voters nodes later_nodes places later_places old new answers ending before now a same silent on = record {
   outcomes = record { answers = answers; ending = ending } ∷ [];
   turns = [];
   more = [];
   nodes = nodes;
+  over = Some (Did n doing aim (record { answers = answers; ending = ending }));
   halts = λ earlier later.
-      overrun (world_of (beside voters nodes places old) earlier (record { answers = answers; ending = ending } ∷ later)) _ new.journal (earlier ++ [])
+      overrun (over_at n doing aim (beside voters nodes places old) earlier (record { answers = answers; ending = ending }) later) _ new.journal (earlier ++ [])
       (a.halts (earlier ++ Did n doing aim (record { answers = answers; ending = ending }) ∷ []) later) (ap (λ (o : Outside). o.journal) same) (append-nil earlier);
   says = silent ∙ sym (append-nil before);
   know = none_more knows voters nodes;
+  last = λ earlier k. subst (λ (turns : List Turn). KnowsOver knows voters turns (Some (Did n doing aim (record { answers = answers; ending = ending })))) (sym (append-nil earlier)) (on earlier k);
+  uses = refl;
 }
 
 -- what came at the place of a node was noted and said
 pub asked_does : {P T : Type 0} (knows : Knowing P) (n : ℕ) (doing : Doing) (aim : Aim) (voters : ℕ) (nodes now_nodes : List P) (places : List Place) (q : Place) (old new : Outside) (came : Came) (result : Result T EventFault) (before now : List Said)
-    → Comes (get_or places (n - 1) empty_place) q came (λ (outcome : Outcome). AllByRecursion CanHold (messages_of outcome.ending) → Led knows voters nodes now_nodes (Did n doing aim outcome))
+    → Comes (get_or places (n - 1) empty_place) q came (λ (outcome : Outcome). LedBy knows voters nodes now_nodes (Did n doing aim outcome))
     → ((failed : Bool) (ending : Ending) → TellsEnding failed came.ended ending → TellsAll result n aim (answers_in came.answers) failed ending old new before now)
     → Does knows (λ (w : World). asked n doing aim w w.outcomes) result (beside voters nodes places old) (beside voters now_nodes (set places (n - 1) q) new) before now
 asked_does knows n doing aim voters nodes now_nodes places q old new came (Ok x) before now comes tells =
     subst (λ (all : List Place). Leads knows (λ (w : World). asked n doing aim w w.outcomes) (beside voters nodes places old) (beside voters now_nodes all new) before now)
     (placed n comes.ending places ∙ ap (set places (n - 1)) (sym comes.stands))
-    (asked_leads knows n doing aim voters nodes now_nodes places old new (answers_in came.answers) comes.ending before now (tells _ comes.ending comes.tells voters places) comes.on)
+    (asked_leads knows n doing aim voters nodes now_nodes places old new (answers_in came.answers) comes.ending before now (tells _ comes.ending comes.tells voters places) comes.on.held)
 asked_does knows n doing aim voters nodes now_nodes places q old new came (Err faults.NotThere) before now comes tells = absurd (tells _ comes.ending comes.tells)
 asked_does knows n doing aim voters nodes now_nodes places q old new came (Err faults.TooMany) before now comes tells =
     let all = tells (get_or places (n - 1) empty_place).failed comes.ending comes.tells in
-    asked_halts knows n doing aim voters nodes now_nodes places (set places (n - 1) q) old new (answers_in came.answers) comes.ending before now (all.0 voters places) all.1 all.2
+    asked_halts knows n doing aim voters nodes now_nodes places (set places (n - 1) q) old new (answers_in came.answers) comes.ending before now (all.0 voters places) all.1 all.2 comes.on.over
 asked_does knows n doing aim voters nodes now_nodes places q old new came (Err faults.NoMemory) before now comes tells = tt
 
 -- ---- where a node runs, and where none does
@@ -199,14 +232,14 @@ at_node_down knows n doing aim h said down =
     quiet_does knows (at_node n doing aim) h said (λ earlier later. ap (λ (b : Bool). cond b (asked n doing aim (world_of h earlier later) later) (quiet (world_of h earlier later))) down)
 
 pub starts_down : {P T : Type 0} (knows : Knowing P) (n : ℕ) (aim : Aim) (h new : Held P) (result : Result T EventFault) (before now : List Said) → (nat_le 1 n && is_some (get_or h.places (n - 1) empty_place).standing) ≡ false
-    → Does knows (λ (w : World). asked n Start aim w w.outcomes) result h new before now → Does knows (starts n aim) result h new before now
+    → Does knows (λ (w : World). asked n (Start h.voters) aim w w.outcomes) result h new before now → Does knows (starts n aim) result h new before now
 starts_down knows n aim h new result before now down does =
-    in_result knows (starts n aim) (λ (w : World). asked n Start aim w w.outcomes) h h new before now result
-    (λ earlier later. ap (λ (b : Bool). cond b (quiet (world_of h earlier later)) (asked n Start aim (world_of h earlier later) later)) down) does (λ earlier k. k)
+    in_result knows (starts n aim) (λ (w : World). asked n (Start h.voters) aim w w.outcomes) h h new before now result
+    (λ earlier later. ap (λ (b : Bool). cond b (quiet (world_of h earlier later)) (asked n (Start h.voters) aim (world_of h earlier later) later)) down) does (λ earlier k. k)
 
 pub starts_up : {P : Type 0} (knows : Knowing P) (n : ℕ) (aim : Aim) (h : Held P) (said : List Said) → (nat_le 1 n && is_some (get_or h.places (n - 1) empty_place).standing) ≡ true → Leads knows (starts n aim) h h said said
 starts_up knows n aim h said up =
-    quiet_does knows (starts n aim) h said (λ earlier later. ap (λ (b : Bool). cond b (quiet (world_of h earlier later)) (asked n Start aim (world_of h earlier later) later)) up)
+    quiet_does knows (starts n aim) h said (λ earlier later. ap (λ (b : Bool). cond b (quiet (world_of h earlier later)) (asked n (Start h.voters) aim (world_of h earlier later) later)) up)
 
 -- ---- connections
 
@@ -238,6 +271,7 @@ connect_down knows n c h said down = record {
       ∙ ap (λ (turns : List Turn). record { world = world_of (record h { links = with_link (record { conn = c; node = n; open_now = false }) h.links }) turns later; said = says.Closed c 4 ∷ []; halt = None }) (sym (append-nil earlier));
   says = refl;
   know = none_more knows h.voters h.nodes;
+  uses = refl;
 }
 
 pub on_open : {P T : Type 0} (knows : Knowing P) (n c : ℕ) (doing : Doing) (aim : Aim) (h new : Held P) (result : Result T EventFault) (before now : List Said) → node_of h.links c ≡ Some n
@@ -310,6 +344,7 @@ crash_up knows n pick h nodes said up led = record {
       (quiet (world_of h earlier later))) up;
   says = refl;
   know = led;
+  uses = refl;
 }
 
 pub crash_down : {P : Type 0} (knows : Knowing P) (n pick : ℕ) (h : Held P) (said : List Said) → (nat_le 1 n && is_some (get_or h.places (n - 1) empty_place).standing) ≡ false → Leads knows (crashes n pick) h h said said
@@ -321,8 +356,8 @@ crash_down knows n pick h said down =
 
 -- ---- events that count
 
-pub halted_at : {P : Type 0} (why : Halt) (h : Held P) (earlier : List Turn) (later : List Outcome) → HaltsAt why h.journal [] (earlier ++ []) (halted why (world_of h earlier later))
-halted_at why h earlier later = record { halt = refl; said_is = refl; journal_is = refl; turns_are = sym (append-nil earlier) }
+pub halted_at : {P : Type 0} (why : Halt) (h : Held P) (earlier : List Turn) (later : List Outcome) → HaltsAt why h.journal [] (earlier ++ []) None (halted why (world_of h earlier later))
+halted_at why h earlier later = record { halt = refl; said_is = refl; journal_is = refl; turns_are = sym (append-nil earlier); over_is = refl }
 
 pub counted_does : {P T : Type 0} (knows : Knowing P) (go : World → Went) (usage : Usage) (h new : Held P) (result : Result T EventFault) (before now : List Said) → with_event h.usage ≡ Some usage → Does knows go result (record h { usage = usage }) new before now
     → Does knows (counted go) result h new before now
@@ -335,9 +370,12 @@ counted_halts knows go h said is = record {
   turns = [];
   more = [];
   nodes = h.nodes;
-  halts = λ earlier later. subst (HaltsAt TooMany h.journal [] (earlier ++ [])) (sym (ap (counted_so go (world_of h earlier later)) is)) (halted_at TooMany h earlier later);
+  over = None;
+  halts = λ earlier later. subst (HaltsAt TooMany h.journal [] (earlier ++ []) None) (sym (ap (counted_so go (world_of h earlier later)) is)) (halted_at TooMany h earlier later);
   says = sym (append-nil said);
   know = none_more knows h.voters h.nodes;
+  last = λ earlier k. tt;
+  uses = refl;
 }
 
 -- ---- whole lines
@@ -367,12 +405,15 @@ takes_missing knows e aim h said is = record {
   turns = [];
   more = [];
   nodes = h.nodes;
+  over = None;
   halts = λ earlier later.
-      subst (HaltsAt NotThere h.journal [] (earlier ++ []))
+      subst (HaltsAt NotThere h.journal [] (earlier ++ []) None)
       (sym (ap (λ (b : Bool). cond b (happens (world_of h earlier later) e aim) (halted NotThere (world_of h earlier later))) (exists_same h e earlier later ∙ is)))
       (halted_at NotThere h earlier later);
   says = sym (append-nil said);
   know = none_more knows h.voters h.nodes;
+  last = λ earlier k. tt;
+  uses = refl;
 }
 
 -- ---- messages arrive until none waits

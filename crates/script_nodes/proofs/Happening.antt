@@ -14,13 +14,13 @@ use Rattle.script_nodes.specs.declared.place.Came.{Came}
 use Rattle.script_nodes.specs.declared.said.Said.{Said}
 use Rattle.script_nodes.specs.declared.said.Said.TheVariants as says
 use Rattle.script_nodes.specs.Outcomes.{Doing, Start, Connect, Hangup, Receive, Outcome, Turn, Does as Did, Crashes as Crashed}
-use Rattle.script_nodes.specs.Knowing.{Knowing, AllKnow, CanHold, LeadsOn, StartsOn, actor, messages_in}
+use Rattle.script_nodes.specs.Knowing.{Knowing, AllKnow, KnowsAt, LeadsOn, StartsOn, actor, turns_at}
 use Rattle.script_nodes.specs.Places.{Comes, place_after_crash}
 use Rattle.script_nodes.specs.Seen.{Arrives, answers_in}
 use Rattle.script_nodes.specs.World.{Place, Link, Letter, World, Went, Halt, NotThere, TooMany, empty_place, halted, asked, at_node, starts, connects, hangs_up, crashes, delivers, counted, settles, happens, takes, exists, arrived_at, with_link, without, without_node, closings, node_of, is_node, first_waiting, all_start}
 use Rattle.script_nodes.specs.Holding.{Held, beside, world_of, Leads, Halts, DoesBy, Does}
 use Rattle.script_nodes.specs.Clusters.{ComesAt, CrashesAt, TellsIn, Counts, once, settle_count, world_now}
-use Rattle.script_nodes.proofs.Doing.{asked_does, at_node_up, starts_down, connect_up, connect_down, hangs_open, hangs_shut, delivers_read, delivers_away, delivers_unread, crash_up, counted_does, counted_halts, in_result, takes_there, takes_missing, settles_more, settles_halts, settles_all, starts_more, then_halts, quiet_does, Led, none_more, halted_at}
+use Rattle.script_nodes.proofs.Doing.{asked_does, at_node_up, starts_down, connect_up, connect_down, hangs_open, hangs_shut, delivers_read, delivers_away, delivers_unread, crash_up, counted_does, counted_halts, in_result, takes_there, takes_missing, settles_more, settles_halts, settles_all, starts_more, then_halts, quiet_does, Led, LedBy, none_more, halted_at}
 use Rattle.script_nodes.proofs.Placing.{from_one, map_set, shown_there}
 use Rattle.script_nodes.proofs.Learning.{led_on}
 
@@ -30,18 +30,28 @@ from_place : {P : Type 0} (shows : P → Place) (knows : Knowing P) (voters n : 
     → 1 ≤ n → ((outcome : Outcome) → actor (turn outcome) ≡ n)
     → ((was now : P) (outcome : Outcome) (turns : List Turn) → leads was now outcome → knows was n voters turns → knows now n voters (turns ++ turn outcome ∷ []))
     → (at : ComesAt shows leads nodes mid (n - 1) came)
-    → Comes (get_or (map shows nodes) (n - 1) empty_place) (shows at.now) came (λ (outcome : Outcome). AllByRecursion CanHold (messages_in (turn outcome)) → Led knows voters nodes mid (turn outcome))
+    → Comes (get_or (map shows nodes) (n - 1) empty_place) (shows at.now) came (λ (outcome : Outcome). LedBy knows voters nodes mid (turn outcome))
 from_place {P} shows knows voters n nodes mid leads turn came one acts on at =
     let last : suc (n - 1) ≡ n = omega (arith, one) in
     let this : Outcome = record { answers = answers_in came.answers; ending = at.comes.ending } in
-    subst (λ (place : Place). Comes place (shows at.now) came (λ (outcome : Outcome). AllByRecursion CanHold (messages_in (turn outcome)) → Led knows voters nodes mid (turn outcome))) (sym (shown_there shows nodes (n - 1) at.was at.there)) (record {
+    subst (λ (place : Place). Comes place (shows at.now) came (λ (outcome : Outcome). LedBy knows voters nodes mid (turn outcome))) (sym (shown_there shows nodes (n - 1) at.was at.there)) (record {
       ending = at.comes.ending;
       tells = at.comes.tells;
       stands = at.comes.stands;
-      on = λ hold earlier all.
-          subst (λ (places : List P). AllKnow knows voters places (earlier ++ turn this ∷ [])) (sym at.rest)
-          (led_on knows voters (n - 1) nodes at.was at.now (turn this) earlier at.there (acts this ∙ sym last) hold
-          (λ turns. subst (λ (m : ℕ). knows at.was m voters turns → knows at.now m voters (turns ++ turn this ∷ [])) (sym last) (on at.was at.now this turns at.comes.on)) all);
+      on = record {
+        held = λ hold earlier all.
+            subst (λ (places : List P). AllKnow knows voters places (earlier ++ turn this ∷ [])) (sym at.rest)
+            (led_on knows voters (n - 1) nodes at.was at.now (turn this) earlier at.there (acts this ∙ sym last) hold
+            (λ turns. subst (λ (m : ℕ). knows at.was m voters turns → knows at.now m voters (turns ++ turn this ∷ [])) (sym last) (on at.was at.now this turns at.comes.on)) all);
+        over = λ earlier all. (
+          at.now,
+          subst (λ (m : ℕ). knows at.now m voters (turns_at m earlier ++ turn this ∷ [])) (last ∙ sym (acts this))
+              (subst (λ (m : ℕ). knows at.now m voters (turns_at (suc (n - 1)) earlier ++ turn this ∷ [])) (sym last)
+              (on at.was at.now this (turns_at (suc (n - 1)) earlier) at.comes.on
+              (subst (λ (m : ℕ). knows at.was m voters (turns_at (suc (n - 1)) earlier)) last
+              (subst (KnowsAt knows voters (suc (n - 1)) (turns_at (suc (n - 1)) earlier)) at.there (all.0 (suc (n - 1))))))),
+        );
+      };
     })
 
 places_set : {P : Type 0} (shows : P → Place) (nodes mid after : List P) (i : ℕ) (now : P) → after ≡ mid → mid ≡ set nodes i now → map shows after ≡ set (map shows nodes) i (shows now)
@@ -77,7 +87,7 @@ pub starts_asks : {P T : Type 0} (shows : P → Place) (knows : Knowing P) (n : 
     → Does knows (starts n aim) result (beside voters nodes (map shows nodes) old) (beside now_voters after (map shows after) new) before now
 starts_asks {P} shows knows n aim voters now_voters nodes mid after old new came result before now index one down at came_at tells same voters_same =
     starts_down knows n aim (beside voters nodes (map shows nodes) old) (beside now_voters after (map shows after) new) result before now down
-    (asks_so shows knows n Start aim voters now_voters nodes mid after (λ was now. StartsOn knows was now n voters aim) old new came result before now
+    (asks_so shows knows n (Start voters) aim voters now_voters nodes mid after (λ was now. StartsOn knows was now n voters aim) old new came result before now
     one (λ was now outcome turns leads. leads turns)
     (subst (λ (i : ℕ). ComesAt shows (λ (was now : P). StartsOn knows was now n voters aim) nodes mid i came) at came_at) tells same voters_same)
 
@@ -228,9 +238,12 @@ never_once knows e aim h said is = subst (λ (go : World → Went). Halts knows 
   turns = [];
   more = [];
   nodes = h.nodes;
+  over = None;
   halts = λ earlier later. halted_at NotThere h earlier later;
   says = sym (append-nil said);
   know = none_more knows h.voters h.nodes;
+  last = λ earlier k. tt;
+  uses = refl;
 })
 
 -- ---- one message after another

@@ -36,6 +36,7 @@ all_asks node aim answers failed told standing old new before now a voters place
           turns = turns;
           journal = sym a.journal i;
           outcomes = later;
+          over = None;
         };
         said = replies_said told.replies ++ (closed_said told.closed ++ messages_said (suc (length old.mail)) told.messages);
         halt = None;
@@ -96,6 +97,7 @@ start_tells node aim answers loaded old new before now is silent failed (Starts 
       turns = turns;
       journal = (sym (start_notes aim answers failed kept standing loaded old.journal tells) ∙ sym (ap (λ (o : Outside). o.journal) is)) i;
       outcomes = later;
+      over = None;
     };
     said = [];
     halt = None;
@@ -130,6 +132,7 @@ stop_tells node aim answers keeps old new before now a failed (Stops told) tells
       turns = turns;
       journal = (ap (λ (n : ℕ). old.journal ++ note_of answers aim (Some n)) tells ∙ sym a.journal) i;
       outcomes = later;
+      over = None;
     };
     said = closings old.connections node ++ says.Stopped node ∷ [];
     halt = None;
@@ -156,6 +159,7 @@ fail_tells node aim answers keeps old new before now a failed (Fails told) tells
       turns = turns;
       journal = (ap (λ (n : ℕ). old.journal ++ note_of answers aim (Some n)) tells ∙ sym a.journal) i;
       outcomes = later;
+      over = None;
     };
     said = closings old.connections node ++ says.Down node causes.DiskFault ∷ [];
     halt = None;

@@ -12,7 +12,7 @@ use Rattle.script_nodes.specs.declared.said.Said.{Said}
 use Rattle.script_nodes.specs.Outcomes.{Outs, Ending, Steps, Starts, Stops, Fails, Unreadable, Outcome, Item, Answered, Turn, met_by, noted}
 use Rattle.script_nodes.specs.World.{Place, Link, Letter, World, Halt, NotThere, TooMany, Went, standing_so, after_ending}
 use Rattle.script_nodes.specs.World.{bytes_in, letters_of, replies_said, closed_said, messages_said, without_all, without_node, closings}
-use Rattle.script_nodes.specs.Knowing.{Knowing, AllKnow, CanHold, messages_of}
+use Rattle.script_nodes.specs.Knowing.{Knowing, AllKnow, KnowsOver, CanHold, messages_of, outcomes_in, outcomes_over}
 use Rattle.script_nodes.specs.Places.{down_place}
 
 -- ---- what is held
@@ -38,6 +38,7 @@ world_of h turns outcomes = record {
   turns = turns;
   journal = h.journal;
   outcomes = outcomes;
+  over = None;
 }
 
 -- what there is beside nodes, with these places
@@ -140,13 +141,16 @@ pub record Leads {P : Type 0} (knows : Knowing P) (go : World → Went) (old new
       → go (world_of old earlier (outcomes ++ later)) ≡ record { world = world_of new (earlier ++ turns) later; said = more; halt = None }
   pub says : now ≡ before ++ more
   pub know : (earlier : List Turn) → AllKnow knows old.voters old.nodes earlier → AllKnow knows new.voters new.nodes (earlier ++ turns)
+  -- no other outcomes came
+  pub uses : outcomes ≡ outcomes_in turns
 
--- it ended so, behind these turns, when this was noted, and this said
-pub record HaltsAt (why : Halt) (journal : List Item) (said : List Said) (turns : List Turn) (went : Went) : Type 0 where
+-- it ended so, behind these turns and by this one that isn't in the run, when this was noted, and this said
+pub record HaltsAt (why : Halt) (journal : List Item) (said : List Said) (turns : List Turn) (over : Option Turn) (went : Went) : Type 0 where
   pub halt : went.halt ≡ Some why
   pub said_is : went.said ≡ said
   pub journal_is : went.world.journal ≡ journal
   pub turns_are : went.world.turns ≡ turns
+  pub over_is : went.world.over ≡ over
 
 -- it ended before its end: with these outcomes at the front of what is to come; and these places were led to until then
 pub record Halts {P : Type 0} (knows : Knowing P) (go : World → Went) (why : Halt) (old new : Held P) (before now : List Said) : Type 0 where
@@ -154,9 +158,13 @@ pub record Halts {P : Type 0} (knows : Knowing P) (go : World → Went) (why : H
   pub turns : List Turn
   pub more : List Said
   pub nodes : List P
-  pub halts : (earlier : List Turn) (later : List Outcome) → HaltsAt why new.journal more (earlier ++ turns) (go (world_of old earlier (outcomes ++ later)))
+  pub over : Option Turn
+  pub halts : (earlier : List Turn) (later : List Outcome) → HaltsAt why new.journal more (earlier ++ turns) over (go (world_of old earlier (outcomes ++ later)))
   pub says : now ≡ before ++ more
   pub know : (earlier : List Turn) → AllKnow knows old.voters old.nodes earlier → AllKnow knows new.voters nodes (earlier ++ turns)
+  pub last : (earlier : List Turn) → AllKnow knows old.voters old.nodes earlier → KnowsOver knows new.voters (earlier ++ turns) over
+  -- no other outcomes came
+  pub uses : outcomes ≡ outcomes_in turns ++ outcomes_over over
 
 -- what was done: it leads to its end, or halts before it
 abbrev pub DoesBy : {P : Type 0} → Knowing P → (World → Went) → Option Halt → Held P → Held P → List Said → List Said → Type 0

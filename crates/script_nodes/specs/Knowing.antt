@@ -52,7 +52,7 @@ LeadsOn knows old new turn = (node voters : ℕ) (turns : List Turn) → knows o
 -- so of a start, which tells the node and the voters
 abbrev pub StartsOn : {P : Type 0} → Knowing P → P → P → ℕ → ℕ → Aim → Outcome → Type 0
 StartsOn knows old new node voters aim outcome =
-    (turns : List Turn) → knows old node voters turns → knows new node voters (turns ++ Does node Start aim outcome ∷ [])
+    (turns : List Turn) → knows old node voters turns → knows new node voters (turns ++ Does node (Start voters) aim outcome ∷ [])
 
 -- ---- all places
 
@@ -70,8 +70,33 @@ KnowsAt knows voters node turns None = turns ≡ []
 abbrev pub AllKnow : {P : Type 0} → Knowing P → ℕ → List P → List Turn → Type 0
 AllKnow knows voters places turns = ((node : ℕ) → KnowsAt knows voters node (turns_at node turns) (node_at places node)) × AllCanHold turns
 
+-- what a node did behind these turns, which isn't among them, led its place on
+abbrev pub KnowsOver : {P : Type 0} → Knowing P → ℕ → List Turn → Option Turn → Type 0
+KnowsOver knows voters turns None = Unit {0}
+KnowsOver {P} knows voters turns (Some turn) = (place : P) × knows place (actor turn) voters (turns_at (actor turn) turns ++ turn ∷ [])
+
 -- there are such places
-pub record Told {P : Type 0} (knows : Knowing P) (turns : List Turn) : Type 0 where
+pub record Told {P : Type 0} (knows : Knowing P) (turns : List Turn) (over : Option Turn) : Type 0 where
   pub voters : ℕ
   pub places : List P
   pub know : AllKnow knows voters places turns
+  pub last : KnowsOver knows voters turns over
+
+-- with it behind them
+abbrev pub with_over : List Turn → Option Turn → List Turn
+with_over turns None = turns
+with_over turns (Some turn) = turns ++ turn ∷ []
+
+-- ---- the outcomes of turns
+
+abbrev pub outcomes_of : Turn → List Outcome
+outcomes_of (Does n doing aim outcome) = outcome ∷ []
+outcomes_of (Crashes n pick) = []
+
+abbrev pub outcomes_in : List Turn → List Outcome
+outcomes_in [] = []
+outcomes_in (turn ∷ turns) = outcomes_of turn ++ outcomes_in turns
+
+abbrev pub outcomes_over : Option Turn → List Outcome
+outcomes_over None = []
+outcomes_over (Some turn) = outcomes_of turn

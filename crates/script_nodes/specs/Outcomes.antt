@@ -36,7 +36,7 @@ pub record Outcome : Type 0 where
   pub answers : List Answer
   pub ending : Ending
 
--- what a node is asked to do
+-- what a node is asked to do; a start tells with how many voters the cluster was opened
 pub data Doing : Type 0 where
   Timeout : Doing
   Beat : Doing
@@ -44,7 +44,7 @@ pub data Doing : Type 0 where
   Bytes : (conn : ℕ) (bytes : List ℕ) → Doing
   Hangup : (conn : ℕ) → Doing
   Receive : (message : RaftMessage) → Doing
-  Start : Doing
+  Start : (voters : ℕ) → Doing
 
 -- what happened at a node: it did something, while the line aimed at a call of its disk; or it crashed
 pub data Turn : Type 0 where

@@ -83,6 +83,11 @@ abbrev pub turns_at : Stage → List Turn
 turns_at (Opening outcomes) = []
 turns_at (Within w) = w.turns
 
+-- what a node did there that isn't in the run
+abbrev pub over_at : Stage → Option Turn
+over_at (Opening outcomes) = None
+over_at (Within w) = w.over
+
 abbrev pub journal_at : Stage → List Item
 journal_at (Opening outcomes) = []
 journal_at (Within w) = w.journal

@@ -61,6 +61,8 @@ pub record World : Type 0 where
   pub journal : List Item
   -- what is to come of the next events at nodes
   pub outcomes : List Outcome
+  -- what a node did at which events ended, as it says more bytes of messages than a script may make; it isn't in the run
+  pub over : Option Turn
 
 -- Why events end: one names what isn't there; one is one more, or makes more messages, than a script may have; or it isn't told
 -- what came of it.
@@ -256,7 +258,8 @@ asked_so w went = unless_many w went went.halt
 -- a node is asked to do something, of which comes what is told next
 abbrev pub asked : ℕ → Doing → Aim → World → List Outcome → Went
 asked n doing aim w [] = halted Untold w
-asked n doing aim w (outcome ∷ left) = asked_so w (after_ending n outcome.ending (with_turn w n doing aim outcome left))
+asked n doing aim w (outcome ∷ left) =
+    asked_so (record w { over = Some (Does n doing aim outcome) }) (after_ending n outcome.ending (with_turn w n doing aim outcome left))
 
 -- a node that runs is asked; at one that is down nothing happens
 abbrev pub at_node : ℕ → Doing → Aim → World → Went
@@ -300,7 +303,7 @@ crashes n pick w =
 
 -- a node that is down starts
 abbrev pub starts : ℕ → Aim → World → Went
-starts n aim w = if is_up w n then quiet w else asked n Start aim w w.outcomes
+starts n aim w = if is_up w n then quiet w else asked n (Start w.voters) aim w w.outcomes
 
 -- one event more, where there may be one
 abbrev pub counted_so : (World → Went) → World → Option Usage → Went
@@ -369,6 +372,7 @@ empty_world voters spare outcomes = record {
   turns = [];
   journal = [];
   outcomes = outcomes;
+  over = None;
 }
 
 -- nodes are started one after another, so many, the first of which has this number

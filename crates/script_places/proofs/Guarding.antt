@@ -1,16 +1,16 @@
 -- A script over places of whole nodes is safe, up to where a checksum matches by chance.
-use Rattle.std.proofs.Common.{◌≡◌, ◌==◌, ℕ, Bool, true, false, cond, List, [], ◌∷◌, ◌++◌, length, Option, Some, None, refl, ap, sym, subst, ◌∙◌}
+use Rattle.std.proofs.Common.{◌≡◌, ◌==◌, ℕ, Bool, true, false, cond, List, [], ◌∷◌, ◌++◌, length, Option, Some, None, refl, ap, sym, subst, ◌∙◌, append-nil}
 use Rattle.std.proofs.lemmas.Bool.{true≢false}
 use Rattle.sql_engine.specs.declared.kind.EngineKind.{EngineKind}
 use Rattle.sqlite_engine.specs.Any.{any_meaning}
 use Rattle.node_world.specs.Runs.{nothing_kept}
 use Rattle.script_nodes.specs.Outcomes.{Turn}
-use Rattle.script_nodes.specs.Knowing.{AllCanHold, KnowsAt, actor, turns_at, node_at}
+use Rattle.script_nodes.specs.Knowing.{AllCanHold, KnowsAt, KnowsOver, actor, turns_at, node_at}
 use Rattle.script_runs.specs.Seats.{Seat as NodeSeat, Rests, PathSo, setup_of}
-use Rattle.script_runs.specs.Mails.{ScriptsAreSafe}
+use Rattle.script_runs.specs.Mails.{OverByNode, ScriptsAreSafe}
 use Rattle.script_places.specs.declared.seat.Seat.{Seat}
 use Rattle.script_places.specs.Lives.{Begins}
-use Rattle.script_places.specs.Safe.{LifeOf, idle, lived, AllLive, IsFairLife, PlacesTell, WholeScriptsAreSafe}
+use Rattle.script_places.specs.Safe.{LifeOf, idle, lived, AllLive, IsFairLife, OverLives, IsFairOver, PlacesTell, WholeScriptsAreSafe}
 use Rattle.script_places.specs.Turns.{Knows, running_in, states_in}
 use Rattle.script_places.proofs.Living.{life_leads}
 
@@ -57,8 +57,20 @@ module _ (kind : EngineKind) (voters n : ℕ) (front turns : List Turn) (begins 
   )
   path_of (lived one) fair = life_leads (any_meaning kind) kind (setup_of voters) n one.finds (states_in one.disk) (turns_at n turns) one.node one.life (turns_at n front) (begins_at n front turns begins) fair
 
+over_life : (kind : EngineKind) (voters : ℕ) (turns : List Turn) (over : Option Turn) → KnowsOver (Knows kind) voters turns over → OverLives kind voters turns over
+over_life kind voters turns None known = tt
+over_life kind voters turns (Some turn) known = record { finds = known.1.0; disk = known.0.disk.contents; node = running_in known.0.node; life = known.1.1 }
+
+over_path : (kind : EngineKind) (voters : ℕ) (turns : List Turn) (over : Option Turn) (known : KnowsOver (Knows kind) voters turns over) → IsFairOver kind voters turns over (over_life kind voters turns over known)
+    → OverByNode (any_meaning kind) kind (setup_of voters) turns over
+unfolding over_life
+over_path kind voters turns None known fair = tt
+over_path kind voters turns (Some turn) known fair =
+    let all = turns_at (actor turn) turns ++ turn ∷ [] in
+    life_leads (any_meaning kind) kind (setup_of voters) (actor turn) known.1.0 (states_in known.0.disk.contents) all (running_in known.0.node) known.1.1 all ([], sym (append-nil all)) fair
+
 pub places_tell : (kind : EngineKind) → PlacesTell kind
-places_tell kind turns told =
+places_tell kind turns over told =
     let lives : AllLive kind told.voters turns = λ n. life_of kind told.voters n (turns_at n turns) (node_at told.places n) (told.know.0 n) in
     record {
       voters = told.voters;
@@ -68,7 +80,9 @@ places_tell kind turns told =
         paths = λ n. (path_of kind told.voters n front turns (rest, is) (lives n) (fair n)).1;
         hold = held_front front rest (subst AllCanHold is told.know.1);
       };
+      last = over_life kind told.voters turns over told.last;
+      by_last = over_path kind told.voters turns over told.last;
     }
 
 pub whole_safe : (kind : EngineKind) → ScriptsAreSafe (any_meaning kind) kind → WholeScriptsAreSafe kind
-whole_safe kind safe script outcomes of front rest is fair = safe (setup_of of.voters) script outcomes front rest is (of.by_nodes front rest is fair)
+whole_safe kind safe script outcomes over of front rest is fair = safe (setup_of of.voters) script outcomes front rest is (of.by_nodes front rest is fair)

@@ -23,6 +23,10 @@ use Rattle.node_core.specs.declared.node.Node.{Node}
 use Rattle.node_core.specs.declared.outs.Outs.{Outs as CoreOuts}
 use Rattle.node_core.specs.declared.running.Running.{Running}
 use Rattle.node_core.specs.Account.{StepsBy, StopsBy}
+use Rattle.node_core.specs.Core.{core_of}
+use Rattle.node_core.specs.Exact.{StepsExactly}
+use Rattle.node_core.specs.ExactParts.{Answered}
+use Rattle.node_core.specs.ExactStart.{StartsExactly}
 use Rattle.node_core.specs.Finding.{Finds}
 use Rattle.node_core.specs.Starting.{StartsOver}
 use Rattle.node_core.specs.Stepping.{IsUp}
@@ -51,7 +55,7 @@ use Rattle.script_places.specs.declared.seat.Seat.{Seat}
 use Rattle.script_places.specs.Happening.{core_event}
 use Rattle.script_places.specs.Lives.{FoundBy, Lives}
 use Rattle.script_places.specs.Seats.{HasFallen, IsQuiet, Sits, SitsWell, place_of, place_with, standing_of}
-use Rattle.script_places.specs.Turns.{ActsSo, HasActed, HasStopped, FallsTo, IsFound, IsFoundBy, IsSeatedBy, KeepsUp, Knows, LeavesShort, NodeStarted, NoneStarted, StartsBy, running_in, states_in}
+use Rattle.script_places.specs.Turns.{ActsExactly, ActsSo, HasActed, HasStopped, FallsTo, IsFound, IsFoundBy, IsSeatedBy, KeepsUp, Knows, LeavesShort, NodeStarted, NoneStarted, ShowsFiles, StartsBy, running_in, states_in}
 use Rattle.script_places.proofs.Living.{life_falls, life_on, rest_is_fair}
 
 known_is : (states P : Disk Text → Type 0) → Known true states P → (d : Disk Text) × states d × P d
@@ -108,7 +112,7 @@ module _ (kind : EngineKind) (voters n finds : ℕ) (turns : List Turn) (old new
 
   none_on : (mid : Disk Text → Type 0) (why : StartFault) (aim : Aim) (answers : List Answer) (ending : Ending) → IsNoStart ending → StartsOver old mid (Err why)
       → ((d : Disk Text) → mid d → (e : Disk Text) × new e × FoundBy ending d e) → Lives (any_meaning kind) kind (setup_of voters) n finds old turns None
-      → Lives (any_meaning kind) kind (setup_of voters) n (suc finds) new (turns ++ does n Start aim answers ending ∷ []) None
+      → Lives (any_meaning kind) kind (setup_of voters) n (suc finds) new (turns ++ does n (Start voters) aim answers ending ∷ []) None
   none_on mid why aim answers ending is over found life =
       life_falls (any_meaning kind) kind (setup_of voters) n finds old new turns _ None
       (λ d told_is stands.
@@ -118,27 +122,30 @@ module _ (kind : EngineKind) (voters n finds : ℕ) (turns : List Turn) (old new
         before = o.0;
         found = f.0;
         told = f.1;
-        left = starts_fail_hold (any_meaning kind) kind (setup_of voters) n turns d o.0 why aim answers ending stands.0 stands.1 o.1.1 is;
+        left = starts_fail_hold (any_meaning kind) kind voters n turns d o.0 why aim answers ending stands.0 stands.1 o.1.1 is;
         came = f.2;
       })
       life
 
-start_on : (kind : EngineKind) (voters n finds : ℕ) (turns : List Turn) (disk disk_now : Contents) (node : Node) (aim : Aim) (answers : List Answer) → NodeStarted n voters disk disk_now node
+start_on : (kind : EngineKind) (voters n finds : ℕ) (turns : List Turn) (disk disk_now : Contents) (node : Node) (aim : Aim) (answers : List Answer) → answers ≡ [] → NodeStarted n voters disk disk_now node
     → Lives (any_meaning kind) kind (setup_of voters) n finds (states_in disk) turns None
-    → Lives (any_meaning kind) kind (setup_of voters) n finds (states_in disk_now) (turns ++ does n Start aim answers (Starts (kept_by node) (standing_of node)) ∷ []) (Some node.running)
-start_on kind voters n finds turns disk disk_now node aim answers started life =
+    → Lives (any_meaning kind) kind (setup_of voters) n finds (states_in disk_now) (turns ++ does n (Start voters) aim answers (Starts (kept_by node) (standing_of node)) ∷ []) (Some node.running)
+start_on kind voters n finds turns disk disk_now node aim answers unasked started life =
     life_on (any_meaning kind) kind (setup_of voters) n finds (states_in disk) (states_in disk_now) turns _ None (Some node.running)
     (λ d is stands.
     let over = started.over.each d is stands.0.seen in (
       over.0,
       over.1.0,
-      starts_on_hold (any_meaning kind) kind (setup_of voters) n turns d over.0 node aim answers (standing_of node) stands.0 stands.1 over.1.1 (record {
+      starts_on_hold (any_meaning kind) kind voters n turns d over.0 node aim answers (standing_of node) stands.0 stands.1 over.1.1 (record {
         loads = refl;
         servers = servers_told node;
         starts = started.starts;
         id = started.id;
         links = started.links;
         stands = record { term = refl; role = refl; applied = started.applied; databases = refl };
+        exact = started.exact;
+        files = started.files;
+        unasked = unasked;
       }),
     ))
     life
@@ -168,6 +175,15 @@ acts_at kind engine mid was now event said answers opening same quiet are whole 
     (subst (λ (t : Option Told). StepsBy (any_meaning kind) kind (read_setup opening) was.running now.running event said (Some (told_by engine.noted engine.cut)) t) (told_these mid answers are whole)
     (subst (λ (k : EngineKind). StepsBy (any_meaning k) k (read_setup opening) was.running now.running event said (Some (told_by engine.noted engine.cut)) (Some (told_by mid.noted mid.cut))) same (acts opening)))
 
+-- so its core is led on by the engine's answers
+exact_at : (kind : EngineKind) (engine mid : Noting AnyEngine) (was now : Node) (event : Event) (said : CoreOuts) (answers : List Noted) → any_kind engine.engine ≡ kind → IsQuiet engine (Some was)
+    → answers ≡ mid.noted → mid.cut ≡ false → ActsExactly engine mid was now event said
+    → Answered (has_told []) (has_told (answers_in answers)) (StepsExactly (any_meaning kind) kind event (core_of was.running) (core_of now.running) said)
+exact_at kind engine mid was now event said answers same quiet are whole exact =
+    subst (λ (t : Option Told). Answered t (has_told (answers_in answers)) (StepsExactly (any_meaning kind) kind event (core_of was.running) (core_of now.running) said)) (told_none engine was quiet)
+    (subst (λ (t : Option Told). Answered (Some (told_by engine.noted engine.cut)) t (StepsExactly (any_meaning kind) kind event (core_of was.running) (core_of now.running) said)) (told_these mid answers are whole)
+    (subst (λ (k : EngineKind). Answered (Some (told_by engine.noted engine.cut)) (Some (told_by mid.noted mid.cut)) (StepsExactly (any_meaning k) k event (core_of was.running) (core_of now.running) said)) same exact))
+
 pub step_leads : (old mid new : Seat) (event : NodeEvent) (aim : Aim) (said : CoreOuts) (outs : CodeOuts) (r : Result Came AllocError) → any_kind old.engine.engine ≡ old.kind → IsQuiet old.engine old.node
     → HasActed old mid (core_event event) said → Sits mid → outs_of outs ≡ core_outs said → IfOk r (λ (came : Came). came.ended ≡ ended.Stepped outs)
     → IfOk r (λ (came : Came). (came.answers ≡ mid.engine.noted) × (mid.engine.cut ≡ false)) → OnOk r (new.node ≡ mid.node) → new.has_failed ≡ mid.has_failed → new.disk ≡ mid.disk
@@ -189,6 +205,8 @@ step_leads old mid new event aim said outs (Ok came) of_kind quiet acted well ar
           steps = acts_at old.kind old.engine mid.engine acted.was acted.now (core_event event) said came.answers (voters_from voters 1) of_kind (subst (IsQuiet old.engine) acted.was_is quiet) answers.0 answers.1 acted.acts;
           outs_are = are;
           stands = record { term = refl; role = refl; applied = acted.keeps.applied; databases = refl };
+          exact = exact_at old.kind old.engine mid.engine acted.was acted.now (core_event event) said came.answers of_kind (subst (IsQuiet old.engine) acted.was_is quiet) answers.0 answers.1 acted.exact;
+          files = acted.files;
         })
         acted.keeps.stored
         (subst (λ (s : Option Node). Lives (any_meaning old.kind) old.kind (setup_of voters) n known.0 (states_in old.disk.contents) turns (running_in s)) acted.was_is known.1)),
@@ -238,17 +256,17 @@ stop_leads old mid fallen new event aim keeps e (Ok came) of_kind stopped fall d
 -- ---- starts
 
 pub start_leads : (old mid new : Seat) (number voters : ℕ) (aim : Aim) (loaded : Option Kept) (r : Result Came AllocError) → old.node ≡ None → StartsBy number voters old mid (ends.Runs loaded)
-    → IfOk r (λ (came : Came). came.ended ≡ ended.Started loaded) → OnOk r (new.node ≡ mid.node) → new.has_failed ≡ mid.has_failed → new.disk ≡ mid.disk
+    → IfOk r (λ (came : Came). came.ended ≡ ended.Started loaded) → IfOk r (λ (came : Came). (came.answers ≡ mid.engine.noted) × (mid.engine.cut ≡ false)) → OnOk r (new.node ≡ mid.node) → new.has_failed ≡ mid.has_failed → new.disk ≡ mid.disk
     → IfOk r (λ (came : Came). Comes (place_of old) (place_of new) came (StartsOn (Knows old.kind) old new number voters aim))
-start_leads old mid new number voters aim loaded (Err e) down runs told_is same still disk = tt
-start_leads old mid new number voters aim loaded (Ok came) down runs told_is same still disk = record {
+start_leads old mid new number voters aim loaded (Err e) down runs told_is answers same still disk = tt
+start_leads old mid new number voters aim loaded (Ok came) down runs told_is answers same still disk = record {
   ending = Starts (kept_by runs.node) (standing_of runs.node);
   tells = subst (λ (e : Ended). TellsEnding old.has_failed e (Starts (kept_by runs.node) (standing_of runs.node))) (sym told_is) runs.told;
   stands = λ i. place_with ((same ∙ runs.runs) i) ((still ∙ runs.fresh) i);
   on = λ turns known. (
     known.0,
     life_at old.kind voters number known.0 _ mid.disk.contents new.disk.contents (Some runs.node) new.node (ap (λ (d : OverMemory). d.contents) disk) (same ∙ runs.runs)
-        (start_on old.kind voters number known.0 turns old.disk.contents mid.disk.contents runs.node aim (answers_in came.answers) runs.started
+        (start_on old.kind voters number known.0 turns old.disk.contents mid.disk.contents runs.node aim (answers_in came.answers) (ap answers_in (answers.0 ∙ runs.unasked)) runs.started
         (subst (λ (s : Option Node). Lives (any_meaning old.kind) old.kind (setup_of voters) number known.0 (states_in old.disk.contents) turns (running_in s)) down known.1)),
   );
 }
@@ -320,13 +338,15 @@ keeps_up disk mid now_disk was now same stored applied =
     record { stored = λ kept. subst (λ (c : Contents). IsKept true (states_in c) (replica_of now)) (sym same) (stored kept); applied = applied }
 
 pub has_acted : (old new : Seat) (was now : Node) (event taken : Event) (outs : CoreOuts) (disk : Contents) → old.node ≡ Some was → new.node ≡ Some now → taken ≡ event → disk ≡ old.disk.contents
-    → ActsSo old.engine new.engine was now taken outs → KeepsUp disk new.disk.contents was now → HasActed old new event outs
-has_acted old new was now event taken outs disk was_is now_is is same acts keeps = record {
+    → ActsSo old.engine new.engine was now taken outs → ActsExactly old.engine new.engine was now taken outs → ShowsFiles now → KeepsUp disk new.disk.contents was now → HasActed old new event outs
+has_acted old new was now event taken outs disk was_is now_is is same acts exact files keeps = record {
   was = was;
   now = now;
   was_is = was_is;
   now_is = now_is;
   acts = subst (λ (e : Event). ActsSo old.engine new.engine was now e outs) is acts;
+  exact = subst (λ (e : Event). ActsExactly old.engine new.engine was now e outs) is exact;
+  files = files;
   keeps = subst (λ (d : Contents). KeepsUp d new.disk.contents was now) same keeps;
 }
 
@@ -340,11 +360,18 @@ has_stopped old new was event taken disk was_is none is same leaves = record {
 }
 
 pub node_started : (number voters : ℕ) (disk mid now_disk : Contents) (node : Node) (servers : List Server) → StartsSo (read_setup servers) (kept_by node) (node_of node) (servers_told node) → servers ≡ voters_from voters 1
-    → (replica_of node).raft.id ≡ number → has_links node ≡ false → IsSound node → IsUp node → mid ≡ disk → StartsOver (states_in mid) (states_in now_disk) (Ok node) → NodeStarted number voters disk now_disk node
-node_started number voters disk mid now_disk node servers starts are id links sound up same over = record {
+    → (replica_of node).raft.id ≡ number → has_links node ≡ false → (me : ℕ) (linked readers : Bool) → StartsExactly me linked readers servers (kept_by node) (core_of node.running) → me ≡ number → linked ≡ false → readers ≡ false
+    → ShowsFiles node → IsSound node → IsUp node → mid ≡ disk → StartsOver (states_in mid) (states_in now_disk) (Ok node) → NodeStarted number voters disk now_disk node
+node_started number voters disk mid now_disk node servers starts are id links me linked readers exact named unlinked unread files sound up same over = record {
   starts = subst (λ (all : List Server). StartsSo (read_setup all) (kept_by node) (node_of node) (servers_told node)) are starts;
   id = id;
   links = links;
+  exact =
+      subst (λ (all : List Server). StartsExactly number false false all (kept_by node) (core_of node.running)) are
+      (subst (λ (n : ℕ). StartsExactly n false false servers (kept_by node) (core_of node.running)) named
+      (subst (λ (b : Bool). StartsExactly me b false servers (kept_by node) (core_of node.running)) unlinked
+      (subst (λ (b : Bool). StartsExactly me linked b servers (kept_by node) (core_of node.running)) unread exact)));
+  files = files;
   applied = (sound up).applied;
   over = subst (λ (d : Contents). StartsOver (states_in d) (states_in now_disk) (Ok node)) same over;
 }
@@ -358,6 +385,7 @@ starts_by number voters old mid new node (Ok end) same started seated =
       runs = seated.runs;
       fresh = seated.fresh;
       told = subst (λ (b : Bool). seated.loaded ≡ cond b (Some (kept_by node)) None) same seated.told;
+      unasked = seated.unasked;
       started = subst (λ (d : Contents). NodeStarted number voters old.disk.contents d node) (sym seated.disk) started;
     })
 

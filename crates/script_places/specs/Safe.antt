@@ -1,15 +1,15 @@
 -- A script over places of whole nodes is safe, up to where a checksum matches by chance in what a start finds.
-use Rattle.std.specs.Prelude.{◌≡◌, ℕ, List, [], ◌++◌, length, Option}
+use Rattle.std.specs.Prelude.{◌≡◌, ℕ, List, [], ◌∷◌, ◌++◌, length, Option, Some, None}
 use Rattle.sql_engine.specs.declared.kind.EngineKind.{EngineKind}
 use Rattle.sqlite_engine.specs.Any.{any_meaning}
 use Rattle.disk_model.specs.Stored.{Contents}
 use Rattle.node_core.specs.declared.running.Running.{Running}
 use Rattle.script_nodes.specs.Outcomes.{Outcome, Turn}
-use Rattle.script_nodes.specs.Knowing.{Told, turns_at}
+use Rattle.script_nodes.specs.Knowing.{Told, actor, turns_at}
 use Rattle.script_nodes.specs.Run.{run}
 use Rattle.script_runs.specs.Seats.{setup_of}
 use Rattle.script_runs.specs.Laws.{IsSafe}
-use Rattle.script_runs.specs.Mails.{ByNodes}
+use Rattle.script_runs.specs.Mails.{ByNodes, OverByNode}
 use Rattle.script_places.specs.Lives.{Lives, IsFairWithin}
 use Rattle.script_places.specs.Turns.{Knows, states_in}
 
@@ -38,23 +38,36 @@ IsFairLife kind voters n turns count (lived one) =
 abbrev pub IsFairTo : (kind : EngineKind) (voters : ℕ) (turns : List Turn) → AllLive kind voters turns → List Turn → Type 0
 IsFairTo kind voters turns lives front = (n : ℕ) → IsFairLife kind voters n (turns_at n turns) (length (turns_at n front)) (lives n)
 
+-- the life of a node with what it did behind these turns, which isn't among them
+abbrev pub OverLives : EngineKind → ℕ → List Turn → Option Turn → Type 0
+OverLives kind voters turns None = Unit {0}
+OverLives kind voters turns (Some turn) = NodeLife kind voters (actor turn) (turns_at (actor turn) turns ++ turn ∷ [])
+
+abbrev pub IsFairOver : (kind : EngineKind) (voters : ℕ) (turns : List Turn) (over : Option Turn) → OverLives kind voters turns over → Type 0
+IsFairOver kind voters turns None life = Unit {0}
+IsFairOver kind voters turns (Some turn) life =
+    IsFairWithin (any_meaning kind) kind (setup_of voters) (actor turn) life.finds (states_in life.disk) (turns_at (actor turn) turns ++ turn ∷ []) life.node
+    (length (turns_at (actor turn) turns ++ turn ∷ [])) life.life
+
 -- These turns are those of whole nodes, each over a disk of its own, in a cluster that was opened with so many voters: up to any of them, whole
--- nodes did this, where no checksum matched by chance in what was found until then.
-pub record AreOfNodes (kind : EngineKind) (turns : List Turn) : Type 0 where
+-- nodes did this, where no checksum matched by chance in what was found until then. So it is of what a node did that isn't among them.
+pub record AreOfNodes (kind : EngineKind) (turns : List Turn) (over : Option Turn) : Type 0 where
   pub voters : ℕ
   pub lives : AllLive kind voters turns
   pub by_nodes : (front rest : List Turn) → turns ≡ front ++ rest → IsFairTo kind voters turns lives front →
       ByNodes (any_meaning kind) kind (setup_of voters) front
+  pub last : OverLives kind voters turns over
+  pub by_last : IsFairOver kind voters turns over last → OverByNode (any_meaning kind) kind (setup_of voters) turns over
 
 -- ---- the laws
 
 -- so it is where the places of whole nodes know the turns
 abbrev pub PlacesTell : EngineKind → Type 0
-PlacesTell kind = (turns : List Turn) → Told (Knows kind) turns → AreOfNodes kind turns
+PlacesTell kind = (turns : List Turn) (over : Option Turn) → Told (Knows kind) turns over → AreOfNodes kind turns over
 
 -- Whatever script it was, and whatever came of its events: up to any turn it is safe, where nothing was found by chance until then.
 abbrev pub WholeScriptsAreSafe : EngineKind → Type 0
 WholeScriptsAreSafe kind =
-    (script : List ℕ) (outcomes : List Outcome) (of : AreOfNodes kind (run script outcomes).turns) (front rest : List Turn) →
+    (script : List ℕ) (outcomes : List Outcome) (over : Option Turn) (of : AreOfNodes kind (run script outcomes).turns over) (front rest : List Turn) →
     (run script outcomes).turns ≡ front ++ rest → IsFairTo kind of.voters (run script outcomes).turns of.lives front →
     IsSafe (any_meaning kind) kind (setup_of of.voters) front

@@ -18,10 +18,16 @@ use Rattle.node_core.specs.declared.node.Node.{Node}
 use Rattle.node_core.specs.declared.outs.Outs.{Outs as CoreOuts}
 use Rattle.node_core.specs.declared.running.Running.{Running}
 use Rattle.node_core.specs.Account.{StepsBy, StopsBy}
+use Rattle.node_core.specs.Core.{core_of}
+use Rattle.node_core.specs.Exact.{StepsExactly}
+use Rattle.node_core.specs.ExactParts.{Answered}
+use Rattle.node_core.specs.ExactStart.{StartsExactly}
 use Rattle.node_core.specs.Finding.{Finds}
 use Rattle.node_core.specs.Starting.{StartsOver}
-use Rattle.node_core.specs.Values.{raft_of, applied_of, has_links, kept_by, node_of, replica_of, servers_told}
+use Rattle.node_core.specs.Values.{raft_of, applied_of, databases_of, has_links, kept_by, node_of, replica_of, servers_told}
 use Rattle.node_rules.specs.Steps.{StartsSo}
+use Rattle.node_state.specs.Snapshot.{contents_in}
+use Rattle.page_apply.specs.Databases.{contents_of}
 use Rattle.script_nodes.specs.declared.place.Ended.{Ended}
 use Rattle.script_nodes.specs.declared.place.Ended.TheVariants as ended
 use Rattle.script_nodes.specs.Outcomes.{Ending, Stops, Fails, Turn}
@@ -53,6 +59,16 @@ ActsSo engine engine_now was now event outs = (opening : List Server) →
     StepsBy (any_meaning (any_kind engine.engine)) (any_kind engine.engine) (read_setup opening) was.running now.running event outs
     (Some (told_by engine.noted engine.cut)) (Some (told_by engine_now.noted engine_now.cut))
 
+-- By the answers that the engine told its core became that of the node behind it.
+abbrev pub ActsExactly : Noting AnyEngine → Noting AnyEngine → Node → Node → Event → CoreOuts → Type 0
+ActsExactly engine engine_now was now event outs =
+    Answered (Some (told_by engine.noted engine.cut)) (Some (told_by engine_now.noted engine_now.cut))
+    (StepsExactly (any_meaning (any_kind engine.engine)) (any_kind engine.engine) event (core_of was.running) (core_of now.running) outs)
+
+-- its databases are those that its core has, in the order of their names
+abbrev pub ShowsFiles : Node → Type 0
+ShowsFiles node = contents_of (databases_of node) ≡ contents_in (core_of node.running).files
+
 -- The disk keeps what the node is, where it did so before; and all that is committed is applied.
 pub record KeepsUp (disk disk_now : Contents) (was now : Node) : Type 0 where
   pub stored : IsKept true (states_in disk) (replica_of was) → IsKept true (states_in disk_now) (replica_of now)
@@ -70,6 +86,8 @@ pub record HasActed (old new : Seat) (event : Event) (outs : CoreOuts) : Type 0 
   pub was_is : old.node ≡ Some was
   pub now_is : new.node ≡ Some now
   pub acts : ActsSo old.engine new.engine was now event outs
+  pub exact : ActsExactly old.engine new.engine was now event outs
+  pub files : ShowsFiles now
   pub keeps : KeepsUp old.disk.contents new.disk.contents was now
 
 -- One that failed or was stopped, after which no node runs.
@@ -104,6 +122,8 @@ pub record NodeStarted (number voters : ℕ) (disk disk_now : Contents) (node : 
   pub starts : StartsSo (read_setup (voters_from voters 1)) (kept_by node) (node_of node) (servers_told node)
   pub id : (replica_of node).raft.id ≡ number
   pub links : has_links node ≡ false
+  pub exact : StartsExactly number false false (voters_from voters 1) (kept_by node) (core_of node.running)
+  pub files : ShowsFiles node
   pub applied : applied_of node ≡ (raft_of node).commit
   pub over : StartsOver (states_in disk) (states_in disk_now) (Ok node)
 
@@ -113,6 +133,7 @@ pub record RunsNow (number voters : ℕ) (old new : Seat) (loaded : Option Kept)
   pub runs : new.node ≡ Some node
   pub fresh : new.has_failed ≡ false
   pub told : loaded ≡ (if old.has_failed then Some (kept_by node) else None)
+  pub unasked : new.engine.noted ≡ []
   pub started : NodeStarted number voters old.disk.contents new.disk.contents node
 
 -- So it is where a node that has started is put there; the disk stays.
@@ -122,6 +143,7 @@ pub record IsSeatedBy (old new : Seat) (node : Node) (ended : StartEnd) : Type 0
   pub runs : new.node ≡ Some node
   pub fresh : new.has_failed ≡ false
   pub told : loaded ≡ (if old.has_failed then Some (kept_by node) else None)
+  pub unasked : new.engine.noted ≡ []
   pub disk : new.disk.contents ≡ old.disk.contents
 
 -- none has started, for some cause

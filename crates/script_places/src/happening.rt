@@ -9,7 +9,7 @@ ghost use Rattle.node_core.specs.Values.{has_links, kept_by};
 ghost use Rattle.node_core.specs.Whole.{Agrees, IsSound};
 ghost use Rattle.script_places.specs.Happening.{core_event};
 ghost use Rattle.script_places.specs.Seats.{IsSeated, RunsWell, Sits};
-ghost use Rattle.script_places.specs.Turns.{ActsSo, HasActed, HasStopped, IsSeatedBy, KeepsUp, LeavesShort, NodeStarted, NoneStarted, StartsBy};
+ghost use Rattle.script_places.specs.Turns.{ActsExactly, ActsSo, HasActed, HasStopped, IsSeatedBy, KeepsUp, LeavesShort, NodeStarted, NoneStarted, ShowsFiles, StartsBy};
 
 use crate::opening::opening_servers;
 use crate::seat::{Seat, new_engine};
@@ -85,6 +85,8 @@ fn step_in(
     requires { RunsWell (any_known engine.old.engine) node.old }
     ensures well { OnOk result (RunsWell (any_known engine.new.engine) node.new) }
     ensures acts { IfOk result (ActsSo engine.old engine.new node.old node.new event) }
+    ensures exact { IfOk result (ActsExactly engine.old engine.new node.old node.new event) }
+    ensures files { OnOk result (ShowsFiles node.new) }
     ensures keeps { OnOk result (KeepsUp disk.old.contents disk.new.contents node.old node.new) }
     ensures leaves { OnErr result (LeavesShort engine.old disk.old.contents disk.new.contents node.old event) }
     ensures kind { any_kind engine.new.engine ≡ any_kind engine.old.engine }
@@ -168,6 +170,7 @@ fn spec_of(alloc: Global, node: u64, voters: VoterCount) -> Result<NodeSpec, All
     ensures configuration { IfOk result (λ spec. IsConfiguration spec.servers) }
     ensures id { IfOk result (λ spec. spec.id ≡ node) }
     ensures links { IfOk result (λ spec. spec.links ≡ false) }
+    ensures readers { IfOk result (λ spec. spec.readers ≡ false) }
 {
     Ok(NodeSpec {
         id: node,

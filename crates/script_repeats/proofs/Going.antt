@@ -14,6 +14,7 @@ use Rattle.script_lines.specs.declared.grammar.Aim.TheVariants.{Nothing}
 use Rattle.script_lines.specs.declared.usage.Usage.{Usage}
 use Rattle.script_nodes.specs.declared.said.Said.{Said}
 use Rattle.script_nodes.specs.declared.said.Said.TheVariants.{Closed}
+use Rattle.script_nodes.specs.Knowing.{with_over}
 use Rattle.script_nodes.specs.Outcomes.{Ending, Steps, Starts, Stops, Fails, Unreadable, Outcome, Doing, Timeout, Beat, Connect, Bytes, Hangup, Receive, Start, Turn, Does, Crashes, Item, Answered, Loaded, met_by, noted_by, noted}
 use Rattle.script_nodes.specs.World.{Place, Link, Letter, World, Halt, NotThere, TooMany, Untold, Went, quiet, halted, said_before, onward, then_on, is_node, empty_place, place_at, is_up, node_of, with_link, without, closings, fallen, first_waiting, arrived_at, arriving}
 use Rattle.script_nodes.specs.World.{after_step, after_ending, with_turn, unless_many, asked, at_node, connects, on_link, hangs_up, arrives, delivered, delivers, crashes, starts, counted_so, counted, settled_so, settles, exists, happens, takes, empty_places, all_start, opened, bytes_in}
@@ -37,6 +38,7 @@ pub record Past : Type 0 where
   pub turns : List Turn
   pub journal : List Item
   pub outcomes : List Outcome
+  pub over : Option Turn
 
 abbrev pub world_with : Beside → Past → World
 world_with x h = record {
@@ -48,13 +50,14 @@ world_with x h = record {
   turns = h.turns;
   journal = h.journal;
   outcomes = h.outcomes;
+  over = h.over;
 }
 
 abbrev pub beside_of : World → Beside
 beside_of w = record { voters = w.voters; places = w.places; links = w.links; mail = w.mail; usage = w.usage }
 
 abbrev pub past_of : World → Past
-past_of w = record { turns = w.turns; journal = w.journal; outcomes = w.outcomes }
+past_of w = record { turns = w.turns; journal = w.journal; outcomes = w.outcomes; over = w.over }
 
 -- the same happened, but for the numbers of transactions
 pub record SamePast (h k : Past) : Type 0 where
@@ -72,15 +75,9 @@ pub record GoAlike (one other : Went) : Type 0 where
   pub said : one.said ≡ other.said
   pub halt : one.halt ≡ other.halt
 
--- it isn't told what came of an event, or there is too much
-abbrev pub IsCut : Option Halt → Type 0
-IsCut None = ⊥
-IsCut (Some NotThere) = ⊥
-IsCut (Some TooMany) = Unit {0}
-IsCut (Some Untold) = Unit {0}
-
+-- it isn't told what came of an event
 pub record GoShort (one other : Went) : Type 0 where
-  pub cut : IsCut one.halt
+  pub cut : one.halt ≡ Some Untold
   pub front : StartWith other.said one.said
 
 pub data Together (one other : Went) : Type 0 where
@@ -128,7 +125,7 @@ noted_plain aim failed outcome =
 
 -- one turn more
 turn_more : (h k : Past) (turn also : Turn) (items others : List Item) (left after : List Outcome) → SamePast h k → plain_turn turn ≡ plain_turn also → plain_items items ≡ plain_items others
-    → SamePast (record { turns = h.turns ++ turn ∷ []; journal = h.journal ++ items; outcomes = left }) (record { turns = k.turns ++ also ∷ []; journal = k.journal ++ others; outcomes = after })
+    → SamePast (record { turns = h.turns ++ turn ∷ []; journal = h.journal ++ items; outcomes = left; over = h.over }) (record { turns = k.turns ++ also ∷ []; journal = k.journal ++ others; outcomes = after; over = k.over })
 turn_more h k turn also items others left after same one notes = record {
   turns =
       map-append plain_turn h.turns (turn ∷ [])
@@ -141,23 +138,6 @@ turn_more h k turn also items others left after same one notes = record {
 }
 
 -- ---- what comes of an event
-
-abbrev OnlyMany : Option Halt → Type 0
-OnlyMany None = Unit {0}
-OnlyMany (Some TooMany) = Unit {0}
-OnlyMany (Some NotThere) = ⊥
-OnlyMany (Some Untold) = ⊥
-
-ending_halts : (n : ℕ) (ending : Ending) (w : World) → OnlyMany (after_ending n ending w).halt
-ending_halts n (Steps outs standing) w = at (with_messages w.usage (bytes_in outs.messages))
-  where
-    at : (usage : Option Usage) → OnlyMany (after_step n outs standing w usage).halt
-    at None = tt
-    at (Some usage) = tt
-ending_halts n (Starts kept standing) w = tt
-ending_halts n (Stops keeps) w = tt
-ending_halts n (Fails keeps) w = tt
-ending_halts n Unreadable w = tt
 
 ending_alike : (n : ℕ) (ending : Ending) (x : Beside) (h k : Past) → SamePast h k → GoAlike (after_ending n ending (world_with x h)) (after_ending n ending (world_with x k))
 ending_alike n (Steps outs standing) x h k same = at (with_messages x.usage (bytes_in outs.messages))
@@ -173,8 +153,21 @@ ending_alike n Unreadable x h k same = went_alike x h k _ None same
 -- ---- what is done
 
 module _ (nodes : Nodes) (exact : AreExact nodes) where
+  -- what happened is what such nodes do, and where it ended also what isn't in the run
+  abbrev pub FitsBy : Option Halt → World → Type 0
+  FitsBy None w = AreLed nodes w.turns
+  FitsBy (Some why) w = AreLed nodes (with_over w.turns w.over)
+
   abbrev pub Fits : Went → Type 0
-  Fits went = AreLed nodes went.world.turns
+  Fits went = FitsBy went.halt went.world
+
+  fits_turns : (halt : Option Halt) (w : World) → FitsBy halt w → AreLed nodes w.turns
+  fits_turns None w fits = fits
+  fits_turns (Some why) w fits = over w.over fits
+    where
+      over : (o : Option Turn) → AreLed nodes (with_over w.turns o) → AreLed nodes w.turns
+      over None led = led
+      over (Some turn) led = led_front nodes w.turns (turn ∷ []) led
 
   -- From worlds that are the same but for their pasts it leads to the same, or ends early in one of them.
   abbrev pub Repeats : (World → Went) → Type 0
@@ -192,22 +185,26 @@ module _ (nodes : Nodes) (exact : AreExact nodes) where
 
   -- ---- an event at a node
 
-  -- what isn't in the run, as it has too many bytes of messages
-  unless_together : (w v : World) (one other : Went) (a b : Option Halt) → OnlyMany a → OnlyMany b → SameWorld w v → (Fits one → Fits other → GoAlike one other) → Fits (unless_many w one a) → Fits (unless_many v other b) → Together (unless_many w one a) (unless_many v other b)
-  unless_together w v one other None None p q same both fits also = Alike (both fits also)
-  unless_together w v one other None (Some TooMany) p q same both fits also = Longer (record { cut = tt; front = (one.said, refl) })
-  unless_together w v one other (Some TooMany) None p q same both fits also = Shorter (record { cut = tt; front = (other.said, refl) })
-  unless_together w v one other (Some TooMany) (Some TooMany) p q same both fits also = Alike (record { world = same; said = refl; halt = refl })
-  unless_together w v one other (Some NotThere) b p q same both fits also = absurd p
-  unless_together w v one other (Some Untold) b p q same both fits also = absurd p
-  unless_together w v one other None (Some NotThere) p q same both fits also = absurd q
-  unless_together w v one other None (Some Untold) p q same both fits also = absurd q
-  unless_together w v one other (Some TooMany) (Some NotThere) p q same both fits also = absurd q
-  unless_together w v one other (Some TooMany) (Some Untold) p q same both fits also = absurd q
+  -- what isn't in the run, as it has too many bytes of messages, is the same of both
+  unless_together : (w v : World) (one other : Went) (a b : Option Halt) → one.halt ≡ a → other.halt ≡ b → SameWorld w v
+      → (AreLed nodes one.world.turns → AreLed nodes other.world.turns → GoAlike one other)
+      → with_over w.turns w.over ≡ one.world.turns → with_over v.turns v.over ≡ other.world.turns
+      → Fits (unless_many w one a) → Fits (unless_many v other b) → Together (unless_many w one a) (unless_many v other b)
+  unless_together w v one other None None e f same both p q fits also = Alike (both (fits_turns one.halt one.world fits) (fits_turns other.halt other.world also))
+  unless_together w v one other None (Some why) e f same both p q fits also = absurd (apart (sym e ∙ (both (fits_turns one.halt one.world fits) (subst (AreLed nodes) q also)).halt ∙ f))
+    where
+      apart : None ≡ Some why → ⊥
+      apart e = cc
+  unless_together w v one other (Some why) None e f same both p q fits also = absurd (apart (sym e ∙ (both (subst (AreLed nodes) p fits) (fits_turns other.halt other.world also)).halt ∙ f))
+    where
+      apart : Some why ≡ None → ⊥
+      apart e = cc
+  unless_together w v one other (Some why) (Some because) e f same both p q fits also =
+      Alike (record { world = same; said = refl; halt = sym e ∙ (both (subst (AreLed nodes) p fits) (subst (AreLed nodes) q also)).halt ∙ f })
 
   module _ (n : ℕ) (doing : Doing) (aim : Aim) (x : Beside) (h k : Past) (same : SamePast h k) where
     -- what comes of it is the same
-    told_together : (one other : Outcome) (left after : List Outcome) → Fits (after_ending n one.ending (with_turn (world_with x h) n doing aim one left)) → Fits (after_ending n other.ending (with_turn (world_with x k) n doing aim other after))
+    told_together : (one other : Outcome) (left after : List Outcome) → AreLed nodes (after_ending n one.ending (with_turn (world_with x h) n doing aim one left)).world.turns → AreLed nodes (after_ending n other.ending (with_turn (world_with x k) n doing aim other after)).world.turns
         → GoAlike (after_ending n one.ending (with_turn (world_with x h) n doing aim one left)) (after_ending n other.ending (with_turn (world_with x k) n doing aim other after))
     told_together one other left after fits also =
         let outcome : plain_outcome one ≡ plain_outcome other =
@@ -222,13 +219,14 @@ module _ (nodes : Nodes) (exact : AreExact nodes) where
 
     asked_together : (outcomes others : List Outcome) → Fits (asked n doing aim (world_with x h) outcomes) → Fits (asked n doing aim (world_with x k) others) → Together (asked n doing aim (world_with x h) outcomes) (asked n doing aim (world_with x k) others)
     asked_together [] [] fits also = Alike (went_alike x h k [] (Some Untold) same)
-    asked_together [] (other ∷ after) fits also = Shorter (record { cut = tt; front = (_, refl) })
-    asked_together (one ∷ left) [] fits also = Longer (record { cut = tt; front = (_, refl) })
+    asked_together [] (other ∷ after) fits also = Shorter (record { cut = refl; front = (_, refl) })
+    asked_together (one ∷ left) [] fits also = Longer (record { cut = refl; front = (_, refl) })
     asked_together (one ∷ left) (other ∷ after) fits also =
         let w = with_turn (world_with x h) n doing aim one left in
         let v = with_turn (world_with x k) n doing aim other after in
-        unless_together (world_with x h) (world_with x k) (after_ending n one.ending w) (after_ending n other.ending v) (after_ending n one.ending w).halt (after_ending n other.ending v).halt
-        (ending_halts n one.ending w) (ending_halts n other.ending v) (record { beside = refl; past = same }) (told_together one other left after) fits also
+        unless_together (record (world_with x h) { over = Some (Does n doing aim one) }) (record (world_with x k) { over = Some (Does n doing aim other) })
+        (after_ending n one.ending w) (after_ending n other.ending v) (after_ending n one.ending w).halt (after_ending n other.ending v).halt
+        refl refl (record { beside = refl; past = record { turns = same.turns; journal = same.journal } }) (told_together one other left after) (sym (ending_keeps n one.ending w)) (sym (ending_keeps n other.ending v)) fits also
 
   node_repeats : (n : ℕ) (doing : Doing) (aim : Aim) → Repeats (at_node n doing aim)
   node_repeats n doing aim x h k same =
@@ -271,7 +269,7 @@ module _ (nodes : Nodes) (exact : AreExact nodes) where
   crashes_repeat : (n pick : ℕ) → Repeats (crashes n pick)
   crashes_repeat n pick x h k same =
       let y : Beside = beside_of (fallen (world_with x h) n (place_at (world_with x h) n).failed) in
-      let more : Past → Past = λ p. record { turns = p.turns ++ Crashes n pick ∷ []; journal = p.journal; outcomes = p.outcomes } in
+      let more : Past → Past = λ p. record { turns = p.turns ++ Crashes n pick ∷ []; journal = p.journal; outcomes = p.outcomes; over = p.over } in
       let past : SamePast (more h) (more k) = record {
         turns =
             map-append plain_turn h.turns (Crashes n pick ∷ []) ∙ ap (λ (turns : List Turn). turns ++ Crashes n pick ∷ []) same.turns ∙ sym (map-append plain_turn k.turns (Crashes n pick ∷ []));
@@ -284,8 +282,8 @@ module _ (nodes : Nodes) (exact : AreExact nodes) where
 
   starts_repeat : (n : ℕ) (aim : Aim) → Repeats (starts n aim)
   starts_repeat n aim x h k same =
-      either (is_up (world_with x h) n) (quiet (world_with x h)) (asked n Start aim (world_with x h) h.outcomes) (quiet (world_with x k)) (asked n Start aim (world_with x k) k.outcomes)
-      (stays x h k same) (asked_together n Start aim x h k same h.outcomes k.outcomes)
+      either (is_up (world_with x h) n) (quiet (world_with x h)) (asked n (Start x.voters) aim (world_with x h) h.outcomes) (quiet (world_with x k)) (asked n (Start x.voters) aim (world_with x k) k.outcomes)
+      (stays x h k same) (asked_together n (Start x.voters) aim x h k same h.outcomes k.outcomes)
 
   counted_so_repeats : (go : World → Went) → Repeats go → (usage : Option Usage) → Repeats (λ (w : World). counted_so go w usage)
   counted_so_repeats go repeats None x h k same = halts TooMany x h k same
@@ -301,9 +299,10 @@ module _ (nodes : Nodes) (exact : AreExact nodes) where
       subst (λ (y : Beside). Fits (go w) → Fits (go (world_with y (past_of v))) → Together (go w) (go (world_with y (past_of v)))) same.beside
       (repeats (beside_of w) (past_of w) (past_of v) same.past)
 
-  first_fits : (go : World → Went) → AlwaysGrows go → (went : Went) (halt : Option Halt) → Fits (onward go went halt) → Fits went
-  first_fits go grows went None fits = led_front nodes went.world.turns (grows went.world).0 (subst (AreLed nodes) (grows went.world).1 fits)
-  first_fits go grows went (Some why) fits = fits
+  first_fits : (go : World → Went) → AlwaysGrows go → (went : Went) (halt : Option Halt) → went.halt ≡ halt → Fits (onward go went halt) → FitsBy halt went.world
+  first_fits go grows went None is fits =
+      led_front nodes went.world.turns (grows went.world).0 (subst (AreLed nodes) (grows went.world).1 (fits_turns (go went.world).halt (go went.world).world fits))
+  first_fits go grows went (Some why) is fits = subst (λ (halt : Option Halt). FitsBy halt went.world) is fits
 
   both_on : (go : World → Went) → Repeats go → (one other : Went) → GoAlike one other → (a b : Option Halt) → a ≡ b → Fits (onward go one a) → Fits (onward go other b) → Together (onward go one a) (onward go other b)
   both_on go repeats one other s None None e fits also = behind (go one.world) (go other.world) one.said other.said s.said (carried go repeats one.world other.world s.world fits also)
@@ -311,8 +310,8 @@ module _ (nodes : Nodes) (exact : AreExact nodes) where
   both_on go repeats one other s None (Some because) e fits also = absurd cc
   both_on go repeats one other s (Some why) None e fits also = absurd cc
 
-  shorter_on : (go : World → Went) (one other : Went) → GoShort one other → (a b : Option Halt) → IsCut a → GoShort (onward go one a) (onward go other b)
-  shorter_on go one other s None b cut = absurd cut
+  shorter_on : (go : World → Went) (one other : Went) → GoShort one other → (a b : Option Halt) → a ≡ Some Untold → GoShort (onward go one a) (onward go other b)
+  shorter_on go one other s None b cut = absurd cc
   shorter_on go one other s (Some why) b cut = record { cut = s.cut; front = longer go other one.said b s.front }
 
   onward_together : (go : World → Went) → Repeats go → (one other : Went) → Together one other → Fits (then_on go one) → Fits (then_on go other) → Together (then_on go one) (then_on go other)
@@ -324,7 +323,7 @@ module _ (nodes : Nodes) (exact : AreExact nodes) where
   then_repeats first go begins repeats grows x h k same fits also =
       let one = first (world_with x h) in
       let other = first (world_with x k) in
-      onward_together go repeats one other (begins x h k same (first_fits go grows one one.halt fits) (first_fits go grows other other.halt also)) fits also
+      onward_together go repeats one other (begins x h k same (first_fits go grows one one.halt refl fits) (first_fits go grows other other.halt refl also)) fits also
 
   settled_repeats : (go : World → Went) → Repeats go → AlwaysGrows go → (place : Option ℕ) → Repeats (λ (w : World). settled_so go w place)
   settled_repeats go repeats grows None = stays
@@ -381,4 +380,4 @@ module _ (nodes : Nodes) (exact : AreExact nodes) where
   unfolding opened
   opened_repeats voters spare one other =
       start_repeats (voters + spare) 1 (record { voters = voters; places = empty_places (voters + spare); links = []; mail = []; usage = no_usage })
-      (record { turns = []; journal = []; outcomes = one }) (record { turns = []; journal = []; outcomes = other }) (record { turns = refl; journal = refl })
+      (record { turns = []; journal = []; outcomes = one; over = None }) (record { turns = []; journal = []; outcomes = other; over = None }) (record { turns = refl; journal = refl })

@@ -7,7 +7,7 @@ use Rattle.script_lines.specs.declared.grammar.Aim.TheVariants.{Nothing}
 use Rattle.script_lines.specs.declared.usage.Usage.{Usage}
 use Rattle.raft_vote.specs.declared.message.RaftMessage.{RaftMessage}
 use Rattle.raft_vote.specs.declared.fault.PeerFault.{PeerFault}
-use Rattle.script_nodes.specs.Outcomes.{Standing, Outs, Ending, Steps, Starts, Stops, Fails, Unreadable, Outcome, Doing, Receive, Start, Does}
+use Rattle.script_nodes.specs.Outcomes.{Standing, Outs, Ending, Steps, Starts, Stops, Fails, Unreadable, Outcome, Doing, Receive, Start, Does, Turn}
 use Rattle.script_nodes.specs.World.{World, Letter, Halt, Went, quiet, onward, after_step, after_ending, with_turn, unless_many, asked, at_node, is_up, arrived_at, arriving, is_node, arrives, delivered, delivers, starts, counted_so, counted, settled_so, settles, all_start, first_waiting, bytes_in}
 use Rattle.script_runner.specs.Ending.{BeginWith}
 use Rattle.script_runner.proofs.Growing.{same_turns, begin_then}
@@ -35,15 +35,15 @@ ending_keeps n (Stops keeps) w = refl
 ending_keeps n (Fails keeps) w = refl
 ending_keeps n Unreadable w = refl
 
-unless_grows : (w : World) (went : Went) (halt : Option Halt) → Grows w went → Grows w (unless_many w went halt)
-unless_grows w went None g = g
-unless_grows w went (Some why) g = same_turns w.turns
+unless_grows : (w : World) (over : Option Turn) (went : Went) (halt : Option Halt) → Grows w went → Grows w (unless_many (record w { over = over }) went halt)
+unless_grows w over went None g = g
+unless_grows w over went (Some why) g = same_turns w.turns
 
 asked_grows : (n : ℕ) (doing : Doing) (aim : Aim) (w : World) (outcomes : List Outcome) → Grows w (asked n doing aim w outcomes)
 asked_grows n doing aim w [] = same_turns w.turns
 asked_grows n doing aim w (outcome ∷ left) =
     let went = after_ending n outcome.ending (with_turn w n doing aim outcome left) in
-    unless_grows w went went.halt (Does n doing aim outcome ∷ [], ending_keeps n outcome.ending (with_turn w n doing aim outcome left))
+    unless_grows w (Some (Does n doing aim outcome)) went went.halt (Does n doing aim outcome ∷ [], ending_keeps n outcome.ending (with_turn w n doing aim outcome left))
 
 node_grows : (n : ℕ) (doing : Doing) (aim : Aim) → AlwaysGrows (at_node n doing aim)
 node_grows n doing aim w = either w (is_up w n) (asked n doing aim w w.outcomes) (quiet w) (asked_grows n doing aim w w.outcomes) (same_turns w.turns)
@@ -60,7 +60,7 @@ delivers_grows : (place : ℕ) (aim : Aim) → AlwaysGrows (delivers place aim)
 delivers_grows place aim w = delivered_grows aim w place (slice_get w.mail place)
 
 pub starts_grows : (n : ℕ) (aim : Aim) → AlwaysGrows (starts n aim)
-starts_grows n aim w = either w (is_up w n) (quiet w) (asked n Start aim w w.outcomes) (same_turns w.turns) (asked_grows n Start aim w w.outcomes)
+starts_grows n aim w = either w (is_up w n) (quiet w) (asked n (Start w.voters) aim w w.outcomes) (same_turns w.turns) (asked_grows n (Start w.voters) aim w w.outcomes)
 
 counted_so_grows : (go : World → Went) → AlwaysGrows go → (w : World) (usage : Option Usage) → Grows w (counted_so go w usage)
 counted_so_grows go grows w None = same_turns w.turns

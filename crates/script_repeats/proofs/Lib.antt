@@ -1,4 +1,5 @@
 pub mod Growing
+pub mod Using
 pub mod Paths
 pub mod Going
 pub mod Running

@@ -6,7 +6,8 @@ use Rattle.script_lines.specs.declared.grammar.Aim.{Aim}
 use Rattle.script_nodes.specs.Knowing.{actor, turns_at}
 use Rattle.script_nodes.specs.Outcomes.{Outcome, Doing, Turn, Does, Crashes}
 use Rattle.script_repeats.specs.Plain.{plain_outcome, plain_turn, plain_turns}
-use Rattle.script_repeats.specs.Nodes.{Nodes, Path, GoesWell, AreLed, AreExact}
+use Rattle.script_repeats.proofs.Using.{AreCrashes}
+use Rattle.script_repeats.specs.Nodes.{Nodes, Path, MayCrash, GoesWell, AreLed, AreExact}
 
 -- ---- turns at a node
 
@@ -78,6 +79,42 @@ led_front nodes front rest led =
     let parts = λ (n : ℕ). parted nodes n nodes.first (turns_at n front) (turns_at n rest) (led.ends n)
     (subst (λ (turns : List Turn). Path nodes n nodes.first turns (led.ends n)) (turns_join n front rest) (led.paths n)) in
     record { ends = λ n. (parts n).mid; paths = λ n. (parts n).first; well = well_front front rest led.well }
+
+-- a path goes on by crashes
+path_crashes : (nodes : Nodes) → MayCrash nodes → (n : ℕ) (old mid : nodes.Seat) (turns rest : List Turn) → AreCrashes rest → Path nodes n old turns mid → (new : nodes.Seat) × Path nodes n old (turns ++ rest) new
+path_crashes nodes may n old mid [] [] crashes path = (mid, path)
+path_crashes nodes may n old mid [] (Does k doing aim outcome ∷ rest) crashes path = absurd crashes
+path_crashes nodes may n old mid [] (Crashes k pick ∷ rest) crashes path =
+    let next = may n k pick old in
+    let more = path_crashes nodes may n next.0 next.0 [] rest crashes refl in
+    (more.0, (next.0, next.1, more.1))
+path_crashes nodes may n old mid (turn ∷ turns) rest crashes path =
+    let more = path_crashes nodes may n path.0 mid turns rest crashes path.2 in
+    (more.0, (path.0, path.1, more.1))
+
+crash_choice : (b : Bool) (n pick : ℕ) (turns : List Turn) → AreCrashes turns → AreCrashes (cond b (Crashes n pick ∷ turns) turns)
+crash_choice true n pick turns crashes = crashes
+crash_choice false n pick turns crashes = crashes
+
+crashes_at : (n : ℕ) (turns : List Turn) → AreCrashes turns → AreCrashes (turns_at n turns)
+crashes_at n [] crashes = tt
+crashes_at n (Does k doing aim outcome ∷ turns) crashes = absurd crashes
+crashes_at n (Crashes k pick ∷ turns) crashes = crash_choice (k == n) k pick (turns_at n turns) (crashes_at n turns crashes)
+
+well_crashes : (turns rest : List Turn) → AreCrashes rest → AllByRecursion GoesWell turns → AllByRecursion GoesWell (turns ++ rest)
+well_crashes [] [] crashes well = tt
+well_crashes [] (Does n doing aim outcome ∷ rest) crashes well = absurd crashes
+well_crashes [] (Crashes n pick ∷ rest) crashes well = (tt, well_crashes [] rest crashes tt)
+well_crashes (turn ∷ turns) rest crashes well = (well.0, well_crashes turns rest crashes well.1)
+
+pub led_crashes : (nodes : Nodes) → MayCrash nodes → (turns rest : List Turn) → AreCrashes rest → AreLed nodes turns → AreLed nodes (turns ++ rest)
+led_crashes nodes may turns rest crashes led =
+    let more = λ (n : ℕ). path_crashes nodes may n nodes.first (led.ends n) (turns_at n turns) (turns_at n rest) (crashes_at n rest crashes) (led.paths n) in
+    record {
+      ends = λ n. (more n).0;
+      paths = λ n. subst (λ (ts : List Turn). Path nodes n nodes.first ts (more n).0) (sym (turns_join n turns rest)) (more n).1;
+      well = well_crashes turns rest crashes led.well;
+    }
 
 -- ---- the same comes
 

@@ -10,19 +10,23 @@ use Rattle.script_lines.specs.declared.grammar.ScriptLine.{ScriptLine}
 use Rattle.script_lines.specs.declared.grammar.ScriptLine.TheVariants as says
 use Rattle.script_lines.specs.declared.usage.Usage.{Usage}
 use Rattle.script_nodes.specs.declared.said.Said.{Said as NodeSaid}
+use Rattle.script_nodes.specs.Knowing.{outcomes_in, outcomes_over, with_over}
+use Rattle.script_nodes.specs.Outcomes.{Outcome, Turn}
 use Rattle.script_nodes.specs.Run as nodes
 use Rattle.script_nodes.specs.Run.{Fault, Line, Large, Untold, fault_by, fault_text}
 use Rattle.script_nodes.specs.World as world
 use Rattle.script_nodes.specs.World.{World, Halt, Went, shown, takes, opened}
 use Rattle.script_pages.specs.Machines.{Fleet}
-use Rattle.script_runner.specs.Run.{Said, OfNodes, Stage, AtNodes, AtMachines, Next, Run, at_nodes, stops, line_step, said_step, step, onward, said_before, ends_at, closing, turns_at, journal_at, run_from, run, text_of, printed}
+use Rattle.script_runner.specs.Ending.{IsBeside}
+use Rattle.script_runner.specs.Run.{Said, OfNodes, Stage, AtNodes, AtMachines, Next, Run, at_nodes, stops, line_step, said_step, step, onward, said_before, ends_at, closing, turns_at, over_at, journal_at, run_from, run, text_of, printed}
 use Rattle.script_runner.proofs.Growing.{run_grows}
 use Rattle.script_runner.proofs.Printed.{text_of-append}
 use Rattle.script_repeats.specs.Plain.{plain_turns, plain_items}
-use Rattle.script_repeats.specs.Nodes.{Nodes, AreLed, AreExact}
-use Rattle.script_repeats.specs.Repeats.{AreAlike, IsEarly, StartWith, EndsBefore, Compared, Same, Shorter, Longer, RunsCompare, IsWhole, FrontsRepeat, WholeRunsRepeat}
-use Rattle.script_repeats.proofs.Paths.{led_front}
-use Rattle.script_repeats.proofs.Going.{Beside, Past, world_with, beside_of, past_of, SamePast, SameWorld, GoAlike, IsCut, GoShort, Together, takes_repeats, opened_repeats}
+use Rattle.script_repeats.specs.Nodes.{Nodes, AreLed, AreExact, MayCrash}
+use Rattle.script_repeats.specs.Repeats.{AreAlike, IsLed, StartWith, EndsBefore, Compared, Same, Shorter, Longer, RunsCompare, IsWhole, FrontsRepeat, BrokeOff, BrokenRunsRepeat, WholeRunsRepeat}
+use Rattle.script_repeats.proofs.Using.{over_behind, only_crashes}
+use Rattle.script_repeats.proofs.Paths.{led_front, led_crashes}
+use Rattle.script_repeats.proofs.Going.{Beside, Past, world_with, beside_of, past_of, SamePast, SameWorld, GoAlike, GoShort, FitsBy, Together, takes_repeats, opened_repeats}
 use Rattle.script_repeats.proofs.Going as going
 
 -- ---- stages
@@ -48,11 +52,11 @@ record SameStage (one other : Stage) : Type 0 where
 
 stage_itself : (stage : Stage) → SameStage stage stage
 stage_itself (AtNodes (nodes.Opening outcomes)) =
-    let h : Past = record { turns = []; journal = []; outcomes = outcomes } in
+    let h : Past = record { turns = []; journal = []; outcomes = outcomes; over = None } in
     record { form = Before; past = h; also = h; same = record { turns = refl; journal = refl }; one_is = refl; other_is = refl }
 stage_itself (AtNodes (nodes.Within w)) = record { form = Among (beside_of w); past = past_of w; also = past_of w; same = record { turns = refl; journal = refl }; one_is = refl; other_is = refl }
 stage_itself (AtMachines usage fleet) =
-    let h : Past = record { turns = []; journal = []; outcomes = [] } in
+    let h : Past = record { turns = []; journal = []; outcomes = []; over = None } in
     record { form = OfMachines usage fleet; past = h; also = h; same = record { turns = refl; journal = refl }; one_is = refl; other_is = refl }
 
 form_stage : (form : Form) (h k : Past) → SamePast h k → SameStage (stage_with form h) (stage_with form k)
@@ -91,7 +95,7 @@ record NextAlike (one other : Next) : Type 0 where
   fault : one.fault ≡ other.fault
 
 record NextShort (one other : Next) : Type 0 where
-  early : IsEarly one.fault
+  early : one.fault ≡ Some Untold
   front : StartWith other.said one.said
 
 data NextTogether (one other : Next) : Type 0 where
@@ -102,12 +106,6 @@ data NextTogether (one other : Next) : Type 0 where
 next_itself : (next : Next) → NextTogether next next
 next_itself next = Alike (record { stage = stage_itself next.stage; said = refl; fault = refl })
 
-early_of : (number : ℕ) (halt : Option Halt) → IsCut halt → IsEarly (option_map (fault_by number) halt)
-early_of number None cut = absurd cut
-early_of number (Some world.NotThere) cut = absurd cut
-early_of number (Some world.TooMany) cut = tt
-early_of number (Some world.Untold) cut = tt
-
 -- the next of what went
 abbrev next_of : ℕ → Went → Next
 next_of number went = at_nodes (nodes.next_by number went)
@@ -116,7 +114,7 @@ map_front : (said front : List NodeSaid) → StartWith said front → StartWith 
 map_front said front s = (map OfNodes s.0, ap (map OfNodes) s.1 ∙ map-append OfNodes front s.0)
 
 next_short : (number : ℕ) (one other : Went) → GoShort one other → NextShort (next_of number one) (next_of number other)
-next_short number one other s = record { early = early_of number one.halt s.cut; front = map_front other.said one.said s.front }
+next_short number one other s = record { early = ap (option_map (fault_by number)) s.cut; front = map_front other.said one.said s.front }
 
 next_together : (number : ℕ) (one other : Went) → Together one other → NextTogether (next_of number one) (next_of number other)
 next_together number one other (going.Alike s) = Alike (record {
@@ -128,8 +126,16 @@ next_together number one other (going.Shorter s) = Ends (next_short number one o
 next_together number one other (going.Longer s) = Goes (next_short number other one s)
 
 module _ (places : Nodes) (exact : AreExact places) where
+  abbrev FitsStage : Option Fault → Stage → Type 0
+  FitsStage None stage = AreLed places (turns_at stage)
+  FitsStage (Some fault) stage = AreLed places (with_over (turns_at stage) (over_at stage))
+
   abbrev FitsNext : Next → Type 0
-  FitsNext next = AreLed places (turns_at next.stage)
+  FitsNext next = FitsStage next.fault next.stage
+
+  went_fits : (number : ℕ) (w : World) (halt : Option Halt) → FitsStage (option_map (fault_by number) halt) (AtNodes (nodes.Within w)) → FitsBy places exact halt w
+  went_fits number w None fits = fits
+  went_fits number w (Some why) fits = fits
 
   -- a line leads to the same from both
   abbrev StepsAlike : (Stage → Next) → Type 0
@@ -147,7 +153,7 @@ module _ (places : Nodes) (exact : AreExact places) where
   unfolding line_step nodes.line_step
   line_alike number says.Blank Before h k same a b = Alike (record { stage = form_stage Before h k same; said = refl; fault = refl })
   line_alike number (says.Nodes voters spare) Before h k same a b =
-      next_together number (opened voters spare h.outcomes) (opened voters spare k.outcomes) (opened_repeats places exact voters spare h.outcomes k.outcomes a b)
+      next_together number (opened voters spare h.outcomes) (opened voters spare k.outcomes) (opened_repeats places exact voters spare h.outcomes k.outcomes (went_fits number _ (opened voters spare h.outcomes).halt a) (went_fits number _ (opened voters spare k.outcomes).halt b))
   line_alike number (says.Pages machines) Before h k same a b = next_itself _
   line_alike number (says.Show node) Before h k same a b = stops_alike (Line number) Before h k same a b
   line_alike number (says.Event e aim) Before h k same a b = stops_alike (Line number) Before h k same a b
@@ -156,7 +162,7 @@ module _ (places : Nodes) (exact : AreExact places) where
   line_alike number (says.Pages machines) (Among x) h k same a b = stops_alike (Line number) (Among x) h k same a b
   line_alike number (says.Show node) (Among x) h k same a b = show_alike number x h k (shown (world_with x h) node) same
   line_alike number (says.Event e aim) (Among x) h k same a b =
-      next_together number (takes (world_with x h) e aim) (takes (world_with x k) e aim) (takes_repeats places exact e aim x h k same a b)
+      next_together number (takes (world_with x h) e aim) (takes (world_with x k) e aim) (takes_repeats places exact e aim x h k same (went_fits number _ (takes (world_with x h) e aim).halt a) (went_fits number _ (takes (world_with x k) e aim).halt b))
   line_alike number line (OfMachines usage fleet) h k same a b = next_itself _
 
   said_alike : (number : ℕ) (line : Option ScriptLine) → StepsAlike (λ (s : Stage). said_step s number line)
@@ -174,7 +180,11 @@ module _ (places : Nodes) (exact : AreExact places) where
   -- ---- runs
 
   abbrev FitsRun : Run → Type 0
-  FitsRun r = AreLed places r.turns
+  FitsRun r = IsLed places r
+
+  run_fits : (r : Run) (over : Option Turn) → AreLed places (with_over r.turns over) → AreLed places r.turns
+  run_fits r None led = led
+  run_fits r (Some turn) led = led_front places r.turns (turn ∷ []) led
 
   runs_behind : (p q : Run) (said also : List Said) → said ≡ also → Compared p q → Compared (said_before said p) (said_before also q)
   runs_behind p q said also e (Same s) = Same (record { said = λ i. e i ++ s.said i; fault = s.fault; turns = s.turns; journal = s.journal })
@@ -186,8 +196,9 @@ module _ (places : Nodes) (exact : AreExact places) where
   ends_alike one other fault said also s e = let x = stage_shows one.stage other.stage s in record { said = e; fault = refl; turns = x.turns; journal = x.journal }
 
   module _ (go : Stage → Run) (grows : (s : Stage) → StartWith (go s).turns (turns_at s)) (leads : (form : Form) (h k : Past) → SamePast h k → FitsRun (go (stage_with form h)) → FitsRun (go (stage_with form k)) → Compared (go (stage_with form h)) (go (stage_with form k))) where
-    next_fits : (next : Next) (fault : Option Fault) → FitsRun (onward go next fault) → FitsNext next
-    next_fits next None fits = led_front places (turns_at next.stage) (grows next.stage).0 (subst (AreLed places) (grows next.stage).1 fits)
+    next_fits : (next : Next) (fault : Option Fault) → FitsRun (onward go next fault) → FitsStage fault next.stage
+    next_fits next None fits =
+        led_front places (turns_at next.stage) (grows next.stage).0 (subst (AreLed places) (grows next.stage).1 (run_fits (go next.stage) (go next.stage).over fits))
     next_fits next (Some fault) fits = fits
 
     goes_on : (one other : Stage) → SameStage one other → FitsRun (go one) → FitsRun (go other) → Compared (go one) (go other)
@@ -207,8 +218,8 @@ module _ (places : Nodes) (exact : AreExact places) where
     longer other front None s = (s.0 ++ (go other.stage).said, ap (λ (all : List Said). all ++ (go other.stage).said) s.1 ∙ append_assoc front s.0 (go other.stage).said)
     longer other front (Some why) s = s
 
-    short_on : (one other : Next) → NextShort one other → (a b : Option Fault) → IsEarly a → EndsBefore (onward go one a) (onward go other b)
-    short_on one other s None b early = absurd early
+    short_on : (one other : Next) → NextShort one other → (a b : Option Fault) → a ≡ Some Untold → EndsBefore (onward go one a) (onward go other b)
+    short_on one other s None b early = absurd cc
     short_on one other s (Some fault) b early = record { early = early; front = longer other one.said b s.front }
 
     onward_compared : (one other : Next) → NextTogether one other → FitsRun (onward go one one.fault) → FitsRun (onward go other other.fault) → Compared (onward go one one.fault) (onward go other other.fault)
@@ -232,7 +243,7 @@ module _ (places : Nodes) (exact : AreExact places) where
 
 pub runs_compare : (places : Nodes) → RunsCompare places
 runs_compare places exact script one other fits also =
-    runs_compared places exact (lines_of script) 1 Before (record { turns = []; journal = []; outcomes = one }) (record { turns = []; journal = []; outcomes = other })
+    runs_compared places exact (lines_of script) 1 Before (record { turns = []; journal = []; outcomes = one; over = None }) (record { turns = []; journal = []; outcomes = other; over = None })
     (record { turns = refl; journal = refl }) fits also
 
 prints_same : (one other : Run) → AreAlike one other → (printed one ≡ printed other) × (one.fault ≡ other.fault)
@@ -243,30 +254,37 @@ whole_same one other (Same s) whole also = prints_same one other s
 whole_same one other (Shorter s) whole also = absurd (whole s.early)
 whole_same one other (Longer s) whole also = absurd (also s.early)
 
--- of a fault that isn't early but for what isn't told, nothing is printed
-untold_text : (fault : Option Fault) → IsEarly fault → fault ≢ Some Large → fault_text fault ≡ []
-untold_text None early other = absurd early
-untold_text (Some (Line number)) early other = absurd early
-untold_text (Some Large) early other = absurd (other refl)
-untold_text (Some Untold) early other = refl
-
-front_printed : (one other : Run) → EndsBefore one other → one.fault ≢ Some Large → StartWith (printed other) (printed one)
-front_printed one other s large =
+front_printed : (one other : Run) → EndsBefore one other → StartWith (printed other) (printed one)
+front_printed one other s =
     let rest = text_of s.front.0 ++ fault_text other.fault in (
       rest,
       ap (λ (said : List Said). text_of said ++ fault_text other.fault) s.front.1
           ∙ ap (λ (text : List ℕ). text ++ fault_text other.fault) (text_of-append one.said s.front.0)
           ∙ append_assoc (text_of one.said) (text_of s.front.0) (fault_text other.fault)
-          ∙ ap (λ (text : List ℕ). text ++ rest) (sym (ap (λ (end : List ℕ). text_of one.said ++ end) (untold_text one.fault s.early large) ∙ append-nil (text_of one.said))),
+          ∙ ap (λ (text : List ℕ). text ++ rest) (sym (ap (λ (end : List ℕ). text_of one.said ++ end) (ap fault_text s.early) ∙ append-nil (text_of one.said))),
     )
 
-fronts_same : (one other : Run) → Compared one other → one.fault ≢ Some Large → IsWhole other.fault → StartWith (printed other) (printed one)
-fronts_same one other (Same s) large whole = ([], sym (prints_same one other s).0 ∙ sym (append-nil (printed one)))
-fronts_same one other (Shorter s) large whole = front_printed one other s large
-fronts_same one other (Longer s) large whole = absurd (whole s.early)
+fronts_same : (one other : Run) → Compared one other → IsWhole other.fault → StartWith (printed other) (printed one)
+fronts_same one other (Same s) whole = ([], sym (prints_same one other s).0 ∙ sym (append-nil (printed one)))
+fronts_same one other (Shorter s) whole = front_printed one other s
+fronts_same one other (Longer s) whole = absurd (whole s.early)
 
 pub fronts_repeat : (places : Nodes) → FrontsRepeat places
-fronts_repeat places exact script one other fits also large whole = fronts_same (run script one) (run script other) (runs_compare places exact script one other fits also) large whole
+fronts_repeat places exact script one other fits also whole = fronts_same (run script one) (run script other) (runs_compare places exact script one other fits also) whole
+
+-- a run that broke off did what its nodes do, up to its end
+broken_led : (places : Nodes) → MayCrash places → (script : List ℕ) (outcomes : List Outcome) (turns : List Turn) (over : Option Turn) → AreLed places (with_over turns over) → outcomes_in turns ++ outcomes_over over ≡ outcomes
+    → StartWith (run script outcomes).turns turns → IsBeside turns over (run script outcomes) → IsLed places (run script outcomes)
+broken_led places may script outcomes turns None led uses begins beside =
+    let r = run script outcomes in
+    let crashes = only_crashes script outcomes turns begins.0 (sym (append-nil (outcomes_in turns)) ∙ uses) begins.1 in
+    subst (AreLed places) (sym (ap (λ (ts : List Turn). with_over ts r.over) begins.1 ∙ over_behind turns begins.0 r.over)) (led_crashes places may turns (with_over begins.0 r.over) crashes led)
+broken_led places may script outcomes turns (Some turn) led uses begins beside =
+    subst (AreLed places) (λ i. with_over (sym beside.0 i) (sym beside.1 i)) led
+
+pub broken_runs_repeat : (places : Nodes) → BrokenRunsRepeat places
+broken_runs_repeat places exact may script one other broke also whole =
+    fronts_repeat places exact script one other (broken_led places may script one broke.turns broke.over broke.led broke.uses broke.begins broke.beside) also whole
 
 pub whole_runs_repeat : (places : Nodes) → WholeRunsRepeat places
 whole_runs_repeat places exact script one other fits also whole whole_too = whole_same (run script one) (run script other) (runs_compare places exact script one other fits also) whole whole_too

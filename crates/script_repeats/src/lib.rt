@@ -2,7 +2,7 @@
 //! empty function.
 #![tactic(auto)]
 
-ghost use Rattle.script_repeats.specs.Repeats.{FrontsRepeat, RunsCompare, WholeRunsRepeat};
+ghost use Rattle.script_repeats.specs.Repeats.{BrokenRunsRepeat, FrontsRepeat, RunsCompare, WholeRunsRepeat};
 
 /// Nodes, as a law speaks of them.
 pub trait AreNodes {
@@ -13,10 +13,11 @@ pub trait AreNodes {
 }
 
 /// A law: of two runs of one script, over nodes that do the same wherever the same is asked, the same is said and has happened, but for the
-/// numbers of transactions, and they have the same fault; or one of them ends early and has said a front of what the other says. So two
-/// that are told all and have not too much print the same; and one that isn't told all prints a front of what such a one prints.
+/// numbers of transactions, and they have the same fault; or one of them isn't told all and has said a front of what the other says. So
+/// two that are told all print the same; and one that isn't prints a front of what such a one prints.
 pub fn scripts_repeat<N: AreNodes>()
     ensures compared { RunsCompare N.nodes }
     ensures front { FrontsRepeat N.nodes }
+    ensures broken { BrokenRunsRepeat N.nodes }
     ensures same { WholeRunsRepeat N.nodes }
 {}

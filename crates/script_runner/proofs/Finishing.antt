@@ -1,5 +1,5 @@
 -- How a line goes, and how a script ends.
-use Rattle.std.proofs.Common.{◌≡◌, ℕ, ◌<◌, List, [], ◌∷◌, ◌++◌, Option, Some, None, length, sym, ap, subst, ◌∙◌}
+use Rattle.std.proofs.Common.{◌≡◌, ℕ, ◌<◌, List, [], ◌∷◌, ◌++◌, Option, Some, None, length, refl, sym, ap, subst, ◌∙◌}
 use Rattle.std.specs.Io.KnownBytes.{Appends, IsAtEnd}
 use Rattle.std.proofs.lemmas.List.{append-nil}
 use Rattle.dq_base.specs.Sink.{AppendsFront}
@@ -7,7 +7,7 @@ use Rattle.dq_base.proofs.ContentLaws.{Appends-then, AppendsFront-nothing, Appen
 use Rattle.script_lines.specs.Lines.{Cursor, to_come, TakesLine}
 use Rattle.script_lines.specs.declared.lines.LineFault.{LineFault}
 use Rattle.script_lines.specs.declared.lines.LineFault.TheVariants as line
-use Rattle.script_nodes.specs.Knowing.{Knowing, Told}
+use Rattle.script_nodes.specs.Knowing.{Knowing, outcomes_in}
 use Rattle.script_nodes.specs.Outcomes.{Outcome as Came, Item, Turn}
 use Rattle.script_nodes.specs.Run.{Fault, Line, Large, fault_text}
 use Rattle.script_runner.specs.declared.printing.PrintFault.{PrintFault}
@@ -15,11 +15,20 @@ use Rattle.script_runner.specs.declared.printing.PrintFault.TheVariants as print
 use Rattle.script_runner.specs.declared.run.Outcome.{Outcome}
 use Rattle.script_runner.specs.declared.run.Outcome.TheVariants as outcome
 use Rattle.script_runner.specs.Run.{Said, Stage, Next, Run, step, run, turns_at, text_of, printed}
-use Rattle.script_runner.specs.Scenes.{Holds, Known, Goes, Ends, stage_of, journal_of, closing_of, turns_of}
-use Rattle.script_runner.specs.Ending.{MayFollow, Anything, IsRun, BeginWith, Reached, ReadWhole, Settles, StopsShort, Stopped, Prints, PrintsFront, Ended, Ran, RanOut, RanShort, Breaks, line_outcome, print_outcome, fault_line, HasLine}
+use Rattle.script_runner.specs.Scenes.{Holds, Known, Goes, Ends, EndsAt, stage_of, journal_of, closing_of, turns_of}
+use Rattle.script_runner.specs.Ending.{MayFollow, Anything, IsRun, IsBeside, EndsBeside, BeginWith, Reached, ReadWhole, Settles, StopsShort, Stopped, Prints, PrintsFront, Ended, Ran, RanOut, RanShort, Breaks, line_outcome, print_outcome, fault_line, HasLine}
 use Rattle.script_runner.proofs.Scening.{told_at}
 use Rattle.script_runner.proofs.Growing.{step_grows}
 use Rattle.script_runner.proofs.Running.{turns_same, settles_feed, settles_last, short_feed, short_last, completes, short_closing}
+
+-- what ends a script ends it beside its turns
+ends_beside : (fault : Fault) (journal : List Item) (said : List Said) (turns : List Turn) (over : Option Turn) (next : Next) → EndsAt fault journal said turns over next → EndsBeside turns over next
+ends_beside fault journal said turns None next e = tt
+ends_beside fault journal said turns (Some turn) next e = (fault, e.fault_is, e.turns_are, e.over_is)
+
+run_beside : (said : List Said) (fault : Option Fault) (journal : List Item) (turns : List Turn) (over : Option Turn) (r : Run) → IsRun said fault journal turns over r → IsBeside turns over r
+run_beside said fault journal turns None r is = tt
+run_beside said fault journal turns (Some turn) r is = (is.turns_are, is.over_is)
 
 -- ---- one line
 
@@ -36,7 +45,10 @@ module _ {P : Type 0} (knows : Knowing P) (go : Stage → Next) (old new : Holds
     turns = λ earlier. turns_of new (g.turns earlier);
     front = λ earlier later. subst (λ (s : List Said). AppendsFront a b (text_of s)) (sym (ap (λ (n : Next). n.said) (g.goes earlier later))) front;
     begins = λ earlier later. subst (λ (n : Next). BeginWith (turns_at n.stage) (turns_of new (g.turns earlier))) (sym (g.goes earlier later)) ([], turns_same new (g.turns earlier) later ∙ sym (append-nil (turns_of new (g.turns earlier))));
+    over = None;
+    stops = λ earlier later. tt;
     led = λ earlier known. told_at knows new (g.turns earlier) (g.know earlier known);
+    uses = λ earlier. append-nil (outcomes_in (turns_of new (g.turns earlier))) ∙ g.uses earlier;
   }
 
   pub ended_part : (fault : Fault) → Ends knows go fault old new said → AppendsFront a b (text_of said) → RanShort knows go old a b
@@ -45,7 +57,10 @@ module _ {P : Type 0} (knows : Knowing P) (go : Stage → Next) (old new : Holds
     turns = e.turns;
     front = λ earlier later. subst (λ (s : List Said). AppendsFront a b (text_of s)) (sym (e.ends earlier later).said_is) front;
     begins = λ earlier later. ([], (e.ends earlier later).turns_are ∙ sym (append-nil (e.turns earlier)));
+    over = e.over;
+    stops = λ earlier later. ends_beside fault (journal_of new) said (e.turns earlier) e.over (go (stage_of old earlier (e.outcomes ++ later))) (e.ends earlier later);
     led = e.told;
+    uses = e.uses;
   }
 
 -- nothing of a line was done that is told, or printed
@@ -55,7 +70,10 @@ nothing_ran knows number line old a = record {
   turns = turns_of old;
   front = λ earlier later. AppendsFront-nothing a _;
   begins = λ earlier later. subst (BeginWith (turns_at (step (stage_of old earlier later) number line).stage)) (turns_same old earlier later) (step_grows (stage_of old earlier later) number line);
+  over = None;
+  stops = λ earlier later. tt;
   led = told_at knows old;
+  uses = λ earlier. refl;
 }
 
 pub breaks_printing : {P : Type 0} (knows : Knowing P) (fault : PrintFault) (number : ℕ) (go : Stage → Next) (old new : Holds P) (a b : Option (List ℕ)) → RanShort knows go old a b → Breaks knows (print_outcome fault) number go old new a b
@@ -97,8 +115,8 @@ module _ {P : Type 0} (knows : Knowing P) where
 
 -- ---- the line of a fault
 
-run_text : (said : List Said) (fault : Option Fault) (journal : List Item) (turns : List Turn) (r : Run) → IsRun said fault journal turns r → printed r ≡ text_of said ++ fault_text fault
-run_text said fault journal turns r is = ap (λ (s : List Said). text_of s ++ fault_text r.fault) is.said_is ∙ ap (λ (f : Option Fault). text_of said ++ fault_text f) is.fault_is
+run_text : (said : List Said) (fault : Option Fault) (journal : List Item) (turns : List Turn) (over : Option Turn) (r : Run) → IsRun said fault journal turns over r → printed r ≡ text_of said ++ fault_text fault
+run_text said fault journal turns over r is = ap (λ (s : List Said). text_of s ++ fault_text r.fault) is.said_is ∙ ap (λ (f : Option Fault). text_of said ++ fault_text f) is.fault_is
 
 then_nothing : (a b c : Option (List ℕ)) (text : List ℕ) → AppendsFront a b text → Appends b c [] → AppendsFront a c text
 then_nothing a b c text front none =
@@ -112,10 +130,13 @@ module _ {P : Type 0} (knows : Knowing P) (journal : List Item) (left left' a b 
     turns = s.turns;
     taken = s.taken;
     ends = λ more may later. (s.runs more may later).fault_is;
-    text = λ more may later. rw (run_text s.said fault journal s.turns _ (s.runs more may later)) (Appends-then a b c (text_of s.said) (fault_text fault) s.told told);
+    text = λ more may later. rw (run_text s.said fault journal s.turns s.over _ (s.runs more may later)) (Appends-then a b c (text_of s.said) (fault_text fault) s.told told);
     notes = λ more may later. (s.runs more may later).journal_is;
     has = λ more may later. (s.runs more may later).turns_are;
+    over = s.over;
+    beside = λ more may later. (s.runs more may later).over_is;
     led = s.led;
+    uses = s.uses;
   }
 
   prints_part : (fault : Option Fault) → Settles knows fault journal left left' a b → AppendsFront b c (fault_text fault) → PrintsFront knows (MayFollow left') left left' a c
@@ -124,9 +145,12 @@ module _ {P : Type 0} (knows : Knowing P) (journal : List Item) (left left' a b 
     outcomes = s.outcomes;
     turns = s.turns;
     taken = s.taken;
-    front = λ more may later. rw (run_text s.said fault journal s.turns _ (s.runs more may later)) (AppendsFront-then a b c (text_of s.said) (fault_text fault) s.told front);
+    front = λ more may later. rw (run_text s.said fault journal s.turns s.over _ (s.runs more may later)) (AppendsFront-then a b c (text_of s.said) (fault_text fault) s.told front);
     begins = λ more may later. ([], (s.runs more may later).turns_are ∙ sym (append-nil s.turns));
+    over = s.over;
+    beside = λ more may later. run_beside s.said fault journal s.turns s.over _ (s.runs more may later);
     led = s.led;
+    uses = s.uses;
   }
 
   prints_front : (follows : List ℕ → Type 0) → StopsShort knows follows left left' a b → Appends b c [] → PrintsFront knows follows left left' a c
@@ -139,7 +163,10 @@ module _ {P : Type 0} (knows : Knowing P) (journal : List Item) (left left' a b 
         let r = run (s.read ++ more) (s.outcomes ++ later) in
         AppendsFront-longer a c (text_of r.said) (fault_text r.fault) (then_nothing a b c (text_of r.said) (s.front more may later) none);
     begins = s.begins;
+    over = s.over;
+    beside = s.beside;
     led = s.led;
+    uses = s.uses;
   }
 
   pub ended_ok : (why : Outcome) → Stopped knows why journal left left' a b → Appends b c (fault_line why) → Ended knows why journal left left' a c
@@ -167,5 +194,8 @@ not_begun knows left left' a s = record {
   taken = s.taken;
   front = λ more may later. AppendsFront-nothing a _;
   begins = s.begins;
+  over = s.over;
+  beside = s.beside;
   led = s.led;
+  uses = s.uses;
 }

@@ -42,10 +42,10 @@ other_step at number (says.Show node) e = refl
 other_step at number (says.Event event aim) e = refl
 
 -- no place was led to where nothing happened
-pub none_told : {P : Type 0} (knows : Knowing P) → Told knows []
-none_told knows = record { voters = 1; places = []; know = no_places knows 1 }
+pub none_told : {P : Type 0} (knows : Knowing P) → Told knows [] None
+none_told knows = record { voters = 1; places = []; know = no_places knows 1; last = tt }
 
-pub told_at : {P : Type 0} (knows : Knowing P) (at : Holds P) (earlier : List Turn) → Known knows at earlier → Told knows (turns_of at earlier)
+pub told_at : {P : Type 0} (knows : Knowing P) (at : Holds P) (earlier : List Turn) → Known knows at earlier → Told knows (turns_of at earlier) None
 told_at knows (Nodes s) earlier known = steps.told_at knows s earlier known
 told_at knows (Machines usage fleet) earlier known = none_told knows
 
@@ -59,6 +59,7 @@ module _ {P : Type 0} (knows : Knowing P) where
         other_step _ number line e ∙ ap at_nodes (d.goes earlier later)
         ∙ ap (λ (said : List NodeSaid). stays (stage_of (Nodes new) (d.turns earlier) later) (map OfNodes said)) (sym d.says);
     know = d.know;
+    uses = d.uses;
   }
 
   nodes_end : (number : ℕ) (fault : Fault) (line : ScriptLine) (old new : Stands P) (told : List NodeSaid) → machines_in line ≡ None → stages.Ends knows (λ (s : nodes.Stage). nodes.line_step s number line) fault old new [] told
@@ -66,11 +67,13 @@ module _ {P : Type 0} (knows : Knowing P) where
   nodes_end number fault line old new told e d = record {
     outcomes = d.outcomes;
     turns = d.turns;
+    over = d.over;
     ends = λ earlier later.
         let x = d.ends earlier later in
-        subst (EndsAt fault (journal_of (Nodes new)) (map OfNodes told) (d.turns earlier)) (sym (other_step _ number line e))
-        (record { fault_is = x.fault_is; said_is = ap (map OfNodes) (x.said_is ∙ sym d.says); journal_is = x.journal_is; turns_are = x.turns_are });
+        subst (EndsAt fault (journal_of (Nodes new)) (map OfNodes told) (d.turns earlier) d.over) (sym (other_step _ number line e))
+        (record { fault_is = x.fault_is; said_is = ap (map OfNodes) (x.said_is ∙ sym d.says); journal_is = x.journal_is; turns_are = x.turns_are; over_is = x.over_is });
     told = d.told;
+    uses = d.uses;
   }
 
   pub nodes_do : {T : Type 0} (number : ℕ) (line : ScriptLine) (result : Result T EventFault) (old new : Stands P) (told : List NodeSaid) → machines_in line ≡ None
@@ -94,7 +97,7 @@ module _ {P : Type 0} (knows : Knowing P) where
   -- a line leads on there
   leads_on : (go : Stage → Next) (usage more : Usage) (fleet next : Fleet) (said : List Said) → go (run.AtMachines usage fleet) ≡ stays (run.AtMachines more next) said
       → Goes knows go (Machines usage fleet) (Machines more next) said
-  leads_on go usage more fleet next said e = record { outcomes = []; turns = λ earlier. earlier; goes = λ earlier later. e; know = λ earlier known. tt }
+  leads_on go usage more fleet next said e = record { outcomes = []; turns = λ earlier. earlier; goes = λ earlier later. e; know = λ earlier known. tt; uses = λ earlier. refl }
 
   -- a line ends the script there, which notes nothing
   ends_here : (go : Stage → Next) (fault : Fault) (usage more : Usage) (fleet next : Fleet) (now : List Said) → now ≡ [] → go (run.AtMachines usage fleet) ≡ stops (run.AtMachines usage fleet) fault
@@ -103,8 +106,10 @@ module _ {P : Type 0} (knows : Knowing P) where
       subst (Ends knows go fault (Machines usage fleet) (Machines more next)) (sym none) (record {
         outcomes = [];
         turns = λ earlier. [];
-        ends = λ earlier later. subst (EndsAt fault [] [] []) (sym e) (record { fault_is = refl; said_is = refl; journal_is = refl; turns_are = refl });
+        over = None;
+        ends = λ earlier later. subst (EndsAt fault [] [] [] None) (sym e) (record { fault_is = refl; said_is = refl; journal_is = refl; turns_are = refl; over_is = refl });
         told = λ earlier known. none_told knows;
+        uses = λ earlier. refl;
       })
 
 module _ {P : Type 0} (knows : Knowing P) (line : ℕ) (usage : Usage) (fleet : Fleet) where
@@ -180,7 +185,7 @@ opened : {P : Type 0} (knows : Knowing P) (number machines : ℕ) (at : Stands P
 unfolding line_step
 opened knows number machines AtStart fleet opens e =
     subst (λ (f : Fleet). Goes knows (λ (s : Stage). line_step s number (says.Pages machines)) (Nodes AtStart) (Machines no_usage f) []) (sym e)
-    (record { outcomes = []; turns = λ earlier. []; goes = λ earlier later. refl; know = λ earlier known. tt })
+    (record { outcomes = []; turns = λ earlier. []; goes = λ earlier later. refl; know = λ earlier known. tt; uses = λ earlier. refl })
 opened knows number machines (AtNodes h) fleet opens e = absurd cc
 
 late : {P : Type 0} (knows : Knowing P) (number machines : ℕ) (at : Stands P) → stages.is_opening at ≡ false → Ends knows (λ (s : Stage). line_step s number (says.Pages machines)) (Line number) (Nodes at) (Nodes at) []
@@ -189,8 +194,10 @@ late knows number machines AtStart opens = absurd cc
 late knows number machines (AtNodes h) opens = record {
   outcomes = [];
   turns = λ earlier. earlier;
-  ends = λ earlier later. record { fault_is = refl; said_is = refl; journal_is = refl; turns_are = refl };
+  over = None;
+  ends = λ earlier later. record { fault_is = refl; said_is = refl; journal_is = refl; turns_are = refl; over_is = refl };
   told = λ earlier known. told_at knows (Nodes (AtNodes h)) earlier known;
+  uses = λ earlier. refl;
 }
 
 module _ {P : Type 0} (see : P → Place) (knows : Knowing P) (x : Scene P) where
@@ -243,22 +250,32 @@ turns_same (Nodes AtStart) earlier later = refl
 turns_same (Nodes (AtNodes h)) earlier later = refl
 turns_same (Machines usage fleet) earlier later = refl
 
+-- nothing was done there beside the run
+pub over_none : {P : Type 0} (at : Holds P) (earlier : List Turn) (later : List Outcome) → run.over_at (stage_of at earlier later) ≡ None
+over_none (Nodes AtStart) earlier later = refl
+over_none (Nodes (AtNodes h)) earlier later = refl
+over_none (Machines usage fleet) earlier later = refl
+
 module _ {P : Type 0} (knows : Knowing P) where
   -- the same of another way to say it
   does_as : {T : Type 0} (number : ℕ) (go way : Stage → Next) (result : Result T EventFault) (old new : Holds P) (now : List Said) → ((s : Stage) → go s ≡ way s)
       → DoesLine knows number way result old new now → DoesLine knows number go result old new now
-  does_as number go way (Ok x) old new now same d = record { outcomes = d.outcomes; turns = d.turns; goes = λ earlier later. same _ ∙ d.goes earlier later; know = d.know }
+  does_as number go way (Ok x) old new now same d = record { outcomes = d.outcomes; turns = d.turns; goes = λ earlier later. same _ ∙ d.goes earlier later; know = d.know; uses = d.uses }
   does_as number go way (Err faults.NotThere) old new now same d = record {
     outcomes = d.outcomes;
     turns = d.turns;
-    ends = λ earlier later. subst (EndsAt (Line number) (journal_of new) now (d.turns earlier)) (sym (same _)) (d.ends earlier later);
+    over = d.over;
+    ends = λ earlier later. subst (EndsAt (Line number) (journal_of new) now (d.turns earlier) d.over) (sym (same _)) (d.ends earlier later);
     told = d.told;
+    uses = d.uses;
   }
   does_as number go way (Err faults.TooMany) old new now same d = record {
     outcomes = d.outcomes;
     turns = d.turns;
-    ends = λ earlier later. subst (EndsAt Large (journal_of new) now (d.turns earlier)) (sym (same _)) (d.ends earlier later);
+    over = d.over;
+    ends = λ earlier later. subst (EndsAt Large (journal_of new) now (d.turns earlier) d.over) (sym (same _)) (d.ends earlier later);
     told = d.told;
+    uses = d.uses;
   }
   does_as number go way (Err faults.NoMemory) old new now same d = tt
 
@@ -272,8 +289,10 @@ module _ {P : Type 0} (knows : Knowing P) where
       subst (Ends knows (λ (s : Stage). step s number bytes) (Line number) at at) (sym none) (record {
         outcomes = [];
         turns = turns_of at;
+        over = None;
         ends = λ earlier later.
-            subst (EndsAt (Line number) (journal_of at) [] (turns_of at earlier)) (sym (step_of (stage_of at earlier later) number bytes few ∙ ap (said_step (stage_of at earlier later) number) (sym is)))
-            (record { fault_is = refl; said_is = refl; journal_is = journal_same at earlier later; turns_are = turns_same at earlier later });
+            subst (EndsAt (Line number) (journal_of at) [] (turns_of at earlier) None) (sym (step_of (stage_of at earlier later) number bytes few ∙ ap (said_step (stage_of at earlier later) number) (sym is)))
+            (record { fault_is = refl; said_is = refl; journal_is = journal_same at earlier later; turns_are = turns_same at earlier later; over_is = over_none at earlier later });
         told = told_at knows at;
+        uses = λ earlier. refl;
       })

@@ -1,5 +1,5 @@
 -- What a line does, from what the cluster did.
-use Rattle.std.proofs.Common.{◌≡◌, ℕ, ◌+◌, ◌≤◌, zero, suc, Bool, cond, List, [], ◌∷◌, ◌++◌, length, map, Option, Some, None, Result, Ok, Err, refl, sym, ap, subst, ◌∙◌}
+use Rattle.std.proofs.Common.{◌≡◌, ℕ, ◌+◌, ◌≤◌, zero, suc, Bool, cond, List, [], ◌∷◌, ◌++◌, length, map, Option, Some, None, Result, Ok, Err, refl, sym, ap, subst, ◌∙◌, append_assoc}
 use Rattle.std.specs.Option.{option_map}
 use Rattle.std.proofs.lemmas.List.{append-nil, length-map}
 use Rattle.script_lines.specs.Grammar.{line_of}
@@ -14,21 +14,17 @@ use Rattle.script_nodes.specs.Outcomes.{Outcome, Item, Turn}
 use Rattle.script_nodes.specs.World.{Place, World, Went, Halt, NotThere, TooMany, takes, opened, all_start, empty_places, shown}
 use Rattle.script_nodes.specs.Holding.{Held, world_of, Leads, Halts, HaltsAt, Does}
 use Rattle.script_nodes.specs.Clusters.{empty_held, held, world_now}
-use Rattle.script_nodes.specs.Run.{Stage, Within, Next, Line, Large, line_step, next_by, fault_by, stays, stops, shows, journal_at, turns_at}
+use Rattle.script_nodes.specs.Run.{Stage, Within, Next, Line, Large, line_step, next_by, fault_by, stays, stops, shows, journal_at, turns_at, over_at}
 use Rattle.script_nodes.specs.declared.cluster.Cluster.{Cluster}
 use Rattle.script_runner.specs.declared.stage.Stage.{Stage as CodeStage}
 use Rattle.script_runner.specs.declared.stage.Stage.TheVariants as stage
 use Rattle.script_lines.proofs.SpelledLines.{line_spelled}
-use Rattle.script_nodes.specs.Knowing.{Knowing, KnowsAt, AllKnow, Told, node_at}
-use Rattle.script_runner.specs.Stages.{Stands, AtStart, AtNodes, Known, stands, stage_of, journal_of, Goes, Ends, EndsAt, DoesLine, MayOpen}
+use Rattle.script_nodes.specs.Knowing.{Knowing, KnowsAt, AllKnow, Told, node_at, outcomes_of, outcomes_in, outcomes_over}
+use Rattle.script_runner.specs.Stages.{Stands, AtStart, AtNodes, Known, stands, stage_of, turns_of, journal_of, Goes, Ends, EndsAt, DoesLine, MayOpen}
 
 journal_same : {P : Type 0} (at : Stands P) (turns : List Turn) (later : List Outcome) → journal_at (stage_of at turns later) ≡ journal_of at
 journal_same AtStart turns later = refl
 journal_same (AtNodes h) turns later = refl
-
--- the turns of a run that is here, behind these
-abbrev pub turns_of : {P : Type 0} → Stands P → List Turn → List Turn
-turns_of at earlier = turns_at (stage_of at earlier [])
 
 turns_same : {P : Type 0} (at : Stands P) (earlier : List Turn) (later : List Outcome) → turns_at (stage_of at earlier later) ≡ turns_of at earlier
 turns_same AtStart earlier later = refl
@@ -42,17 +38,25 @@ pub no_places : {P : Type 0} (knows : Knowing P) (voters : ℕ) → AllKnow know
 no_places knows voters = (no_turns knows voters, tt)
 
 -- places that are known are there; before the mode line none need be
-pub told_at : {P : Type 0} (knows : Knowing P) (at : Stands P) (earlier : List Turn) → Known knows at earlier → Told knows (turns_of at earlier)
-told_at knows AtStart earlier known = record { voters = 1; places = []; know = no_places knows 1 }
-told_at knows (AtNodes h) earlier known = record { voters = h.voters; places = h.nodes; know = known }
+pub told_at : {P : Type 0} (knows : Knowing P) (at : Stands P) (earlier : List Turn) → Known knows at earlier → Told knows (turns_of at earlier) None
+told_at knows AtStart earlier known = record { voters = 1; places = []; know = no_places knows 1; last = tt }
+told_at knows (AtNodes h) earlier known = record { voters = h.voters; places = h.nodes; know = known; last = tt }
+
+over_none : {P : Type 0} (at : Stands P) (earlier : List Turn) (later : List Outcome) → over_at (stage_of at earlier later) ≡ None
+over_none AtStart earlier later = refl
+over_none (AtNodes h) earlier later = refl
+
+-- nothing came
+no_more : {P : Type 0} (at : Stands P) (earlier : List Turn) → outcomes_in (turns_of at earlier) ≡ outcomes_in (turns_of at earlier) ++ []
+no_more at earlier = sym (append-nil (outcomes_in (turns_of at earlier)))
 
 -- nothing happens
 pub stays_so : {P : Type 0} (knows : Knowing P) (go : Stage → Next) (at : Stands P) (said : List Said) → ((earlier : List Turn) (later : List Outcome) → go (stage_of at earlier later) ≡ stays (stage_of at earlier later) []) → Goes knows go at at said said
-stays_so knows go at said same = record { outcomes = []; turns = λ earlier. earlier; more = []; goes = same; says = sym (append-nil said); know = λ earlier k. k }
+stays_so knows go at said same = record { outcomes = []; turns = λ earlier. earlier; more = []; goes = same; says = sym (append-nil said); know = λ earlier k. k; uses = no_more at }
 
 -- one thing is shown
 pub shows_so : {P : Type 0} (knows : Knowing P) (go : Stage → Next) (at : Stands P) (said new : List Said) (say : Said) → ((earlier : List Turn) (later : List Outcome) → go (stage_of at earlier later) ≡ stays (stage_of at earlier later) (say ∷ [])) → new ≡ said ++ say ∷ [] → Goes knows go at at said new
-shows_so knows go at said new say same told = record { outcomes = []; turns = λ earlier. earlier; more = say ∷ []; goes = same; says = told; know = λ earlier k. k }
+shows_so knows go at said new say same told = record { outcomes = []; turns = λ earlier. earlier; more = say ∷ []; goes = same; says = told; know = λ earlier k. k; uses = no_more at }
 
 -- the line isn't in the grammar there
 pub stops_so : {P : Type 0} (knows : Knowing P) (number : ℕ) (go : Stage → Next) (at : Stands P) (said : List Said) → ((earlier : List Turn) (later : List Outcome) → go (stage_of at earlier later) ≡ stops (stage_of at earlier later) (Line number)) → Ends knows go (Line number) at at said said
@@ -60,18 +64,25 @@ stops_so knows number go at said same = record {
   outcomes = [];
   turns = turns_of at;
   more = [];
+  over = None;
   ends = λ earlier later.
-      subst (EndsAt (Line number) (journal_of at) [] (turns_of at earlier)) (sym (same earlier later))
-      (record { fault_is = refl; said_is = refl; journal_is = journal_same at earlier later; turns_are = turns_same at earlier later });
+      subst (EndsAt (Line number) (journal_of at) [] (turns_of at earlier) None) (sym (same earlier later))
+      (record { fault_is = refl; said_is = refl; journal_is = journal_same at earlier later; turns_are = turns_same at earlier later; over_is = over_none at earlier later });
   says = sym (append-nil said);
   told = told_at knows at;
+  uses = λ earlier. refl;
 }
 
 -- ---- events
 
-halts_so : (number : ℕ) (why : Halt) (journal : List Item) (said : List Said) (turns : List Turn) (went : Went) → HaltsAt why journal said turns went → EndsAt (fault_by number why) journal said turns (next_by number went)
-halts_so number why journal said turns went at =
-    record { fault_is = ap (option_map (fault_by number)) at.halt; said_is = at.said_is; journal_is = at.journal_is; turns_are = at.turns_are }
+halts_so : (number : ℕ) (why : Halt) (journal : List Item) (said : List Said) (turns : List Turn) (over : Option Turn) (went : Went) → HaltsAt why journal said turns over went → EndsAt (fault_by number why) journal said turns over (next_by number went)
+halts_so number why journal said turns over went at =
+    record { fault_is = ap (option_map (fault_by number)) at.halt; said_is = at.said_is; journal_is = at.journal_is; turns_are = at.turns_are; over_is = at.over_is }
+
+-- the outcomes of turns, and of more behind them
+outcomes_join : (turns more : List Turn) → outcomes_in (turns ++ more) ≡ outcomes_in turns ++ outcomes_in more
+outcomes_join [] more = refl
+outcomes_join (turn ∷ turns) more = ap (λ (outcomes : List Outcome). outcomes_of turn ++ outcomes) (outcomes_join turns more) ∙ sym (append_assoc (outcomes_of turn) (outcomes_in turns) (outcomes_in more))
 
 event_goes : {P : Type 0} (knows : Knowing P) (number : ℕ) (e : Event) (aim : Aim) (h new : Held P) (before now : List Said) → Leads knows (λ (w : World). takes w e aim) h new before now → Goes knows (λ (s : Stage). line_step s number (says.Event e aim)) (AtNodes h) (AtNodes new) before now
 unfolding line_step
@@ -82,6 +93,7 @@ event_goes knows number e aim h new before now l = record {
   goes = λ earlier later. ap (next_by number) (l.goes earlier later);
   says = l.says;
   know = l.know;
+  uses = λ earlier. outcomes_join earlier l.turns ∙ ap (λ (outcomes : List Outcome). outcomes_in earlier ++ outcomes) (sym l.uses);
 }
 
 event_ends : {P : Type 0} (knows : Knowing P) (number : ℕ) (why : Halt) (e : Event) (aim : Aim) (h new : Held P) (before now : List Said) → Halts knows (λ (w : World). takes w e aim) why h new before now
@@ -91,9 +103,14 @@ event_ends knows number why e aim h new before now l = record {
   outcomes = l.outcomes;
   turns = λ earlier. earlier ++ l.turns;
   more = l.more;
-  ends = λ earlier later. halts_so number why new.journal l.more (earlier ++ l.turns) (takes (world_of h earlier (l.outcomes ++ later)) e aim) (l.halts earlier later);
+  over = l.over;
+  ends = λ earlier later. halts_so number why new.journal l.more (earlier ++ l.turns) l.over (takes (world_of h earlier (l.outcomes ++ later)) e aim) (l.halts earlier later);
   says = l.says;
-  told = λ earlier k. record { voters = new.voters; places = l.nodes; know = l.know earlier k };
+  told = λ earlier k. record { voters = new.voters; places = l.nodes; know = l.know earlier k; last = l.last earlier k };
+  uses = λ earlier.
+      ap (λ (outcomes : List Outcome). outcomes ++ outcomes_over l.over) (outcomes_join earlier l.turns)
+      ∙ append_assoc (outcomes_in earlier) (outcomes_in l.turns) (outcomes_over l.over)
+      ∙ ap (λ (outcomes : List Outcome). outcomes_in earlier ++ outcomes) (sym l.uses);
 }
 
 pub event_does : {P T : Type 0} (knows : Knowing P) (number : ℕ) (e : Event) (aim : Aim) (h new : Held P) (result : Result T EventFault) (before now : List Said) → Does knows (λ (w : World). takes w e aim) result h new before now
@@ -118,6 +135,7 @@ nodes_go knows number voters spare nodes new before now new_ones l = record {
   goes = λ earlier later. ap (next_by number) (l.goes [] later);
   says = l.says;
   know = λ earlier k. l.know [] new_ones;
+  uses = λ earlier. sym l.uses;
 }
 
 nodes_end : {P : Type 0} (knows : Knowing P) (number : ℕ) (why : Halt) (voters spare : ℕ) (nodes : List P) (new : Held P) (before now : List Said) → AllKnow knows voters nodes [] → Halts knows (all_start (voters + spare) 1) why (empty_held voters spare nodes) new before now
@@ -127,9 +145,11 @@ nodes_end knows number why voters spare nodes new before now new_ones l = record
   outcomes = l.outcomes;
   turns = λ earlier. l.turns;
   more = l.more;
-  ends = λ earlier later. halts_so number why new.journal l.more l.turns (all_start (voters + spare) 1 (world_of (empty_held voters spare nodes) [] (l.outcomes ++ later))) (l.halts [] later);
+  over = l.over;
+  ends = λ earlier later. halts_so number why new.journal l.more l.turns l.over (all_start (voters + spare) 1 (world_of (empty_held voters spare nodes) [] (l.outcomes ++ later))) (l.halts [] later);
   says = l.says;
-  told = λ earlier k. record { voters = new.voters; places = l.nodes; know = l.know [] new_ones };
+  told = λ earlier k. record { voters = new.voters; places = l.nodes; know = l.know [] new_ones; last = l.last [] new_ones };
+  uses = λ earlier. sym l.uses;
 }
 
 nodes_do : {P T : Type 0} (knows : Knowing P) (number voters spare : ℕ) (nodes : List P) (new : Held P) (result : Result T EventFault) (before now : List Said) → AllKnow knows voters nodes [] → Does knows (all_start (voters + spare) 1) result (empty_held voters spare nodes) new before now

@@ -5,14 +5,14 @@ use Rattle.dq_base.specs.Sink.{AppendsFront}
 use Rattle.script_lines.specs.Lines.{lines_of}
 use Rattle.script_lines.specs.declared.lines.LineFault.{LineFault}
 use Rattle.script_lines.specs.declared.lines.LineFault.TheVariants as line
-use Rattle.script_nodes.specs.Knowing.{Knowing, Told}
+use Rattle.script_nodes.specs.Knowing.{Knowing, Told, outcomes_in, outcomes_over}
 use Rattle.script_nodes.specs.Outcomes.{Outcome as Came, Item, Turn}
 use Rattle.script_nodes.specs.Run.{Fault, Line, Large, fault_text}
 use Rattle.script_runner.specs.declared.printing.PrintFault.{PrintFault}
 use Rattle.script_runner.specs.declared.printing.PrintFault.TheVariants as print
 use Rattle.script_runner.specs.declared.run.Outcome.{Outcome}
 use Rattle.script_runner.specs.declared.run.Outcome.TheVariants as outcome
-use Rattle.script_runner.specs.Run.{Said, Run, Stage, Next, run, run_from, said_before, ends_at, turns_at, text_of, printed}
+use Rattle.script_runner.specs.Run.{Said, Run, Stage, Next, run, run_from, said_before, ends_at, turns_at, over_at, text_of, printed}
 use Rattle.script_runner.specs.Scenes.{Holds, Known, Goes, Ends, stage_of, closing_of, turns_of}
 
 -- These bytes may follow those that were read: none where the source is at its end or tells nothing.
@@ -23,12 +23,23 @@ MayFollow left more = IsAtEnd left → more ≡ []
 abbrev pub Anything : List ℕ → Type 0
 Anything more = ⊤
 
--- a run that said this, ended so, noted this, and has these turns
-pub record IsRun (said : List Said) (fault : Option Fault) (journal : List Item) (turns : List Turn) (r : Run) : Type 0 where
+-- a run that said this, ended so, noted this, and has these turns, and this one beside them
+pub record IsRun (said : List Said) (fault : Option Fault) (journal : List Item) (turns : List Turn) (over : Option Turn) (r : Run) : Type 0 where
   pub said_is : r.said ≡ said
   pub fault_is : r.fault ≡ fault
   pub journal_is : r.journal ≡ journal
   pub turns_are : r.turns ≡ turns
+  pub over_is : r.over ≡ over
+
+-- where a node did something beside these turns, they are those of the run, and it is what a node did beside the run
+abbrev pub IsBeside : List Turn → Option Turn → Run → Type 0
+IsBeside turns None r = Unit {0}
+IsBeside turns (Some turn) r = (r.turns ≡ turns) × (r.over ≡ Some turn)
+
+-- where a node did something beside these turns, a line ends the script behind them
+abbrev pub EndsBeside : List Turn → Option Turn → Next → Type 0
+EndsBeside turns None next = Unit {0}
+EndsBeside turns (Some turn) next = (fault : Fault) × (next.fault ≡ Some fault) × (turns_at next.stage ≡ turns) × (over_at next.stage ≡ Some turn)
 
 -- these turns begin with those
 abbrev pub BeginWith : List Turn → List Turn → Type 0
@@ -48,6 +59,7 @@ pub record Reached {P : Type 0} (knows : Knowing P) (first now written printed_n
   pub goes_on : (more : List ℕ) (later : List Came) → run (read ++ more) (outcomes ++ later)
       ≡ said_before said (run_from (stage_of at turns later) number (lines_of more))
   pub know : Known knows at turns
+  pub uses : outcomes_in (turns_of at turns) ≡ outcomes
 
 -- The script was read to its end and led here, having said this, and what was said was printed.
 pub record ReadWhole {P : Type 0} (knows : Knowing P) (first now written printed_now : Option (List ℕ)) (at : Holds P) : Type 0 where
@@ -60,6 +72,7 @@ pub record ReadWhole {P : Type 0} (knows : Knowing P) (first now written printed
   pub told : Appends written printed_now (text_of said)
   pub runs : (later : List Came) → run read (outcomes ++ later) ≡ said_before said (ends_at (stage_of at turns later) (closing_of at) None)
   pub know : Known knows at turns
+  pub uses : outcomes_in (turns_of at turns) ≡ outcomes
 
 -- ---- the end
 
@@ -72,8 +85,10 @@ pub record Settles {P : Type 0} (knows : Knowing P) (fault : Option Fault) (jour
   pub said : List Said
   pub taken : Consumes left left' read
   pub told : Appends written written' (text_of said)
-  pub runs : (more : List ℕ) → MayFollow left' more → (later : List Came) → IsRun said fault journal turns (run (read ++ more) (outcomes ++ later))
-  pub led : Told knows turns
+  pub over : Option Turn
+  pub runs : (more : List ℕ) → MayFollow left' more → (later : List Came) → IsRun said fault journal turns over (run (read ++ more) (outcomes ++ later))
+  pub led : Told knows turns over
+  pub uses : outcomes_in turns ++ outcomes_over over ≡ outcomes
 
 -- Whichever bytes of `follows` stand behind those read, a front of what the run says was printed: so nothing of a line that was read
 -- in part. The run begins with these turns, by which places were led to.
@@ -84,7 +99,10 @@ pub record StopsShort {P : Type 0} (knows : Knowing P) (follows : List ℕ → T
   pub taken : Consumes left left' read
   pub front : (more : List ℕ) → follows more → (later : List Came) → AppendsFront written written' (text_of (run (read ++ more) (outcomes ++ later)).said)
   pub begins : (more : List ℕ) → follows more → (later : List Came) → BeginWith (run (read ++ more) (outcomes ++ later)).turns turns
-  pub led : Told knows turns
+  pub over : Option Turn
+  pub beside : (more : List ℕ) → follows more → (later : List Came) → IsBeside turns over (run (read ++ more) (outcomes ++ later))
+  pub led : Told knows turns over
+  pub uses : outcomes_in turns ++ outcomes_over over ≡ outcomes
 
 -- what running the lines of a script to this outcome did
 abbrev pub Stopped : {P : Type 0} → Knowing P → Outcome → List Item → Option (List ℕ) → Option (List ℕ) → Option (List ℕ) → Option (List ℕ) → Type 0
@@ -106,7 +124,10 @@ pub record Prints {P : Type 0} (knows : Knowing P) (fault : Option Fault) (journ
   pub text : (more : List ℕ) → MayFollow left' more → (later : List Came) → Appends written written' (printed (run (read ++ more) (outcomes ++ later)))
   pub notes : (more : List ℕ) → MayFollow left' more → (later : List Came) → (run (read ++ more) (outcomes ++ later)).journal ≡ journal
   pub has : (more : List ℕ) → MayFollow left' more → (later : List Came) → (run (read ++ more) (outcomes ++ later)).turns ≡ turns
-  pub led : Told knows turns
+  pub over : Option Turn
+  pub beside : (more : List ℕ) → MayFollow left' more → (later : List Came) → (run (read ++ more) (outcomes ++ later)).over ≡ over
+  pub led : Told knows turns over
+  pub uses : outcomes_in turns ++ outcomes_over over ≡ outcomes
 
 -- Whichever bytes of `follows` stand behind those read, a front of the run's text was printed; and the run begins with these turns, by which
 -- places were led to.
@@ -117,7 +138,10 @@ pub record PrintsFront {P : Type 0} (knows : Knowing P) (follows : List ℕ → 
   pub taken : Consumes left left' read
   pub front : (more : List ℕ) → follows more → (later : List Came) → AppendsFront written written' (printed (run (read ++ more) (outcomes ++ later)))
   pub begins : (more : List ℕ) → follows more → (later : List Came) → BeginWith (run (read ++ more) (outcomes ++ later)).turns turns
-  pub led : Told knows turns
+  pub over : Option Turn
+  pub beside : (more : List ℕ) → follows more → (later : List Came) → IsBeside turns over (run (read ++ more) (outcomes ++ later))
+  pub led : Told knows turns over
+  pub uses : outcomes_in turns ++ outcomes_over over ≡ outcomes
 
 -- what running a script to this outcome did, by the journal that it left
 abbrev pub Ended : {P : Type 0} → Knowing P → Outcome → List Item → Option (List ℕ) → Option (List ℕ) → Option (List ℕ) → Option (List ℕ) → Type 0
@@ -148,7 +172,10 @@ pub record RanShort {P : Type 0} (knows : Knowing P) (go : Stage → Next) (old 
   pub turns : List Turn → List Turn
   pub front : (earlier : List Turn) (later : List Came) → AppendsFront written written' (text_of (go (stage_of old earlier (outcomes ++ later))).said)
   pub begins : (earlier : List Turn) (later : List Came) → BeginWith (turns_at (go (stage_of old earlier (outcomes ++ later))).stage) (turns earlier)
-  pub led : (earlier : List Turn) → Known knows old earlier → Told knows (turns earlier)
+  pub over : Option Turn
+  pub stops : (earlier : List Turn) (later : List Came) → EndsBeside (turns earlier) over (go (stage_of old earlier (outcomes ++ later)))
+  pub led : (earlier : List Turn) → Known knows old earlier → Told knows (turns earlier) over
+  pub uses : (earlier : List Turn) → outcomes_in (turns earlier) ++ outcomes_over over ≡ outcomes_in (turns_of old earlier) ++ outcomes
 
 abbrev pub Breaks : {P : Type 0} → Knowing P → Outcome → ℕ → (Stage → Next) → Holds P → Holds P → Option (List ℕ) → Option (List ℕ) → Type 0
 Breaks knows outcome.Done number go old new written written' = ⊥

@@ -84,17 +84,22 @@ said_step stage number (Some line) = line_step stage number line
 unfoldable pub step : Stage → ℕ → List ℕ → Next
 step stage number line = if nat_le number line_count_limit then said_step stage number (line_of line) else stops stage Large
 
--- A run: what is said, in order; the fault at which it ends, where it has one; what happened at its nodes; and what is noted that the
--- script doesn't say. Among machines nothing happens at nodes, and nothing is noted.
+-- A run: what is said, in order; the fault at which it ends, where it has one; what happened at its nodes, and what a node did that isn't
+-- in it, as it says too much; and what is noted that the script doesn't say. Among machines nothing happens at nodes, and nothing is noted.
 pub record Run : Type 0 where
   pub said : List Said
   pub fault : Option Fault
   pub turns : List Turn
+  pub over : Option Turn
   pub journal : List Item
 
 abbrev pub turns_at : Stage → List Turn
 turns_at (AtNodes stage) = nodes.turns_at stage
 turns_at (AtMachines usage fleet) = []
+
+abbrev pub over_at : Stage → Option Turn
+over_at (AtNodes stage) = nodes.over_at stage
+over_at (AtMachines usage fleet) = None
 
 abbrev pub journal_at : Stage → List Item
 journal_at (AtNodes stage) = nodes.journal_at stage
@@ -102,10 +107,10 @@ journal_at (AtMachines usage fleet) = []
 
 -- a run that ends here
 abbrev pub ends_at : Stage → List Said → Option Fault → Run
-ends_at stage said fault = record { said = said; fault = fault; turns = turns_at stage; journal = journal_at stage }
+ends_at stage said fault = record { said = said; fault = fault; turns = turns_at stage; over = over_at stage; journal = journal_at stage }
 
 abbrev pub said_before : List Said → Run → Run
-said_before said run = record { said = said ++ run.said; fault = run.fault; turns = run.turns; journal = run.journal }
+said_before said run = record { said = said ++ run.said; fault = run.fault; turns = run.turns; over = run.over; journal = run.journal }
 
 -- at the end of a script all are shown
 abbrev pub closing : Stage → List Said

@@ -7,7 +7,7 @@ use Rattle.script_lines.specs.declared.grammar.ScriptLine.TheVariants as says
 use Rattle.script_lines.specs.declared.usage.Usage.{Usage}
 use Rattle.script_nodes.specs.Outcomes.{Outcome, Item, Turn}
 use Rattle.script_nodes.specs.World.{Place}
-use Rattle.script_nodes.specs.Knowing.{Knowing, Told}
+use Rattle.script_nodes.specs.Knowing.{Knowing, Told, outcomes_in, outcomes_over}
 use Rattle.script_pages.specs.Machines.{Fleet, fleet_of}
 use Rattle.script_runner.specs.declared.said.LineSaid.{LineSaid}
 use Rattle.script_runner.specs.declared.said.LineSaid.TheVariants as said
@@ -16,7 +16,7 @@ use Rattle.script_runner.specs.declared.scene.Scene.TheVariants as scene
 use Rattle.script_runner.specs.Stages as stages
 use Rattle.script_runner.specs.Stages.{Stands, stands}
 use Rattle.script_nodes.specs.Run.{Fault, Line, Large}
-use Rattle.script_runner.specs.Run.{Said, OfNodes, OfMachines, Stage, AtNodes, AtMachines, Next, closing, journal_at, turns_at}
+use Rattle.script_runner.specs.Run.{Said, OfNodes, OfMachines, Stage, AtNodes, AtMachines, Next, closing, journal_at, turns_at, over_at}
 
 -- what is held of a script: of its nodes, or of its machines
 pub data Holds (P : Type 0) : Type 0 where
@@ -71,19 +71,23 @@ pub record Goes {P : Type 0} (knows : Knowing P) (go : Stage → Next) (old new 
   pub goes : (earlier : List Turn) (later : List Outcome)
       → go (stage_of old earlier (outcomes ++ later)) ≡ record { stage = stage_of new (turns earlier) later; said = now; fault = None }
   pub know : (earlier : List Turn) → Known knows old earlier → Known knows new (turns earlier)
+  pub uses : (earlier : List Turn) → outcomes_in (turns_of new (turns earlier)) ≡ outcomes_in (turns_of old earlier) ++ outcomes
 
 -- it ended there for this fault, behind these turns, when this was noted, and this said
-pub record EndsAt (fault : Fault) (journal : List Item) (said : List Said) (turns : List Turn) (next : Next) : Type 0 where
+pub record EndsAt (fault : Fault) (journal : List Item) (said : List Said) (turns : List Turn) (over : Option Turn) (next : Next) : Type 0 where
   pub fault_is : next.fault ≡ Some fault
   pub said_is : next.said ≡ said
   pub journal_is : journal_at next.stage ≡ journal
   pub turns_are : turns_at next.stage ≡ turns
+  pub over_is : over_at next.stage ≡ over
 
 pub record Ends {P : Type 0} (knows : Knowing P) (go : Stage → Next) (fault : Fault) (old new : Holds P) (now : List Said) : Type 0 where
   pub outcomes : List Outcome
   pub turns : List Turn → List Turn
-  pub ends : (earlier : List Turn) (later : List Outcome) → EndsAt fault (journal_of new) now (turns earlier) (go (stage_of old earlier (outcomes ++ later)))
-  pub told : (earlier : List Turn) → Known knows old earlier → Told knows (turns earlier)
+  pub over : Option Turn
+  pub ends : (earlier : List Turn) (later : List Outcome) → EndsAt fault (journal_of new) now (turns earlier) over (go (stage_of old earlier (outcomes ++ later)))
+  pub told : (earlier : List Turn) → Known knows old earlier → Told knows (turns earlier) over
+  pub uses : (earlier : List Turn) → outcomes_in (turns earlier) ++ outcomes_over over ≡ outcomes_in (turns_of old earlier) ++ outcomes
 
 -- what a line of this number did by its answer; after want of memory nothing is told
 abbrev pub DoesLine : {P T : Type 0} → Knowing P → ℕ → (Stage → Next) → Result T EventFault → Holds P → Holds P → List Said → Type 0

@@ -1,5 +1,5 @@
 -- Where a script is as the code has it, and what a line leads to there.
-use Rattle.std.specs.Prelude.{◌≡◌, ◌++◌, ℕ, Bool, true, false, List, [], Some, None, Result, Ok, Err}
+use Rattle.std.specs.Prelude.{◌≡◌, ◌++◌, ℕ, Bool, true, false, List, [], Option, Some, None, Result, Ok, Err}
 use Rattle.script_lines.specs.declared.faults.EventFault.{EventFault}
 use Rattle.script_lines.specs.declared.faults.EventFault.TheVariants as faults
 use Rattle.script_lines.specs.declared.grammar.ScriptLine.{ScriptLine}
@@ -8,11 +8,11 @@ use Rattle.script_nodes.specs.declared.said.Said.{Said}
 use Rattle.script_nodes.specs.Outcomes.{Outcome, Item, Turn}
 use Rattle.script_nodes.specs.World.{Place}
 use Rattle.script_nodes.specs.Holding.{Held, world_of}
-use Rattle.script_nodes.specs.Knowing.{Knowing, AllKnow, Told}
+use Rattle.script_nodes.specs.Knowing.{Knowing, AllKnow, Told, outcomes_in, outcomes_over}
 use Rattle.script_nodes.specs.Voters.{IsVoterCount}
 use Rattle.script_nodes.specs.Clusters.{held}
 use Rattle.script_nodes.specs.Run as run
-use Rattle.script_nodes.specs.Run.{Fault, Line, Large, Next, step, line_step, closing, journal_at, turns_at}
+use Rattle.script_nodes.specs.Run.{Fault, Line, Large, Next, step, line_step, closing, journal_at, turns_at, over_at}
 use Rattle.script_runner.specs.declared.stage.Stage.{Stage}
 use Rattle.script_runner.specs.declared.stage.Stage.TheVariants as stage
 
@@ -29,6 +29,10 @@ stands shows (stage.Within cluster) = AtNodes (held shows cluster)
 abbrev pub stage_of : {P : Type 0} → Stands P → List Turn → List Outcome → run.Stage
 stage_of AtStart turns outcomes = run.Opening outcomes
 stage_of (AtNodes h) turns outcomes = run.Within (world_of h turns outcomes)
+
+-- the turns of a run that is here, behind these
+abbrev pub turns_of : {P : Type 0} → Stands P → List Turn → List Turn
+turns_of at earlier = turns_at (stage_of at earlier [])
 
 -- no mode line has come yet
 abbrev pub is_opening : {P : Type 0} → Stands P → Bool
@@ -59,21 +63,25 @@ pub record Goes {P : Type 0} (knows : Knowing P) (go : run.Stage → Next) (old 
       → go (stage_of old earlier (outcomes ++ later)) ≡ record { stage = stage_of new (turns earlier) later; said = more; fault = None }
   pub says : now ≡ before ++ more
   pub know : (earlier : List Turn) → Known knows old earlier → Known knows new (turns earlier)
+  pub uses : (earlier : List Turn) → outcomes_in (turns_of new (turns earlier)) ≡ outcomes_in (turns_of old earlier) ++ outcomes
 
 -- it ended there for this fault, behind these turns, when this was noted, and this said
-pub record EndsAt (fault : Fault) (journal : List Item) (said : List Said) (turns : List Turn) (next : Next) : Type 0 where
+pub record EndsAt (fault : Fault) (journal : List Item) (said : List Said) (turns : List Turn) (over : Option Turn) (next : Next) : Type 0 where
   pub fault_is : next.fault ≡ Some fault
   pub said_is : next.said ≡ said
   pub journal_is : journal_at next.stage ≡ journal
   pub turns_are : turns_at next.stage ≡ turns
+  pub over_is : over_at next.stage ≡ over
 
 pub record Ends {P : Type 0} (knows : Knowing P) (go : run.Stage → Next) (fault : Fault) (old new : Stands P) (before now : List Said) : Type 0 where
   pub outcomes : List Outcome
   pub turns : List Turn → List Turn
   pub more : List Said
-  pub ends : (earlier : List Turn) (later : List Outcome) → EndsAt fault (journal_of new) more (turns earlier) (go (stage_of old earlier (outcomes ++ later)))
+  pub over : Option Turn
+  pub ends : (earlier : List Turn) (later : List Outcome) → EndsAt fault (journal_of new) more (turns earlier) over (go (stage_of old earlier (outcomes ++ later)))
   pub says : now ≡ before ++ more
-  pub told : (earlier : List Turn) → Known knows old earlier → Told knows (turns earlier)
+  pub told : (earlier : List Turn) → Known knows old earlier → Told knows (turns earlier) over
+  pub uses : (earlier : List Turn) → outcomes_in (turns earlier) ++ outcomes_over over ≡ outcomes_in (turns_of old earlier) ++ outcomes
 
 -- a mode line of nodes has as many voters as a cluster may have
 abbrev pub MayOpen : ScriptLine → Type 0

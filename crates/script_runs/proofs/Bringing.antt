@@ -15,7 +15,7 @@ use Rattle.script_runs.specs.Turns.{is_start, joins_by, asks_by, TurnBrings}
 
 -- whether a node is started by it
 abbrev pub starts_so : Doing → Bool
-starts_so Start = true
+starts_so (Start voters) = true
 starts_so Timeout = false
 starts_so Beat = false
 starts_so (Connect conn) = false
@@ -31,7 +31,7 @@ true_false e = cc
 
 -- whether it is a start
 same_start : (n : ℕ) (doing : Doing) (aim : Aim) (outcome : Outcome) → is_start (Does n doing aim outcome) ≡ starts_so doing
-same_start n Start aim outcome = refl
+same_start n (Start voters) aim outcome = refl
 same_start n Timeout aim outcome = refl
 same_start n Beat aim outcome = refl
 same_start n (Connect conn) aim outcome = refl
@@ -71,7 +71,7 @@ module _ (n : ℕ) where
   event_joins (Bytes conn bytes) event is = ap (λ (e : core.Event). joins_in (Happens e)) is
   event_joins (Hangup conn) event is = ap (λ (e : core.Event). joins_in (Happens e)) is
   event_joins (Receive message) event is = ap (λ (e : core.Event). joins_in (Happens e)) is
-  event_joins Start event is = absurd is
+  event_joins (Start voters) event is = absurd is
 
   event_asks : (doing : Doing) (event : core.Event) → EventIs doing event → bytes_on (Happens event) ≡ asks_by doing
   event_asks Timeout event is = ap (λ (e : core.Event). bytes_on (Happens e)) is
@@ -80,7 +80,7 @@ module _ (n : ℕ) where
   event_asks (Bytes conn bytes) event is = ap (λ (e : core.Event). bytes_on (Happens e)) is
   event_asks (Hangup conn) event is = ap (λ (e : core.Event). bytes_on (Happens e)) is
   event_asks (Receive message) event is = ap (λ (e : core.Event). bytes_on (Happens e)) is
-  event_asks Start event is = absurd is
+  event_asks (Start voters) event is = absurd is
 
   none_joins : (doing : Doing) (event : core.Event) (begins : List Begin) (conn : ℕ) → EventIs doing event → AreOf event begins → joins_by doing ≢ Some conn → NoneJoins conn begins
   none_joins doing event [] conn is of none = tt

@@ -1,4 +1,4 @@
-mod Answering
+pub mod Answering
 mod Mailing
 pub mod Running
 pub mod Placing

@@ -1,5 +1,5 @@
 -- Each call at a place leads its turns on.
-use Rattle.std.proofs.Common.{inl, ℕ, List, [], ◌∷◌, ◌++◌, refl, sym, subst}
+use Rattle.std.proofs.Common.{◌≡◌, inl, ℕ, List, [], ◌∷◌, ◌++◌, refl, sym, subst}
 use Rattle.sql_engine.specs.declared.kind.EngineKind.{EngineKind}
 use Rattle.sql_engine.specs.Meanings.{Meaning}
 use Rattle.disk_model.specs.Disk.{Disk}
@@ -13,7 +13,7 @@ use Rattle.node_replica.specs.Replicas.{kept_of}
 use Rattle.node_runs.proofs.FirstDisk.{first_disk_holds}
 use Rattle.node_runs.proofs.Starting.{starts_keep_hold, fails, finds, crashes, crash_leaves_kept_hold}
 use Rattle.script_nodes.specs.Outcomes.{Ending, Steps, Starts, Stops, Fails, Unreadable, Doing, Start, Turn}
-use Rattle.script_runs.specs.Seats.{Seat, Runs, Rests, EndsSo, StopDone, TurnSo, PathSo}
+use Rattle.script_runs.specs.Seats.{Seat, Runs, Rests, EndsSo, StopDone, TurnSo, PathSo, setup_of}
 use Rattle.script_runs.specs.Places.{IsLeft, IsFair, PlacesBegin, StepsOn, FallsOn, IsFall, CrashesOn, DisksCrashOn, StartsOn, IsNoStart, StartsFail, FindsOn}
 
 -- what is found has the weaker property too
@@ -39,12 +39,12 @@ module _ (m : Meaning) (kind : EngineKind) (setup : Setup) (n : ℕ) where
   falls (Starts loaded standing) is old doing answers kept h = absurd is
   falls Unreadable is old doing answers kept h = absurd is
 
-  no_start : (ending : Ending) → IsNoStart ending → (answers : _) (kept : Kept) → EndsSo m kind setup n (Rests kept) Start answers ending (Rests kept)
-  no_start (Stops keeps) is answers kept = (refl, starts_keep_hold setup kept)
-  no_start (Fails keeps) is answers kept = (refl, starts_keep_hold setup kept)
-  no_start Unreadable is answers kept = (refl, refl)
-  no_start (Steps outs standing) is answers kept = absurd is
-  no_start (Starts loaded standing) is answers kept = absurd is
+  no_start : (voters : ℕ) → setup ≡ setup_of voters → (ending : Ending) → IsNoStart ending → (answers : _) (kept : Kept) → EndsSo m kind setup n (Rests kept) (Start voters) answers ending (Rests kept)
+  no_start voters opens (Stops keeps) is answers kept = (record { voters = voters; is = refl; opens = opens }, starts_keep_hold setup kept)
+  no_start voters opens (Fails keeps) is answers kept = (record { voters = voters; is = refl; opens = opens }, starts_keep_hold setup kept)
+  no_start voters opens Unreadable is answers kept = (record { voters = voters; is = refl; opens = opens }, refl)
+  no_start voters opens (Steps outs standing) is answers kept = absurd is
+  no_start voters opens (Starts loaded standing) is answers kept = absurd is
 
 as_it_is : (d : Disk Text) → IsFair d → Begins d d
 as_it_is d fair = record { came = inl refl; fair = fair }
@@ -72,13 +72,13 @@ module _ (m : Meaning) (kind : EngineKind) where
   disks_crash_on_hold setup n turns d e p crashed fair = crashes (IsLeft _) d e p crashed fair
 
   pub starts_on_hold : StartsOn m kind
-  starts_on_hold setup n turns d e node aim answers standing p fair leaves done =
+  starts_on_hold voters n turns d e node aim answers standing p fair leaves done =
       let f = finds (IsLeft _) d d e node p (as_it_is d fair) leaves in
-      (path_on m kind setup n _ (Rests _) (Runs node.running) turns _ f.0 (refl, done), f.1)
+      (path_on m kind (setup_of voters) n _ (Rests _) (Runs node.running) turns _ f.0 (record { voters = voters; is = refl; opens = refl }, done), f.1)
 
   pub starts_fail_hold : StartsFail m kind
-  starts_fail_hold setup n turns d e why aim answers ending p fair leaves is =
-      stands_weaker _ _ (folder e) (λ kept h. path_on m kind setup n _ (Rests kept) (Rests kept) turns _ h (no_start m kind setup n ending is answers kept)) (fails (IsLeft _) d d e why p (as_it_is d fair) leaves)
+  starts_fail_hold voters n turns d e why aim answers ending p fair leaves is =
+      stands_weaker _ _ (folder e) (λ kept h. path_on m kind (setup_of voters) n _ (Rests kept) (Rests kept) turns _ h (no_start m kind (setup_of voters) n voters refl ending is answers kept)) (fails (IsLeft _) d d e why p (as_it_is d fair) leaves)
 
   pub finds_on_hold : FindsOn m kind
   finds_on_hold setup n turns d e old doing event aim answers ending p fall is finds =

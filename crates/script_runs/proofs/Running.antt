@@ -12,7 +12,7 @@ use Rattle.raft_vote.specs.declared.message.RaftMessage.{RaftMessage}
 use Rattle.raft_world.specs.Members.{Setup}
 use Rattle.store_laws.specs.Store.{Kept}
 use Rattle.cluster_world.specs.Clusters.{Act as RuleAct}
-use Rattle.node_rules.specs.Steps.{Letter, StartStopsSo}
+use Rattle.node_rules.specs.Steps.{Letter, StartStopsSo, StartsSo}
 use Rattle.node_core.specs.declared.event.Event as core
 use Rattle.node_core.specs.declared.running.Running.{Running}
 use Rattle.node_core.specs.Account.{Sends, Begin, Happens, Comes, Compacts, IsMore, AreOf, IsAlone}
@@ -27,7 +27,7 @@ use Rattle.node_runs.specs.Steps.{Leads, used_in, AreAmong, StopRuns}
 use Rattle.node_runs.proofs.Stepping.{step_at, stop_at}
 use Rattle.node_runs.proofs.Starting.{leads_by}
 use Rattle.script_nodes.specs.Outcomes.{Standing, Outs, Ending, Steps, Starts, Stops, Fails, Unreadable, Doing, Timeout, Beat, Connect, Bytes, Hangup, Receive, Start, Turn, Does, Crashes}
-use Rattle.script_runs.specs.Seats.{Seat, Runs, Rests, EventIs, StepDone, StopDone, StartDone, EndsSo, CrashesSo, TurnSo, PathSo}
+use Rattle.script_runs.specs.Seats.{Seat, Runs, Rests, EventIs, StepDone, StopDone, StartDone, EndsSo, CrashesSo, TurnSo, PathSo, setup_of}
 use Rattle.script_runs.specs.Turns.{actor, turns_at, messages_of, messages_in, WasSent, SentTo, AllSentTo, IsDown, EndShows, TurnRuns, AreRun, events_of}
 use Rattle.script_runs.specs.Laws.{TurnsAreRuns, RunsHold, NodesAreSafe, LatersAreSafe}
 use Rattle.script_runs.proofs.Bringing.{Brought, true_false, brought, by_doing}
@@ -61,7 +61,7 @@ module _ (m : Meaning) (kind : EngineKind) (setup : Setup) (r : Run) (n : ℕ) w
     arrives (Receive message) event is was =
         let found = among was.1.0 message was.1.1 in
         subst (λ (e : core.Event). Arrives m kind r n (Happens e)) (sym is) (record { number = found.0; is = found.1; to = was.0 })
-    arrives Start event is was = absurd is
+    arrives (Start voters) event is was = absurd is
 
     all_arrive : (doing : Doing) (event : core.Event) (begins : List Begin) → EventIs doing event → WasSent sent n doing → AreOf event begins → AllByRecursion IsAlone begins → AllArrive m kind r n begins
     all_arrive doing event [] is was of alone = absurd of
@@ -122,13 +122,13 @@ module _ (m : Meaning) (kind : EngineKind) (setup : Setup) (r : Run) (n : ℕ) w
         brings = brings;
       }
 
-      begins_so : (kept loaded : Kept) (new : Running) (answers : List Answer) (standing : Standing) → r.places n ≡ Down kept → StartDone setup n kept loaded new standing → Done Start answers (Starts loaded standing) (Runs new)
+      begins_so : (kept loaded : Kept) (new : Running) (answers : List Answer) (standing : Standing) → r.places n ≡ Down kept → (voters : ℕ) → setup ≡ setup_of voters → StartDone voters n kept loaded new answers standing → Done (Start voters) answers (Starts loaded standing) (Runs new)
       unfolding SeatIs
-      begins_so kept loaded new answers standing down d = record {
+      begins_so kept loaded new answers standing down voters opens d = record {
         place = Up (seen new);
         letters = [];
         replies = [];
-        leads = leads_by m kind setup r n (Up (seen new)) (Boots n d.servers (seen new)) (kept, down, d.starts) refl;
+        leads = leads_by m kind setup r n (Up (seen new)) (Boots n d.servers (seen new)) (kept, down, subst (λ (s : Setup). StartsSo s kept (seen new) d.servers) (sym opens) d.starts) refl;
         shows = record { node = seen new; up = refl; stands = d.stands };
         seat = (refl, d.id, d.links);
         says = among_none [];
@@ -164,7 +164,7 @@ module _ (m : Meaning) (kind : EngineKind) (setup : Setup) (r : Run) (n : ℕ) w
       ends_so (Runs old) doing answers (Fails keeps) (Rests kept) seat was_sent h =
           let s = stops_so old doing kept seat.0 seat.1 seat.2 was_sent h in
           down_so doing answers (Fails keeps) kept s.letters s.replies s.leads (brought n doing h.event (h.stops.begins ++ h.stops.last ∷ []) s.leads.events h.is h.stops.are s.stays) (λ place used d. d) refl
-      ends_so (Rests kept) doing answers (Starts loaded standing) (Runs new) seat was_sent h = subst (λ z. Done z answers (Starts loaded standing) (Runs new)) (sym h.0) (begins_so kept loaded new answers standing seat h.1)
+      ends_so (Rests kept) doing answers (Starts loaded standing) (Runs new) seat was_sent h = subst (λ z. Done z answers (Starts loaded standing) (Runs new)) (sym h.0.is) (begins_so kept loaded new answers standing seat h.0.voters h.0.opens h.1)
       ends_so (Rests kept) doing answers (Stops keeps) (Rests left) seat was_sent h = down_so doing answers (Stops keeps) left [] [] (fails_so kept left seat h.1) (fails_bring doing left) (λ place used d. d) refl
       ends_so (Rests kept) doing answers (Fails keeps) (Rests left) seat was_sent h = down_so doing answers (Fails keeps) left [] [] (fails_so kept left seat h.1) (fails_bring doing left) (λ place used d. d) refl
       ends_so (Rests kept) doing answers Unreadable (Rests left) seat was_sent h = down_so doing answers Unreadable left [] [] (stays_so kept left seat h.1) (none_bring doing) (λ place used d. d) refl

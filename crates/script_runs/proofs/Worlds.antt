@@ -234,7 +234,8 @@ asked_mailed : (n : ℕ) (doing : Doing) (aim : Aim) (w : World) (outcomes : Lis
 asked_mailed n doing aim w [] h came = h
 asked_mailed n doing aim w (outcome ∷ left) h came =
     let went = after_ending n outcome.ending (with_turn w n doing aim outcome left) in
-    many_mailed w went went.halt h (ended n outcome.ending doing aim outcome left w refl h came)
+    let many : World = record w { over = Some (Does n doing aim outcome) } in
+    many_mailed many went went.halt (same_mail w many refl refl h) (ended n outcome.ending doing aim outcome left w refl h came)
 
 -- one of two
 either_mailed : (b : Bool) (x y : Went) → Mailed x.world → Mailed y.world → Mailed (if b then x else y).world
@@ -280,7 +281,7 @@ crashes_mailed : (n pick : ℕ) → Goes (crashes n pick)
 crashes_mailed n pick w h = either_mailed (is_up w n) _ (quiet w) (turned w _ (Crashes n pick) h refl (sym (append-nil (map strip w.mail))) (λ r. tt)) h
 
 starts_mailed : (n : ℕ) (aim : Aim) → Goes (starts n aim)
-starts_mailed n aim w h = either_mailed (is_up w n) (quiet w) (asked n Start aim w w.outcomes) h (asked_mailed n Start aim w w.outcomes h (λ r. tt))
+starts_mailed n aim w h = either_mailed (is_up w n) (quiet w) (asked n (Start w.voters) aim w w.outcomes) h (asked_mailed n (Start w.voters) aim w w.outcomes h (λ r. tt))
 
 counted_so_mailed : (go : World → Went) → Goes go → (w : World) (o : Option Usage) → Mailed w → Mailed (counted_so go w o).world
 counted_so_mailed go g w None h = h

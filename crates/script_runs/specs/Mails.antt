@@ -1,5 +1,5 @@
 -- Each message that arrives in a script was sent.
-use Rattle.std.specs.Prelude.{◌≡◌, ℕ, List, [], ◌++◌}
+use Rattle.std.specs.Prelude.{◌≡◌, ℕ, List, [], ◌∷◌, ◌++◌, Option, Some, None}
 use Rattle.sql_engine.specs.declared.kind.EngineKind.{EngineKind}
 use Rattle.sql_engine.specs.Meanings.{Meaning}
 use Rattle.raft_world.specs.Members.{Setup}
@@ -9,7 +9,7 @@ use Rattle.script_nodes.specs.Run.{run}
 pub use Rattle.script_nodes.specs.Knowing.{CanHold, AllCanHold}
 use Rattle.script_runs.specs.Laws.{IsSafe}
 use Rattle.script_runs.specs.Seats.{Seat, Rests, PathSo}
-use Rattle.script_runs.specs.Turns.{turns_at, AllSentTo}
+use Rattle.script_runs.specs.Turns.{actor, turns_at, AllSentTo}
 
 -- In a script, whatever came of its events, a node receives only messages that were sent to it; up to any moment, where the wire could
 -- hold what was sent until then.
@@ -23,6 +23,12 @@ pub record ByNodes (m : Meaning) (kind : EngineKind) (setup : Setup) (turns : Li
   pub ends : ℕ → Seat
   pub paths : (n : ℕ) → PathSo m kind setup n (Rests nothing_kept) (turns_at n turns) (ends n)
   pub hold : AllCanHold turns
+
+-- And what a node did behind them, which isn't among them.
+abbrev pub OverByNode : Meaning → EngineKind → Setup → List Turn → Option Turn → Type 0
+OverByNode m kind setup turns None = Unit {0}
+OverByNode m kind setup turns (Some turn) =
+    (seat : Seat) × PathSo m kind setup (actor turn) (Rests nothing_kept) (turns_at (actor turn) turns ++ turn ∷ []) seat
 
 -- So each script is safe, up to any moment until which its nodes did so.
 abbrev pub ScriptsAreSafe : Meaning → EngineKind → Type 0

@@ -24,7 +24,7 @@ use Rattle.node_core.specs.Values.{kept_by}
 use Rattle.node_world.specs.Runs.{nothing_kept}
 use Rattle.script_lines.specs.declared.grammar.Aim.{Aim}
 use Rattle.script_nodes.specs.Outcomes.{Standing, Outs, Ending, Steps, Starts, Stops, Fails, Unreadable, Doing, Start, Turn, Does, Crashes}
-use Rattle.script_runs.specs.Seats.{Seat, Runs, Rests, EventIs, StepDone, StopDone, StartDone, PathSo}
+use Rattle.script_runs.specs.Seats.{Seat, Runs, Rests, EventIs, StepDone, StopDone, StartDone, PathSo, setup_of}
 
 -- ---- a place
 
@@ -97,9 +97,10 @@ DisksCrashOn m kind =
 -- A start that ended well, of a node that shows what `Node::start` says of it.
 abbrev pub StartsOn : Meaning → EngineKind → Type 0
 StartsOn m kind =
-    (setup : Setup) (n : ℕ) (turns : List Turn) (d e : Disk Text) (node : Node) (aim : Aim) (answers : List Answer) (standing : Standing) →
-    IsPlaced m kind setup n turns d None → IsFair d → StartLeaves (Ok node) d e → StartDone setup n (kept_by node) (kept_by node) node.running standing →
-    IsPlaced m kind setup n (turns ++ does n Start aim answers (Starts (kept_by node) standing) ∷ []) e (Some node.running)
+    (voters n : ℕ) (turns : List Turn) (d e : Disk Text) (node : Node) (aim : Aim) (answers : List Answer) (standing : Standing) →
+    IsPlaced m kind (setup_of voters) n turns d None → IsFair d → StartLeaves (Ok node) d e →
+    StartDone voters n (kept_by node) (kept_by node) node.running answers standing →
+    IsPlaced m kind (setup_of voters) n (turns ++ does n (Start voters) aim answers (Starts (kept_by node) standing) ∷ []) e (Some node.running)
 
 -- the ending of a start that failed or was stopped, or found what doesn't load
 abbrev pub IsNoStart : Ending → Type 0
@@ -111,9 +112,9 @@ IsNoStart (Starts kept standing) = ⊥
 
 abbrev pub StartsFail : Meaning → EngineKind → Type 0
 StartsFail m kind =
-    (setup : Setup) (n : ℕ) (turns : List Turn) (d e : Disk Text) (why : StartFault) (aim : Aim) (answers : List Answer) (ending : Ending) →
-    IsPlaced m kind setup n turns d None → IsFair d → StartLeaves (Err why) d e → IsNoStart ending →
-    IsPlaced m kind setup n (turns ++ does n Start aim answers ending ∷ []) e None
+    (voters n : ℕ) (turns : List Turn) (d e : Disk Text) (why : StartFault) (aim : Aim) (answers : List Answer) (ending : Ending) →
+    IsPlaced m kind (setup_of voters) n turns d None → IsFair d → StartLeaves (Err why) d e → IsNoStart ending →
+    IsPlaced m kind (setup_of voters) n (turns ++ does n (Start voters) aim answers ending ∷ []) e None
 
 -- ---- what `Node::step` says of the disk where it failed
 

@@ -10,12 +10,17 @@ use Rattle.store_laws.specs.Store.{Kept}
 use Rattle.page_apply.specs.Databases.{contents_of}
 use Rattle.node_replica.specs.Replicas.{kept_of}
 use Rattle.node_rules.specs.Nodes.{Node}
+use Rattle.node_state.specs.Snapshot.{contents_in}
 use Rattle.node_rules.specs.Steps.{StartsSo, StartStopsSo}
 use Rattle.node_core.specs.declared.event.Event as core
 use Rattle.node_core.specs.declared.event.Event.TheVariants as events
 use Rattle.node_core.specs.declared.outs.Outs as core_outs
 use Rattle.node_core.specs.declared.running.Running.{Running}
 use Rattle.node_core.specs.Account.{StepsBy, StopsBy}
+use Rattle.node_core.specs.Core.{core_of}
+use Rattle.node_core.specs.Exact.{StepsExactly}
+use Rattle.node_core.specs.ExactParts.{Answered}
+use Rattle.node_core.specs.ExactStart.{StartsExactly}
 use Rattle.node_core.specs.Values.{seen}
 use Rattle.script_nodes.specs.Voters.{voters_from}
 use Rattle.script_nodes.specs.Outcomes.{Standing, Outs, Ending, Steps, Starts, Stops, Fails, Unreadable, Doing, Timeout, Beat, Connect, Bytes, Hangup, Receive, Start, Turn, Does, Crashes}
@@ -48,7 +53,7 @@ EventIs (Connect conn) event = event ≡ events.Connect conn
 EventIs (Bytes conn bytes) event = event ≡ events.Bytes conn bytes
 EventIs (Hangup conn) event = event ≡ events.Hangup conn
 EventIs (Receive message) event = event ≡ events.Peer message
-EventIs Start event = ⊥
+EventIs (Start voters) event = ⊥
 
 -- an engine that keeps its answers has kept these, and lost none
 abbrev pub has_told : List Answer → Option Told
@@ -67,6 +72,9 @@ pub record StepDone (m : Meaning) (kind : EngineKind) (setup : Setup) (old new :
   pub steps : StepsBy m kind setup old new event said (has_told before) (has_told (before ++ answers))
   pub outs_are : outs ≡ outs_of said
   pub stands : StandsSo (seen new) standing
+  -- By these answers its core became that of the node behind it, and by no others.
+  pub exact : Answered (has_told before) (has_told (before ++ answers)) (StepsExactly m kind event (core_of old) (core_of new) said)
+  pub files : standing.databases ≡ contents_in (core_of new).files
 
 -- It failed or was stopped, and left this.
 pub record StopDone (m : Meaning) (kind : EngineKind) (setup : Setup) (old : Running) (doing : Doing) (kept : Kept) : Type 0 where
@@ -74,24 +82,35 @@ pub record StopDone (m : Meaning) (kind : EngineKind) (setup : Setup) (old : Run
   pub is : EventIs doing event
   pub stops : StopsBy m kind setup old event kept
 
--- A start ended well, over what was kept, of a node without links, as a script's connections are clients' alone.
-pub record StartDone (setup : Setup) (n : ℕ) (kept loaded : Kept) (new : Running) (standing : Standing) : Type 0 where
+-- A start ended well, over what was kept, in a cluster that was opened with so many voters, of a node without links, as a script's
+-- connections are clients' alone. Its engine was asked nothing.
+pub record StartDone (voters n : ℕ) (kept loaded : Kept) (new : Running) (answers : List Answer) (standing : Standing) : Type 0 where
   pub loads : loaded ≡ kept
   pub servers : List Server
-  pub starts : StartsSo setup kept (seen new) servers
+  pub starts : StartsSo (setup_of voters) kept (seen new) servers
   pub id : (seen new).raft.id ≡ n
   pub links : new.has_links ≡ false
   pub stands : StandsSo (seen new) standing
+  pub exact : StartsExactly n false false (voters_from voters 1) kept (core_of new)
+  pub files : standing.databases ≡ contents_in (core_of new).files
+  pub unasked : answers ≡ []
+
+-- It was asked to start, in this cluster.
+pub record AsksStart (setup : Setup) (doing : Doing) : Type 0 where
+  pub voters : ℕ
+  pub is : doing ≡ Start voters
+  pub opens : setup ≡ setup_of voters
 
 -- What a node did at its place, and how that ended.
 abbrev pub EndsSo : Meaning → EngineKind → Setup → ℕ → Seat → Doing → List Answer → Ending → Seat → Type 0
 EndsSo m kind setup n (Runs old) doing answers (Steps outs standing) (Runs new) = StepDone m kind setup old new doing answers outs standing
 EndsSo m kind setup n (Runs old) doing answers (Stops keeps) (Rests kept) = StopDone m kind setup old doing kept
 EndsSo m kind setup n (Runs old) doing answers (Fails keeps) (Rests kept) = StopDone m kind setup old doing kept
-EndsSo m kind setup n (Rests kept) doing answers (Starts loaded standing) (Runs new) = (doing ≡ Start) × StartDone setup n kept loaded new standing
-EndsSo m kind setup n (Rests kept) doing answers (Stops keeps) (Rests left) = (doing ≡ Start) × StartStopsSo setup kept left
-EndsSo m kind setup n (Rests kept) doing answers (Fails keeps) (Rests left) = (doing ≡ Start) × StartStopsSo setup kept left
-EndsSo m kind setup n (Rests kept) doing answers Unreadable (Rests left) = (doing ≡ Start) × (left ≡ kept)
+EndsSo m kind setup n (Rests kept) doing answers (Starts loaded standing) (Runs new) =
+    (asks : AsksStart setup doing) × StartDone asks.voters n kept loaded new answers standing
+EndsSo m kind setup n (Rests kept) doing answers (Stops keeps) (Rests left) = AsksStart setup doing × StartStopsSo setup kept left
+EndsSo m kind setup n (Rests kept) doing answers (Fails keeps) (Rests left) = AsksStart setup doing × StartStopsSo setup kept left
+EndsSo m kind setup n (Rests kept) doing answers Unreadable (Rests left) = AsksStart setup doing × (left ≡ kept)
 EndsSo m kind setup n old doing answers ending new = ⊥
 
 -- A crash leaves what is kept.

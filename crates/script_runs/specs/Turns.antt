@@ -1,5 +1,5 @@
 -- The turns of a script as a run of whole nodes.
-use Rattle.std.specs.Prelude.{◌≢◌, Bool, true, false, Option, None, ◌≡◌, ℕ, ◌==◌, cond, List, [], ◌∷◌, ◌++◌, Some, slice_get}
+use Rattle.std.specs.Prelude.{◌≢◌, Bool, true, false, Option, None, ◌≡◌, ℕ, List, [], ◌∷◌, ◌++◌, Some, slice_get}
 use Rattle.sql_engine.specs.declared.kind.EngineKind.{EngineKind}
 use Rattle.sql_engine.specs.Meanings.{Meaning}
 use Rattle.session_rules.specs.Engines.{Answer}
@@ -27,7 +27,7 @@ WasSent sent n Beat = Unit {0}
 WasSent sent n (Connect conn) = Unit {0}
 WasSent sent n (Bytes conn bytes) = Unit {0}
 WasSent sent n (Hangup conn) = Unit {0}
-WasSent sent n Start = Unit {0}
+WasSent sent n (Start voters) = Unit {0}
 
 abbrev pub SentTo : List RaftMessage → Turn → Type 0
 SentTo sent (Does n doing aim outcome) = WasSent sent n doing
@@ -80,7 +80,7 @@ TurnShows (Crashes n pick) place letters replies used = IsDown place
 
 -- a start, the connection that comes, and the one on which bytes come
 abbrev pub is_start : Turn → Bool
-is_start (Does n Start aim outcome) = true
+is_start (Does n (Start voters) aim outcome) = true
 is_start (Does n Timeout aim outcome) = false
 is_start (Does n Beat aim outcome) = false
 is_start (Does n (Connect conn) aim outcome) = false
@@ -96,7 +96,7 @@ joins_by Beat = None
 joins_by (Bytes conn bytes) = None
 joins_by (Hangup conn) = None
 joins_by (Receive message) = None
-joins_by Start = None
+joins_by (Start voters) = None
 
 abbrev pub asks_by : Doing → Option ℕ
 asks_by (Bytes conn bytes) = Some conn
@@ -105,7 +105,7 @@ asks_by Beat = None
 asks_by (Connect conn) = None
 asks_by (Hangup conn) = None
 asks_by (Receive message) = None
-asks_by Start = None
+asks_by (Start voters) = None
 
 abbrev pub joins_of : Turn → Option ℕ
 joins_of (Does n doing aim outcome) = joins_by doing

@@ -2,6 +2,8 @@ use Rattle.std.proofs.Common.{◌⊎◌, inl, Option, ◌∙◌, sym, subst}
 use Rattle.program_words.specs.declared.asked.Asked.{Asked}
 use Rattle.script_runner.proofs.Agreement.{keeps_alike}
 use Rattle.dqnode.specs.Asks.{IsScript, IsRun, IsStatement, IsCheck, IsServed}
+use Rattle.cell_scripts.proofs.Deciding.{cells_broken, cells_compare}
+use Rattle.dqnode.proofs.Deciding.{broken_scripts_decide, scripts_decide}
 use Rattle.dqnode.proofs.Endings.{runs_are_safe}
 use Rattle.dqnode.proofs.program.dqnode.Goals as goal
 
@@ -56,6 +58,18 @@ returns-in-Ok-clause-alike g c = keeps_alike
 
 pub returns-in-Err-clause-alike : goal.returns-in-Err-clause-alike
 returns-in-Err-clause-alike g c = keeps_alike
+
+pub returns-in-Ok-clause-determined : goal.returns-in-Ok-clause-determined
+returns-in-Ok-clause-determined g c = scripts_decide cells_compare
+
+pub returns-in-Err-clause-determined : goal.returns-in-Err-clause-determined
+returns-in-Err-clause-determined g c = scripts_decide cells_compare
+
+pub returns-in-Ok-clause-determined_front : goal.returns-in-Ok-clause-determined_front
+returns-in-Ok-clause-determined_front g c = broken_scripts_decide cells_broken
+
+pub returns-in-Err-clause-determined_front : goal.returns-in-Err-clause-determined_front
+returns-in-Err-clause-determined_front g c = broken_scripts_decide cells_broken
 
 pub returns-in-Ok-clause-serves_well : goal.returns-in-Ok-clause-serves_well
 returns-in-Ok-clause-serves_well g c = λ s. c.run.ensures.serves_well (subst IsServed (sym c.in-Ok.ensures.asked) s)

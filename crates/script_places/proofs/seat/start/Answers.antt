@@ -7,7 +7,7 @@ pub returns-in-Runs-clause-comes : goal.returns-in-Runs-clause-comes
 returns-in-Runs-clause-comes c =
     start_leads c.args.seat.now c.start_node.new.seat c.came.new.seat c.args.node c.args.voters c.args.aim c.in-Runs.loaded c.came.result c.requires.down
     (subst (StartsBy c.args.node c.args.voters c.args.seat.now c.start_node.new.seat) c.in-Runs.is c.in_ok-loaded.ensures.starts)
-    c.came.ensures.ended c.came.ensures.node c.came.ensures.failed c.came.ensures.disk
+    c.came.ensures.ended c.came.ensures.answers c.came.ensures.node c.came.ensures.failed c.came.ensures.disk
 
 pub returns-in_ok-ended-in-DiskFault-clause-comes : goal.returns-in_ok-ended-in-DiskFault-clause-comes
 returns-in_ok-ended-in-DiskFault-clause-comes c =

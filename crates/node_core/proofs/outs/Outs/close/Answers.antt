@@ -1,6 +1,6 @@
 use Rattle.std.proofs.Common.{Option, sym, ap, ◌++◌, ◌∙◌, append-nil}
 use Rattle.client_connection.specs.declared.connection.CloseReason.{CloseReason}
-use Rattle.node_core.specs.Conns.{close_of}
+use Rattle.node_core.specs.Carrying.{close_of}
 use Rattle.node_core.proofs.outs.Outs.close.Goals as goal
 
 pub returns-in-None-clause-said : goal.returns-in-None-clause-said

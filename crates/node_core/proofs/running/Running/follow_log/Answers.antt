@@ -1,3 +1,4 @@
+use Rattle.node_core.proofs.RaftExactly.{followed_untold, followed_told}
 use Rattle.std.proofs.Common.{sym, ap, subst}
 use Rattle.node_replica.specs.Replicas.{ReplicaValue, IsKept}
 use Rattle.node_core.specs.declared.running.Running.{Running}
@@ -39,3 +40,13 @@ returns-clause-tells g c = ok_both c.tell_servers.result (tells_behind c.args.se
 pub returns-clause-follows : goal.returns-clause-follows
 returns-clause-follows g c =
     on_ok_weaker c.tell_servers.result (λ t. follows_behind c.args.self.now c.follow_members.new.self c.tell_servers.new.self c.args.batch t c.in_ok-follow_members.ensures.follows) c.tell_servers.ensures.told
+
+pub returns-then-not-branch-clause-exact : goal.returns-then-not-branch-clause-exact
+returns-then-not-branch-clause-exact g c =
+    followed_untold c.args.self.now c.follow_members.new.self c.args.batch c.in_ok-follow_members.field-0 c.in_ok-follow_members.ensures.others c.if-not-branch.true c.in_ok-follow_members.ensures.exact
+
+pub returns-clause-exact : goal.returns-clause-exact
+returns-clause-exact g c =
+    on_ok_weaker c.tell_servers.result
+    (λ told. followed_told c.args.self.now c.follow_members.new.self c.tell_servers.new.self c.args.batch c.in_ok-follow_members.field-0 c.in_ok-follow_members.ensures.others c.if-not-branch.false c.in_ok-follow_members.ensures.exact told)
+    c.tell_servers.ensures.exact

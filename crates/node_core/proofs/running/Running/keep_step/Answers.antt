@@ -1,3 +1,4 @@
+use Rattle.node_core.specs.Core.{core_of}
 use Rattle.std.proofs.Common.{sym, subst}
 use Rattle.node_replica.specs.Replicas.{ReplicaValue, IsKept}
 use Rattle.node_core.proofs.Posting.{offices_so, free_so}
@@ -28,3 +29,6 @@ returns-in_err-note_loss-clause-stops g c = λ opening has.
     failed c.from_residual-in_err-note_loss.result
     (kept_finds g.D.Disk.tells (g.D.Disk.states c.make_step.new.disk) c.make_step.new.self.replica (StopsIn (read_setup opening) (bytes_with c.args.event) c.args.self.now (input_of c.args.event))
     (made_left (read_setup opening) c.args.self.now c.make_step.new.self.replica c.args.event c.requires.whole c.requires.intake c.in_ok-batch.ensures.made.node c.in_ok-batch.ensures.made.bytes) (c.in_ok-batch.ensures.stored has))
+
+pub returns-clause-exact : goal.returns-clause-exact
+returns-clause-exact g c = record { mid = core_of c.make_step.new.self; steps = c.in_ok-batch.ensures.exact; is = c.in_ok-note_loss.ensures.exact }

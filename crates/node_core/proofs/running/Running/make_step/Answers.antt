@@ -1,3 +1,4 @@
+use Rattle.node_core.proofs.RaftExactly.{step_by}
 use Rattle.node_core.proofs.Posting.{posts_so}
 use Rattle.raft_member.specs.Members.{read_setup}
 use Rattle.raft_core.specs.Events.{input_of}
@@ -19,3 +20,8 @@ returns-in_err-post_all-clause-stops g c = λ opening has.
     failed c.from_residual-in_err-post_all.result
     (kept_finds g.D.Disk.tells (g.D.Disk.states c.step.new.disk) c.step.new.self (StopsIn (read_setup opening) (bytes_with c.args.event) c.args.self.now (input_of c.args.event))
     (made_left (read_setup opening) c.args.self.now c.step.new.self c.args.event c.requires.whole c.requires.intake c.in_ok-batch.ensures.raft c.in_ok-batch.ensures.bytes) (c.in_ok-batch.ensures.kept has))
+
+pub returns-clause-exact : goal.returns-clause-exact
+returns-clause-exact g c =
+    step_by c.args.self.now c.step.new.self c.post_all.new.self c.args.event _ _ _ c.requires.whole c.step.ensures.id c.in_ok-batch.ensures.raft c.in_ok-batch.ensures.snap c.in_ok-batch.ensures.tells
+    c.in_ok-batch.ensures.moved c.in_ok-post_all.ensures

@@ -1,4 +1,4 @@
-use Rattle.node_core.proofs.ConnStreams.{conns_both, lent_on}
+use Rattle.node_core.proofs.ConnStreams.{kept_both, lent_kept}
 use Rattle.std.proofs.Common.{[], None}
 use Rattle.node_core.proofs.Beginning.{begins_unread, begins_given_back, begins_told}
 use Rattle.node_core.proofs.Led.{led_lent, led_reads}
@@ -6,14 +6,14 @@ use Rattle.node_core.proofs.running.Running.read_done.Goals as goal
 
 pub returns-then-gives_back-clause-conns : goal.returns-then-gives_back-clause-conns
 returns-then-gives_back-clause-conns g c =
-    conns_both c.args.self.now c.take_back.new.self c.run_later.new.self (lent_on c.args.self.now c.take_back.new.self _ _ c.take_back.ensures.rest) c.in_ok-run_later.ensures.conns
+    kept_both c.args.self.now c.take_back.new.self c.run_later.new.self (lent_kept c.args.self.now c.take_back.new.self _ _ c.take_back.ensures.rest) c.in_ok-run_later.ensures.conns
 
 pub returns-then-not-take_back-clause-conns : goal.returns-then-not-take_back-clause-conns
-returns-then-not-take_back-clause-conns g c = lent_on c.args.self.now c.take_back.new.self _ _ c.take_back.ensures.rest
+returns-then-not-take_back-clause-conns g c = lent_kept c.args.self.now c.take_back.new.self _ _ c.take_back.ensures.rest
 
 pub returns-clause-conns : goal.returns-clause-conns
 returns-clause-conns g c =
-    conns_both c.args.self.now c.take_back.new.self c.tell_read.new.self (lent_on c.args.self.now c.take_back.new.self _ _ c.take_back.ensures.rest) c.in_ok-tell_read.ensures.conns
+    kept_both c.args.self.now c.take_back.new.self c.tell_read.new.self (lent_kept c.args.self.now c.take_back.new.self _ _ c.take_back.ensures.rest) c.in_ok-tell_read.ensures.conns
 
 pub returns-then-not-take_back-clause-begun : goal.returns-then-not-take_back-clause-begun
 returns-then-not-take_back-clause-begun g c = λ setup.

@@ -1,3 +1,4 @@
+use Rattle.node_core.proofs.RaftExactly.{installs_exactly}
 use Rattle.std.proofs.Common.{sym, ap, subst, ◌∙◌}
 use Rattle.node_replica.specs.Replicas.{ReplicaValue, IsKept, kept_of}
 use Rattle.node_core.specs.declared.running.Running.{Running}
@@ -108,3 +109,10 @@ returns-in_err-look_at_servers-clause-stops g c = λ opening has.
     c.in_ok-keep_step.ensures.stepped.node c.in_ok-keep_step.ensures.stepped.bytes)) (tells_or c.replace.new.self c.tell_servers.new.self c.in_ok-tell_servers.ensures.tells))
     (c.in_ok-tell_servers.ensures.stored
     (subst (λ (r : ReplicaValue). IsKept g.D.Disk.tells (g.D.Disk.states c.keep_step.new.disk) r) (sym (ap (λ (n : Running). n.replica) c.in_ok-replace.ensures.is ∙ c.lose.ensures.replica)) (c.in_ok-keep_step.ensures.stored has))))
+
+pub returns-clause-exact : goal.returns-clause-exact
+returns-clause-exact g c = λ s from.
+    installs_exactly c.args.event _ s c.args.applied c.args.self.now c.keep_step.new.self c.lose.new.self c.replace.new.self c.tell_servers.new.self c.look_at_servers.new.self
+    c.in_ok-keep_step.ensures.exact c.in_ok-lose.ensures.exact c.in_ok-replace.ensures.is c.in_ok-replace.ensures.applied
+    (c.clients_change_databases.ensures.clients c.lose.new.self.clients c.lose.new.self.applied.machine c.args.applied.machine c.in_ok-lose.ensures.unmarked c.in_ok-lose.ensures.stand)
+    c.in_ok-replace.ensures.members c.in_ok-tell_servers.ensures.exact c.in_ok-look_at_servers.ensures.exact from

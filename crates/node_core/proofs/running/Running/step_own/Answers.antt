@@ -1,3 +1,4 @@
+use Rattle.node_core.proofs.RaftExactly.{own_exactly}
 use Rattle.std.proofs.Common.{sym, ap, subst, ◌∙◌}
 use Rattle.node_replica.specs.Replicas.{ReplicaValue, IsKept}
 use Rattle.node_core.specs.declared.running.Running.{Running}
@@ -62,3 +63,7 @@ returns-in_err-look-clause-stops g c = λ before opening came was has.
     (own_making (read_setup opening) came before c.args.self.now c.tell_change.new.self c.args.event _ c.requires.own was c.in_ok-tell_change.ensures.told (told_by c.args.self.now c.tell_change.new.self c.args.event c.in_ok-tell_change.ensures.tells) (own_may opening came c.args.self.now c.tell_change.new.self c.args.event c.in_ok-tell_change.ensures.tells)
     (made_left (read_setup opening) c.tell_change.new.self c.make_step.new.self.replica c.args.event c.in_ok-tell_change.ensures.told.whole (due_intake c.args.event (own_is_due c.args.event c.requires.own)) c.in_ok-batch.ensures.made.node
     c.in_ok-batch.ensures.made.bytes)) (c.in_ok-batch.ensures.stored (c.in_ok-tell_change.ensures.stored has)))
+
+pub returns-clause-exact : goal.returns-clause-exact
+returns-clause-exact g c =
+    own_exactly c.args.event _ c.args.self.now c.tell_change.new.self c.make_step.new.self c.follow_members.new.self c.look.new.self c.in_ok-tell_change.ensures.exact c.in_ok-batch.ensures.exact c.in_ok-follow_members.ensures.exact c.in_ok-look.ensures.exact

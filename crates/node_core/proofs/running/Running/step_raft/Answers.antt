@@ -1,3 +1,4 @@
+use Rattle.node_core.proofs.RaftExactly.{follows_exactly}
 use Rattle.std.proofs.Common.{sym, ap, subst, ◌∙◌}
 use Rattle.node_replica.specs.Replicas.{ReplicaValue, IsKept}
 use Rattle.node_core.specs.declared.running.Running.{Running}
@@ -44,3 +45,7 @@ returns-in_err-look-clause-stops g c = λ opening has.
     (behind_following (read_setup opening) c.args.self.now _ c.follow_log.new.self c.args.event
     (follows_step c.args.self.now c.keep_step.new.self c.args.event _ c.requires.going c.requires.comes c.requires.none c.requires.idle c.in_ok-batch.ensures.stepped c.in_ok-batch.ensures.posts c.in_ok-batch.ensures.offices
     c.follow_log.new.self.members) (told_or c.keep_step.new.self c.follow_log.new.self c.in_ok-follow_log.ensures.tells)) (c.in_ok-follow_log.ensures.stored (c.in_ok-batch.ensures.stored has)))
+
+pub returns-clause-exact : goal.returns-clause-exact
+returns-clause-exact g c =
+    follows_exactly c.args.event _ c.args.self.now c.keep_step.new.self c.follow_log.new.self c.note_win.new.self c.look.new.self c.in_ok-batch.ensures.exact c.in_ok-follow_log.ensures.exact c.note_win.ensures.exact c.in_ok-look.ensures.exact

@@ -1,3 +1,6 @@
+use Rattle.node_core.specs.Core.{core_of}
+use Rattle.node_core.specs.ExactRaft.{BringsBy, OffersBy}
+use Rattle.node_core.proofs.RaftExactly.{takes_plain, takes_snapshot, takes_none}
 use Rattle.std.proofs.lemmas.Result.{on_ok_weaker, on_err_weaker}
 use Rattle.sql_engine.specs.Meanings.{Told}
 use Rattle.raft_member.specs.Members.{read_setup}
@@ -40,3 +43,16 @@ returns-in-Nothing-clause-stops g c = λ opening has.
     on_err_weaker c.step_raft.result
     (more g.D.Disk.tells (g.D.Disk.states c.step_raft.new.disk) (StopsFollowing (read_setup opening) c.args.self.now c.args.event) (BeganStops (g.E.Engine.meaning (g.E.Engine.kind c.args.engine.now)) (g.E.Engine.kind c.args.engine.now) (read_setup opening) c.args.self.now c.args.event)
     (λ kept s. following_stops (g.E.Engine.meaning (g.E.Engine.kind c.args.engine.now)) (g.E.Engine.kind c.args.engine.now) opening c.args.self.now c.args.event kept c.requires.comes s)) (c.step_raft.ensures.stops opening has)
+
+pub returns-in-Nothing-clause-exact : goal.returns-in-Nothing-clause-exact
+returns-in-Nothing-clause-exact g c =
+    on_ok_weaker c.step_raft.result
+    (takes_plain c.args.event (core_of c.args.self.now) (core_of c.step_raft.new.self) (subst (OffersBy c.args.event (core_of c.args.self.now)) c.in-Nothing.is c.in_ok-offered.ensures.exact)) c.step_raft.ensures.exact
+
+pub returns-in_ok-step_install-in-Snapshot-clause-exact : goal.returns-in_ok-step_install-in-Snapshot-clause-exact
+returns-in_ok-step_install-in-Snapshot-clause-exact g c =
+    let brings : BringsBy c.args.event (core_of c.args.self.now) c.in-Snapshot.applied = subst (OffersBy c.args.event (core_of c.args.self.now)) c.in-Snapshot.is c.in_ok-offered.ensures.exact in
+    takes_snapshot c.args.event c.in-Snapshot.applied (core_of c.args.self.now) (core_of c.step_install.new.self) brings (c.in_ok-step_install-in-Snapshot.ensures.exact brings.state brings.from)
+
+pub returns-in-Lost-clause-exact : goal.returns-in-Lost-clause-exact
+returns-in-Lost-clause-exact g c = takes_none c.args.event (core_of c.args.self.now) (subst (OffersBy c.args.event (core_of c.args.self.now)) c.in-Lost.is c.in_ok-offered.ensures.exact)

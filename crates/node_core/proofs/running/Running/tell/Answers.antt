@@ -15,3 +15,6 @@ returns-in_err-make_step-clause-stops g c = λ opening came has.
     failed c.from_residual.result
     (more g.D.Disk.tells (g.D.Disk.states c.make_step.new.disk) (StopsIn (read_setup opening) [] c.args.self.now (Local (UseServers c.args.servers))) (StopsIn (read_setup opening) came c.args.self.now (Local (UseServers c.args.servers)))
     (λ kept s. stops_other (read_setup opening) [] came c.args.self.now (Local (UseServers c.args.servers)) kept (λ m e. cc) s) (c.in_err-make_step.ensures.stops opening has))
+
+pub returns-clause-exact : goal.returns-clause-exact
+returns-clause-exact g c = (_, c.in_ok-make_step.ensures.exact)

@@ -1,3 +1,4 @@
+use Rattle.node_core.proofs.RaftExactly.{untold_other, untold_plain, told_change}
 use Rattle.std.proofs.Common.{Bool, refl, sym, subst, ◌∙◌, arith}
 use Rattle.std.proofs.lemmas.Result.{on_ok_weaker, on_err_weaker}
 use Rattle.raft_member.specs.Members.{read_setup}
@@ -11,6 +12,7 @@ use Rattle.node_core.proofs.running.Running.tell_change.Goals as goal
 
 pub returns-in_default : goal.returns-in_default
 returns-in_default g c = record {
+  exact = untold_other c.args.self.now c.args.event.now c.in_default.not-Propose;
   told = told_none c.args.self.now c.requires.whole c.requires.short;
   tells = no_change (other_plain c.args.event.now c.requires.own c.in_default.not-Propose) refl;
   stored = λ has. has;
@@ -74,3 +76,13 @@ returns-then-not-branch-clause-unfit g c = λ q.
     unfit_not c.args.self.now c.args.event.now c.in-Propose.entries c.as_slice.result.now c.as_slice-2.result.now c.entry-item.result c.in-Some.servers c.as_slice-3.result.now
     c.in-Propose.is c.as_slice.ensures (c.are_plain.ensures.change c.if-are_plain.false) c.as_slice-2.ensures c.entry-item.is (sym c.in-Some.is ∙ c.in_ok-servers.ensures.is) c.as_slice-3.ensures
     (subst (λ (b : Bool). MayOrNot b c.args.self.now c.as_slice-3.result.now) c.if-not-branch.true c.in_ok-may_change_to.ensures)
+
+pub returns-then-are_plain-clause-exact : goal.returns-then-are_plain-clause-exact
+returns-then-are_plain-clause-exact g c =
+    untold_plain c.args.self.now c.args.event.now c.in-Propose.entries c.as_slice.result.now c.in-Propose.is c.as_slice.ensures (c.are_plain.ensures.plain c.if-are_plain.true)
+
+pub returns-clause-exact : goal.returns-clause-exact
+returns-clause-exact g c =
+    let is = (change_event c.args.event.now c.in-Propose.entries c.as_slice-2.result.now c.entry-item.result c.in-Propose.is c.as_slice-2.ensures c.in-len1.len_at_least c.in-len1.len_below c.entry-item.is) in
+    on_ok_weaker c.tell.result
+    (told_change c.args.self.now c.tell.new.self c.args.event.now c.entry-item.result c.in-Some.servers is c.requires.takes (sym c.in_ok-servers.ensures.is ∙ c.in-Some.is)) c.tell.ensures.exact

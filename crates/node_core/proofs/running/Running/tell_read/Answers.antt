@@ -1,4 +1,4 @@
-use Rattle.node_core.proofs.ConnStreams.{read_on, none_later}
+use Rattle.node_core.proofs.ConnStreams.{read_kept, none_later}
 use Rattle.std.proofs.Common.{refl}
 use Rattle.client_sessions.specs.Seen.{clients_of}
 use Rattle.session_decisions.specs.Reading.{read_named}
@@ -12,13 +12,13 @@ pub returns-in_ok-perform-in-Some-clause-conns : goal.returns-in_ok-perform-in-S
 returns-in_ok-perform-in-Some-clause-conns c =
     let databases = c.args.self.now.applied.machine in
     let mid : Running = record c.args.self.now { clients = c.on_read_done.new.self } in
-    read_on c.args.self.now mid c.perform.new.self c.args.conn _ _ c.in_ok-act.field-0 c.in-Some.act (c.in_ok-act.ensures.finished databases) (c.in_ok-act.ensures.rest databases) c.in-Some.is refl refl refl refl
+    read_kept c.args.self.now mid c.perform.new.self c.args.conn _ _ c.in_ok-act.field-0 c.in-Some.act (c.in_ok-act.ensures.finished databases) (c.in_ok-act.ensures.rest databases) c.in-Some.is refl refl refl refl refl
     c.in_ok-perform-in-Some.ensures.conns
 
 pub returns-in-None-clause-conns : goal.returns-in-None-clause-conns
 returns-in-None-clause-conns c =
     let databases = c.args.self.now.applied.machine in
-    none_later c.args.self.now (record c.args.self.now { clients = c.on_read_done.new.self }) c.args.conn c.in_ok-act.field-0 (c.in_ok-act.ensures.rest databases) refl refl refl refl
+    none_later c.args.self.now (record c.args.self.now { clients = c.on_read_done.new.self }) c.args.conn c.in_ok-act.field-0 (c.in_ok-act.ensures.rest databases) refl refl refl refl refl
 
 pub perform-requires : goal.perform-requires
 perform-requires c =

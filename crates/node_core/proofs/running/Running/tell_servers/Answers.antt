@@ -1,3 +1,4 @@
+use Rattle.node_core.proofs.RaftExactly.{untold_by, told_by}
 use Rattle.std.proofs.lemmas.Result.{on_ok_weaker, on_err_weaker}
 use Rattle.node_core.specs.Posting.{LeavesSo, tells_current}
 use Rattle.raft_member.specs.Members.{read_setup}
@@ -22,3 +23,11 @@ returns-clause-stops g c = λ opening came has.
     on_err_weaker c.tell.result
     (more g.D.Disk.tells (g.D.Disk.states c.tell.new.disk) (StopsIn (read_setup opening) came c.args.self.now (Local (UseServers c.in_ok-servers.servers))) (StopsTelling (read_setup opening) came c.args.self.now)
     (λ kept s. in_telling c.in_ok-servers.servers s)) (c.tell.ensures.stops opening came has)
+
+pub returns-then-not-follows-clause-exact : goal.returns-then-not-follows-clause-exact
+returns-then-not-follows-clause-exact g c = untold_by c.args.self.now (c.follows.ensures.none c.if-not-follows.true)
+
+pub returns-clause-exact : goal.returns-clause-exact
+returns-clause-exact g c =
+    on_ok_weaker c.tell.result
+    (λ told. told_by c.args.self.now c.tell.new.self c.in_ok-servers.servers (c.follows.ensures.is c.if-not-follows.false) (c.in_ok-servers.ensures ∙ c.current.ensures.value) told) c.tell.ensures.exact

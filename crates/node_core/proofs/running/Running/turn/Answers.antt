@@ -1,21 +1,24 @@
 use Rattle.node_core.proofs.ConnStreams.{conns_both, kept_on}
+use Rattle.node_core.proofs.Carried.{kept_moves}
 use Rattle.std.proofs.Common.{sym, subst}
 use Rattle.raft_member.specs.Members.{read_setup}
 use Rattle.node_replica.specs.Replicas.{ReplicaValue, IsKept}
 use Rattle.node_core.proofs.Looping.{on_ok_then, goes_further, had_none}
 use Rattle.node_core.proofs.RaftAccounts.{owns_turns}
-use Rattle.node_core.proofs.Finding.{more, kept_finds}
+use Rattle.node_core.proofs.Finding.{more, kept_finds, failed as always_err}
 use Rattle.node_core.specs.Account.{StopsBy}
 use Rattle.node_core.specs.Finding.{StopsOwn}
 use Rattle.node_core.proofs.StopsOfStep.{stopped_here, stopped_own}
-use Rattle.node_core.proofs.Finding.{failed as always_err}
+use Rattle.node_core.specs.Core.{core_of}
+use Rattle.node_core.proofs.ExactTurns.{taken_due, untaken_due, may_apply, all_applied, entry_turn, attend_turn}
 use Rattle.node_core.proofs.running.Running.turn.Goals as goal
 
 pub returns-then-branch-clause-conns : goal.returns-then-branch-clause-conns
 returns-then-branch-clause-conns g c = kept_on c.args.self.now c.take_due.new.self c.in_ok-take_due.ensures.conns
 
 pub returns-then-self-view-clause-conns : goal.returns-then-self-view-clause-conns
-returns-then-self-view-clause-conns g c = conns_both c.args.self.now c.take_due.new.self c.apply_next.new.self (kept_on c.args.self.now c.take_due.new.self c.in_ok-take_due.ensures.conns) c.in_ok-apply_next.ensures.conns
+returns-then-self-view-clause-conns g c = conns_both c.args.self.now c.take_due.new.self c.apply_next.new.self (kept_on c.args.self.now c.take_due.new.self c.in_ok-take_due.ensures.conns)
+    (kept_on c.take_due.new.self c.apply_next.new.self c.in_ok-apply_next.ensures.conns)
 
 pub returns-clause-conns : goal.returns-clause-conns
 returns-clause-conns g c =
@@ -24,7 +27,7 @@ returns-clause-conns g c =
 pub returns-then-branch-clause-on : goal.returns-then-branch-clause-on
 returns-then-branch-clause-on g c = λ opening start event told u.
     let kind = g.E.Engine.kind c.args.engine.now in
-    goes_further (g.E.Engine.meaning kind) kind (read_setup opening) start event told c.args.self.now c.take_due.new.self u
+    goes_further (g.E.Engine.meaning kind) kind (read_setup opening) start event told c.args.self.now c.take_due.new.self u (kept_moves c.args.self.now c.take_due.new.self c.in_ok-take_due.ensures.conns)
     (λ bytes joins. owns_turns (g.E.Engine.meaning kind) kind opening bytes joins c.args.self.now c.take_due.new.self (c.in_ok-take_due.ensures.goes c.if-branch.true))
 
 pub returns-then-self-view-clause-stored : goal.returns-then-self-view-clause-stored
@@ -36,6 +39,7 @@ returns-then-self-view-clause-on g c = λ opening start event told u.
     let kind = g.E.Engine.kind c.args.engine.now in
     goes_further (g.E.Engine.meaning kind) kind (read_setup opening) start event told c.take_due.new.self c.apply_next.new.self
     (had_none (g.E.Engine.meaning kind) kind (read_setup opening) start event told c.args.self.now c.take_due.new.self u (c.in_ok-take_due.ensures.none c.if-branch.false))
+    (kept_moves c.take_due.new.self c.apply_next.new.self c.in_ok-apply_next.ensures.conns)
     (λ bytes joins. c.in_ok-apply_next.ensures.goes (read_setup opening) bytes joins)
 
 pub returns-clause-on : goal.returns-clause-on
@@ -73,3 +77,20 @@ returns-clause-stops g c = λ opening start event told u has.
     let kind = g.E.Engine.kind c.args.engine.now in
     c.attend.ensures.stops opening start event told
     (had_none (g.E.Engine.meaning kind) kind (read_setup opening) start event told c.args.self.now c.take_due.new.self u (c.in_ok-take_due.ensures.none c.if-branch.false)) (c.in_ok-take_due.ensures.stored has)
+
+pub returns-then-branch-clause-exact : goal.returns-then-branch-clause-exact
+returns-then-branch-clause-exact g c =
+    let kind = g.E.Engine.kind c.args.engine.now in
+    taken_due (g.E.Engine.meaning kind) kind (g.E.Engine.told c.args.engine.now) c.args.self.now c.take_due.new.self _ c.if-branch.true c.in_ok-take_due.ensures.exact
+
+pub returns-then-self-view-clause-exact : goal.returns-then-self-view-clause-exact
+returns-then-self-view-clause-exact g c =
+    let kind = g.E.Engine.kind c.args.engine.now in
+    entry_turn (g.E.Engine.meaning kind) kind (g.E.Engine.told c.args.engine.now) (g.E.Engine.told c.apply_next.new.engine) (core_of c.args.self.now) (core_of c.take_due.new.self) (core_of c.apply_next.new.self)
+    (untaken_due c.args.self.now c.take_due.new.self _ c.if-branch.false c.in_ok-take_due.ensures.exact) (may_apply c.take_due.new.self _ c.view.ensures.commit c.if-self-view.true) c.in_ok-apply_next.ensures.exact
+
+pub returns-clause-exact : goal.returns-clause-exact
+returns-clause-exact g c =
+    let kind = g.E.Engine.kind c.args.engine.now in
+    attend_turn c.attend.result (g.E.Engine.meaning kind) kind (g.E.Engine.told c.args.engine.now) (g.E.Engine.told c.attend.new.engine) (core_of c.args.self.now) (core_of c.take_due.new.self) (core_of c.attend.new.self)
+    (untaken_due c.args.self.now c.take_due.new.self _ c.if-branch.false c.in_ok-take_due.ensures.exact) (all_applied c.take_due.new.self _ c.view.ensures.commit c.if-self-view.false) c.attend.ensures.exact

@@ -1,5 +1,0 @@
-pub mod CellAnswers
-pub mod Unnumbered
-pub mod Turning
-pub mod Asking
-pub mod Repeating

@@ -1,0 +1,56 @@
+-- With engines of cells a script alone decides what is said.
+use Rattle.std.specs.Prelude.{◌≡◌, ◌++◌, ℕ, List, Option}
+use Rattle.std.specs.List.{AllByRecursion}
+use Rattle.sql_engine.specs.declared.kind.EngineKind.TheVariants.{Cells}
+use Rattle.sql_engine.specs.Cells.{cells}
+use Rattle.script_nodes.specs.Knowing.{outcomes_in, outcomes_over, with_over}
+use Rattle.script_nodes.specs.Outcomes.{Outcome, Turn}
+use Rattle.script_runner.specs.Ending.{IsBeside}
+use Rattle.script_runner.specs.Run.{run, printed}
+use Rattle.script_runs.specs.Mails.{ByNodes, OverByNode}
+use Rattle.script_runs.specs.Seats.{setup_of}
+use Rattle.script_repeats.specs.Nodes.{GoesWell}
+use Rattle.script_repeats.specs.Repeats.{Compared, IsWhole, StartWith}
+
+-- A run over whole nodes with engines of cells, in which each step and start ended well, and no engine wanted memory; also the last event,
+-- where it isn't in the run.
+pub record IsOfCells (script : List ℕ) (outcomes : List Outcome) : Type 0 where
+  pub voters : ℕ
+  pub nodes : ByNodes cells Cells (setup_of voters) (run script outcomes).turns
+  pub last : OverByNode cells Cells (setup_of voters) (run script outcomes).turns (run script outcomes).over
+  pub well : AllByRecursion GoesWell (with_over (run script outcomes).turns (run script outcomes).over)
+
+-- Two such runs of one script are alike, or one of them isn't told what came of an event and has said a front of what the other says.
+abbrev pub CellScriptsCompare : Type 0
+CellScriptsCompare = (script : List ℕ) (one other : List Outcome) → IsOfCells script one → IsOfCells script other → Compared (run script one) (run script other)
+
+-- One that isn't told all prints a front of what one prints that is.
+abbrev pub CellFrontsRepeat : Type 0
+CellFrontsRepeat =
+    (script : List ℕ) (one other : List Outcome) → IsOfCells script one → IsOfCells script other → IsWhole (run script other).fault →
+    StartWith (printed (run script other)) (printed (run script one))
+
+-- A run that broke off, over whole nodes with engines of cells, of which these turns are known, and what a node did that isn't among them.
+pub record BrokeOffCells (script : List ℕ) (outcomes : List Outcome) : Type 0 where
+  pub turns : List Turn
+  pub over : Option Turn
+  pub voters : ℕ
+  pub nodes : ByNodes cells Cells (setup_of voters) turns
+  pub last : OverByNode cells Cells (setup_of voters) turns over
+  pub well : AllByRecursion GoesWell (with_over turns over)
+  pub uses : outcomes_in turns ++ outcomes_over over ≡ outcomes
+  pub begins : StartWith (run script outcomes).turns turns
+  pub beside : IsBeside turns over (run script outcomes)
+
+-- It prints a front of what one prints that was told all.
+abbrev pub CellBrokenRepeat : Type 0
+CellBrokenRepeat =
+    (script : List ℕ) (one other : List Outcome) → BrokeOffCells script one → IsOfCells script other → IsWhole (run script other).fault →
+    StartWith (printed (run script other)) (printed (run script one))
+
+-- Two that were told all print the same and have the same fault.
+abbrev pub CellScriptsRepeat : Type 0
+CellScriptsRepeat =
+    (script : List ℕ) (one other : List Outcome) → IsOfCells script one → IsOfCells script other →
+    IsWhole (run script one).fault → IsWhole (run script other).fault →
+    (printed (run script one) ≡ printed (run script other)) × ((run script one).fault ≡ (run script other).fault)

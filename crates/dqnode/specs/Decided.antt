@@ -1,0 +1,69 @@
+-- With an engine of cells a script alone decides what is written and how the script ends.
+use Rattle.std.specs.Prelude.{◌≡◌, ◌++◌, List, ℕ, Option}
+use Rattle.std.specs.List.{AllByRecursion}
+use Rattle.std.specs.Io.KnownBytes.{Appends}
+use Rattle.dq_base.specs.Sink.{AppendsFront}
+use Rattle.sql_engine.specs.declared.kind.EngineKind.TheVariants.{Cells}
+use Rattle.script_nodes.specs.Knowing.{with_over}
+use Rattle.script_nodes.specs.Outcomes.{Item, Turn}
+use Rattle.script_nodes.specs.Run.{Fault}
+use Rattle.script_places.specs.Safe.{IsFairTo, IsFairOver}
+use Rattle.script_repeats.specs.Nodes.{GoesWell}
+use Rattle.script_repeats.specs.Plain.{plain_items, plain_turns}
+use Rattle.script_repeats.specs.Repeats.{IsWhole}
+use Rattle.script_runner.specs.Ending.{Anything, MayFollow}
+use Rattle.dqnode.specs.Program.{BreaksOff, Gives}
+
+-- All went well in a run, also in what a node did last where that isn't in it: no checksum matched by chance in what a start found, each
+-- step and start ended well, so that no call of a disk stopped or failed, and no engine wanted memory.
+pub record WentWell {fault : Option Fault} {journal : List Item} {left left' written written' : Option (List ℕ)}
+    (gives : Gives Cells fault journal left left' written written') : Type 0 where
+  pub fair : IsFairTo Cells gives.nodes.voters gives.turns gives.nodes.lives gives.turns
+  pub fair_last : IsFairOver Cells gives.nodes.voters gives.turns gives.over gives.nodes.last
+  pub well : AllByRecursion GoesWell (with_over gives.turns gives.over)
+  pub whole : IsWhole fault
+
+-- So of a run that broke off.
+pub record BrokeWell {follows : List ℕ → Type 0} {left left' written written' : Option (List ℕ)} (breaks : BreaksOff Cells follows left left' written written')
+    : Type 0 where
+  pub fair : IsFairTo Cells breaks.nodes.voters breaks.turns breaks.nodes.lives breaks.turns
+  pub fair_last : IsFairOver Cells breaks.nodes.voters breaks.turns breaks.over breaks.nodes.last
+  pub well : AllByRecursion GoesWell (with_over breaks.turns breaks.over)
+
+-- The same text was written behind what was written before, and the faults are the same. So is what happened at nodes, with what came of it,
+-- and what is noted, but for the numbers of transactions.
+pub record WroteSame (fault other : Option Fault) (turns others : List Turn) (journal items : List Item) (written written' shown shown' : Option (List ℕ))
+    : Type 0 where
+  pub text : List ℕ
+  pub one : Appends written written' text
+  pub also : Appends shown shown' text
+  pub faults : fault ≡ other
+  pub came : plain_turns turns ≡ plain_turns others
+  pub noted : plain_items journal ≡ plain_items items
+
+-- So it is of two calls that ran one script, from the same bytes and whatever may follow those that they read, where all went well in both.
+abbrev pub ScriptsDecide : Type 0
+ScriptsDecide =
+    (fault other : Option Fault) (journal items : List Item) (left left' written written' from from' shown shown' : Option (List ℕ))
+    (one : Gives Cells fault journal left left' written written') (also : Gives Cells other items from from' shown shown') →
+    WentWell one → WentWell also → (rest more : List ℕ) → MayFollow left' rest → MayFollow from' more → one.read ++ rest ≡ also.read ++ more →
+    WroteSame fault other one.turns also.turns journal items written written' shown shown'
+
+-- The one wrote a front of the text that the other wrote behind what was written before.
+pub record WroteFront (written written' shown shown' : Option (List ℕ)) : Type 0 where
+  pub text : List ℕ
+  pub front : AppendsFront written written' text
+  pub also : Appends shown shown' text
+
+-- So it is of a call that broke off, behind whose bytes these may follow, and one that ran the same script to its end or to its fault, where all
+-- went well in both.
+abbrev pub BrokenDecideBy : (Option (List ℕ) → List ℕ → Type 0) → Type 0
+BrokenDecideBy follows =
+    (fault : Option Fault) (journal : List Item) (left left' written written' from from' shown shown' : Option (List ℕ))
+    (one : BreaksOff Cells (follows left') left left' written written') (also : Gives Cells fault journal from from' shown shown') →
+    BrokeWell one → WentWell also → (rest more : List ℕ) → follows left' rest → MayFollow from' more → one.read ++ rest ≡ also.read ++ more →
+    WroteFront written written' shown shown'
+
+-- by a fault of the input; by a fault of the output, or for want of memory
+abbrev pub BrokenScriptsDecide : Type 0
+BrokenScriptsDecide = BrokenDecideBy (λ left. Anything) × BrokenDecideBy MayFollow

@@ -1,0 +1,6 @@
+use Rattle.std.proofs.Common.{◌≡◌}
+use Rattle.node_core.proofs.PeerLinks.{NoneWaits}
+use Rattle.node_core.proofs.links.next_of.Given as goal
+
+abbrev pub invariant-loop-place : goal.invariant-loop-place
+invariant-loop-place l = (l.links.items ≡ l.fn.links.items) × NoneWaits l.fn.links.items l.place

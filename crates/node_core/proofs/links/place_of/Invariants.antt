@@ -1,0 +1,6 @@
+use Rattle.page_apply.proofs.First.{NoneBefore}
+use Rattle.node_core.specs.Carrying.{is_of}
+use Rattle.node_core.proofs.links.place_of.Given as goal
+
+abbrev pub invariant-loop-place : goal.invariant-loop-place
+invariant-loop-place l = NoneBefore (is_of l.conn) l.links l.place

@@ -1,0 +1,29 @@
+use Rattle.std.proofs.Common.{◌≡◌, ◌-◌, Option, Some, refl, sym, ap, subst, ◌∙◌}
+use Rattle.std.specs.Prelude.{IfSome, is_some, slice_get, slice_index_or}
+use Rattle.raft_member.specs.Members.{settled}
+use Rattle.node_core.specs.declared.running.Running.{Running}
+use Rattle.node_core.proofs.CoreEntries.{next_found, takes_other, takes_servers}
+use Rattle.node_core.proofs.running.Running.apply_entry.Goals as goal
+
+pub returns-then-not-changes_servers-clause-exact : goal.returns-then-not-changes_servers-clause-exact
+returns-then-not-changes_servers-clause-exact c =
+    let old : Running = c.args.self.now in
+    let entry = c.unwrap-entry.result.now in
+    let new : Running = record old { applied = c.apply.new.applied; members = c.settle.new.self } in
+    takes_other old new entry c.in_ok-effect.effect
+    (next_found old.replica.raft old.applied.index c.in_ok-index.index entry c.in_ok-index.ensures (c.entry.ensures.some.0 (ap is_some c.unwrap-entry.ensures))
+    (subst (λ r. IfSome r (λ e. e.now ≡ slice_index_or old.replica.raft.entries (c.in_ok-index.index - old.replica.raft.base - 1) e.now)) c.unwrap-entry.ensures c.entry.ensures.entry))
+    c.in_ok-effect.ensures.told (c.changes_servers.ensures.not c.if-not-changes_servers.true) c.in_ok-effect.ensures.entry c.in_ok-effect.ensures.files
+    (c.apply.ensures.clients old.clients c.requires.going.holds.clients) (c.settle.ensures.settled ∙ ap (settled old.members) c.in_ok-index.ensures) refl
+
+pub returns-clause-exact : goal.returns-clause-exact
+returns-clause-exact c =
+    let old : Running = c.args.self.now in
+    let entry = c.unwrap-entry.result.now in
+    let mid : Running = record old { applied = c.apply.new.applied; members = c.settle.new.self } in
+    takes_servers old mid c.look_at_servers.new.self entry c.in_ok-effect.effect
+    (next_found old.replica.raft old.applied.index c.in_ok-index.index entry c.in_ok-index.ensures (c.entry.ensures.some.0 (ap is_some c.unwrap-entry.ensures))
+    (subst (λ r. IfSome r (λ e. e.now ≡ slice_index_or old.replica.raft.entries (c.in_ok-index.index - old.replica.raft.base - 1) e.now)) c.unwrap-entry.ensures c.entry.ensures.entry))
+    c.in_ok-effect.ensures.told (c.changes_servers.ensures.is c.if-not-changes_servers.false) c.in_ok-effect.ensures.entry c.in_ok-effect.ensures.files
+    (c.apply.ensures.clients old.clients c.requires.going.holds.clients) (c.settle.ensures.settled ∙ ap (settled old.members) c.in_ok-index.ensures) refl
+    c.in_ok-look_at_servers.ensures.exact

@@ -1,0 +1,314 @@
+-- What a turn of a node leads to, exactly: a relation of what decides before and after it, which is a function but for the answers of
+-- the engine.
+use Rattle.std.specs.Prelude.{◌≡◌, ◌⊎◌, ℕ, zero, suc, Bool, true, false, ◌&&◌, cond, nat_lt, List, [], ◌∷◌, ◌++◌, length, Option, Some, None, Result, Ok, Err}
+use Rattle.wire_msgs.specs.declared.fault.MsgFault.{MsgFault}
+use Rattle.wire_msgs.specs.declared.request.Request.{Request}
+use Rattle.wire_msgs.specs.declared.response.Response.TheVariants.{Empty}
+use Rattle.wire_msgs.specs.Reading.{request_of}
+use Rattle.sql_engine.specs.declared.kind.EngineKind.{EngineKind}
+use Rattle.sql_engine.specs.Meanings.{Meaning}
+use Rattle.sql_engine.specs.Replies.{Statement}
+use Rattle.session_rules.specs.Causes.{failure, unread_cause}
+use Rattle.session_rules.specs.Engines.{Answer, AllowsFor, used_for}
+use Rattle.session_rules.specs.Entries.{Content, written}
+use Rattle.session_rules.specs.Requests.{on_request, handed, on_later, handed_later, without_later, affected_by}
+use Rattle.session_rules.specs.Seen.{entry_seen}
+use Rattle.session_rules.specs.Sessions.{Gateway, Effect, HandsOver, JoinsPeer, Weighs, Turned, Refused, Lacks, Answers, Proposes, Lends, Affects}
+use Rattle.session_rules.specs.Sessions.{later_query, responses_of}
+use Rattle.gateway.specs.Later.{first_due}
+use Rattle.client_sessions.specs.Clients.{Offer, joining, next_offer}
+use Rattle.raft_rules.specs.Log.{Entry, term_at}
+use Rattle.raft_rules.specs.Node.{Node, Server, Role, Leader, Candidate, Follower, Outcome, is_leader}
+use Rattle.raft_rules.specs.Todo.{IsBatch}
+use Rattle.raft_rules.specs.Compaction.{compacted_step}
+use Rattle.raft_snapshot.specs.Compacting.{is_due}
+use Rattle.raft_member.specs.Members.{configuration_in, last_servers}
+use Rattle.raft_vote.specs.declared.message.RaftMessage.{RaftMessage}
+use Rattle.raft_vote.specs.declared.message.Snapshot.{Snapshot}
+use Rattle.raft_vote.specs.Servers.{servers_bytes}
+use Rattle.raft_core.specs.Events.{input_of, offered}
+use Rattle.raft_core.specs.declared.event.RaftEvent.{RaftEvent}
+use Rattle.raft_core.specs.declared.event.RaftEvent.TheVariants as due
+use Rattle.page_apply.specs.Snapshot.{snapshot_text}
+use Rattle.store_format.specs.FilesRead.{snap_kept}
+use Rattle.store_laws.specs.Store.{Snap}
+use Rattle.node_replica.specs.Letters.{Tells}
+use Rattle.node_replica.specs.Mails.{all_posted, sent}
+use Rattle.node_state.specs.Content.{effect_of}
+use Rattle.node_state.specs.Snapshot.{NodeSnapshot, snapshot_in, offered_to, contents_in}
+use Rattle.node_core.specs.declared.event.Event.{Event}
+use Rattle.node_core.specs.declared.event.Event.TheVariants as events
+use Rattle.node_core.specs.declared.outs.Outs.{Outs}
+use Rattle.node_core.specs.Plain.{plain_gate}
+use Rattle.node_core.specs.Core.{Core, clients_at, looked, showing_servers, won, losing, ended, followed, are_others, replaced, entry_at, entry_done}
+use Rattle.node_core.specs.Core.{dutiful, giving, replied, with_its, taking, idle, joined_by, hearing, hanging_up, closing_heard, silent}
+
+-- ---- a step of Raft
+
+abbrev pub step_of : Core → RaftEvent → Outcome
+step_of w event = compacted_step w.me w.raft (input_of event)
+
+-- the snapshot that is kept behind it: one that came past the commit index, else the old one
+abbrev pub snap_by : Core → RaftEvent → Snap
+snap_by w event = cond (nat_lt w.raft.commit (step_of w event).node.snapshot.index) (snap_kept (offered event)) w.snap
+
+-- A step has changed the log from this index on, if any, unless a snapshot came past the commit index.
+abbrev pub ChangesFrom : Bool → Node → Node → Option ℕ → Type 0
+ChangesFrom true s t batch = batch ≡ None
+ChangesFrom false s t batch = IsBatch s.commit s.log t.log batch
+
+-- Raft's step of an event was made, its messages are posted, and the log is another one from this index on; nothing else has followed.
+pub record StepBy (event : RaftEvent) (batch : Option ℕ) (w v : Core) : Type 0 where
+  pub posted : List RaftMessage
+  pub tells : Tells (step_of w event).out (snap_by w event) posted
+  pub moved : ChangesFrom (nat_lt w.raft.commit (step_of w event).node.snapshot.index) w.raft (step_of w event).node batch
+  pub is : v ≡ record w { raft = (step_of w event).node; snap = snap_by w event; mail = all_posted w.mail posted }
+
+-- Raft was told servers, if any.
+abbrev pub ToldBy : Option (List Server) → Core → Core → Type 0
+ToldBy None w v = v ≡ w
+ToldBy (Some servers) w v = (batch : Option ℕ) × StepBy (due.Servers servers) batch w v
+
+-- ---- an event from outside
+
+abbrev pub is_follower : Role → Bool
+is_follower Leader = false
+is_follower Candidate = false
+is_follower Follower = true
+
+-- a node that follows is told the current servers, where they may be others
+abbrev pub told_behind : Bool → Core → Option (List Server)
+told_behind others w = cond (others && is_follower w.raft.role) (Some (last_servers w.members)) None
+
+-- an event in which no snapshot comes
+pub record FollowsBy (event : RaftEvent) (w v : Core) : Type 0 where
+  pub batch : Option ℕ
+  pub mid : Core
+  pub steps : StepBy event batch w mid
+  pub last : Core
+  pub tells : ToldBy (told_behind (are_others batch (ended mid)) (followed batch (ended mid))) (followed batch (ended mid)) last
+  pub is : v ≡ looked (won last)
+
+-- an event with a snapshot that is put in the place of entries
+pub record InstallsBy (event : RaftEvent) (index : ℕ) (s : NodeSnapshot) (w v : Core) : Type 0 where
+  pub batch : Option ℕ
+  pub mid : Core
+  pub steps : StepBy event batch w mid
+  pub last : Core
+  pub tells : ToldBy (told_behind true (replaced index s (losing (ended mid)))) (replaced index s (losing (ended mid))) last
+  pub is : v ≡ showing_servers last
+
+-- the event puts a snapshot past the commit index in the place of entries
+abbrev pub puts : RaftEvent → Core → Bool
+puts (due.Message message) w = nat_lt w.raft.commit (step_of w (due.Message message)).node.snapshot.index
+puts due.Timeout w = false
+puts due.Beat w = false
+puts (due.Propose entries) w = false
+puts (due.Transfer to) w = false
+puts (due.Snapped at) w = false
+puts (due.Servers servers) w = false
+
+-- what the snapshot brings, where it can be taken; else its message counts as lost
+abbrev pub brings : Core → Option Snapshot → Option NodeSnapshot
+brings w None = None
+brings w (Some snapshot) = offered_to w.files.names (snapshot_in snapshot.bytes)
+
+abbrev pub index_of : Option Snapshot → ℕ
+index_of None = 0
+index_of (Some snapshot) = snapshot.index
+
+abbrev pub OnOffered : RaftEvent → Option NodeSnapshot → Core → Core → Type 0
+OnOffered event None w v = v ≡ w
+OnOffered event (Some s) w v = InstallsBy event (index_of (offered event)) s w v
+
+abbrev pub OnPut : RaftEvent → Bool → Core → Core → Type 0
+OnPut event false w v = FollowsBy event w v
+OnPut event true w v = OnOffered event (brings w (offered event)) w v
+
+abbrev pub RaftBy : RaftEvent → Core → Core → Type 0
+RaftBy event w v = OnPut event (puts event w) w v
+
+-- ---- what the node gives Raft
+
+-- a leader that proposes one change is told its servers first
+abbrev pub change_in : Role → List Entry → Option (List Server)
+change_in role [] = None
+change_in role (entry ∷ []) = cond (is_leader role) (configuration_in entry) None
+change_in role (entry ∷ other ∷ entries) = None
+
+abbrev pub change_for : RaftEvent → Role → Option (List Server)
+change_for (due.Propose entries) role = change_in role entries
+change_for due.Timeout role = None
+change_for due.Beat role = None
+change_for (due.Message message) role = None
+change_for (due.Transfer to) role = None
+change_for (due.Snapped at) role = None
+change_for (due.Servers servers) role = None
+
+pub record OwnBy (event : RaftEvent) (w v : Core) : Type 0 where
+  pub mid : Core
+  pub tells : ToldBy (change_for event w.raft.role) w mid
+  pub batch : Option ℕ
+  pub last : Core
+  pub steps : StepBy event batch mid last
+  pub is : v ≡ looked (followed batch last)
+
+-- ---- what comes of a client's request
+
+-- What it came to, at its session's connection. What goes to a reader, and a connection that carries a peer's messages, are not told here.
+abbrev pub TurnsTo : ℕ → Turned → Core → Core → Type 0
+TurnsTo conn (Refused cause) w v = v ≡ replied conn (failure cause ∷ []) w
+TurnsTo conn Lacks w v = ⊥
+TurnsTo conn (Answers s reply note) w v = v ≡ replied conn (responses_of reply) (with_its conn s w)
+TurnsTo conn (Proposes s contents note) w v = v ≡ giving (due.Propose (written w.view.term contents)) (with_its conn s w)
+TurnsTo conn (Lends s job) w v = Unit {0}
+TurnsTo conn (Affects (HandsOver id)) w v = v ≡ giving (due.Transfer id) (replied conn (Empty ∷ []) w)
+TurnsTo conn (Affects (JoinsPeer id)) w v = Unit {0}
+TurnsTo conn (Affects (Weighs weight)) w v = v ≡ replied conn (Empty ∷ []) (record w { sessions = affected_by w.sessions (Weighs weight) })
+
+-- A request, by answers that the engine may give, all of which it uses.
+pub record AskedBy (m : Meaning) (kind : EngineKind) (conn : ℕ) (request : Request) (w v : Core) (answers : List Answer) : Type 0 where
+  pub gate : Gateway
+  pub plain : plain_gate gate ≡ w.sessions
+  pub allowed : AllowsFor m kind (handed w.view w.files gate conn request) answers
+  pub exact : used_for (handed w.view w.files gate conn request) answers ≡ length answers
+  pub to : TurnsTo conn (on_request w.view w.files gate conn request answers) w v
+
+-- A message, by what it reads as.
+abbrev pub MessageBy : Meaning → EngineKind → ℕ → Result Request MsgFault → Core → Core → List Answer → Type 0
+MessageBy m kind conn (Ok request) w v answers = AskedBy m kind conn request w v answers
+MessageBy m kind conn (Err fault) w v answers = (v ≡ replied conn (failure (unread_cause fault) ∷ []) w) × (answers ≡ [])
+
+-- the connection waits for no query, and gets a turn behind the others
+abbrev pub resuming : ℕ → Core → Core
+resuming conn w = record w { sessions = without_later w.sessions conn; turns = w.turns ++ conn ∷ [] }
+
+-- A query that is yet to be answered is run.
+pub record LaterBy (m : Meaning) (kind : EngineKind) (conn : ℕ) (w v : Core) (answers : List Answer) : Type 0 where
+  pub gate : Gateway
+  pub plain : plain_gate gate ≡ w.sessions
+  pub statement : Statement
+  pub later : later_query (gate.session conn).later ≡ Some statement
+  pub allowed : AllowsFor m kind (handed_later w.view w.files (without_later gate conn) conn statement) answers
+  pub exact : used_for (handed_later w.view w.files (without_later gate conn) conn statement) answers ≡ length answers
+  pub to : TurnsTo conn (on_later w.view w.files (without_later gate conn) conn statement answers) (resuming conn w) v
+
+abbrev pub LaterIf : Meaning → EngineKind → Option ℕ → Core → Core → List Answer → Type 0
+LaterIf m kind None w v answers = (v ≡ w) × (answers ≡ [])
+LaterIf m kind (Some conn) w v answers = LaterBy m kind conn w v answers
+
+-- ---- an entry
+
+-- The next entry is applied; a query is run whose barrier it was; and a leader does what it owes.
+pub record EntryBy (m : Meaning) (kind : EngineKind) (w v : Core) (answers : List Answer) : Type 0 where
+  pub entry : Entry
+  pub is : entry_at w ≡ Some entry
+  pub last : Core
+  pub runs : LaterIf m kind (first_due (entry_done (entry_seen entry).content w).sessions) (entry_done (entry_seen entry).content w) last answers
+  pub owes : v ≡ dutiful (effect_of (entry_seen entry).content) last
+
+-- ---- an own snapshot
+
+-- one is due, and its servers are those of the configurations
+abbrev pub MayCompact : Core → Type 0
+MayCompact w = (is_due w.raft.snapshot w.applied ≡ true) × (w.members.servers ≡ w.servers)
+
+abbrev pub own_snap : Core → Snap
+own_snap w = record { index = w.applied; term = term_at w.raft.log w.applied; bytes = servers_bytes w.servers ++ snapshot_text (contents_in w.files) }
+
+abbrev pub own_event : Core → RaftEvent
+own_event w = due.Snapped (record { index = w.applied; term = term_at w.raft.log w.applied })
+
+pub record CompactsBy (w v : Core) : Type 0 where
+  pub posted : List RaftMessage
+  pub tells : Tells (step_of w (own_event w)).out (own_snap w) posted
+  pub is : v ≡ looked (record w { raft = (step_of w (own_event w)).node; snap = own_snap w; mail = all_posted w.mail posted })
+
+-- ---- the first of what there is
+
+-- what the node has given Raft itself, if anything is due
+abbrev pub DueIf : List RaftEvent → Core → Core → Bool → Type 0
+DueIf [] w v more = (v ≡ w) × (more ≡ false)
+DueIf (event ∷ rest) w v more = OwnBy event (record w { due = rest }) v × (more ≡ true)
+
+-- the connection whose bytes came; where there is none, nothing is left
+abbrev pub OnHeard : Option ℕ → Core → Core → Bool → Type 0
+OnHeard None w v more = (v ≡ w) × (more ≡ false)
+OnHeard (Some conn) w v more = (v ≡ closing_heard conn w) × (more ≡ true)
+
+abbrev pub OnSnapshot : Core → Core → Bool → List Answer → Type 0
+OnSnapshot w v more answers =
+    ((MayCompact w × CompactsBy w v × (more ≡ true)) ⊎ ((MayCompact w → ⊥) × OnHeard w.heard w v more)) × (answers ≡ [])
+
+abbrev pub OnOffer : Meaning → EngineKind → Option Offer → Core → Core → Bool → List Answer → Type 0
+OnOffer m kind (Some offer) w v more answers = MessageBy m kind offer.conn (request_of offer.message) (taking offer w) v answers × (more ≡ true)
+OnOffer m kind None w v more answers = OnSnapshot (idle w) v more answers
+
+abbrev pub OnQuery : Meaning → EngineKind → Option ℕ → Core → Core → Bool → List Answer → Type 0
+OnQuery m kind (Some conn) w v more answers = LaterBy m kind conn w v answers × (more ≡ true)
+OnQuery m kind None w v more answers = OnOffer m kind (next_offer (clients_at w)) w v more answers
+
+-- A turn where nothing is due at Raft and all that is committed is applied; and the same where no connection carries a peer's messages.
+abbrev pub AttendBy : Meaning → EngineKind → Core → Core → Bool → List Answer → Type 0
+AttendBy m kind w v more answers = OnQuery m kind (first_due w.sessions) w v more answers
+
+abbrev pub AttendsBy : Meaning → EngineKind → Core → Core → Bool → List Answer → Type 0
+AttendsBy m kind w v more answers = w.links ≡ [] → AttendBy m kind w v more answers
+
+abbrev pub OnCommit : Meaning → EngineKind → Bool → Core → Core → Bool → List Answer → Type 0
+OnCommit m kind true w v more answers = EntryBy m kind w v answers × (more ≡ true)
+OnCommit m kind false w v more answers = AttendBy m kind w v more answers
+
+abbrev pub OnDue : Meaning → EngineKind → List RaftEvent → Core → Core → Bool → List Answer → Type 0
+OnDue m kind (event ∷ rest) w v more answers = OwnBy event (record w { due = rest }) v × (more ≡ true) × (answers ≡ [])
+OnDue m kind [] w v more answers = OnCommit m kind (nat_lt w.applied w.raft.commit) w v more answers
+
+-- A turn: the first of what there is was done, by these answers of the engine; or nothing was left.
+abbrev pub TurnBy : Meaning → EngineKind → Core → Core → Bool → List Answer → Type 0
+TurnBy m kind w v more answers = OnDue m kind w.due w v more answers
+
+-- a turn where no connection carries a peer's messages
+abbrev pub UnlinkedTurn : Meaning → EngineKind → Core → Core → Bool → List Answer → Type 0
+UnlinkedTurn m kind w v more answers = w.links ≡ [] → TurnBy m kind w v more answers
+
+-- So many turns behind which something is left, and then one behind which nothing is.
+abbrev pub RunsIn : ℕ → Meaning → EngineKind → Core → Core → List Answer → Type 0
+RunsIn zero m kind w v answers = UnlinkedTurn m kind w v false answers
+RunsIn (suc turns) m kind w v answers =
+    (mid : Core) × (first : List Answer) × (rest : List Answer) × (answers ≡ first ++ rest) × UnlinkedTurn m kind w mid true first ×
+    RunsIn turns m kind mid v rest
+
+-- Turns up to one behind which nothing is left.
+pub record RunsBy (m : Meaning) (kind : EngineKind) (w v : Core) (answers : List Answer) : Type 0 where
+  pub turns : ℕ
+  pub are : RunsIn turns m kind w v answers
+
+-- ---- a step
+
+-- its event is given to clients, or happens at Raft; what a reader tells is not told here
+abbrev pub BeginsBy : Event → Core → Core → List Answer → Type 0
+BeginsBy events.Timeout w v answers = RaftBy due.Timeout w v × (answers ≡ [])
+BeginsBy events.Beat w v answers = RaftBy due.Beat w v × (answers ≡ [])
+BeginsBy (events.Peer message) w v answers = RaftBy (due.Message message) w v × (answers ≡ [])
+BeginsBy (events.Connect conn) w v answers = (w.links ≡ [] → v ≡ joined_by (joining w.sessions conn) conn w) × (answers ≡ [])
+BeginsBy (events.Bytes conn bytes) w v answers = (w.links ≡ [] → v ≡ hearing conn bytes w) × (answers ≡ [])
+BeginsBy (events.Hangup conn) w v answers = (w.links ≡ [] → v ≡ hanging_up conn w) × (answers ≡ [])
+BeginsBy (events.ReadDone conn read) w v answers = Unit {0}
+
+-- it is said what was noted, and nothing is left to say
+pub record SaysOf (last v : Core) (outs : Outs) : Type 0 where
+  pub replies : outs.replies.items ≡ last.replies
+  pub closed : outs.closed.items ≡ last.closed
+  pub messages : outs.messages.items ≡ sent last.mail
+  pub is : v ≡ silent last
+
+-- A step of an event that ended well, by these answers of the engine.
+pub record StepsExactly (m : Meaning) (kind : EngineKind) (event : Event) (w v : Core) (outs : Outs) (answers : List Answer) : Type 0 where
+  pub first : List Answer
+  pub rest : List Answer
+  pub all : answers ≡ first ++ rest
+  pub mid : Core
+  pub begins : BeginsBy event w mid first
+  pub last : Core
+  pub runs : RunsBy m kind mid last rest
+  pub says : SaysOf last v outs
