@@ -68,4 +68,6 @@ impl<'n, 'd, 'e, D: Disk, E: Engine> Core for ServedNode<'n, 'd, 'e, D, E> {
             Err(fault) => Err(fault_of(fault)),
         }
     }
+
+    fn rest(&mut self) {}
 }
