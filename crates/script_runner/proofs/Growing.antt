@@ -1,5 +1,5 @@
 -- The turns of a run only grow.
-use Rattle.std.proofs.Common.{◌≡◌, ℕ, ◌-◌, zero, suc, Bool, true, false, cond, List, [], ◌∷◌, ◌++◌, Option, Some, None, Result, Ok, Err, refl, sym, ap, subst, ◌∙◌, append_assoc}
+use Rattle.std.proofs.Common.{◌≡◌, ℕ, ◌-◌, zero, suc, Bool, true, false, cond, List, [], ◌∷◌, ◌++◌, Option, Some, None, Result, Ok, Err, refl, sym, ap, ◌∙◌, append_assoc}
 use Rattle.std.specs.Prelude.{nat_le, slice_get}
 use Rattle.std.proofs.lemmas.List.{append-nil}
 use Rattle.script_lines.specs.ScriptSize.{line_count_limit}
@@ -15,11 +15,10 @@ use Rattle.script_lines.specs.declared.usage.Usage.{Usage}
 use Rattle.raft_vote.specs.declared.message.RaftMessage.{RaftMessage}
 use Rattle.raft_vote.specs.declared.fault.PeerFault.{PeerFault}
 use Rattle.script_nodes.specs.Outcomes.{Standing, Outs, Ending, Steps, Starts, Stops, Fails, Unreadable, Outcome, Doing, Timeout, Beat, Connect, Bytes, Hangup, Receive, Start, Turn, Does, Crashes}
-use Rattle.script_nodes.specs.World.{World, Letter, Halt, Untold, NotThere, Went, quiet, halted, said_before, onward, then_on, after_step, after_ending, with_turn, unless_many, asked, at_node, connects, on_link, node_of, hangs_up, is_up, arrived_at, arriving, is_node, arrives}
+use Rattle.script_nodes.specs.World.{World, Letter, Halt, NotThere, Went, quiet, halted, onward, after_step, after_ending, with_turn, unless_many, asked, at_node, connects, on_link, node_of, hangs_up, is_up, arrived_at, arriving, is_node, arrives}
 use Rattle.script_nodes.specs.World.{delivered, delivers, crashes, starts, counted_so, counted, settled_so, settles, first_waiting, exists, happens, takes, bytes_in, shown}
 use Rattle.script_nodes.specs.declared.said.Said.{Said as NodeSaid}
 use Rattle.script_nodes.specs.Run as nodes
-use Rattle.script_pages.specs.declared.said.Said.{Said as MachineSaid}
 use Rattle.script_nodes.specs.Run.{Fault, Large}
 use Rattle.script_runner.specs.Run.{Stage, AtNodes, AtMachines, Next, stops, line_step, said_step, step, onward as run_onward, turns_at, run_from}
 use Rattle.script_runner.specs.Ending.{BeginWith}
