@@ -26,7 +26,7 @@ use Rattle.session_rules.specs.Servers.{server_of}
 use Rattle.session_rules.specs.Sessions.{Reply, Refusal, Single, Rows, Prepared, Session, Gateway, View}
 use Rattle.session_rules.specs.Statements.{prepared_from}
 use Rattle.session_rules.specs.Requests.{reply_of}
-use Rattle.session_rules.specs.Asking.{Asked, Never, Tells, Sets, Opens, Creates, Prepares, Drops, Begins, Commits, RollsBack, Changes, Runs, Reads, asked_by, told_leader, leader_known, info_of, asks_cluster, files_of, asks_dump, asks_new, asks_open, asks_kind, asks_one, asks_several, asks_statements, asks_text, asks_query, not_one, asks_sole, asks_rows, asks_exec, asks_prepared_query, asks_finalize, with_room, asks_prepare_pieces, asks_prepare, at_leader, in_database, never_or, if_settled, of_other, asks_add, asks_role, asks_assign, asks_remove, asks_transfer}
+use Rattle.session_rules.specs.Asking.{Asked, Never, Tells, Sets, Opens, Creates, Prepares, Drops, Begins, Commits, RollsBack, Changes, Runs, Reads, asked_by, never_or, told_leader, leader_known, info_of, asks_cluster, files_of, asks_dump, asks_new, asks_open, asks_kind, asks_one, asks_several, asks_statements, asks_text, asks_query, not_one, asks_sole, asks_rows, asks_exec, asks_prepared_query, asks_finalize, with_room, asks_prepare_pieces, asks_prepare, at_leader, in_database, if_settled, of_other, asks_add, asks_role, asks_assign, asks_remove, asks_transfer}
 use Rattle.gateway.specs.Calls.{HasNoNul, IsConfigured}
 use Rattle.session_table.specs.Named.{cause_named}
 use Rattle.session_decisions.specs.declared.job.Read.{Read}
@@ -140,6 +140,7 @@ new_tells v m g name barriers = search (rules, either)
 open_tells : (v : View) (m : Machine) (g : Gateway) (s : Session) (name : List ℕ) (barriers : Bool) → TellsWell (asks_open v m g s name barriers)
 open_tells v m g s name barriers = search (rules, either, new_tells)
 
+-- a write that is refused, or isn't
 never_tells : (hinders : Option Cause) (asked : Asked) → TellsWell asked → TellsWell (never_or hinders asked)
 never_tells None asked t = t
 never_tells (Some cause) asked t = tt
