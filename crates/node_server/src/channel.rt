@@ -6,12 +6,17 @@ ghost use Rattle.node_edge.specs.Told.{Puts};
 ghost use Rattle.node_server.specs.Counts.{IsCounted};
 
 use crate::credit::{Credit, Debit};
-use crossbeam_channel::{Receiver, Sender, unbounded};
+use crossbeam_channel::{Receiver, SendError, Sender, unbounded};
 use dq_base::Failed;
 use node_edge::{Event, Inbox, Post};
 use std::alloc::{AllocError, Global};
 use std::marker::Model;
 use std::sync::Wait;
+use std::thread;
+use std::time::{Clock, Duration};
+
+/// How long a post waits where there is no memory for an event, before it tries again, in milliseconds.
+const PAUSE: u64 = 10;
 
 /// An event on its way, with what its post gets back once it is taken or dropped.
 #[derive(Drop)]
@@ -31,7 +36,8 @@ pub struct ChannelInbox<R: Wait + Copy + Drop, T: Drop> {
 }
 
 /// An end at which events are posted for a channel's inbox. Of a metered end only so many events wait there at a time: a post more
-/// waits until one was taken, or the inbox is gone. It fails where the inbox is gone, and where memory runs out. It tells no events.
+/// waits until one was taken, or the inbox is gone. Where there is no memory for an event it is tried again, each ten milliseconds, as
+/// long as the inbox is there. It fails where the inbox is gone. It tells no events.
 #[derive(Drop)]
 pub struct ChannelPost<R: Wait + Copy + Drop, T: Drop> {
     rt: R,
@@ -138,17 +144,28 @@ impl<R: Wait + Copy + Drop, T: Drop> ChannelPost<R, T> {
             None => Ok(None),
         }
     }
+}
 
-    /// Posts an event, and says whether that succeeded.
+impl<R: Wait + Clock + Copy + Drop, T: Drop> ChannelPost<R, T> {
+    /// Posts an event once there is memory for it, and says whether that succeeded.
     fn try_put(&self, event: Event<T>) -> bool {
         let Ok(credit) = self.begin() else {
             return false;
         };
-        self.queue.send(&self.rt, Sent { event, credit }).is_ok()
+        let mut sent = Sent { event, credit };
+        for _ in self.rt.forever() {
+            match self.queue.send(&self.rt, sent) {
+                Ok(()) => return true,
+                Err(SendError::Disconnected(_)) => return false,
+                Err(SendError::OutOfMemory(unsent)) => sent = unsent,
+            }
+            thread::sleep(&self.rt, Duration::from_millis(PAUSE));
+        }
+        false
     }
 }
 
-impl<R: Wait + Copy + Drop, T: Drop> Post<T> for ChannelPost<R, T> {
+impl<R: Wait + Clock + Copy + Drop, T: Drop> Post<T> for ChannelPost<R, T> {
     ghost posted = { λ _. None };
 
     ghost faults = { λ post. post.faults };

@@ -51,7 +51,7 @@ struct Served<R: Wait + Copy + Drop, L: Drop, T: Drop> {
     faults: u64,
 }
 
-impl<R: Wait + Copy + Drop, L: Drop, T: Drop> Post<T> for Served<R, L, T> {
+impl<R: Wait + Clock + Copy + Drop, L: Drop, T: Drop> Post<T> for Served<R, L, T> {
     ghost posted = { λ _. None };
 
     ghost faults = { λ served. served.faults };
@@ -70,7 +70,7 @@ impl<R: Wait + Copy + Drop, L: Drop, T: Drop> Post<T> for Served<R, L, T> {
     }
 }
 
-impl<R: Wait + Copy + Drop, L: Link, T: Drop> Served<R, L, T> {
+impl<R: Wait + Clock + Copy + Drop, L: Link, T: Drop> Served<R, L, T> {
     /// Serves a link as the connection, and says whether the post still takes events.
     fn serve(&mut self, alloc: Global, mut link: L, budget: u64) -> bool {
         let Ok(twin) = link.twin() else {

@@ -4,6 +4,7 @@ use crate::channel::ChannelPost;
 use crossbeam_channel::Receiver;
 use node_edge::{Event, Post};
 use std::sync::Wait;
+use std::time::Clock;
 
 /// What may be moved to another thread and dropped there. A type that is both is this too. Such a bound on an associated type carries to
 /// the threads that it is moved to, where `Send + Drop` doesn't.
@@ -46,7 +47,7 @@ pub struct ReaderWorker<R: Wait + Copy + Drop, Q: Reader> {
     pub post: ChannelPost<R, Q::Told>,
 }
 
-impl<R: Wait + Copy + Drop, Q: Reader> ReaderWorker<R, Q> {
+impl<R: Wait + Clock + Copy + Drop, Q: Reader> ReaderWorker<R, Q> {
     /// Runs queries until none can come any more, or the post fails.
     pub fn run(mut self) {
         for _ in 0..u64::MAX {

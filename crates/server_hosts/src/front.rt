@@ -1,20 +1,23 @@
 //! The first bytes of a link that was accepted.
 
-ghost use Rattle.std.specs.Prelude.{◌≡◌, ◌≤◌, ◌<◌, ◌-◌, ◌*◌, true, false, length};
-ghost use Rattle.server_hosts.specs.Fronts.{is_connect, words_of};
+ghost use Rattle.std.specs.Prelude.{◌≡◌, ◌≤◌, ◌-◌, ◌*◌, ◌==◌, length};
+ghost use Rattle.server_hosts.specs.Fronts.{is_connect, words_in, words_of};
 
 /// How many bytes a link has to say before it is one: the version, and the header of the first message.
 pub(crate) const FRONT_SIZE: usize = 16;
 
+/// How many bytes the header of a message has.
+pub(crate) const HEADER_SIZE: usize = 8;
+
 /// The number of a CONNECT among the types of a client's messages.
 const CONNECT: u8 = 11;
 
-/// The first bytes of a link, until they are read; and how much of a peer's first message is left behind them.
+/// The first bytes of a link, until they are read; and how many bytes are left of the body of the message that the link is at.
 #[derive(Drop)]
 pub(crate) struct Front {
     bytes: [u8; FRONT_SIZE],
     at: usize,
-    first_left: u64,
+    left: u64,
     ghost within: { at ≤ 16 },
 }
 
@@ -24,27 +27,20 @@ impl Front {
         Front {
             bytes: [0; FRONT_SIZE],
             at: FRONT_SIZE,
-            first_left: 0,
+            left: 0,
         }
     }
 
-    /// These bytes were said. Of a peer's link the first message is read by itself, so that it is known as a peer's when the header of
-    /// the next one is read, which may have more words than a client's.
+    /// These bytes were said, of which the last ones are the header of the first message.
     pub(crate) fn of(bytes: [u8; FRONT_SIZE]) -> Front
         ensures bytes { (result.bytes ≡ bytes) × (result.at ≡ 0) }
-        ensures client { is_connect bytes ≡ false → result.first_left ≡ 0 }
-        ensures peer { is_connect bytes ≡ true → result.first_left ≡ 8 * words_of bytes }
+        ensures left { result.left ≡ 8 * words_of bytes }
     {
         let words = u32::from_le_bytes([bytes[8], bytes[9], bytes[10], bytes[11]]);
-        let first_left = if bytes[12] == CONNECT {
-            8 * words as u64
-        } else {
-            0
-        };
         Front {
             bytes,
             at: 0,
-            first_left,
+            left: 8 * words as u64,
         }
     }
 
@@ -58,7 +54,7 @@ impl Front {
     /// Moves what is left of the first bytes to the front of `into`, and answers their number.
     pub(crate) fn hand(&mut self, into: &mut [u8]) -> usize
         ensures fits { result ≤ length into.new }
-        ensures first { self.new.first_left ≡ self.old.first_left }
+        ensures left { self.new.left ≡ self.old.left }
     {
         let count = (FRONT_SIZE - self.at).min(into.len());
         into[..count].copy_from_slice(&self.bytes[self.at..self.at + count]);
@@ -66,21 +62,33 @@ impl Front {
         count
     }
 
-    /// How many bytes may be read next, of so many that are wanted: no more than a peer's first message lacks.
-    pub(crate) fn room(&self, wanted: usize) -> usize
-        ensures fits { result ≤ wanted }
-        ensures first { 0 < self.now.first_left → result ≤ self.now.first_left }
+    /// Whether all of the message was read that the link is at, so that a header comes next.
+    pub(crate) fn is_at_header(&self) -> bool
+        ensures { result ≡ (self.now.left == 0) }
     {
-        if self.first_left == 0 {
-            return wanted;
-        }
-        (wanted as u64).min(self.first_left) as usize
+        self.left == 0
     }
 
-    /// So many bytes were read behind the first ones.
-    pub(crate) fn pass(&mut self, count: usize)
-        ensures { self.new.first_left ≡ self.old.first_left - count }
+    /// This header was read.
+    pub(crate) fn begin(&mut self, header: [u8; HEADER_SIZE])
+        ensures { self.new.left ≡ 8 * words_in header }
     {
-        self.first_left = self.first_left.saturating_sub(count as u64);
+        let words = u32::from_le_bytes([header[0], header[1], header[2], header[3]]);
+        self.left = 8 * words as u64;
+    }
+
+    /// How many bytes of the body may be read next, of so many that are wanted: no more than it lacks.
+    pub(crate) fn room(&self, wanted: usize) -> usize
+        ensures fits { result ≤ wanted }
+        ensures left { result ≤ self.now.left }
+    {
+        (wanted as u64).min(self.left) as usize
+    }
+
+    /// So many bytes of the body were read.
+    pub(crate) fn pass(&mut self, count: usize)
+        ensures { self.new.left ≡ self.old.left - count }
+    {
+        self.left = self.left.saturating_sub(count as u64);
     }
 }

@@ -3,7 +3,7 @@
 ghost use Rattle.std.specs.Prelude.{◌≡◌, ◌≤◌, None, length, IfOk};
 ghost use Rattle.node_server.specs.Counts.{IsCounted};
 
-use crate::front::Front;
+use crate::front::{Front, HEADER_SIZE};
 use dq_base::Failed;
 use node_edge::Link;
 use std::io;
@@ -23,8 +23,10 @@ const PEER_SECONDS: u64 = 10;
 /// How often in a row an interrupted call is tried again.
 const MAX_RETRIES: u32 = 1_000;
 
-/// A link over a TCP socket. It tells nothing of content. A message is written at once, in one write, and goes out at once; a write of
-/// which only a front was taken has failed, since its time was over. An interrupted call is tried again, up to 1,000 times in a row.
+/// A link over a TCP socket. It tells nothing of content. A read gives bytes of one message at most, so that each message of a client is
+/// a step of the node by itself, and other clients come in between. A message is written at once, in one write, and goes out at once; a
+/// write of which only a front was taken has failed, since its time was over. An interrupted call is tried again, up to 1,000 times in a
+/// row.
 ///
 /// The error stream is told that a door's link to another machine is up, and that it is down once a write fails.
 #[derive(Drop)]
@@ -68,6 +70,22 @@ pub(crate) fn read_some(mut stream: &TcpStream, into: &mut [u8]) -> io::Result<u
         }
     }
     Err(ErrorKind::Interrupted.into())
+}
+
+/// Reads until there is no more room, or the stream is at its end, and answers how many bytes came.
+fn read_full(stream: &TcpStream, into: &mut [u8]) -> io::Result<usize>
+    ensures fits { IfOk result (λ count. count ≤ length into.new) }
+    ensures room { length into.new ≡ length into.old }
+{
+    let mut held = 0;
+    for _ in 0..into.len() {
+        let count = read_some(stream, &mut into[held..])?;
+        held += count;
+        if count == 0 || held == into.len() {
+            return Ok(held);
+        }
+    }
+    Ok(held)
 }
 
 /// Writes bytes in one write.
@@ -138,7 +156,7 @@ impl TcpLink {
         Failed
     }
 
-    /// Reads what was said first, or some bytes behind it.
+    /// Reads what was said first, or bytes of the message behind it.
     fn read_on(&mut self, into: &mut [u8]) -> io::Result<usize>
         ensures fits { IfOk result (λ count. count ≤ length into.new) }
         ensures faults { self.new.faults ≡ self.old.faults }
@@ -147,7 +165,43 @@ impl TcpLink {
         if held > 0 {
             return Ok(held);
         }
+        if self.front.is_at_header() {
+            return self.read_message(into);
+        }
+        self.read_body(into)
+    }
+
+    /// Reads a header, for which it waits until all of it is there, and bytes of the body behind it. Where there isn't room for a header,
+    /// which is where no more than seven bytes of the link are to be read, it reads any bytes.
+    fn read_message(&mut self, into: &mut [u8]) -> io::Result<usize>
+        ensures fits { IfOk result (λ count. count ≤ length into.new) }
+        ensures room { length into.new ≡ length into.old }
+        ensures faults { self.new.faults ≡ self.old.faults }
+    {
+        if into.len() < HEADER_SIZE {
+            return read_some(&self.stream, into);
+        }
+        let mut header = [0; HEADER_SIZE];
+        let held = read_full(&self.stream, &mut header)?;
+        into[..held].copy_from_slice(&header[..held]);
+        if held < HEADER_SIZE {
+            return Ok(held);
+        }
+        self.front.begin(header);
+        let count = self.read_body(&mut into[HEADER_SIZE..])?;
+        Ok(HEADER_SIZE + count)
+    }
+
+    /// Reads bytes of the body that the link is at; none where nothing of it is left.
+    fn read_body(&mut self, into: &mut [u8]) -> io::Result<usize>
+        ensures fits { IfOk result (λ count. count ≤ length into.new) }
+        ensures room { length into.new ≡ length into.old }
+        ensures faults { self.new.faults ≡ self.old.faults }
+    {
         let room = self.front.room(into.len());
+        if room == 0 {
+            return Ok(0);
+        }
         let count = read_some(&self.stream, &mut into[..room])?;
         self.front.pass(count);
         Ok(count)

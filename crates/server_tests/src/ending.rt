@@ -8,9 +8,10 @@ use server_hosts::TcpHost;
 use std::alloc::Global;
 use std::sync::Wait;
 use std::test::*;
+use std::time::Clock;
 
 /// Whether a post that one event may wait of takes one, and takes another one where the inbox is gone, which took none.
-fn posts<R: Wait + Copy + Drop>(rt: R, alloc: Global) -> Option<[bool; 2]> {
+fn posts<R: Wait + Clock + Copy + Drop>(rt: R, alloc: Global) -> Option<[bool; 2]> {
     let (inbox, post) = event_channel(rt, alloc).ok()?;
     let inbox: ChannelInbox<R, u8> = inbox;
     let mut metered = post.metered(alloc, 1).ok()?;

@@ -40,3 +40,29 @@ fn a_host_talks_over_sockets(rt: HostRuntime) -> Result<(), Fail> {
     assert_eq!(rt; came, Some((*FRONT, *b"asked", *b"told", true)));
     Ok(())
 }
+
+/// The version, and three messages: of one word, of two, and of none.
+const MESSAGES: &[u8; 56] =
+    b"\x01\0\0\0\0\0\0\0\x01\0\0\0\x03\0\0\0one word\x02\0\0\0\x03\0\0\0and two of them!\0\0\0\0\x03\0\0\0";
+
+/// How many bytes each read at a host's door gives, where they all came in one piece and there is room for all of them.
+fn read_of<H: Host<u8>>(host: &mut H, address: &str) -> Option<[usize; 4]> {
+    let mut door = host.listen(address).ok()?;
+    let mut near = host.dial(address).ok()?;
+    near.write_all(MESSAGES).ok()?;
+    let mut far = door.accept().ok()?;
+    let mut counts = [0; 4];
+    for place in 0..4 {
+        counts[place] = far.read(&mut [0; 64]).ok()?;
+    }
+    Some(counts)
+}
+
+#[test]
+fn each_message_comes_by_itself(rt: HostRuntime) -> Result<(), Fail> {
+    let address = free_address(rt)?;
+    let mut host: TcpHost<_, u8> = TcpHost::new(rt, rt, rt.alloc())?;
+    let came = read_of(&mut host, address.as_str());
+    assert_eq!(rt; came, Some([16, 8, 24, 8]));
+    Ok(())
+}
