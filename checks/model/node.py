@@ -658,6 +658,8 @@ class Node:
             raise Refused(1, "wrong parameter count")
         if control:
             return self.controls(session, found[0])
+        if any(s.kind == "Write" for s in found):
+            self.may_change(session)
         if asks and session.barriers and not session.transaction:
             return self.propose([barrier(self.term)], "barrier", lambda: self.run(session, found, parameters, True))
         return self.run(session, found, parameters, asks)
@@ -668,6 +670,14 @@ class Node:
                 if other.transaction and other.transaction.turn or other.flight and other.flight.kind == "pages":
                     return True
         return False
+
+    def may_change(self, session):
+        """Refuses what would change pages for the turn, or for an old image."""
+        transaction = session.transaction
+        if self.turn_taken(session):
+            raise Refused(5, "database is locked")
+        if transaction and transaction.commits != self.machine[session.name].commits:
+            raise Refused(517, "snapshot is out of date")
 
     def controls(self, session, statement):
         transaction, database = session.transaction, self.machine[session.name]
@@ -725,10 +735,7 @@ class Node:
         pages = first.change_to(image)
         if not pages:
             return answer
-        if self.turn_taken(session):
-            raise Refused(5, "database is locked")
-        if transaction and transaction.commits != database.commits:
-            raise Refused(517, "snapshot is out of date")
+        self.may_change(session)
         self.has_room(session, image)
         if not transaction:
             return self.propose_pages(session, pages, image, lambda: answer)

@@ -1,5 +1,5 @@
 -- Whole nodes with engines of cells are exact, and so their scripts repeat.
-use Rattle.std.proofs.Common.{◌≡◌, ℕ, ◌==◌, Bool, true, false, cond, List, [], ◌∷◌, ◌++◌, map, Option, Some, None, refl, sym, ap, subst, ◌∙◌, append-nil}
+use Rattle.std.proofs.Common.{◌≡◌, ◌≢◌, ℕ, ◌==◌, Bool, true, false, cond, List, [], ◌∷◌, ◌++◌, map, Option, Some, None, refl, sym, ap, subst, ◌∙◌, append-nil}
 use Rattle.std.specs.List.{AllByRecursion}
 use Rattle.std.proofs.lemmas.Bool.{eqb-true}
 use Rattle.sql_engine.specs.declared.kind.EngineKind.TheVariants.{Cells}
@@ -26,16 +26,19 @@ use Rattle.script_nodes.specs.Voters.{voters_from}
 use Rattle.script_nodes.specs.Knowing.{actor, turns_at, with_over}
 use Rattle.script_nodes.specs.Outcomes.{Standing, Outs, Ending, Steps, Starts, Stops, Fails, Unreadable, Outcome, Doing, Timeout, Beat, Connect, Bytes, Hangup, Receive, Start, Turn, Does, Crashes}
 use Rattle.script_runner.specs.Run.{run, printed}
+use Rattle.script_runner.proofs.Likeness.{run_twin}
 use Rattle.script_runs.specs.Seats.{Seat, Runs as NodeRuns, Rests as NodeRests, EventIs, StepDone, StartDone, StandsSo, EndsSo, CrashesSo, TurnSo, PathSo, outs_of, setup_of}
 use Rattle.script_runs.specs.Mails.{ByNodes, OverByNode}
+use Rattle.script_runs.specs.Turns.{HasLoaded, AllLoad}
 use Rattle.script_runs.proofs.Answering.{told_are}
+use Rattle.script_runs.proofs.Scripts.{loads_never_fail_hold}
 use Rattle.script_repeats.specs.Plain.{plain_answer, plain_outcome}
 use Rattle.script_repeats.specs.Nodes.{Path, ComesWell, EndsWell, IsAmple, GoesWell, AreLed, ComesTo, AreExact, MayCrash}
-use Rattle.script_repeats.specs.Repeats.{Compared, IsLed, BrokeOff, BrokenRunsRepeat, FrontsRepeat, RunsCompare, WholeRunsRepeat}
+use Rattle.script_repeats.specs.Repeats.{Compared, IsLed, StartWith, BrokeOff, BrokenRunsRepeat, FrontsRepeat, RunsCompare, WholeRunsRepeat}
 use Rattle.script_repeats.proofs.Paths.{turns_join, well_at}
 use Rattle.script_repeats.proofs.Running.{broken_runs_repeat, fronts_repeat, runs_compare, whole_runs_repeat}
 use Rattle.cell_scripts.specs.Cores.{CoreSeat, Runs, Rests, stands_at, StepsAt, StartsAt, EndsAt, CrashesAt, TurnsAt, cell_nodes}
-use Rattle.cell_scripts.specs.Decided.{IsOfCells, BrokeOffCells, CellBrokenRepeat, CellFrontsRepeat, CellScriptsCompare, CellScriptsRepeat}
+use Rattle.cell_scripts.specs.Decided.{NoneFailed, GoesUntroubled, IsOfCells, BrokeOffCells, CellBrokenRepeat, CellFrontsRepeat, CellScriptsCompare, CellScriptsRepeat}
 
 -- ---- events
 
@@ -241,19 +244,49 @@ module _ (steps : StepsAreDecided) (starts : StartsAreDecided) where
     ends_over setup n turns None well seat path last = seat_ends setup n (turns_at n turns) seat well path
     ends_over setup n turns (Some turn) well seat path last = ends_last setup n turns turn (actor turn == n) refl well seat path last.0 last.1
 
+    -- what troubled no disk and no engine, and loads, goes well
+    ends_well : (ending : Ending) → NoneFailed ending → ending ≢ Unreadable → EndsWell ending
+    ends_well (Steps outs standing) fine loads = tt
+    ends_well (Starts kept standing) fine loads = tt
+    ends_well Unreadable fine loads = loads refl
+    ends_well (Stops keeps) fine loads = fine
+    ends_well (Fails keeps) fine loads = fine
+
+    turn_well : (turn : Turn) → GoesUntroubled turn → HasLoaded turn → GoesWell turn
+    turn_well (Does n doing aim outcome) fine loads = record { ends = ends_well outcome.ending fine.ends loads; ample = fine.ample }
+    turn_well (Crashes n pick) fine loads = tt
+
+    all_well : (turns : List Turn) → AllByRecursion GoesUntroubled turns → AllLoad turns → AllByRecursion GoesWell turns
+    all_well [] fine loads = tt
+    all_well (turn ∷ turns) fine loads = (turn_well turn fine.0 loads.0, all_well turns fine.1 loads.1)
+
+    -- no load fails in the turns of a script
+    script_well : (setup : Setup) (script : List ℕ) (outcomes : List Outcome) (turns : List Turn) (over : Option Turn) → StartWith (run script outcomes).turns turns
+        → ByNodes cells Cells setup turns → OverByNode cells Cells setup turns over → AllByRecursion GoesUntroubled (with_over turns over)
+        → AllByRecursion GoesWell (with_over turns over)
+    script_well setup script outcomes turns over front nodes last fine =
+        all_well (with_over turns over) fine
+        (loads_never_fail_hold cells Cells setup script outcomes turns front.0 over (sym (run_twin script outcomes).turns_are ∙ front.1) nodes last)
+
     turns_led : (setup : Setup) (turns : List Turn) (over : Option Turn) → ByNodes cells Cells setup turns → OverByNode cells Cells setup turns over → AllByRecursion GoesWell (with_over turns over) → AreLed cell_nodes (with_over turns over)
     turns_led setup turns over nodes last well =
         let ends = λ (n : ℕ). ends_over setup n turns over (well_at n (with_over turns over) well) (nodes.ends n) (nodes.paths n) last in
         record { ends = λ n. (ends n).end; paths = λ n. (ends n).path; well = well }
 
     led : (script : List ℕ) (outcomes : List Outcome) → IsOfCells script outcomes → IsLed cell_nodes (run script outcomes)
-    led script outcomes of = turns_led (setup_of of.voters) (run script outcomes).turns (run script outcomes).over of.nodes of.last of.well
+    led script outcomes of =
+        let turns = (run script outcomes).turns in
+        let over = (run script outcomes).over in
+        turns_led (setup_of of.voters) turns over of.nodes of.last
+        (script_well (setup_of of.voters) script outcomes turns over ([], sym (append-nil turns)) of.nodes of.last of.well)
 
     broke : (script : List ℕ) (outcomes : List Outcome) → BrokeOffCells script outcomes → BrokeOff cell_nodes script outcomes
     broke script outcomes of = record {
       turns = of.turns;
       over = of.over;
-      led = turns_led (setup_of of.voters) of.turns of.over of.nodes of.last of.well;
+      led =
+          turns_led (setup_of of.voters) of.turns of.over of.nodes of.last
+          (script_well (setup_of of.voters) script outcomes of.turns of.over of.begins of.nodes of.last of.well);
       uses = of.uses;
       begins = of.begins;
       beside = of.beside;

@@ -4,21 +4,39 @@ use Rattle.std.specs.List.{AllByRecursion}
 use Rattle.sql_engine.specs.declared.kind.EngineKind.TheVariants.{Cells}
 use Rattle.sql_engine.specs.Cells.{cells}
 use Rattle.script_nodes.specs.Knowing.{outcomes_in, outcomes_over, with_over}
-use Rattle.script_nodes.specs.Outcomes.{Outcome, Turn}
+use Rattle.script_nodes.specs.Outcomes.{Ending, Steps, Starts, Stops, Fails, Unreadable, Outcome, Turn, Does, Crashes}
 use Rattle.script_runner.specs.Ending.{IsBeside}
 use Rattle.script_runner.specs.Run.{run, printed}
 use Rattle.script_runs.specs.Mails.{ByNodes, OverByNode}
 use Rattle.script_runs.specs.Seats.{setup_of}
-use Rattle.script_repeats.specs.Nodes.{GoesWell}
+use Rattle.script_repeats.specs.Nodes.{IsAmple}
 use Rattle.script_repeats.specs.Repeats.{Compared, IsWhole, StartWith}
 
--- A run over whole nodes with engines of cells, in which each step and start ended well, and no engine wanted memory; also the last event,
+-- No call of the disk stopped or failed. That what was kept doesn't load, which is no such call, needs no word: it never comes.
+abbrev pub NoneFailed : Ending → Type 0
+NoneFailed (Steps outs standing) = Unit {0}
+NoneFailed (Starts kept standing) = Unit {0}
+NoneFailed Unreadable = Unit {0}
+NoneFailed (Stops keeps) = ⊥
+NoneFailed (Fails keeps) = ⊥
+
+-- and the engine wanted no memory
+pub record IsUntroubled (outcome : Outcome) : Type 0 where
+  pub ends : NoneFailed outcome.ending
+  pub ample : AllByRecursion IsAmple outcome.answers
+
+-- so of a turn; a crash is none of both
+abbrev pub GoesUntroubled : Turn → Type 0
+GoesUntroubled (Does n doing aim outcome) = IsUntroubled outcome
+GoesUntroubled (Crashes n pick) = Unit {0}
+
+-- A run over whole nodes with engines of cells, in which no call of a disk stopped or failed, and no engine wanted memory; also the last event,
 -- where it isn't in the run.
 pub record IsOfCells (script : List ℕ) (outcomes : List Outcome) : Type 0 where
   pub voters : ℕ
   pub nodes : ByNodes cells Cells (setup_of voters) (run script outcomes).turns
   pub last : OverByNode cells Cells (setup_of voters) (run script outcomes).turns (run script outcomes).over
-  pub well : AllByRecursion GoesWell (with_over (run script outcomes).turns (run script outcomes).over)
+  pub well : AllByRecursion GoesUntroubled (with_over (run script outcomes).turns (run script outcomes).over)
 
 -- Two such runs of one script are alike, or one of them isn't told what came of an event and has said a front of what the other says.
 abbrev pub CellScriptsCompare : Type 0
@@ -37,7 +55,7 @@ pub record BrokeOffCells (script : List ℕ) (outcomes : List Outcome) : Type 0 
   pub voters : ℕ
   pub nodes : ByNodes cells Cells (setup_of voters) turns
   pub last : OverByNode cells Cells (setup_of voters) turns over
-  pub well : AllByRecursion GoesWell (with_over turns over)
+  pub well : AllByRecursion GoesUntroubled (with_over turns over)
   pub uses : outcomes_in turns ++ outcomes_over over ≡ outcomes
   pub begins : StartWith (run script outcomes).turns turns
   pub beside : IsBeside turns over (run script outcomes)

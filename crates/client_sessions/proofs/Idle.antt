@@ -65,7 +65,7 @@ module _ (v : View) (m : Machine) (g : Gateway) (conn : ℕ) (idle : v.serving �
 
   request_closed : (request : Request) (answers : List Answer) → NoneIsOpen g → StaysClosed (on_request v m g conn request answers)
   unfolding on_request
-  request_closed request answers none = does_closed (g.session conn) request (asked v m g conn request) answers (none conn) (all_allowed v m g (g.session conn) request)
+  request_closed request answers none = does_closed (g.session conn) request (asked v m g conn request) answers (none conn) (all_allowed v m g conn (g.session conn) request)
 
   later_closed : (statement : Statement) (answers : List Answer) → StaysClosed (on_later v m g conn statement answers)
   unfolding on_later

@@ -149,7 +149,7 @@ pub request_kept : (v : View) (m : Machine) (g : Gateway) (conn : ℕ) (request 
     → (g.session conn).flight ≡ None → (g.session conn).later ≡ None → Keeps (g.session conn) (on_request v m g conn request answers)
 unfolding on_request
 request_kept v m g conn request answers configured text free rest =
-    does_kept v m g conn (g.session conn) free rest request (asked v m g conn request) answers (asked_tells v m g (g.session conn) request configured text) (all_allowed v m g (g.session conn) request)
+    does_kept v m g conn (g.session conn) free rest request (asked v m g conn request) answers (asked_tells v m g conn (g.session conn) request configured text) (all_allowed v m g conn (g.session conn) request)
 
 -- So does what comes of a query that is run later than it was asked.
 pub later_kept : (v : View) (m : Machine) (g : Gateway) (conn : ℕ) (statement : Statement) (answers : List Answer)

@@ -26,7 +26,7 @@ use Rattle.session_rules.specs.Servers.{server_of}
 use Rattle.session_rules.specs.Sessions.{Reply, Refusal, Single, Rows, Prepared, Session, Gateway, View}
 use Rattle.session_rules.specs.Statements.{prepared_from}
 use Rattle.session_rules.specs.Requests.{reply_of}
-use Rattle.session_rules.specs.Asking.{Asked, Never, Tells, Sets, Opens, Creates, Prepares, Drops, Begins, Commits, RollsBack, Changes, Runs, Reads, asked_by, told_leader, leader_known, info_of, asks_cluster, files_of, asks_dump, asks_new, asks_open, asks_kind, asks_one, asks_several, asks_statements, asks_text, asks_query, not_one, asks_sole, asks_rows, asks_exec, asks_prepared_query, asks_finalize, with_room, asks_prepare_pieces, asks_prepare, at_leader, in_database, if_settled, of_other, asks_add, asks_role, asks_assign, asks_remove, asks_transfer}
+use Rattle.session_rules.specs.Asking.{Asked, Never, Tells, Sets, Opens, Creates, Prepares, Drops, Begins, Commits, RollsBack, Changes, Runs, Reads, asked_by, never_or, told_leader, leader_known, info_of, asks_cluster, files_of, asks_dump, asks_new, asks_open, asks_kind, asks_one, asks_several, asks_statements, asks_text, asks_query, not_one, asks_sole, asks_rows, asks_exec, asks_prepared_query, asks_finalize, with_room, asks_prepare_pieces, asks_prepare, at_leader, in_database, if_settled, of_other, asks_add, asks_role, asks_assign, asks_remove, asks_transfer}
 use Rattle.gateway.specs.Calls.{HasNoNul, IsConfigured}
 use Rattle.session_table.specs.Named.{cause_named}
 use Rattle.session_decisions.specs.declared.job.Read.{Read}
@@ -140,54 +140,59 @@ new_tells v m g name barriers = search (rules, either)
 open_tells : (v : View) (m : Machine) (g : Gateway) (s : Session) (name : List ℕ) (barriers : Bool) → TellsWell (asks_open v m g s name barriers)
 open_tells v m g s name barriers = search (rules, either, new_tells)
 
-kind_tells : (within : Bool) (word : WordKind) (statement : Statement) → TellsWell (asks_kind within word statement)
-kind_tells true (words.Begin at_once) statement = tt
-kind_tells false (words.Begin at_once) statement = tt
-kind_tells true words.Commit statement = tt
-kind_tells false words.Commit statement = tt
-kind_tells true words.Rollback statement = tt
-kind_tells false words.Rollback statement = tt
-kind_tells within words.Write statement = tt
-kind_tells within words.LeftOut statement = tt
-kind_tells within words.Other statement = tt
+-- a write that is refused, or isn't
+never_tells : (hinders : Option Cause) (asked : Asked) → TellsWell asked → TellsWell (never_or hinders asked)
+never_tells None asked t = t
+never_tells (Some cause) asked t = tt
 
-one_tells : (within : Bool) (p : Prepared) (params : List Value) → TellsWell (asks_one within p params)
-one_tells within p params = search (rules, either, kind_tells)
+kind_tells : (hinders : Option Cause) (within : Bool) (word : WordKind) (statement : Statement) → TellsWell (asks_kind hinders within word statement)
+kind_tells hinders true (words.Begin at_once) statement = tt
+kind_tells hinders false (words.Begin at_once) statement = tt
+kind_tells hinders true words.Commit statement = tt
+kind_tells hinders false words.Commit statement = tt
+kind_tells hinders true words.Rollback statement = tt
+kind_tells hinders false words.Rollback statement = tt
+kind_tells hinders within words.Write statement = never_tells hinders (Runs (statement ∷ [])) tt
+kind_tells hinders within words.LeftOut statement = tt
+kind_tells hinders within words.Other statement = tt
 
-several_tells : (ps : List Prepared) (params : List Value) → TellsWell (asks_several ps params)
-several_tells ps params = search (rules, either)
+one_tells : (hinders : Option Cause) (within : Bool) (p : Prepared) (params : List Value) → TellsWell (asks_one hinders within p params)
+one_tells hinders within p params = search (rules, either, kind_tells)
 
-statements_tell : (within : Bool) (ps : List Prepared) (params : List Value) → TellsWell (asks_statements within ps params)
-statements_tell within [] params = several_tells [] params
-statements_tell within (p ∷ []) params = one_tells within p params
-statements_tell within (p ∷ q ∷ ps) params = several_tells (p ∷ q ∷ ps) params
+several_tells : (hinders : Option Cause) (ps : List Prepared) (params : List Value) → TellsWell (asks_several hinders ps params)
+several_tells hinders ps params = search (rules, either, never_tells)
 
-text_tells : (within : Bool) (sql : List ℕ) (scan : Result (List Piece) ScanFault) (params : List Value) → TellsWell (asks_text within sql scan params)
-text_tells within sql (Err fault) params = tt
-text_tells within sql (Ok pieces) params = statements_tell within (map (prepared_from sql) pieces) params
+statements_tell : (hinders : Option Cause) (within : Bool) (ps : List Prepared) (params : List Value) → TellsWell (asks_statements hinders within ps params)
+statements_tell hinders within [] params = several_tells hinders [] params
+statements_tell hinders within (p ∷ []) params = one_tells hinders within p params
+statements_tell hinders within (p ∷ q ∷ ps) params = several_tells hinders (p ∷ q ∷ ps) params
 
-query_tells : (p : Prepared) (params : List Value) → TellsWell (asks_query p params)
-query_tells p params = search (rules, either)
+text_tells : (hinders : Option Cause) (within : Bool) (sql : List ℕ) (scan : Result (List Piece) ScanFault) (params : List Value) → TellsWell (asks_text hinders within sql scan params)
+text_tells hinders within sql (Err fault) params = tt
+text_tells hinders within sql (Ok pieces) params = statements_tell hinders within (map (prepared_from sql) pieces) params
+
+query_tells : (hinders : Option Cause) (p : Prepared) (params : List Value) → TellsWell (asks_query hinders p params)
+query_tells hinders p params = search (rules, either, never_tells)
 
 not_one_tells : (ps : List Prepared) → TellsWell (not_one ps)
 not_one_tells ps = search (rules, either)
 
-sole_tells : (ps : List Prepared) (params : List Value) → TellsWell (asks_sole ps params)
-sole_tells [] params = not_one_tells []
-sole_tells (p ∷ []) params = query_tells p params
-sole_tells (p ∷ q ∷ ps) params = not_one_tells (p ∷ q ∷ ps)
+sole_tells : (hinders : Option Cause) (ps : List Prepared) (params : List Value) → TellsWell (asks_sole hinders ps params)
+sole_tells hinders [] params = not_one_tells []
+sole_tells hinders (p ∷ []) params = query_tells hinders p params
+sole_tells hinders (p ∷ q ∷ ps) params = not_one_tells (p ∷ q ∷ ps)
 
-rows_tell : (sql : List ℕ) (scan : Result (List Piece) ScanFault) (params : List Value) → TellsWell (asks_rows sql scan params)
-rows_tell sql (Err fault) params = tt
-rows_tell sql (Ok pieces) params = sole_tells (map (prepared_from sql) pieces) params
+rows_tell : (hinders : Option Cause) (sql : List ℕ) (scan : Result (List Piece) ScanFault) (params : List Value) → TellsWell (asks_rows hinders sql scan params)
+rows_tell hinders sql (Err fault) params = tt
+rows_tell hinders sql (Ok pieces) params = sole_tells hinders (map (prepared_from sql) pieces) params
 
-exec_tells : (within : Bool) (found : Option Prepared) (params : List Value) → TellsWell (asks_exec within found params)
-exec_tells within None params = tt
-exec_tells within (Some p) params = one_tells within p params
+exec_tells : (hinders : Option Cause) (within : Bool) (found : Option Prepared) (params : List Value) → TellsWell (asks_exec hinders within found params)
+exec_tells hinders within None params = tt
+exec_tells hinders within (Some p) params = one_tells hinders within p params
 
-prepared_tells : (found : Option Prepared) (params : List Value) → TellsWell (asks_prepared_query found params)
-prepared_tells None params = tt
-prepared_tells (Some p) params = query_tells p params
+prepared_tells : (hinders : Option Cause) (found : Option Prepared) (params : List Value) → TellsWell (asks_prepared_query hinders found params)
+prepared_tells hinders None params = tt
+prepared_tells hinders (Some p) params = query_tells hinders p params
 
 finalize_tells : (found : Option Prepared) (id : ℕ) → TellsWell (asks_finalize found id)
 finalize_tells None id = tt
@@ -274,24 +279,24 @@ remove_tells v id = search (rules, either, other_tells)
 transfer_tells : (v : View) (id : ℕ) → TellsWell (asks_transfer v id)
 transfer_tells v id = search (rules, either)
 
-pub asked_tells : (v : View) (m : Machine) (g : Gateway) (s : Session) (request : Request) → IsConfigured v → HasNoNul request → TellsWell (asked_by v m g s request)
+pub asked_tells : (v : View) (m : Machine) (g : Gateway) (conn : ℕ) (s : Session) (request : Request) → IsConfigured v → HasNoNul request → TellsWell (asked_by v m g conn s request)
 unfolding asked_by
-asked_tells v m g s requests.Leader configured text = leader_tells v.servers v.leader configured.each
-asked_tells v m g s (requests.Client id) configured text = (tt, tt)
-asked_tells v m g s (requests.Open name flags vfs) configured text = search (rules, at_leader_tells, open_tells)
-asked_tells v m g s (requests.Prepare db sql wide) configured text = search (rules, at_leader_tells, in_database_tells, prepare_tells)
-asked_tells v m g s (requests.Exec db id params wide) configured text = search (rules, at_leader_tells, in_database_tells, exec_tells)
-asked_tells v m g s (requests.Query db id params wide) configured text = search (rules, at_leader_tells, in_database_tells, prepared_tells)
-asked_tells v m g s (requests.Finalize db id) configured text = search (rules, in_database_tells, finalize_tells)
-asked_tells v m g s (requests.ExecSql db sql params wide) configured text = search (rules, at_leader_tells, in_database_tells, text_tells)
-asked_tells v m g s (requests.QuerySql db sql params wide) configured text = search (rules, at_leader_tells, in_database_tells, rows_tell)
-asked_tells v m g s (requests.Interrupt db) configured text = search (rules, in_database_tells)
-asked_tells v m g s (requests.Connect id address) configured text = search (rules, either)
-asked_tells v m g s (requests.Add id address) configured text = search (rules, at_leader_tells, settled_tells, add_tells)
-asked_tells v m g s (requests.Assign id role) configured text = search (rules, at_leader_tells, settled_tells, assign_tells)
-asked_tells v m g s (requests.Remove id) configured text = search (rules, at_leader_tells, settled_tells, remove_tells)
-asked_tells v m g s (requests.Dump name) configured text = dump_tells m name text
-asked_tells v m g s (requests.Cluster format) configured text = cluster_tells v format configured
-asked_tells v m g s (requests.Transfer id) configured text = search (rules, at_leader_tells, transfer_tells)
-asked_tells v m g s (requests.Describe format) configured text = search (rules, either)
-asked_tells v m g s (requests.Weight weight) configured text = tt
+asked_tells v m g conn s requests.Leader configured text = leader_tells v.servers v.leader configured.each
+asked_tells v m g conn s (requests.Client id) configured text = (tt, tt)
+asked_tells v m g conn s (requests.Open name flags vfs) configured text = search (rules, at_leader_tells, open_tells)
+asked_tells v m g conn s (requests.Prepare db sql wide) configured text = search (rules, at_leader_tells, in_database_tells, prepare_tells)
+asked_tells v m g conn s (requests.Exec db id params wide) configured text = search (rules, at_leader_tells, in_database_tells, exec_tells)
+asked_tells v m g conn s (requests.Query db id params wide) configured text = search (rules, at_leader_tells, in_database_tells, prepared_tells)
+asked_tells v m g conn s (requests.Finalize db id) configured text = search (rules, in_database_tells, finalize_tells)
+asked_tells v m g conn s (requests.ExecSql db sql params wide) configured text = search (rules, at_leader_tells, in_database_tells, text_tells)
+asked_tells v m g conn s (requests.QuerySql db sql params wide) configured text = search (rules, at_leader_tells, in_database_tells, rows_tell)
+asked_tells v m g conn s (requests.Interrupt db) configured text = search (rules, in_database_tells)
+asked_tells v m g conn s (requests.Connect id address) configured text = search (rules, either)
+asked_tells v m g conn s (requests.Add id address) configured text = search (rules, at_leader_tells, settled_tells, add_tells)
+asked_tells v m g conn s (requests.Assign id role) configured text = search (rules, at_leader_tells, settled_tells, assign_tells)
+asked_tells v m g conn s (requests.Remove id) configured text = search (rules, at_leader_tells, settled_tells, remove_tells)
+asked_tells v m g conn s (requests.Dump name) configured text = dump_tells m name text
+asked_tells v m g conn s (requests.Cluster format) configured text = cluster_tells v format configured
+asked_tells v m g conn s (requests.Transfer id) configured text = search (rules, at_leader_tells, transfer_tells)
+asked_tells v m g conn s (requests.Describe format) configured text = search (rules, either)
+asked_tells v m g conn s (requests.Weight weight) configured text = tt

@@ -10,6 +10,7 @@ use Rattle.dq_base.specs.Changes.{changed}
 use Rattle.wire_msgs.specs.declared.request.Request.{Request}
 use Rattle.wire_msgs.specs.declared.request.Request.TheVariants as requests
 use Rattle.wire_msgs.specs.declared.response.Response.TheVariants as responses
+use Rattle.sql_scan.specs.Statements.{scan_of}
 use Rattle.sql_engine.specs.declared.answer.Ran.{Ran}
 use Rattle.sql_engine.specs.Replies.{Statement}
 use Rattle.frame_commands.specs.declared.command.Command.TheVariants.{OpenDb}
@@ -18,10 +19,10 @@ use Rattle.session_rules.specs.Causes.{Cause, NotLeader, DatabaseOpen, BadName, 
 use Rattle.session_rules.specs.Entries.{Does, Configures, Other}
 use Rattle.session_rules.specs.Machine.{Machine, is_named}
 use Rattle.session_rules.specs.Engines.{Answer, no_pages, takes, Ending, Lacking, TooLarge, Stopped, Ended, no_answer, runs}
-use Rattle.session_rules.specs.Sessions.{Reply, Refusal, Single, Rows, result, empty, Prepared, Kind, Opening, Configuring, Writing, Committing, Querying, Flight, Transaction, Lent, Session, Gateway, View, Note, Nothing, Began, Inside, Outside, Turned, Refused, Lacks, Answers, Proposes, Lends, Affects, responses_of}
-use Rattle.session_rules.specs.Limits.{is_write, writes_to, has_turn, holds, other_holds, configures, is_configuring, change_in_flight, opens, opened_by, with_names, all_names, one_too_many, flown_by, most, flown, held_pages, pages_with, pages_full, too_full, first_cause, hindrance, log_full}
-use Rattle.session_rules.specs.Statements.{free_id, with_prepared, without_prepared}
-use Rattle.session_rules.specs.Asking.{Asked, Never, Tells, Sets, Opens, Creates, Prepares, Drops, Begins, Commits, RollsBack, Changes, Runs, Reads, at_leader, asks_add, asks_assign, asks_remove, has_database, is_name, barriers_asked, asked_by}
+use Rattle.session_rules.specs.Sessions.{Reply, Refusal, Single, Rows, result, empty, Prepared, Kind, Opening, Configuring, Writing, Committing, Querying, Flight, Transaction, Lent, Session, Gateway, View, Note, Nothing, Began, Inside, Outside, Turned, Refused, Lacks, Answers, Proposes, Lends, Affects, responses_of, in_tx}
+use Rattle.session_rules.specs.Limits.{is_write, writes_to, has_turn, holds, other_holds, configures, is_configuring, change_in_flight, opens, opened_by, with_names, all_names, one_too_many, flown_by, most, flown, held_pages, pages_with, pages_full, too_full, first_cause, hindrance, hinders_in, write_hindrance, log_full}
+use Rattle.session_rules.specs.Statements.{prepared_at, free_id, with_prepared, without_prepared}
+use Rattle.session_rules.specs.Asking.{Asked, Never, Tells, Sets, Opens, Creates, Prepares, Drops, Begins, Commits, RollsBack, Changes, Runs, Reads, at_leader, in_database, asks_add, asks_assign, asks_remove, asks_text, asks_rows, asks_exec, asks_prepared_query, has_database, is_name, barriers_asked, asked_by}
 use Rattle.session_rules.specs.Requests.{with_session, without_later, with_tx, with_statements, with_later, with_barriers, worked, begun, begun_over, flying, unless, row_cause, reply_of, change_of, outside_write, outside, inside, run_in, has_nothing, committed, commit_in, waits_first, barrier_first, job_of, was_cut, read_in, does, on_request, on_later, handed_for, handed, handed_later}
 use Rattle.node_core.specs.Plain.{plain_reply, plain_kind, plain_flight, plain_session, plain_gate}
 
@@ -152,21 +153,37 @@ unfolding hindrance
 hindrance_plain m g conn name mark pages to =
     λ i. first_cause (other_plain g conn name i) Locked (first_cause (not ((m.base name).newest == mark)) OutOfDate (first_cause (too_plain m g name pages to i) DatabaseFull None))
 
+hinders_plain : (m : Machine) (g : Gateway) (conn : ℕ) (s : Session) (o : Option Transaction) → hinders_in m (plain_gate g) conn (plain_session s) o ≡ hinders_in m g conn s o
+hinders_plain m g conn s None = ap (λ (b : Bool). first_cause b Locked None) (other_plain g conn s.database)
+hinders_plain m g conn s (Some x) = ap (λ (b : Bool). first_cause b Locked (first_cause (not ((m.base x.name).newest == x.mark)) OutOfDate None)) (other_plain g conn x.name)
+
+write_hindrance_plain : (m : Machine) (g : Gateway) (conn : ℕ) (s : Session) → write_hindrance m (plain_gate g) conn (plain_session s) ≡ write_hindrance m g conn s
+unfolding write_hindrance
+write_hindrance_plain m g conn s = hinders_plain m g conn s s.tx
+
 -- ---- what is asked
 
-asked_plain : (v : View) (m : Machine) (g : Gateway) (s : Session) (r : Request) → asked_by v m (plain_gate g) (plain_session s) r ≡ asked_by v m g s r
+asked_plain : (v : View) (m : Machine) (g : Gateway) (conn : ℕ) (s : Session) (r : Request) → asked_by v m (plain_gate g) conn (plain_session s) r ≡ asked_by v m g conn s r
 unfolding asked_by
-asked_plain v m g s (requests.Open name flags vfs) =
+asked_plain v m g conn s (requests.Open name flags vfs) =
     ap (λ (b : Bool). at_leader v (cond (has_database s) (Never DatabaseOpen) (cond (not (is_name name)) (Never BadName) (cond (is_named m.names name) (Opens name (barriers_asked flags))
     (cond b (Never TooManyDatabases) (cond (log_full v) (Never LogFull) (Creates name (barriers_asked flags)))))))) (many_plain m g name)
-asked_plain v m g s (requests.Add id address) = ap (λ (b : Bool). at_leader v (cond b (Never ChangeInFlight) (asks_add v.servers id address))) (change_plain g)
-asked_plain v m g s (requests.Assign id role) = ap (λ (b : Bool). at_leader v (cond b (Never ChangeInFlight) (asks_assign v id role))) (change_plain g)
-asked_plain v m g s (requests.Remove id) = ap (λ (b : Bool). at_leader v (cond b (Never ChangeInFlight) (asks_remove v id))) (change_plain g)
-asked_plain v m g s r = refl
+asked_plain v m g conn s (requests.Exec db id params wide) =
+    ap (λ (o : Option Cause). at_leader v (in_database s db (asks_exec o (in_tx s) (prepared_at s.statements id) params))) (write_hindrance_plain m g conn s)
+asked_plain v m g conn s (requests.Query db id params wide) =
+    ap (λ (o : Option Cause). at_leader v (in_database s db (asks_prepared_query o (prepared_at s.statements id) params))) (write_hindrance_plain m g conn s)
+asked_plain v m g conn s (requests.ExecSql db sql params wide) =
+    ap (λ (o : Option Cause). at_leader v (in_database s db (asks_text o (in_tx s) sql (scan_of sql) params))) (write_hindrance_plain m g conn s)
+asked_plain v m g conn s (requests.QuerySql db sql params wide) =
+    ap (λ (o : Option Cause). at_leader v (in_database s db (asks_rows o sql (scan_of sql) params))) (write_hindrance_plain m g conn s)
+asked_plain v m g conn s (requests.Add id address) = ap (λ (b : Bool). at_leader v (cond b (Never ChangeInFlight) (asks_add v.servers id address))) (change_plain g)
+asked_plain v m g conn s (requests.Assign id role) = ap (λ (b : Bool). at_leader v (cond b (Never ChangeInFlight) (asks_assign v id role))) (change_plain g)
+asked_plain v m g conn s (requests.Remove id) = ap (λ (b : Bool). at_leader v (cond b (Never ChangeInFlight) (asks_remove v id))) (change_plain g)
+asked_plain v m g conn s r = refl
 
 pub handed_plain : (v : View) (m : Machine) (g : Gateway) (conn : ℕ) (r : Request) → handed v m (plain_gate g) conn r ≡ handed v m g conn r
 unfolding handed
-handed_plain v m g conn r = ap (handed_for m (g.session conn)) (asked_plain v m g (g.session conn) r)
+handed_plain v m g conn r = ap (handed_for m (g.session conn)) (asked_plain v m g conn (g.session conn) r)
 
 pub handed_later_plain : (v : View) (m : Machine) (g : Gateway) (conn : ℕ) (s : Statement) → handed_later v m (plain_gate g) conn s ≡ handed_later v m g conn s
 unfolding handed_later
@@ -310,8 +327,8 @@ module _ (v : View) (m : Machine) (g : Gateway) (conn : ℕ) (s : Session) where
 pub request_plain : (v : View) (m : Machine) (g : Gateway) (conn : ℕ) (r : Request) (a : List Answer) → plain_turned (on_request v m (plain_gate g) conn r a) ≡ plain_turned (on_request v m g conn r a)
 unfolding on_request
 request_plain v m g conn r a =
-    ap (λ (x : Asked). plain_turned (does v m (plain_gate g) conn (plain_session (g.session conn)) x a)) (asked_plain v m g (g.session conn) r)
-    ∙ does_at v m g conn (g.session conn) (asked_by v m g (g.session conn) r) a
+    ap (λ (x : Asked). plain_turned (does v m (plain_gate g) conn (plain_session (g.session conn)) x a)) (asked_plain v m g conn (g.session conn) r)
+    ∙ does_at v m g conn (g.session conn) (asked_by v m g conn (g.session conn) r) a
 
 -- and so does a query that is run later.
 pub later_plain : (v : View) (m : Machine) (g : Gateway) (conn : ℕ) (q : Statement) (a : List Answer) → plain_turned (on_later v m (plain_gate g) conn q a) ≡ plain_turned (on_later v m g conn q a)

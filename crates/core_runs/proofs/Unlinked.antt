@@ -14,11 +14,11 @@ use Rattle.sql_scan.specs.Statements.{scan_of}
 use Rattle.sql_engine.specs.Replies.{Statement}
 use Rattle.session_rules.specs.Causes.{Cause, NotLeader, NoDatabase, ChangeInFlight, BadNode, TransferFirst}
 use Rattle.session_rules.specs.Engines.{Answer, Ending, Lacking, TooLarge, Stopped, Ended, no_answer, runs}
-use Rattle.session_rules.specs.Limits.{change_in_flight, one_too_many, log_full, other_holds}
+use Rattle.session_rules.specs.Limits.{change_in_flight, one_too_many, log_full, other_holds, write_hindrance}
 use Rattle.session_rules.specs.Machine.{Machine, is_named}
 use Rattle.session_rules.specs.Servers.{has_server}
 use Rattle.session_rules.specs.Sessions.{Prepared, Transaction, Session, Gateway, View, JoinsPeer, HandsOver, Weighs, Turned, Refused, Lacks, Answers, Proposes, Lends, Affects, in_tx}
-use Rattle.session_rules.specs.Statements.{prepared_from, prepared_at, prepared_count, is_left_out, any_barred, wrong_params, with_all}
+use Rattle.session_rules.specs.Statements.{prepared_from, prepared_at, prepared_count, is_left_out, is_write_word, any_barred, any_write, wrong_params, with_params, with_all}
 use Rattle.session_rules.specs.Asking as asking
 use Rattle.session_rules.specs.Asking.{Asked, Never, Tells, Sets, Opens, Creates, Prepares, Drops, Begins, Commits, RollsBack, Changes, Runs, Reads, has_database, barriers_asked, asked_by}
 use Rattle.session_rules.specs.Requests.{unless, outside_write, outside, inside, run_in, committed, commit_in, waits_first, was_cut, read_in, does, on_request, on_later}
@@ -47,51 +47,55 @@ by : (b : Bool) (x y : Asked) → Stays x → Stays y → Stays (cond b x y)
 by true x y p q = p
 by false x y p q = q
 
-kind_stays : (active : Bool) (word : WordKind) (s : Statement) → Stays (asking.asks_kind active word s)
-kind_stays active (words.Begin at_once) s = by active _ _ tt tt
-kind_stays active words.Commit s = by active _ _ tt tt
-kind_stays active words.Rollback s = by active _ _ tt tt
-kind_stays active words.Write s = tt
-kind_stays active words.LeftOut s = tt
-kind_stays active words.Other s = tt
+never_stays : (hinders : Option Cause) (x : Asked) → Stays x → Stays (asking.never_or hinders x)
+never_stays None x h = h
+never_stays (Some cause) x h = tt
 
-one_stays : (active : Bool) (p : Prepared) (params : List Value) → Stays (asking.asks_one active p params)
-one_stays active p params = by (is_left_out p.word) _ _ tt (by (wrong_params (p ∷ []) params) _ _ tt (kind_stays active p.word (with_all p params)))
+kind_stays : (hinders : Option Cause) (active : Bool) (word : WordKind) (s : Statement) → Stays (asking.asks_kind hinders active word s)
+kind_stays hinders active (words.Begin at_once) s = by active _ _ tt tt
+kind_stays hinders active words.Commit s = by active _ _ tt tt
+kind_stays hinders active words.Rollback s = by active _ _ tt tt
+kind_stays hinders active words.Write s = never_stays hinders (Runs (s ∷ [])) tt
+kind_stays hinders active words.LeftOut s = tt
+kind_stays hinders active words.Other s = tt
 
-several_stays : (ps : List Prepared) (params : List Value) → Stays (asking.asks_several ps params)
-several_stays ps params = by (any_barred ps) _ _ tt (by (wrong_params ps params) _ _ tt tt)
+one_stays : (hinders : Option Cause) (active : Bool) (p : Prepared) (params : List Value) → Stays (asking.asks_one hinders active p params)
+one_stays hinders active p params = by (is_left_out p.word) _ _ tt (by (wrong_params (p ∷ []) params) _ _ tt (kind_stays hinders active p.word (with_all p params)))
 
-statements_stay : (active : Bool) (ps : List Prepared) (params : List Value) → Stays (asking.asks_statements active ps params)
-statements_stay active [] params = several_stays [] params
-statements_stay active (p ∷ []) params = one_stays active p params
-statements_stay active (p ∷ q ∷ ps) params = several_stays (p ∷ q ∷ ps) params
+several_stays : (hinders : Option Cause) (ps : List Prepared) (params : List Value) → Stays (asking.asks_several hinders ps params)
+several_stays hinders ps params = by (any_barred ps) _ _ tt (by (wrong_params ps params) _ _ tt (by (any_write ps) _ _ (never_stays hinders (Runs (with_params ps params)) tt) tt))
 
-text_stays : (active : Bool) (sql : List ℕ) (t : Result (List Piece) ScanFault) (params : List Value) → Stays (asking.asks_text active sql t params)
-text_stays active sql (Err fault) params = tt
-text_stays active sql (Ok pieces) params = statements_stay active (map (prepared_from sql) pieces) params
+statements_stay : (hinders : Option Cause) (active : Bool) (ps : List Prepared) (params : List Value) → Stays (asking.asks_statements hinders active ps params)
+statements_stay hinders active [] params = several_stays hinders [] params
+statements_stay hinders active (p ∷ []) params = one_stays hinders active p params
+statements_stay hinders active (p ∷ q ∷ ps) params = several_stays hinders (p ∷ q ∷ ps) params
 
-query_stays : (p : Prepared) (params : List Value) → Stays (asking.asks_query p params)
-query_stays p params = by (any_barred (p ∷ [])) _ _ tt (by (wrong_params (p ∷ []) params) _ _ tt tt)
+text_stays : (hinders : Option Cause) (active : Bool) (sql : List ℕ) (t : Result (List Piece) ScanFault) (params : List Value) → Stays (asking.asks_text hinders active sql t params)
+text_stays hinders active sql (Err fault) params = tt
+text_stays hinders active sql (Ok pieces) params = statements_stay hinders active (map (prepared_from sql) pieces) params
+
+query_stays : (hinders : Option Cause) (p : Prepared) (params : List Value) → Stays (asking.asks_query hinders p params)
+query_stays hinders p params = by (any_barred (p ∷ [])) _ _ tt (by (wrong_params (p ∷ []) params) _ _ tt (by (is_write_word p.word) _ _ (never_stays hinders (Reads (with_all p params)) tt) tt))
 
 not_one_stays : (ps : List Prepared) → Stays (asking.not_one ps)
 not_one_stays ps = by (any_barred ps) _ _ tt tt
 
-sole_stays : (ps : List Prepared) (params : List Value) → Stays (asking.asks_sole ps params)
-sole_stays [] params = not_one_stays []
-sole_stays (p ∷ []) params = query_stays p params
-sole_stays (p ∷ q ∷ ps) params = not_one_stays (p ∷ q ∷ ps)
+sole_stays : (hinders : Option Cause) (ps : List Prepared) (params : List Value) → Stays (asking.asks_sole hinders ps params)
+sole_stays hinders [] params = not_one_stays []
+sole_stays hinders (p ∷ []) params = query_stays hinders p params
+sole_stays hinders (p ∷ q ∷ ps) params = not_one_stays (p ∷ q ∷ ps)
 
-rows_stay : (sql : List ℕ) (t : Result (List Piece) ScanFault) (params : List Value) → Stays (asking.asks_rows sql t params)
-rows_stay sql (Err fault) params = tt
-rows_stay sql (Ok pieces) params = sole_stays (map (prepared_from sql) pieces) params
+rows_stay : (hinders : Option Cause) (sql : List ℕ) (t : Result (List Piece) ScanFault) (params : List Value) → Stays (asking.asks_rows hinders sql t params)
+rows_stay hinders sql (Err fault) params = tt
+rows_stay hinders sql (Ok pieces) params = sole_stays hinders (map (prepared_from sql) pieces) params
 
-exec_stays : (active : Bool) (o : Option Prepared) (params : List Value) → Stays (asking.asks_exec active o params)
-exec_stays active None params = tt
-exec_stays active (Some p) params = one_stays active p params
+exec_stays : (hinders : Option Cause) (active : Bool) (o : Option Prepared) (params : List Value) → Stays (asking.asks_exec hinders active o params)
+exec_stays hinders active None params = tt
+exec_stays hinders active (Some p) params = one_stays hinders active p params
 
-prepared_stays : (o : Option Prepared) (params : List Value) → Stays (asking.asks_prepared_query o params)
-prepared_stays None params = tt
-prepared_stays (Some p) params = query_stays p params
+prepared_stays : (hinders : Option Cause) (o : Option Prepared) (params : List Value) → Stays (asking.asks_prepared_query hinders o params)
+prepared_stays hinders None params = tt
+prepared_stays hinders (Some p) params = query_stays hinders p params
 
 finalize_stays : (o : Option Prepared) (id : ℕ) → Stays (asking.asks_finalize o id)
 finalize_stays None id = tt
@@ -139,27 +143,27 @@ connect_stays : (b c : Bool) (id : ℕ) → b ≡ false → Stays (cond (b && c)
 connect_stays true c id e = absurd (true≢false e)
 connect_stays false c id e = tt
 
-asked_stays : (v : View) (m : Machine) (g : Gateway) (s : Session) (r : Request) → v.links ≡ false → Stays (asked_by v m g s r)
+asked_stays : (v : View) (m : Machine) (g : Gateway) (conn : ℕ) (s : Session) (r : Request) → v.links ≡ false → Stays (asked_by v m g conn s r)
 unfolding asked_by
-asked_stays v m g s requests.Leader e = tt
-asked_stays v m g s (requests.Client id) e = tt
-asked_stays v m g s (requests.Open name flags vfs) e = leading v _ (open_stays v m g s name (barriers_asked flags))
-asked_stays v m g s (requests.Prepare db sql wide) e = leading v _ (opened s db _ (prepare_stays s sql wide (scan_of sql)))
-asked_stays v m g s (requests.Exec db id params wide) e = leading v _ (opened s db _ (exec_stays (in_tx s) (prepared_at s.statements id) params))
-asked_stays v m g s (requests.Query db id params wide) e = leading v _ (opened s db _ (prepared_stays (prepared_at s.statements id) params))
-asked_stays v m g s (requests.Finalize db id) e = opened s db _ (finalize_stays (prepared_at s.statements id) id)
-asked_stays v m g s (requests.ExecSql db sql params wide) e = leading v _ (opened s db _ (text_stays (in_tx s) sql (scan_of sql) params))
-asked_stays v m g s (requests.QuerySql db sql params wide) e = leading v _ (opened s db _ (rows_stay sql (scan_of sql) params))
-asked_stays v m g s (requests.Interrupt db) e = opened s db (Tells responses.Empty) tt
-asked_stays v m g s (requests.Connect id address) e = connect_stays v.links (asking.is_other_node v id) id e
-asked_stays v m g s (requests.Add id address) e = leading v _ (settled g _ (by (asking.is_barred_node v.servers id address) _ _ tt tt))
-asked_stays v m g s (requests.Assign id role) e = leading v _ (settled g _ (assign_stays v id role))
-asked_stays v m g s (requests.Remove id) e = leading v _ (settled g _ (remove_stays v id))
-asked_stays v m g s (requests.Dump name) e = by (is_named m.names name) _ _ (by (nat_lt 16777216 (asking.body_size (asking.files_of name (m.base name).image))) _ _ tt tt) tt
-asked_stays v m g s (requests.Cluster format) e = by (nat_le format 1) _ _ tt tt
-asked_stays v m g s (requests.Transfer id) e = leading v _ (by (among (voters v.servers) id) _ _ (by (asking.may_take_over v id) _ _ tt tt) tt)
-asked_stays v m g s (requests.Describe format) e = by (format == 0) _ _ tt tt
-asked_stays v m g s (requests.Weight weight) e = tt
+asked_stays v m g conn s requests.Leader e = tt
+asked_stays v m g conn s (requests.Client id) e = tt
+asked_stays v m g conn s (requests.Open name flags vfs) e = leading v _ (open_stays v m g s name (barriers_asked flags))
+asked_stays v m g conn s (requests.Prepare db sql wide) e = leading v _ (opened s db _ (prepare_stays s sql wide (scan_of sql)))
+asked_stays v m g conn s (requests.Exec db id params wide) e = leading v _ (opened s db _ (exec_stays (write_hindrance m g conn s) (in_tx s) (prepared_at s.statements id) params))
+asked_stays v m g conn s (requests.Query db id params wide) e = leading v _ (opened s db _ (prepared_stays (write_hindrance m g conn s) (prepared_at s.statements id) params))
+asked_stays v m g conn s (requests.Finalize db id) e = opened s db _ (finalize_stays (prepared_at s.statements id) id)
+asked_stays v m g conn s (requests.ExecSql db sql params wide) e = leading v _ (opened s db _ (text_stays (write_hindrance m g conn s) (in_tx s) sql (scan_of sql) params))
+asked_stays v m g conn s (requests.QuerySql db sql params wide) e = leading v _ (opened s db _ (rows_stay (write_hindrance m g conn s) sql (scan_of sql) params))
+asked_stays v m g conn s (requests.Interrupt db) e = opened s db (Tells responses.Empty) tt
+asked_stays v m g conn s (requests.Connect id address) e = connect_stays v.links (asking.is_other_node v id) id e
+asked_stays v m g conn s (requests.Add id address) e = leading v _ (settled g _ (by (asking.is_barred_node v.servers id address) _ _ tt tt))
+asked_stays v m g conn s (requests.Assign id role) e = leading v _ (settled g _ (assign_stays v id role))
+asked_stays v m g conn s (requests.Remove id) e = leading v _ (settled g _ (remove_stays v id))
+asked_stays v m g conn s (requests.Dump name) e = by (is_named m.names name) _ _ (by (nat_lt 16777216 (asking.body_size (asking.files_of name (m.base name).image))) _ _ tt tt) tt
+asked_stays v m g conn s (requests.Cluster format) e = by (nat_le format 1) _ _ tt tt
+asked_stays v m g conn s (requests.Transfer id) e = leading v _ (by (among (voters v.servers) id) _ _ (by (asking.may_take_over v id) _ _ tt tt) tt)
+asked_stays v m g conn s (requests.Describe format) e = by (format == 0) _ _ tt tt
+asked_stays v m g conn s (requests.Weight weight) e = tt
 
 -- ---- what comes of it
 
@@ -236,7 +240,7 @@ module _ (v : View) (m : Machine) (g : Gateway) (conn : ℕ) (s : Session) where
 
 pub request_told : (v : View) (m : Machine) (g : Gateway) (conn : ℕ) (r : Request) (a : List Answer) → v.links ≡ false → v.readers ≡ false → IsTold (on_request v m g conn r a)
 unfolding on_request
-request_told v m g conn r a unlinked unread = does_told v m g conn (g.session conn) (asked_by v m g (g.session conn) r) a unread (asked_stays v m g (g.session conn) r unlinked)
+request_told v m g conn r a unlinked unread = does_told v m g conn (g.session conn) (asked_by v m g conn (g.session conn) r) a unread (asked_stays v m g conn (g.session conn) r unlinked)
 
 pub later_told : (v : View) (m : Machine) (g : Gateway) (conn : ℕ) (q : Statement) (a : List Answer) → IsTold (on_later v m g conn q a)
 unfolding on_later

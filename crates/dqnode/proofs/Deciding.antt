@@ -13,10 +13,9 @@ use Rattle.script_runner.specs.Run.{Run, run, text_of, printed}
 use Rattle.script_runner.specs.Ending.{Anything, MayFollow}
 use Rattle.script_runs.specs.Mails.{ByNodes, OverByNode}
 use Rattle.script_runs.specs.Seats.{setup_of}
-use Rattle.script_repeats.specs.Nodes.{GoesWell}
 use Rattle.script_repeats.specs.Plain.{plain_items, plain_turns}
 use Rattle.script_repeats.specs.Repeats.{AreAlike, Compared, Same, Shorter, Longer, IsWhole, StartWith}
-use Rattle.cell_scripts.specs.Decided.{IsOfCells, BrokeOffCells, CellBrokenRepeat, CellScriptsCompare}
+use Rattle.cell_scripts.specs.Decided.{GoesUntroubled, IsOfCells, BrokeOffCells, CellBrokenRepeat, CellScriptsCompare}
 use Rattle.dqnode.specs.Program.{BreaksOff, Gives}
 use Rattle.dqnode.specs.Decided.{WentWell, BrokeWell, WroteSame, WroteFront, BrokenDecideBy, ScriptsDecide, BrokenScriptsDecide}
 
@@ -29,7 +28,7 @@ module _ (fault : Option Fault) (journal : List Item) (left left' written writte
     last =
         subst (λ (turns : List Turn). OverByNode cells Cells (setup_of gives.nodes.voters) turns (run (gives.read ++ rest) (gives.outcomes ++ [])).over) (sym (gives.has rest may []))
         (subst (OverByNode cells Cells (setup_of gives.nodes.voters) gives.turns) (sym (gives.beside rest may [])) (gives.nodes.by_last well.fair_last));
-    well = subst (AllByRecursion GoesWell) (λ i. with_over (sym (gives.has rest may []) i) (sym (gives.beside rest may []) i)) well.well;
+    well = subst (AllByRecursion GoesUntroubled) (λ i. with_over (sym (gives.has rest may []) i) (sym (gives.beside rest may []) i)) well.well;
   }
 
   is_whole : IsWhole (run (gives.read ++ rest) (gives.outcomes ++ [])).fault

@@ -17,7 +17,7 @@ use Rattle.script_runs.specs.Laws.{IsSafe, IsSafeLater}
 use Rattle.script_runs.specs.Seats.{setup_of}
 use Rattle.script_runs.proofs.Completing.{scripts_are_complete_hold}
 use Rattle.script_runs.proofs.Running.{laters_are_safe_hold}
-use Rattle.script_runs.proofs.Scripts.{scripts_are_safe_hold}
+use Rattle.script_runs.proofs.Scripts.{loads_never_fail_hold, scripts_are_safe_hold}
 use Rattle.script_places.specs.Safe.{AreOfNodes, IsFairTo}
 use Rattle.script_places.specs.Turns.{Knows}
 use Rattle.script_places.proofs.Guarding.{places_tell}
@@ -45,6 +45,9 @@ safe_turns kind script outcomes turns rest over e nodes =
       safe = safe;
       later = λ early middle late parts fair. stays_safe kind nodes.voters early middle (safe (early ++ middle) late parts fair);
       answers = λ early late parts fair. scripts_are_complete_hold (any_meaning kind) kind (setup_of nodes.voters) early (safe early late parts fair);
+      loads = λ fair last.
+          loads_never_fail_hold (any_meaning kind) kind (setup_of nodes.voters) script outcomes turns rest over (sym (run_twin script outcomes).turns_are ∙ e)
+          (nodes.by_nodes turns [] (sym (append-nil turns)) fair) (nodes.by_last last);
     }
 
 -- ---- how running it ended

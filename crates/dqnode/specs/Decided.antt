@@ -8,19 +8,19 @@ use Rattle.script_nodes.specs.Knowing.{with_over}
 use Rattle.script_nodes.specs.Outcomes.{Item, Turn}
 use Rattle.script_nodes.specs.Run.{Fault}
 use Rattle.script_places.specs.Safe.{IsFairTo, IsFairOver}
-use Rattle.script_repeats.specs.Nodes.{GoesWell}
 use Rattle.script_repeats.specs.Plain.{plain_items, plain_turns}
 use Rattle.script_repeats.specs.Repeats.{IsWhole}
+use Rattle.cell_scripts.specs.Decided.{GoesUntroubled}
 use Rattle.script_runner.specs.Ending.{Anything, MayFollow}
 use Rattle.dqnode.specs.Program.{BreaksOff, Gives}
 
--- All went well in a run, also in what a node did last where that isn't in it: no checksum matched by chance in what a start found, each
--- step and start ended well, so that no call of a disk stopped or failed, and no engine wanted memory.
+-- All went well in a run, also in what a node did last where that isn't in it: no checksum matched by chance in what a start found, no call
+-- of a disk stopped or failed, and no engine wanted memory. So each step and each start ended well, as no load fails.
 pub record WentWell {fault : Option Fault} {journal : List Item} {left left' written written' : Option (List ℕ)}
     (gives : Gives Cells fault journal left left' written written') : Type 0 where
   pub fair : IsFairTo Cells gives.nodes.voters gives.turns gives.nodes.lives gives.turns
   pub fair_last : IsFairOver Cells gives.nodes.voters gives.turns gives.over gives.nodes.last
-  pub well : AllByRecursion GoesWell (with_over gives.turns gives.over)
+  pub well : AllByRecursion GoesUntroubled (with_over gives.turns gives.over)
   pub whole : IsWhole fault
 
 -- So of a run that broke off.
@@ -28,7 +28,7 @@ pub record BrokeWell {follows : List ℕ → Type 0} {left left' written written
     : Type 0 where
   pub fair : IsFairTo Cells breaks.nodes.voters breaks.turns breaks.nodes.lives breaks.turns
   pub fair_last : IsFairOver Cells breaks.nodes.voters breaks.turns breaks.over breaks.nodes.last
-  pub well : AllByRecursion GoesWell (with_over breaks.turns breaks.over)
+  pub well : AllByRecursion GoesUntroubled (with_over breaks.turns breaks.over)
 
 -- The same text was written behind what was written before, and the faults are the same. So is what happened at nodes, with what came of it,
 -- and what is noted, but for the numbers of transactions.

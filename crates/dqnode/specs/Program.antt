@@ -4,16 +4,17 @@ use Rattle.std.specs.Io.KnownBytes.{Appends, Consumes, IsAtEnd}
 use Rattle.dq_base.specs.Sink.{AppendsFront}
 use Rattle.sql_engine.specs.declared.kind.EngineKind.{EngineKind}
 use Rattle.sqlite_engine.specs.Any.{any_meaning}
-use Rattle.script_nodes.specs.Knowing.{outcomes_in, outcomes_over}
+use Rattle.script_nodes.specs.Knowing.{outcomes_in, outcomes_over, with_over}
 use Rattle.script_nodes.specs.Outcomes.{Outcome, Item, Turn}
 use Rattle.script_nodes.specs.Run.{Fault}
-use Rattle.script_places.specs.Safe.{AreOfNodes, IsFairTo}
+use Rattle.script_places.specs.Safe.{AreOfNodes, IsFairOver, IsFairTo}
 use Rattle.script_runner.specs.Ending.{MayFollow, BeginWith, IsBeside}
 use Rattle.script_runner.specs.Run.{run, printed}
 use Rattle.script_runs.specs.Complete.{IsComplete}
 use Rattle.script_runs.specs.Laws.{IsSafe, IsSafeLater}
 use Rattle.script_runs.specs.Mails.{ByNodes}
 use Rattle.script_runs.specs.Seats.{setup_of}
+use Rattle.script_runs.specs.Turns.{AllLoad}
 
 -- the line for words that ask for nothing
 abbrev pub words_error : List ℕ
@@ -22,7 +23,8 @@ words_error = codes "error words\n"
 -- ---- a run that is safe
 
 -- The turns of a run are safe: each moment of it, and each with a later one, up to where a checksum matches by chance in what a start finds;
--- and each request of a connection that stays open is answered once, and in its order.
+-- each request of a connection that stays open is answered once, and in its order; and no load fails, neither up to such a moment (`loads` of
+-- `IsSafe`) nor in what a node did last where that isn't in the run: no start finds `Damaged`, `Gap`, `NoMeta` or `Snapshot`.
 pub record SafeTurns (kind : EngineKind) (turns : List Turn) : Type 0 where
   pub over : Option Turn
   pub nodes : AreOfNodes kind turns over
@@ -32,6 +34,7 @@ pub record SafeTurns (kind : EngineKind) (turns : List Turn) : Type 0 where
       → IsSafeLater (any_meaning kind) kind (setup_of nodes.voters) early middle
   pub answers : (early late : List Turn) (parts : turns ≡ early ++ late) (fair : IsFairTo kind nodes.voters turns nodes.lives early)
       → IsComplete (any_meaning kind) kind (setup_of nodes.voters) early (safe early late parts fair)
+  pub loads : IsFairTo kind nodes.voters turns nodes.lives turns → IsFairOver kind nodes.voters turns over nodes.last → AllLoad (with_over turns over)
 
 -- ---- what a script gives
 

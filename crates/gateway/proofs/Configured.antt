@@ -296,7 +296,7 @@ module _ (v : View) (g : Gateway) (c : IsConfiguration v.servers) where
   remove_may : (id : ℕ) → May (asking.asks_remove v id)
   remove_may id = if_may (has_server v.servers id) (asking.of_other v id (Changes (without_server id v.servers))) (Never _) (λ e. of_other_may id (Changes (without_server id v.servers)) (left id v.servers c)) (λ e. tt)
 
-module _ (v : View) (m : Machine) (g : Gateway) (s : Session) (c : IsConfiguration v.servers) where
+module _ (v : View) (m : Machine) (g : Gateway) (conn : ℕ) (s : Session) (c : IsConfiguration v.servers) where
   open_may : (name : List ℕ) (barriers : Bool) → May (asking.asks_open v m g s name barriers)
   open_may name barriers =
       if_may (asking.has_database s) (Never _) _ (λ e. tt)
@@ -320,26 +320,26 @@ module _ (v : View) (m : Machine) (g : Gateway) (s : Session) (c : IsConfigurati
   plain_may request (asking.Runs statements) fits is = tt
   plain_may request (asking.Reads statement) fits is = tt
 
-  by_law : (request : Request) → fits_one_voter request ≡ true → May (asked_by v m g s request)
-  by_law request fits = plain_may request (asked_by v m g s request) fits (all_allowed v m g s request)
+  by_law : (request : Request) → fits_one_voter request ≡ true → May (asked_by v m g conn s request)
+  by_law request fits = plain_may request (asked_by v m g conn s request) fits (all_allowed v m g conn s request)
 
-  open_asked : (name vfs : List ℕ) (flags : ℕ) → May (asked_by v m g s (requests.Open name flags vfs))
+  open_asked : (name vfs : List ℕ) (flags : ℕ) → May (asked_by v m g conn s (requests.Open name flags vfs))
   unfolding asked_by
   open_asked name vfs flags = at_leader_may v g c (asking.asks_open v m g s name (asking.barriers_asked flags)) (open_may name (asking.barriers_asked flags))
 
-  add_asked : (id : ℕ) (address : List ℕ) → has_nul address ≡ false → May (asked_by v m g s (requests.Add id address))
+  add_asked : (id : ℕ) (address : List ℕ) → has_nul address ≡ false → May (asked_by v m g conn s (requests.Add id address))
   unfolding asked_by
   add_asked id address text = at_leader_may v g c (asking.if_settled g (asking.asks_add v.servers id address)) (settled_may v g c (asking.asks_add v.servers id address) (add_may v g c id address text))
 
-  assign_asked : (id role : ℕ) → May (asked_by v m g s (requests.Assign id role))
+  assign_asked : (id role : ℕ) → May (asked_by v m g conn s (requests.Assign id role))
   unfolding asked_by
   assign_asked id role = at_leader_may v g c (asking.if_settled g (asking.asks_assign v id role)) (settled_may v g c (asking.asks_assign v id role) (assign_may v g c id role))
 
-  remove_asked : (id : ℕ) → May (asked_by v m g s (requests.Remove id))
+  remove_asked : (id : ℕ) → May (asked_by v m g conn s (requests.Remove id))
   unfolding asked_by
   remove_asked id = at_leader_may v g c (asking.if_settled g (asking.asks_remove v id)) (settled_may v g c (asking.asks_remove v id) (remove_may v g c id))
 
-  all_may : (request : Request) → AddressHasNoNul request → May (asked_by v m g s request)
+  all_may : (request : Request) → AddressHasNoNul request → May (asked_by v m g conn s request)
   unfolding fits_one_voter
   all_may requests.Leader h = by_law requests.Leader refl
   all_may (requests.Client id) h = by_law (requests.Client id) refl
@@ -362,18 +362,18 @@ module _ (v : View) (m : Machine) (g : Gateway) (s : Session) (c : IsConfigurati
   all_may (requests.Weight weight) h = by_law (requests.Weight weight) refl
 
 -- so are those that are wanted
-pub configured : (v : View) (m : Machine) (g : Gateway) (s : Session) (request : Request) (params : List Value) (w : Wanted) → IsConfiguration v.servers → AddressHasNoNul request → meant params w ≡ asked_by v m g s request → MayConfigure w
-configured v m g s request params (wanted.Changes servers) c text is = subst May (sym is) (all_may v m g s c request text)
-configured v m g s request params (wanted.Never cause) c text is = tt
-configured v m g s request params (wanted.Tells response) c text is = tt
-configured v m g s request params (wanted.Sets effect) c text is = tt
-configured v m g s request params (wanted.Opens name barriers) c text is = tt
-configured v m g s request params (wanted.Creates name barriers) c text is = tt
-configured v m g s request params (wanted.Prepares prepared tail) c text is = tt
-configured v m g s request params (wanted.Drops id) c text is = tt
-configured v m g s request params (wanted.Begins at_once) c text is = tt
-configured v m g s request params wanted.Commits c text is = tt
-configured v m g s request params wanted.RollsBack c text is = tt
-configured v m g s request params (wanted.RunsOne prepared) c text is = tt
-configured v m g s request params (wanted.RunsAll script) c text is = tt
-configured v m g s request params (wanted.Reads prepared) c text is = tt
+pub configured : (v : View) (m : Machine) (g : Gateway) (conn : ℕ) (s : Session) (request : Request) (params : List Value) (w : Wanted) → IsConfiguration v.servers → AddressHasNoNul request → meant params w ≡ asked_by v m g conn s request → MayConfigure w
+configured v m g conn s request params (wanted.Changes servers) c text is = subst May (sym is) (all_may v m g conn s c request text)
+configured v m g conn s request params (wanted.Never cause) c text is = tt
+configured v m g conn s request params (wanted.Tells response) c text is = tt
+configured v m g conn s request params (wanted.Sets effect) c text is = tt
+configured v m g conn s request params (wanted.Opens name barriers) c text is = tt
+configured v m g conn s request params (wanted.Creates name barriers) c text is = tt
+configured v m g conn s request params (wanted.Prepares prepared tail) c text is = tt
+configured v m g conn s request params (wanted.Drops id) c text is = tt
+configured v m g conn s request params (wanted.Begins at_once) c text is = tt
+configured v m g conn s request params wanted.Commits c text is = tt
+configured v m g conn s request params wanted.RollsBack c text is = tt
+configured v m g conn s request params (wanted.RunsOne prepared) c text is = tt
+configured v m g conn s request params (wanted.RunsAll script) c text is = tt
+configured v m g conn s request params (wanted.Reads prepared) c text is = tt

@@ -127,13 +127,13 @@ module _ (v : View) (m : Machine) (g : Gateway) (conn : ℕ) (s : Session) (answ
 -- ---- what is wanted by a request
 
 pub decided : (m : Meaning) (kind : EngineKind) (v : View) (machine : Machine) (g : Gateway) (conn own : ℕ) (s : Session) (params : List Value) (w : Wanted) (request : Request) (told_before told_now : Option Told) (decision : Decision)
-    → s ≡ g.session conn → own ≡ conn → meant params w ≡ asked_by v machine g s request → TurnsTo (call_of m kind told_before told_now) (scene v machine g own) s (meant params w) decision
+    → s ≡ g.session conn → own ≡ conn → meant params w ≡ asked_by v machine g own s request → TurnsTo (call_of m kind told_before told_now) (scene v machine g own) s (meant params w) decision
     → ComesBy (call_of m kind told_before told_now) v machine (g.session conn) (handed v machine g conn request) (on_request v machine g conn request) decision
 unfolding handed on_request
 decided m kind v machine g conn own s params w request told_before told_now decision is at wants comes =
-    let first : TurnsTo (call_of m kind told_before told_now) (scene v machine g own) s (asked_by v machine g s request) decision = subst (λ (a : Asked). TurnsTo (call_of m kind told_before told_now) (scene v machine g own) s a decision) wants comes in
-    let second : TurnsTo (call_of m kind told_before told_now) (scene v machine g conn) s (asked_by v machine g s request) decision = subst (λ (c : ℕ). TurnsTo (call_of m kind told_before told_now) (scene v machine g c) s (asked_by v machine g s request) decision) at first in
-    let third : TurnsTo (call_of m kind told_before told_now) (scene v machine g conn) (g.session conn) (asked_by v machine g (g.session conn) request) decision = subst (λ (t : Session). TurnsTo (call_of m kind told_before told_now) (scene v machine g conn) t (asked_by v machine g t request) decision) is second in
+    let first : TurnsTo (call_of m kind told_before told_now) (scene v machine g own) s (asked_by v machine g own s request) decision = subst (λ (a : Asked). TurnsTo (call_of m kind told_before told_now) (scene v machine g own) s a decision) wants comes in
+    let second : TurnsTo (call_of m kind told_before told_now) (scene v machine g conn) s (asked_by v machine g conn s request) decision = subst (λ (c : ℕ). TurnsTo (call_of m kind told_before told_now) (scene v machine g c) s (asked_by v machine g c s request) decision) at first in
+    let third : TurnsTo (call_of m kind told_before told_now) (scene v machine g conn) (g.session conn) (asked_by v machine g conn (g.session conn) request) decision = subst (λ (t : Session). TurnsTo (call_of m kind told_before told_now) (scene v machine g conn) t (asked_by v machine g conn t request) decision) is second in
     record { answers = third.answers; allowed = third.allowed; told = third.told; exact = third.exact; is = third.is }
 
 -- ---- the session at a place of the table

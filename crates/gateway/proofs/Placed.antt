@@ -76,10 +76,10 @@ module _ (sessions : List Session) (place : ℕ) (found : Session) (within : pla
 
 -- what is wanted of a session is wanted of it by another name
 pub wants_at : (v : View) (databases : List Database) (sessions : List Session) (weight : ℕ) (found there : Session) (params known : List Value) (wanted : Wanted) (request : Request) → params ≡ known → found ≡ there
-    → meant known wanted ≡ asked_by v (machine_of databases) (table_of databases sessions weight) (session_of databases found) request
-    → meant params wanted ≡ asked_by v (machine_of databases) (table_of databases sessions weight) (session_of databases there) request
+    → meant known wanted ≡ asked_by v (machine_of databases) (table_of databases sessions weight) found.conn (session_of databases found) request
+    → meant params wanted ≡ asked_by v (machine_of databases) (table_of databases sessions weight) there.conn (session_of databases there) request
 wants_at v databases sessions weight found there params known wanted request same is wants =
-    ap (λ (ps : List Value). meant ps wanted) same ∙ wants ∙ ap (λ (s : Session). asked_by v (machine_of databases) (table_of databases sessions weight) (session_of databases s) request) is
+    ap (λ (ps : List Value). meant ps wanted) same ∙ wants ∙ ap (λ (s : Session). asked_by v (machine_of databases) (table_of databases sessions weight) s.conn (session_of databases s) request) is
 
 -- a transaction is open or not, whatever the machine has
 pub outside_too : (m databases : List Database) (o : Option Transaction) → not (is_none (option_map (transaction_of m) o)) ≡ false → not (is_none (option_map (transaction_of databases) o)) ≡ false

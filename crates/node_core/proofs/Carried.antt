@@ -1,6 +1,6 @@
 -- The connections of a node, and those that carry a peer's messages, in the turns of a step.
 use Rattle.std.proofs.Common.{◌≡◌, ℕ, Bool, true, false, cond, List, [], ◌∷◌, ◌++◌, Option, Some, None, refl, sym, ap, subst, ◌∙◌, append_assoc, append-nil}
-use Rattle.std.specs.Prelude.{◌==◌, is_none, is_some, find, Result, Ok, Err, IfOk}
+use Rattle.std.specs.Prelude.{◌==◌, is_none}
 use Rattle.std.specs.List.{flat_map}
 use Rattle.std.proofs.lemmas.Bool.{cond-true, eq-eqb}
 use Rattle.std.proofs.lemmas.List.Concat.{flat_map-append}
@@ -9,7 +9,6 @@ use Rattle.client_connection.specs.declared.connection.CloseReason.{CloseReason}
 use Rattle.client_connection.specs.declared.connection.CloseReason.TheVariants.{Peer}
 use Rattle.client_connection.specs.Connection.{Conn, received}
 use Rattle.session_rules.specs.Machine.{machine_of}
-use Rattle.session_rules.specs.Sessions.{View}
 use Rattle.statement_runs.specs.Calls.{EngineCall}
 use Rattle.raft_vote.specs.declared.message.RaftMessage.{RaftMessage}
 use Rattle.client_sessions.specs.declared.act.Act.{Act}
@@ -25,7 +24,7 @@ use Rattle.node_core.specs.declared.links.Link.{Link}
 use Rattle.node_core.specs.declared.outs.Outs.{Outs}
 use Rattle.node_core.specs.declared.running.Running.{Running}
 use Rattle.node_core.specs.Carrying.{Lines, lines_in, link_on, without_link, heard_link, close_of, full_for, came_unless, full_unless, heard_by_line, begun_by, closed_first, reason_at, gone_at}
-use Rattle.node_core.specs.Carrying.{Move, TakesAsked, TakesConnect, TakesSent, FindsWrong, LooksAt, sent_by, closed_by, with_first, MovesBy, Runs, Waiting, first_waiting}
+use Rattle.node_core.specs.Carrying.{Move, TakesAsked, TakesConnect, TakesSent, FindsWrong, LooksAt, sent_by, closed_by, with_first, MovesBy, Runs, first_waiting}
 use Rattle.node_core.specs.Carrying.{BeginsLines, MovesLines, LinesSince, LinesBy, LinesUpTo}
 use Rattle.node_core.specs.Conns.{KeepsConns, LeavesConns, ConnsBehind, link_for}
 use Rattle.node_core.specs.Values.{clients_in}

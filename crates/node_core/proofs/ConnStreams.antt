@@ -4,7 +4,6 @@ use Rattle.std.specs.Prelude.{◌==◌, is_none, Result, Ok, Err, IfOk}
 use Rattle.std.proofs.lemmas.Bool.{cond-true, eq-eqb, eqb-true}
 use Rattle.wire_words.specs.declared.message.Message.{Message}
 use Rattle.client_connection.specs.declared.connection.CloseReason.{CloseReason}
-use Rattle.client_connection.specs.declared.connection.CloseReason.TheVariants.{Limit}
 use Rattle.client_connection.specs.Connection.{Conn, opened, received, reason_of}
 use Rattle.session_rules.specs.Machine.{machine_of}
 use Rattle.session_rules.specs.Sessions.{Reply, Gateway, Session, View, later_query, responses_of}
@@ -22,9 +21,9 @@ use Rattle.node_core.specs.declared.event.Event.TheVariants as events
 use Rattle.node_core.specs.declared.outs.Outs.{Outs}
 use Rattle.node_core.specs.declared.running.Running.{Running}
 use Rattle.node_core.specs.declared.links.Link.{Link}
-use Rattle.node_core.specs.Carrying.{BeginsLines, lines_in, link_on, without_link, heard_link, close_of, full_for, reason_at, gone_at}
-use Rattle.node_core.specs.Conns.{StreamOn, StreamsOn, brought, come_by, heard_by, close_on, closes_in, closes_by}
-use Rattle.node_core.specs.Conns.{HasNoPeers, IsUnlinked, KeepsConns, ConnsOn, LeavesConns, ConnsBehind, ClosesConn, ConnsBegin, ConnsBy}
+use Rattle.node_core.specs.Carrying.{BeginsLines, link_on, without_link, heard_link, close_of, full_for, reason_at}
+use Rattle.node_core.specs.Conns.{StreamOn, StreamsOn, brought, come_by, heard_by, close_on, closes_by}
+use Rattle.node_core.specs.Conns.{HasNoPeers, IsUnlinked, KeepsConns, ConnsOn, ConnsBehind, ClosesConn, ConnsBegin, ConnsBy}
 use Rattle.client_sessions.specs.Calls.{TookOffer, TookTurn, WasIdle, bytes_of}
 use Rattle.client_sessions.specs.Later.{Resumes, Finishes, turn_for}
 use Rattle.client_sessions.proofs.Offers.{next_is_first}

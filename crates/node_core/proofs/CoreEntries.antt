@@ -1,8 +1,8 @@
 -- What an entry, a leader's duties and an own snapshot make of what decides at a node.
-use Rattle.std.proofs.Common.{rules, deque_len, ◌≡◌, ◌≢◌, ◌<◌, ◌≤◌, ◌-◌, ℕ, zero, suc, Bool, true, false, true≢false, cond, List, [], ◌∷◌, ◌++◌, length, drop, map, get_or, Option, Some, None, Ok, Err, Result, refl, sym, ap, subst, ◌∙◌, arith}
-use Rattle.std.specs.Prelude.{◌==◌, ◌&&◌, ◌+◌, IfOk, OnOk, not, is_none, is_some, slice_index_or}
+use Rattle.std.proofs.Common.{rules, deque_len, ◌≡◌, ◌≢◌, ◌<◌, ◌≤◌, ◌-◌, ℕ, zero, suc, Bool, true, false, true≢false, cond, List, [], ◌∷◌, ◌++◌, length, drop, get_or, Option, Some, None, Ok, Err, Result, refl, sym, ap, subst, ◌∙◌, arith}
+use Rattle.std.specs.Prelude.{◌==◌, ◌&&◌, ◌+◌, OnOk, not, is_none, is_some, slice_index_or}
 use Rattle.std.specs.List.{list_all, slice_get}
-use Rattle.std.proofs.lemmas.Bool.{and_left, and_right, cases_Bool, cond-true, eqb-true, eq-eqb, ne_eqb}
+use Rattle.std.proofs.lemmas.Bool.{and_left, and_right, eqb-true, eq-eqb, ne_eqb}
 use Rattle.std.proofs.lemmas.List.{drop_at, length-append, length-replicate}
 use Rattle.dq_base.specs.declared.pages.PageSet.{PageSet}
 use Rattle.page_apply.specs.declared.database.Database.{Database}
@@ -10,10 +10,9 @@ use Rattle.page_apply.specs.Databases.{named, tx_pending}
 use Rattle.page_apply.specs.Machines.{IsMachine, names_of}
 use Rattle.page_apply.specs.Snapshot.{snapshot_text}
 use Rattle.session_rules.specs.Entries.{Content, Does, Configures, Other, written}
-use Rattle.session_rules.specs.Machine.{Machine, base_of, machine_of, done}
+use Rattle.session_rules.specs.Machine.{base_of, machine_of, done}
 use Rattle.session_rules.specs.Seen.{entry_seen, log_seen}
 use Rattle.session_rules.proofs.Following.{machines_follow_hold}
-use Rattle.session_table.specs.Sweeping.{all_told}
 use Rattle.sql_engine.specs.declared.kind.EngineKind.{EngineKind}
 use Rattle.sql_engine.specs.Meanings.{Meaning, Told}
 use Rattle.gateway.specs.Later.{first_due}
@@ -21,8 +20,8 @@ use Rattle.client_sessions.specs.Calls.{landed_at, told_at, told_conns, sent}
 use Rattle.client_sessions.specs.Clients.{Clients}
 use Rattle.client_sessions.specs.Seen.{clients_of}
 use Rattle.raft_rules.specs.Compaction.{compacted}
-use Rattle.raft_rules.specs.Log.{Entry, LogEnd}
-use Rattle.raft_rules.specs.Node.{Node, Server}
+use Rattle.raft_rules.specs.Log.{Entry}
+use Rattle.raft_rules.specs.Node.{Node}
 use Rattle.raft_rules.specs.NodeValues.{NodeValue, node_of}
 use Rattle.raft_core.specs.declared.event.RaftEvent.{RaftEvent}
 use Rattle.raft_core.specs.declared.event.RaftEvent.TheVariants.{Propose}
@@ -38,19 +37,17 @@ use Rattle.node_state.specs.declared.applied.Applied.{Applied}
 use Rattle.node_state.specs.declared.effect.Effect.{Effect}
 use Rattle.node_state.specs.declared.effect.Effect.TheVariants as effects
 use Rattle.node_state.specs.declared.office.Office.{Office}
-use Rattle.node_state.specs.Applied.{databases_after, with_content, with_entry}
+use Rattle.node_state.specs.Applied.{databases_after, with_entry}
 use Rattle.node_state.specs.Content.{effect_of, effect_of_command}
 use Rattle.node_state.specs.Office.{owed, office_after, serves}
 use Rattle.node_state.specs.Snapshot.{contents_in}
 use Rattle.frame_commands.specs.declared.command.Command.{Command}
 use Rattle.frame_commands.specs.declared.command.Command.TheVariants.{OpenDb, Frames, Undo, Checkpoint}
-use Rattle.node_core.specs.declared.outs.Outs.{Outs}
 use Rattle.node_core.specs.declared.running.Running.{Running}
-use Rattle.node_core.specs.Applying.{TakesEntry}
 use Rattle.node_core.specs.Plain.{plain_gate}
-use Rattle.node_core.specs.Core.{Core, core_of, looked, showing_servers, entry_at, entered, shown, landing, entry_done, is_calm, none_due, is_settled, serving_from, giving, owing, waiting, duty_of, dutiful}
+use Rattle.node_core.specs.Core.{Core, core_of, looked, showing_servers, entry_at, entered, shown, landing, entry_done, is_calm, none_due, is_settled, serving_from, giving, owing, duty_of, dutiful}
 use Rattle.node_core.specs.Exact as whole_turns
-use Rattle.node_core.specs.Exact.{LaterIf, EntryBy, MayCompact, CompactsBy}
+use Rattle.node_core.specs.Exact.{LaterIf, EntryBy, MayCompact}
 use Rattle.node_core.specs.ExactParts.{Answered, TakesBy, entered_shown, CompactsIf}
 use Rattle.node_core.specs.Values.{clients_in}
 use Rattle.node_core.proofs.ApplyingTurns.{entry_read}

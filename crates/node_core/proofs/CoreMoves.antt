@@ -1,11 +1,10 @@
 -- What a client's message, a query that is run later, and connections make of what decides at a node.
-use Rattle.std.proofs.Common.{◌≡◌, ◌⊎◌, inl, inr, ℕ, Bool, true, false, true≢false, cond, List, [], ◌∷◌, ◌++◌, map, Option, Some, None, Result, Ok, Err, refl, sym, ap, subst, ◌∙◌, append-nil}
-use Rattle.std.specs.Prelude.{◌==◌, MatchOption, not, is_none, is_some}
-use Rattle.std.proofs.lemmas.Bool.{cases_Bool, cond-true, cond-false}
+use Rattle.std.proofs.Common.{◌≡◌, inl, inr, ℕ, Bool, true, false, true≢false, cond, List, [], ◌∷◌, ◌++◌, Option, Some, None, Result, Ok, Err, refl, sym, ap, subst, ◌∙◌, append-nil}
+use Rattle.std.specs.Prelude.{MatchOption, not, is_none, is_some}
+use Rattle.std.proofs.lemmas.Bool.{cond-true, cond-false}
 use Rattle.wire_msgs.specs.declared.fault.MsgFault.{MsgFault}
 use Rattle.wire_msgs.specs.declared.request.Request.{Request}
 use Rattle.wire_msgs.specs.declared.response.Response.TheVariants.{Empty}
-use Rattle.wire_msgs.specs.Responses.{response_bytes}
 use Rattle.wire_msgs.specs.Reading.{request_of}
 use Rattle.client_connection.specs.declared.connection.CloseReason.{CloseReason}
 use Rattle.client_connection.specs.Connection.{Conn}
@@ -14,7 +13,6 @@ use Rattle.sql_engine.specs.Meanings.{Meaning, Told}
 use Rattle.sql_engine.specs.Replies.{Statement}
 use Rattle.statement_runs.specs.Running.{TellsAll}
 use Rattle.session_rules.specs.Causes.{failure, unread_cause}
-use Rattle.session_rules.specs.Engines.{Answer}
 use Rattle.session_rules.specs.Entries.{written}
 use Rattle.session_rules.specs.Machine.{Machine, machine_of}
 use Rattle.session_rules.specs.Requests.{with_session, without_later, affected_by, on_request, on_later}
@@ -26,8 +24,8 @@ use Rattle.client_sessions.specs.declared.act.Act.{Act}
 use Rattle.client_sessions.specs.declared.act.Act.TheVariants as acts
 use Rattle.client_sessions.specs.declared.joining.Joining.{Joining}
 use Rattle.client_sessions.specs.declared.joining.Joining.TheVariants as joinings
-use Rattle.client_sessions.specs.Calls.{call_of, scene, act_on, bytes_of, Comes, TookOffer, WasIdle, TookTurn}
-use Rattle.client_sessions.specs.Clients.{Clients, Offer, joining, joined, joined_as, with_stream, without, hung_up, closing, closed, heard, heard_on, next_offer, taken, with_sessions, freed}
+use Rattle.client_sessions.specs.Calls.{call_of, scene, act_on, Comes, TookOffer, WasIdle, TookTurn}
+use Rattle.client_sessions.specs.Clients.{Clients, Offer, joining, joined, joined_as, without, hung_up, closing, closed, heard, heard_on, next_offer, taken, with_sessions, freed}
 use Rattle.client_sessions.specs.Seen.{clients_of}
 use Rattle.client_sessions.specs.Later.{RanLater, Resumes, turn_for}
 use Rattle.raft_core.specs.declared.event.RaftEvent.{RaftEvent}
@@ -37,7 +35,7 @@ use Rattle.node_core.specs.declared.running.Running.{Running}
 use Rattle.node_core.specs.declared.links.Link.{Link}
 use Rattle.node_core.specs.Carrying.{close_of, full_for, link_on}
 use Rattle.node_core.specs.Plain.{plain_session, plain_gate}
-use Rattle.node_core.specs.Core.{Core, core_of, clients_at, giving, replied, with_its, taking, idle, joined_by, heard_by, hearing, gone, gone_by, hanging_up, closed_for, closing_heard}
+use Rattle.node_core.specs.Core.{Core, core_of, clients_at, giving, replied, taking, idle, joined_by, heard_by, hearing, gone, gone_by, hanging_up, closed_for}
 use Rattle.node_core.specs.Exact.{TurnsTo, MessageBy, resuming, LaterBy, LaterIf, OnHeard}
 use Rattle.node_core.specs.ExactParts.{Answered, ResumesBy, PerformsBy, OfferIf, gone_for, ClosesBy}
 use Rattle.node_core.specs.Values.{clients_in}

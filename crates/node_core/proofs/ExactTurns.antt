@@ -1,6 +1,6 @@
 -- Turns, what runs until nothing is left, and a step, exactly: from what their parts show.
 use Rattle.std.proofs.Common.{◌≡◌, ◌⊎◌, ◌<◌, ◌≤◌, ℕ, zero, suc, Bool, true, false, true≢false, List, [], ◌∷◌, ◌++◌, Option, Some, None, Result, Ok, Err, inl, inr, refl, sym, ap, ◌∙◌, subst, append_assoc}
-use Rattle.std.specs.Prelude.{nat_lt, is_some, IfOk, OnOk}
+use Rattle.std.specs.Prelude.{nat_lt, is_some, IfOk}
 use Rattle.std.proofs.lemmas.Bool.{lt-ltb, le-ltb}
 use Rattle.sql_engine.specs.declared.kind.EngineKind.{EngineKind}
 use Rattle.sql_engine.specs.Meanings.{Meaning, Told}
@@ -10,17 +10,17 @@ use Rattle.gateway.specs.Later.{first_due}
 use Rattle.client_sessions.specs.Clients.{Offer, next_offer}
 use Rattle.raft_world.specs.Members.{Setup}
 use Rattle.raft_core.specs.declared.event.RaftEvent.{RaftEvent}
-use Rattle.node_replica.specs.Mails.{no_mail, sent}
+use Rattle.node_replica.specs.Mails.{sent}
 use Rattle.node_replica.specs.Replicas.{ReplicaValue}
 use Rattle.node_core.specs.declared.event.Event.{Event}
 use Rattle.node_core.specs.declared.fault.NodeFault.{NodeFault}
 use Rattle.node_core.specs.declared.links.Link.{Link}
 use Rattle.node_core.specs.declared.outs.Outs.{Outs}
 use Rattle.node_core.specs.declared.running.Running.{Running}
-use Rattle.node_core.specs.Core.{Core, core_of, clients_at, idle, silent}
+use Rattle.node_core.specs.Core.{Core, core_of, clients_at, idle}
 use Rattle.node_core.specs.Exact.{DueIf, LaterIf, EntryBy, MayCompact, CompactsBy, OnHeard, OnOffer, OnQuery, AttendBy, AttendsBy, OnCommit, OnDue, TurnBy, UnlinkedTurn, RunsIn, RunsBy, BeginsBy, SaysOf, StepsExactly}
 use Rattle.node_core.specs.ExactParts.{Answered, OfferIf, CompactsIf}
-use Rattle.node_core.specs.Taking.{BeganBy, takes, loses, TookLetter, came, none_came}
+use Rattle.node_core.specs.Taking.{takes, loses, TookLetter, came, none_came}
 use Rattle.node_core.specs.Whole.{IsQuiet}
 use Rattle.node_core.proofs.Accounting.{heard_join}
 

@@ -1,5 +1,5 @@
 -- What a connection has asked is what its bytes spell, step by step.
-use Rattle.std.proofs.Common.{◌≡◌, ℕ, Bool, true, false, true≢false, cond, List, [], ◌∷◌, ◌++◌, take, drop, Option, Some, None, refl, sym, ap, subst, ◌∙◌, append_assoc, append-nil}
+use Rattle.std.proofs.Common.{◌≡◌, ℕ, Bool, true, false, cond, List, [], ◌∷◌, ◌++◌, take, drop, Option, Some, None, refl, sym, ap, subst, ◌∙◌, append_assoc, append-nil}
 use Rattle.std.specs.Prelude.{◌==◌, nat_lt, length}
 use Rattle.std.proofs.lemmas.Bool.{cond-true, cond-false, eq-eqb, eqb-true, eqb-false}
 use Rattle.std.proofs.lemmas.List.{take-append-drop}
@@ -8,13 +8,11 @@ use Rattle.wire_words.specs.Stream.{stream, client_limit, going_on}
 use Rattle.wire_msgs.specs.declared.request.Request.{Request}
 use Rattle.client_connection.specs.Connection.{Conn, HasTaken, opened, received, read_of, room, with_more}
 use Rattle.client_connection.proofs.Streams.{received_more, all_read}
-use Rattle.node_core.specs.declared.event.Event.{Event}
 use Rattle.node_core.specs.declared.event.Event.TheVariants as events
-use Rattle.node_core.specs.declared.outs.Outs.{Outs}
 use Rattle.node_core.specs.declared.running.Running.{Running}
-use Rattle.node_core.specs.Account.{Happens, Brings, BytesAsk, heard_on}
-use Rattle.node_core.specs.Conns.{StreamOn, heard_by, come_by, ConnsBy}
-use Rattle.node_core.specs.Heard.{HasHeard, bytes_by, HeardBegins, HeardOn}
+use Rattle.node_core.specs.Account.{BytesAsk, heard_on}
+use Rattle.node_core.specs.Conns.{StreamOn, heard_by, come_by}
+use Rattle.node_core.specs.Heard.{HasHeard, HeardBegins, HeardOn}
 use Rattle.node_core.specs.Values.{clients_in, requests_in, waiting_on}
 use Rattle.node_core.proofs.Bridges.{requests_append}
 

@@ -34,12 +34,12 @@ use Rattle.node_state.specs.declared.office.Office.{Office as Held}
 use Rattle.node_state.specs.Applied.{ShowsFiles}
 use Rattle.node_state.specs.Snapshot.{snapshot_in, offered_to, SpellsSnapshot, made_by, commits_of}
 use Rattle.node_replica.specs.Replicas as replicas
-use Rattle.node_replica.specs.Replicas.{ReplicaValue, IsIntake, stepped, snap_after}
+use Rattle.node_replica.specs.Replicas.{ReplicaValue, IsIntake, stepped}
 use Rattle.node_rules.specs.RaftTurns.{HasEnded, Office, in_office, loses, has_none}
 use Rattle.node_rules.proofs.EndedSessions.{ends_on_holds}
 use Rattle.node_core.specs.declared.running.Running.{Running}
 use Rattle.node_core.specs.Account as account
-use Rattle.node_core.specs.Account.{proposals_in, moment_of, Fresh}
+use Rattle.node_core.specs.Account.{proposals_in, moment_of}
 use Rattle.node_core.specs.Posting.{Posts, ToldOr, told_inputs, LosesSo, OfficeSo, InstallsSo, InstallsOn}
 use Rattle.node_core.specs.Stepping.{Brings, HasStepped, HasTold, KeepsRest}
 use Rattle.node_core.specs.Values.{clients_in, waiting_on}

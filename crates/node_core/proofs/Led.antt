@@ -102,7 +102,7 @@ module _ (v : View) (m : Machine) (g : Gateway) (conn : ℕ) (term : ℕ) (h : H
 
   request_ends : (request : Request) (answers : List Answer) → v.serving ≡ false → Ends g conn term (on_request v m g conn request answers)
   unfolding on_request
-  request_ends request answers off = idle_ends (asked v m g conn request) answers (request_idle v m g (g.session conn) off request)
+  request_ends request answers off = idle_ends (asked v m g conn request) answers (request_idle v m g conn (g.session conn) off request)
 
   later_ends : (statement : Statement) (answers : List Answer) → v.serving ≡ false → Ends g conn term (on_later v m g conn statement answers)
   unfolding on_later

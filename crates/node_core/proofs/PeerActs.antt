@@ -18,14 +18,14 @@ use Rattle.sql_engine.specs.Meanings.{Meaning, Told}
 use Rattle.sql_engine.specs.Replies.{Statement}
 use Rattle.session_rules.specs.Causes.{Cause, BadNode}
 use Rattle.session_rules.specs.Engines.{Answer, no_pages, Ending, Lacking, TooLarge, Stopped, Ended}
-use Rattle.session_rules.specs.Limits.{change_in_flight, one_too_many, log_full}
+use Rattle.session_rules.specs.Limits.{change_in_flight, one_too_many, log_full, write_hindrance}
 use Rattle.session_rules.specs.Machine.{Machine, is_named}
 use Rattle.session_rules.specs.Requests as rules
 use Rattle.session_rules.specs.Requests.{on_request, on_later, does}
 use Rattle.session_rules.specs.Servers.{has_server}
 use Rattle.session_rules.specs.Sessions.{Prepared, Session, Gateway, Transaction, View, Effect, HandsOver, JoinsPeer, Weighs, in_tx}
 use Rattle.session_rules.specs.Sessions.{Turned, Refused, Lacks, Answers, Proposes, Lends, Affects}
-use Rattle.session_rules.specs.Statements.{prepared_from, prepared_at, prepared_count, is_left_out, any_barred, wrong_params, with_params, with_all}
+use Rattle.session_rules.specs.Statements.{prepared_from, prepared_at, prepared_count, is_left_out, is_write_word, any_barred, any_write, wrong_params, with_params, with_all}
 use Rattle.session_rules.specs.Asking as asking
 use Rattle.session_rules.specs.Asking.{Asked, Never, Tells, Sets, Opens, Creates, Prepares, Drops, Begins, Commits, RollsBack, Changes, Runs, Reads, asked_by}
 use Rattle.session_decisions.specs.Scenes.{Scene, scene}
@@ -88,54 +88,63 @@ module _ (v : View) (P : ℕ → Type 0) where
   of_other : (id : ℕ) (asked : Asked) → MayAsk P asked → MayAsk P (asking.of_other v id asked)
   of_other id asked h = either (id == v.id) _ asked tt h
 
-  kind : (active : Bool) (word : WordKind) (s : Statement) → MayAsk P (asking.asks_kind active word s)
-  kind true (words.Begin at_once) s = tt
-  kind false (words.Begin at_once) s = tt
-  kind true words.Commit s = tt
-  kind false words.Commit s = tt
-  kind true words.Rollback s = tt
-  kind false words.Rollback s = tt
-  kind active words.Write s = tt
-  kind active words.LeftOut s = tt
-  kind active words.Other s = tt
+  never : (hinders : Option Cause) (asked : Asked) → MayAsk P asked → MayAsk P (asking.never_or hinders asked)
+  never None asked h = h
+  never (Some cause) asked h = tt
 
-  one : (active : Bool) (p : Prepared) (params : List Value) → MayAsk P (asking.asks_one active p params)
-  one active p params = either (is_left_out p.word) _ _ tt (either (wrong_params (p ∷ []) params) _ _ tt (kind active p.word (with_all p params)))
+  -- what runs, or is refused where it is a write
+  write : (hinders : Option Cause) (is_write : Bool) (asked : Asked) → MayAsk P asked → MayAsk P (cond is_write (asking.never_or hinders asked) asked)
+  write hinders is_write asked h = either is_write (asking.never_or hinders asked) asked (never hinders asked h) h
 
-  several : (ps : List Prepared) (params : List Value) → MayAsk P (asking.asks_several ps params)
-  several ps params = either (any_barred ps) _ _ tt (either (wrong_params ps params) _ (Runs (with_params ps params)) tt tt)
+  module _ (hinders : Option Cause) where
+    kind : (active : Bool) (word : WordKind) (s : Statement) → MayAsk P (asking.asks_kind hinders active word s)
+    kind true (words.Begin at_once) s = tt
+    kind false (words.Begin at_once) s = tt
+    kind true words.Commit s = tt
+    kind false words.Commit s = tt
+    kind true words.Rollback s = tt
+    kind false words.Rollback s = tt
+    kind active words.Write s = never hinders (Runs (s ∷ [])) tt
+    kind active words.LeftOut s = tt
+    kind active words.Other s = tt
 
-  statements : (active : Bool) (ps : List Prepared) (params : List Value) → MayAsk P (asking.asks_statements active ps params)
-  statements active [] params = several [] params
-  statements active (p ∷ []) params = one active p params
-  statements active (p ∷ q ∷ ps) params = several (p ∷ q ∷ ps) params
+    one : (active : Bool) (p : Prepared) (params : List Value) → MayAsk P (asking.asks_one hinders active p params)
+    one active p params = either (is_left_out p.word) _ _ tt (either (wrong_params (p ∷ []) params) _ _ tt (kind active p.word (with_all p params)))
 
-  text : (active : Bool) (sql : List ℕ) (t : Result (List Piece) ScanFault) (params : List Value) → MayAsk P (asking.asks_text active sql t params)
-  text active sql (Err fault) params = tt
-  text active sql (Ok pieces) params = statements active (map (prepared_from sql) pieces) params
+    several : (ps : List Prepared) (params : List Value) → MayAsk P (asking.asks_several hinders ps params)
+    several ps params = either (any_barred ps) _ _ tt (either (wrong_params ps params) _ _ tt (write hinders (any_write ps) (Runs (with_params ps params)) tt))
 
-  query : (p : Prepared) (params : List Value) → MayAsk P (asking.asks_query p params)
-  query p params = either (any_barred (p ∷ [])) _ _ tt (either (wrong_params (p ∷ []) params) _ (Reads (with_all p params)) tt tt)
+    statements : (active : Bool) (ps : List Prepared) (params : List Value) → MayAsk P (asking.asks_statements hinders active ps params)
+    statements active [] params = several [] params
+    statements active (p ∷ []) params = one active p params
+    statements active (p ∷ q ∷ ps) params = several (p ∷ q ∷ ps) params
 
-  not_one : (ps : List Prepared) → MayAsk P (asking.not_one ps)
-  not_one ps = either (any_barred ps) _ _ tt tt
+    text : (active : Bool) (sql : List ℕ) (t : Result (List Piece) ScanFault) (params : List Value) → MayAsk P (asking.asks_text hinders active sql t params)
+    text active sql (Err fault) params = tt
+    text active sql (Ok pieces) params = statements active (map (prepared_from sql) pieces) params
 
-  sole : (ps : List Prepared) (params : List Value) → MayAsk P (asking.asks_sole ps params)
-  sole [] params = not_one []
-  sole (p ∷ []) params = query p params
-  sole (p ∷ q ∷ ps) params = not_one (p ∷ q ∷ ps)
+    query : (p : Prepared) (params : List Value) → MayAsk P (asking.asks_query hinders p params)
+    query p params = either (any_barred (p ∷ [])) _ _ tt (either (wrong_params (p ∷ []) params) _ _ tt (write hinders (is_write_word p.word) (Reads (with_all p params)) tt))
 
-  rows : (sql : List ℕ) (t : Result (List Piece) ScanFault) (params : List Value) → MayAsk P (asking.asks_rows sql t params)
-  rows sql (Err fault) params = tt
-  rows sql (Ok pieces) params = sole (map (prepared_from sql) pieces) params
+    not_one : (ps : List Prepared) → MayAsk P (asking.not_one ps)
+    not_one ps = either (any_barred ps) _ _ tt tt
 
-  exec : (active : Bool) (o : Option Prepared) (params : List Value) → MayAsk P (asking.asks_exec active o params)
-  exec active None params = tt
-  exec active (Some p) params = one active p params
+    sole : (ps : List Prepared) (params : List Value) → MayAsk P (asking.asks_sole hinders ps params)
+    sole [] params = not_one []
+    sole (p ∷ []) params = query p params
+    sole (p ∷ q ∷ ps) params = not_one (p ∷ q ∷ ps)
 
-  prepared_query : (o : Option Prepared) (params : List Value) → MayAsk P (asking.asks_prepared_query o params)
-  prepared_query None params = tt
-  prepared_query (Some p) params = query p params
+    rows : (sql : List ℕ) (t : Result (List Piece) ScanFault) (params : List Value) → MayAsk P (asking.asks_rows hinders sql t params)
+    rows sql (Err fault) params = tt
+    rows sql (Ok pieces) params = sole (map (prepared_from sql) pieces) params
+
+    exec : (active : Bool) (o : Option Prepared) (params : List Value) → MayAsk P (asking.asks_exec hinders active o params)
+    exec active None params = tt
+    exec active (Some p) params = one active p params
+
+    prepared_query : (o : Option Prepared) (params : List Value) → MayAsk P (asking.asks_prepared_query hinders o params)
+    prepared_query None params = tt
+    prepared_query (Some p) params = query p params
 
   finalize : (o : Option Prepared) (id : ℕ) → MayAsk P (asking.asks_finalize o id)
   finalize None id = tt
@@ -184,27 +193,27 @@ module _ (v : View) (P : ℕ → Type 0) where
       by true false e = tt
       by false other e = tt
 
-  asked_too : (m : Machine) (g : Gateway) (s : Session) (request : Request) → ((id : ℕ) (address : List ℕ) → request ≡ requests.Connect id address → v.links ≡ true → P id) → MayAsk P (asked_by v m g s request)
+  asked_too : (m : Machine) (g : Gateway) (conn : ℕ) (s : Session) (request : Request) → ((id : ℕ) (address : List ℕ) → request ≡ requests.Connect id address → v.links ≡ true → P id) → MayAsk P (asked_by v m g conn s request)
   unfolding asked_by
-  asked_too m g s requests.Leader may = tt
-  asked_too m g s (requests.Client id) may = tt
-  asked_too m g s (requests.Open name flags vfs) may = leading (asking.asks_open v m g s name (asking.barriers_asked flags)) (opening m g s name (asking.barriers_asked flags))
-  asked_too m g s (requests.Prepare db sql wide) may = served s db (asking.asks_prepare s sql wide (scan_of sql)) (prepare s sql wide (scan_of sql))
-  asked_too m g s (requests.Exec db id params wide) may = served s db (asking.asks_exec (in_tx s) (prepared_at s.statements id) params) (exec (in_tx s) (prepared_at s.statements id) params)
-  asked_too m g s (requests.Query db id params wide) may = served s db (asking.asks_prepared_query (prepared_at s.statements id) params) (prepared_query (prepared_at s.statements id) params)
-  asked_too m g s (requests.Finalize db id) may = in_database s db (asking.asks_finalize (prepared_at s.statements id) id) (finalize (prepared_at s.statements id) id)
-  asked_too m g s (requests.ExecSql db sql params wide) may = served s db (asking.asks_text (in_tx s) sql (scan_of sql) params) (text (in_tx s) sql (scan_of sql) params)
-  asked_too m g s (requests.QuerySql db sql params wide) may = served s db (asking.asks_rows sql (scan_of sql) params) (rows sql (scan_of sql) params)
-  asked_too m g s (requests.Interrupt db) may = in_database s db (Tells _) tt
-  asked_too m g s (requests.Connect id address) may = connecting id (may id address refl)
-  asked_too m g s (requests.Add id address) may = leading _ (settled g (asking.asks_add v.servers id address) (adding id address))
-  asked_too m g s (requests.Assign id role) may = leading _ (settled g (asking.asks_assign v id role) (assigning id role))
-  asked_too m g s (requests.Remove id) may = leading _ (settled g (asking.asks_remove v id) (removing id))
-  asked_too m g s (requests.Dump name) may = either (is_named m.names name) _ _ (either (nat_lt 16777216 (asking.body_size (asking.files_of name (m.base name).image))) _ (Tells _) tt tt) tt
-  asked_too m g s (requests.Cluster format) may = either (nat_le format 1) (Tells _) _ tt tt
-  asked_too m g s (requests.Transfer id) may = leading (asking.asks_transfer v id) (transferring id)
-  asked_too m g s (requests.Describe format) may = either (format == 0) (Tells _) _ tt tt
-  asked_too m g s (requests.Weight weight) may = tt
+  asked_too m g conn s requests.Leader may = tt
+  asked_too m g conn s (requests.Client id) may = tt
+  asked_too m g conn s (requests.Open name flags vfs) may = leading (asking.asks_open v m g s name (asking.barriers_asked flags)) (opening m g s name (asking.barriers_asked flags))
+  asked_too m g conn s (requests.Prepare db sql wide) may = served s db (asking.asks_prepare s sql wide (scan_of sql)) (prepare s sql wide (scan_of sql))
+  asked_too m g conn s (requests.Exec db id params wide) may = served s db (asking.asks_exec (write_hindrance m g conn s) (in_tx s) (prepared_at s.statements id) params) (exec (write_hindrance m g conn s) (in_tx s) (prepared_at s.statements id) params)
+  asked_too m g conn s (requests.Query db id params wide) may = served s db (asking.asks_prepared_query (write_hindrance m g conn s) (prepared_at s.statements id) params) (prepared_query (write_hindrance m g conn s) (prepared_at s.statements id) params)
+  asked_too m g conn s (requests.Finalize db id) may = in_database s db (asking.asks_finalize (prepared_at s.statements id) id) (finalize (prepared_at s.statements id) id)
+  asked_too m g conn s (requests.ExecSql db sql params wide) may = served s db (asking.asks_text (write_hindrance m g conn s) (in_tx s) sql (scan_of sql) params) (text (write_hindrance m g conn s) (in_tx s) sql (scan_of sql) params)
+  asked_too m g conn s (requests.QuerySql db sql params wide) may = served s db (asking.asks_rows (write_hindrance m g conn s) sql (scan_of sql) params) (rows (write_hindrance m g conn s) sql (scan_of sql) params)
+  asked_too m g conn s (requests.Interrupt db) may = in_database s db (Tells _) tt
+  asked_too m g conn s (requests.Connect id address) may = connecting id (may id address refl)
+  asked_too m g conn s (requests.Add id address) may = leading _ (settled g (asking.asks_add v.servers id address) (adding id address))
+  asked_too m g conn s (requests.Assign id role) may = leading _ (settled g (asking.asks_assign v id role) (assigning id role))
+  asked_too m g conn s (requests.Remove id) may = leading _ (settled g (asking.asks_remove v id) (removing id))
+  asked_too m g conn s (requests.Dump name) may = either (is_named m.names name) _ _ (either (nat_lt 16777216 (asking.body_size (asking.files_of name (m.base name).image))) _ (Tells _) tt tt) tt
+  asked_too m g conn s (requests.Cluster format) may = either (nat_le format 1) (Tells _) _ tt tt
+  asked_too m g conn s (requests.Transfer id) may = leading (asking.asks_transfer v id) (transferring id)
+  asked_too m g conn s (requests.Describe format) may = either (format == 0) (Tells _) _ tt tt
+  asked_too m g conn s (requests.Weight weight) may = tt
 
   -- ---- what comes of it
 
@@ -263,7 +272,7 @@ module _ (v : View) (P : ℕ → Type 0) where
 request_too : (v : View) (P : ℕ → Type 0) (m : Machine) (g : Gateway) (conn : ℕ) (request : Request) (answers : List Answer)
     → ((id : ℕ) (address : List ℕ) → request ≡ requests.Connect id address → v.links ≡ true → P id) → MayTurn P (on_request v m g conn request answers)
 unfolding on_request
-request_too v P m g conn request answers may = does_too v P m g conn (g.session conn) (asking.asked v m g conn request) answers (asked_too v P m g (g.session conn) request may)
+request_too v P m g conn request answers may = does_too v P m g conn (g.session conn) (asking.asked v m g conn request) answers (asked_too v P m g conn (g.session conn) request may)
 
 later_too : (v : View) (P : ℕ → Type 0) (m : Machine) (g : Gateway) (conn : ℕ) (statement : Statement) (answers : List Answer) → MayTurn P (on_later v m g conn statement answers)
 unfolding on_later

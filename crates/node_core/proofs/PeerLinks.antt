@@ -1,15 +1,14 @@
 -- The connections that carry a peer's messages, as code keeps them: the first message that waits, and what comes of it.
-use Rattle.std.proofs.Common.{◌≡◌, ◌≢◌, ℕ, ◌+◌, ◌<◌, ◌≤◌, Bool, true, false, true≢false, cond, List, [], ◌∷◌, ◌++◌, length, get_or, take, drop, set, Option, Some, None, Result, Ok, Err, refl, sym, ap, subst, ◌∙◌, append_assoc, append-nil, suc, add-one, arith}
-use Rattle.std.specs.Prelude.{◌==◌, IfOk, MatchOption, find, is_some}
+use Rattle.std.proofs.Common.{◌≡◌, ◌≢◌, ℕ, ◌+◌, ◌<◌, ◌≤◌, Bool, true, false, true≢false, cond, List, [], ◌∷◌, ◌++◌, length, get_or, take, drop, set, Option, Some, None, Result, Ok, Err, refl, sym, ap, subst, ◌∙◌, add-one, arith}
+use Rattle.std.specs.Prelude.{◌==◌, MatchOption, find, is_some}
 use Rattle.std.proofs.lemmas.Bool.{eqb-true}
-use Rattle.std.proofs.lemmas.List.{drop_more, drop_all, take_more, set_split, set-get_or, get_or_read}
+use Rattle.std.proofs.lemmas.List.{drop_more, drop_all, take_more, set_split, set-get_or}
 use Rattle.wire_words.specs.declared.message.Message.{Message}
 use Rattle.client_connection.specs.declared.connection.CloseReason.{CloseReason}
-use Rattle.client_connection.specs.Connection.{Conn, TakesFirst, peer_received}
-use Rattle.page_apply.specs.ByName.{FirstAt, change_first}
+use Rattle.client_connection.specs.Connection.{Conn, peer_received}
+use Rattle.page_apply.specs.ByName.{FirstAt}
 use Rattle.page_apply.proofs.First.{stays, first_put}
 use Rattle.raft_vote.specs.declared.fault.PeerFault.{PeerFault}
-use Rattle.raft_vote.specs.declared.fault.PeerFault.TheVariants as faults
 use Rattle.raft_vote.specs.declared.message.RaftMessage.{RaftMessage}
 use Rattle.node_core.specs.declared.links.Letter.{Letter}
 use Rattle.node_core.specs.declared.links.Letter.TheVariants as letters

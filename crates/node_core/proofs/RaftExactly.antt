@@ -6,10 +6,8 @@ use Rattle.std.proofs.lemmas.List.{map-append, take_more}
 use Rattle.std.proofs.lemmas.List.Elements.{filter-append}
 use Rattle.std.proofs.lemmas.Bool.{cond-true, cond-false, lt-ltb, le-ltb, or_parts}
 use Rattle.page_apply.specs.declared.database.Database.{Database}
-use Rattle.page_apply.specs.Databases.{contents_of}
 use Rattle.page_apply.specs.Machines.{names_of}
 use Rattle.page_apply.specs.Restoring.{restored}
-use Rattle.session_rules.specs.Events.{told_lost}
 use Rattle.session_rules.specs.Machine.{machine_of}
 use Rattle.session_rules.specs.Sessions.{Reply, View}
 use Rattle.session_table.specs.Sweeping.{all_told}
@@ -42,8 +40,8 @@ use Rattle.node_state.specs.declared.office.Office.{Office}
 use Rattle.node_state.specs.declared.office.Phase.TheVariants.{Barrier}
 use Rattle.node_core.specs.declared.outs.Outs.{Outs}
 use Rattle.node_core.specs.declared.running.Running.{Running}
-use Rattle.node_core.specs.Core.{Core, are_others, core_of, ended, evens, followed, has_lost, is_even, leaving, looked, losing, replaced, showing_servers, with_servers_seen, won, won_by}
-use Rattle.node_core.specs.Exact.{ChangesFrom, DueIf, InstallsBy, OnOffered, OnPut, OwnBy, RaftBy, StepBy, ToldBy, brings, change_for, change_in, index_of, is_follower, puts, step_of, told_behind}
+use Rattle.node_core.specs.Core.{Core, are_others, core_of, ended, evens, followed, has_lost, is_even, leaving, looked, losing, replaced, showing_servers, won, won_by}
+use Rattle.node_core.specs.Exact.{ChangesFrom, DueIf, InstallsBy, OnOffered, OnPut, OwnBy, RaftBy, StepBy, ToldBy, brings, change_for, change_in, index_of, is_follower, puts, told_behind}
 use Rattle.node_core.specs.Exact as exactly
 use Rattle.node_core.specs.ExactRaft.{BringsBy, EndsBy, FollowedBy, IsFrom}
 use Rattle.node_core.specs.Plain.{plain_gate}

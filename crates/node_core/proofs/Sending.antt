@@ -1,6 +1,6 @@
 -- What a peer has sent on a connection are the messages that its bytes spell.
-use Rattle.std.proofs.Common.{◌≡◌, ◌≢◌, ◌⊎◌, inl, inr, ℕ, Bool, true, false, true≢false, cond, not, List, [], ◌∷◌, ◌++◌, Option, Some, None, Result, Ok, Err, refl, sym, ap, subst, ◌∙◌}
-use Rattle.std.specs.Prelude.{◌==◌, is_none, find}
+use Rattle.std.proofs.Common.{◌≡◌, ◌≢◌, ℕ, Bool, true, false, true≢false, cond, not, List, [], ◌∷◌, ◌++◌, Option, Some, None, Result, Ok, Err, refl, sym, ap, subst, ◌∙◌}
+use Rattle.std.specs.Prelude.{◌==◌, is_none}
 use Rattle.std.proofs.lemmas.Bool.{cond-true, cond-false, eq-eqb, eqb-true, ne_eqb}
 use Rattle.wire_words.specs.declared.message.Message.{Message}
 use Rattle.wire_words.specs.Stream.{fault_in, going_on, peer_limit}
@@ -13,11 +13,10 @@ use Rattle.page_apply.specs.ByName.{change_first}
 use Rattle.raft_vote.specs.declared.fault.PeerFault.{PeerFault}
 use Rattle.raft_vote.specs.declared.message.RaftMessage.{RaftMessage}
 use Rattle.raft_vote.specs.Reading.{peer_message_of}
-use Rattle.node_core.specs.declared.event.Event.{Event}
 use Rattle.node_core.specs.declared.event.Event.TheVariants as events
 use Rattle.node_core.specs.declared.links.Link.{Link}
-use Rattle.node_core.specs.Carrying.{Lines, Waiting, with_waiting, behind_link, waiting_of, first_waiting, is_of, link_on, without_link, heard_link, if_from, came_unless, heard_by_line, begun_by, gone_at}
-use Rattle.node_core.specs.Carrying.{Move, TakesAsked, TakesConnect, TakesSent, FindsWrong, LooksAt, with_first, MovesBy, AskedSo, ConnectSo, SentSo, WrongSo, LooksSo}
+use Rattle.node_core.specs.Carrying.{Lines, Waiting, with_waiting, behind_link, waiting_of, first_waiting, is_of, link_on, without_link, heard_link, if_from, came_unless, heard_by_line, gone_at}
+use Rattle.node_core.specs.Carrying.{TakesAsked, TakesConnect, TakesSent, FindsWrong, LooksAt, with_first, ConnectSo}
 use Rattle.node_core.specs.Sent.{IsOnce, Apart, BeginsApart, EventsStayApart, MovesStayApart, Carries, CarryingBegins, CarryingHears, CarryingSends, CarryingStays}
 
 -- ---- connections by their numbers

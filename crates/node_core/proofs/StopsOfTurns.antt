@@ -16,9 +16,9 @@ use Rattle.raft_world.specs.Members.{Setup}
 use Rattle.store_laws.specs.Snapshots.{Longer, given}
 use Rattle.store_laws.specs.Store.{Snap, Kept}
 use Rattle.node_replica.specs.Replicas as replicas
-use Rattle.node_replica.specs.Replicas.{ReplicaValue, kept_of}
+use Rattle.node_replica.specs.Replicas.{kept_of}
 use Rattle.node_rules.specs.Accounts.{Moment}
-use Rattle.node_rules.specs.RaftTurns.{raft_after, IsFirst, KeepsSnapshot, BytesAfter, kept_bytes, brought_bytes, own_bytes, StopsAt, at_first, at_vote, at_end}
+use Rattle.node_rules.specs.RaftTurns.{raft_after, IsFirst, KeepsSnapshot, BytesAfter, kept_bytes, brought_bytes, own_bytes, at_first, at_vote, at_end}
 use Rattle.node_rules.specs.RaftTurns as turns
 use Rattle.node_core.specs.declared.running.Running.{Running}
 use Rattle.node_core.specs.Account as account

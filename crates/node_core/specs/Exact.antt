@@ -10,10 +10,10 @@ use Rattle.sql_engine.specs.Meanings.{Meaning}
 use Rattle.sql_engine.specs.Replies.{Statement}
 use Rattle.session_rules.specs.Causes.{failure, unread_cause}
 use Rattle.session_rules.specs.Engines.{Answer, AllowsFor, used_for}
-use Rattle.session_rules.specs.Entries.{Content, written}
+use Rattle.session_rules.specs.Entries.{written}
 use Rattle.session_rules.specs.Requests.{on_request, handed, on_later, handed_later, without_later, affected_by}
 use Rattle.session_rules.specs.Seen.{entry_seen}
-use Rattle.session_rules.specs.Sessions.{Gateway, Effect, HandsOver, JoinsPeer, Weighs, Turned, Refused, Lacks, Answers, Proposes, Lends, Affects}
+use Rattle.session_rules.specs.Sessions.{Gateway, HandsOver, JoinsPeer, Weighs, Turned, Refused, Lacks, Answers, Proposes, Lends, Affects}
 use Rattle.session_rules.specs.Sessions.{later_query, responses_of}
 use Rattle.gateway.specs.Later.{first_due}
 use Rattle.client_sessions.specs.Clients.{Offer, joining, next_offer}

@@ -1,5 +1,5 @@
 -- What a connection of a node has asked: the requests that its bytes spell, in whatever pieces and steps they came.
-use Rattle.std.specs.Prelude.{◌≡◌, ℕ, ◌==◌, false, cond, List, [], ◌++◌, Option, Some, None}
+use Rattle.std.specs.Prelude.{◌≡◌, ℕ, ◌==◌, false, cond, List, [], ◌++◌, Some, None}
 use Rattle.wire_words.specs.declared.message.Message.{Message}
 use Rattle.wire_words.specs.Stream.{stream, client_limit}
 use Rattle.wire_msgs.specs.declared.request.Request.{Request}

@@ -1,5 +1,5 @@
 -- What a peer has sent on a connection of a node: the messages that its bytes spell, in whatever pieces and steps they came.
-use Rattle.std.specs.Prelude.{◌≡◌, ◌≢◌, ℕ, false, List, [], ◌∷◌, ◌++◌, Option, Some, None}
+use Rattle.std.specs.Prelude.{◌≡◌, ◌≢◌, ℕ, false, List, [], ◌∷◌, ◌++◌, Some, None}
 use Rattle.wire_words.specs.declared.message.Message.{Message}
 use Rattle.wire_words.specs.Stream.{fault_in}
 use Rattle.client_connection.specs.Connection.{Conn, HasTaken, PeerHasTaken}

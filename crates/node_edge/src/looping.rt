@@ -38,8 +38,8 @@ impl From<StepFault> for LoopEnd {
     }
 }
 
-/// Takes so many events, has the core make a step for each, and puts what it says, before the next event is taken. It may wait for
-/// the inbox, as long as that does.
+/// Takes so many events, has the core make a step for each, and puts what it says, before the next event is taken; behind that the core
+/// does what could wait. It may wait for the inbox, as long as that does.
 ///
 /// `Closed` comes only where the inbox's count of faults rose, `DiskFault` only where the disk's did, `Spent` with the budget,
 /// after so many events. After `DiskFault`, `NoMemory` and `Unfit` the core's last step has failed, and said nothing.
@@ -61,7 +61,10 @@ pub fn core_loop<C: Core, I: Inbox<C::Told>, O: Outbox<C::Outs>>(
             return LoopEnd::Closed;
         };
         match core.step(event) {
-            Ok(outs) => outbox.put(outs),
+            Ok(outs) => {
+                outbox.put(outs);
+                core.rest();
+            }
             Err(fault) => return fault.into(),
         }
     }

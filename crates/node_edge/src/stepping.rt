@@ -18,7 +18,7 @@ pub enum StepFault {
 /// What a loop drives: a node with the disk and the engine that are lent to its steps. It makes one step for each event, and says
 /// something at each.
 pub trait Core {
-    ghost use Rattle.std.specs.Prelude.{ℕ, IfOk, OnOk, OnErr};
+    ghost use Rattle.std.specs.Prelude.{◌≡◌, ℕ, IfOk, OnOk, OnErr};
     ghost use Rattle.node_edge.specs.declared.event.Event.{Event};
     ghost use Rattle.node_edge.specs.Stepping.{StepCause};
 
@@ -47,4 +47,12 @@ pub trait Core {
         ensures makes { IfOk result (λ outs. makes self.old event outs self.new) }
         ensures breaks { OnErr result (breaks self.old event self.new) }
         ensures cause { StepCause (faults self.old) (faults self.new) result };
+
+    /// Does what may wait until what the last step says was put. It changes nothing else: each step that led to the core before leads
+    /// to the core behind it.
+    fn rest(&mut self)
+        requires { stands self.old }
+        ensures stands { stands self.new }
+        ensures keeps { (before : Self) (event : Event Self.Told) (outs : Self.Outs) → makes before event outs self.old → makes before event outs self.new }
+        ensures faults { faults self.new ≡ faults self.old };
 }

@@ -107,7 +107,7 @@ module _ (v : View) (m : Machine) (g : Gateway) (c : ℕ) (s : Session) where
 
 pub request_next : (v : View) (m : Machine) (g : Gateway) (c : ℕ) (r : Request) (answers : List Answer) → Next v (g.session c).flight (on_request v m g c r answers)
 unfolding on_request
-request_next v m g c r answers = does_next v m g c (g.session c) r (asked v m g c r) answers (all_allowed v m g (g.session c) r)
+request_next v m g c r answers = does_next v m g c (g.session c) r (asked v m g c r) answers (all_allowed v m g c (g.session c) r)
 
 pub later_next : (v : View) (m : Machine) (g : Gateway) (c : ℕ) (s : Statement) (answers : List Answer) → Next v (g.session c).flight (on_later v m g c s answers)
 later_next v m g c s answers = later_both (Next v (g.session c).flight) v m g c s answers tt (λ e. run_next v m g c (g.session c) e (g.session c).tx (s ∷ []) true answers)

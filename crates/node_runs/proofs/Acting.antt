@@ -26,7 +26,7 @@ use Rattle.node_core.specs.Account.{letter_of, bytes_in, told_of, IsOwn, Adds, B
 use Rattle.node_core.specs.Values.{seen}
 use Rattle.node_world.specs.Acts.{PlaceIs, RunIs}
 use Rattle.node_world.specs.Runs as runs
-use Rattle.node_world.specs.Runs.{Place, Up, Down, Run, Asks, Gets, Reads, taken, taken_letter, joins_in, read_in, asks_in, Goes, Fails, TellsOf, ReadsJob, Holds}
+use Rattle.node_world.specs.Runs.{Up, Run, Asks, Gets, Reads, taken, taken_letter, joins_in, read_in, asks_in, Goes, Fails, ReadsJob, Holds}
 use Rattle.node_runs.specs.Comings.{nothing, IsMade, ReadTells, Arrives, asks_of}
 use Rattle.node_runs.proofs.Takens.{NoneReceived, AsTaken, tells_as, counts_as, steps_as, stops_as}
 

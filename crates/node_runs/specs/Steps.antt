@@ -17,7 +17,8 @@ use Rattle.node_core.specs.declared.running.Running.{Running}
 use Rattle.node_core.specs.Account.{letter_of, Sends, Begin, joins_of, StepsBy, StopsBy}
 use Rattle.node_core.specs.Values.{seen}
 use Rattle.node_world.specs.Acts.{NotStarted, NotJoined, asked}
-use Rattle.node_world.specs.Runs.{Place, Up, Down, Run, Event, Goes, Fails, Crashes, Starts, StartFails, spoken, happens, first_run, run, run_from, Holds, AllHold}
+use Rattle.node_world.specs.Runs.{Place, Up, Down, Run, Event, Goes, Fails, Crashes, Starts, StartFails}
+use Rattle.node_world.specs.Runs.{spoken, happens, first_run, run, run_from, Holds, AllHold}
 use Rattle.node_runs.specs.Comings.{AllArrive, asks_of}
 
 -- ---- a stretch of a run at one node

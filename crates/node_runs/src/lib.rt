@@ -8,8 +8,9 @@ ghost use Rattle.node_runs.specs.Steps.{StepsRun, StopsRun};
 
 use sql_engine::Engine;
 
-/// A step of a node is events of a run, one for each of its acts: where what came may come in the run, the clauses of these events hold, and the run goes on with the node that the step left, its letters, its replies and the jobs of its readers. So is a
-/// step that failed or was stopped: its acts that ended well, and then one after which the node is down.
+/// A step of a node is events of a run, one for each of its acts: where what came may come in the run, the clauses of these events
+/// hold, and the run goes on with the node that the step left, its letters, its replies and the jobs of its readers. So is a step that
+/// failed or was stopped: its acts that ended well, and then one after which the node is down.
 pub fn steps_are_events<E: Engine>()
     ensures steps { (kind : _) → StepsRun (E.meaning kind) kind }
     ensures stops { (kind : _) → StopsRun (E.meaning kind) kind }

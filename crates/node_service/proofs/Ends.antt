@@ -1,6 +1,5 @@
 -- How a served node ends, by the answer of its start, of its workers and of its loop.
-use Rattle.std.proofs.Common.{◌≡◌, ◌≢◌, ◌≤◌, ◌+◌, ◌⊎◌, inl, inr, ℕ, Bool, List, length, Option, Some, None, Result, Ok, Err, refl, sym, ap, subst, ◌∙◌, arith}
-use Rattle.dq_base.specs.Faults.{Rose, one_more}
+use Rattle.std.proofs.Common.{◌≡◌, ◌≢◌, ◌+◌, ◌⊎◌, inl, inr, ℕ, Bool, List, length, Option, None, refl, sym, subst, ◌∙◌, arith}
 use Rattle.disk_model.specs.Disk.{Disk}
 use Rattle.disk_model.specs.Trait.{Text}
 use Rattle.sql_engine.specs.declared.kind.EngineKind.{EngineKind}

@@ -1,5 +1,4 @@
 -- Why a node is served no more.
-use Rattle.std.specs.Prelude.{◌≡◌, ℕ}
 use Rattle.node_core.specs.declared.fault.StartFault.{StartFault}
 use Rattle.node_core.specs.declared.fault.StartFault.TheVariants as start
 use Rattle.node_edge.specs.declared.looping.LoopEnd.{LoopEnd}

@@ -1,5 +1,5 @@
 -- The voters of a cluster, by the words of one of its nodes.
-use Rattle.std.specs.Prelude.{◌≡◌, ◌==◌, ℕ, zero, suc, cond, List, [], ◌∷◌, ◌++◌, Option, Some, None}
+use Rattle.std.specs.Prelude.{◌==◌, ℕ, zero, suc, cond, List, [], ◌∷◌, ◌++◌, Option, Some, None}
 use Rattle.raft_rules.specs.Node.{Server}
 use Rattle.program_words.specs.declared.asked.Serve.{Serve}
 use Rattle.program_words.specs.declared.asked.Peer.{Peer}

@@ -51,7 +51,8 @@ abbrev pub GoesOn : {D E H : Type 0} → ℕ → (H → Done) → (LoopEnd → T
 GoesOn workers done runs host old new end = Unserved old new end ⊎ Looped workers done runs host end
 
 -- what came behind the answer of a start: the end that a fault of it makes, or how the node went on, whose end says nothing of files
-abbrev pub Follows : {D E H : Type 0} → ℕ → (H → Done) → (Node → LoopEnd → Type 0) → Result Node StartFault → H → Surroundings D E → Surroundings D E → ServeEnd → Type 0
+abbrev pub Follows : {D E H : Type 0} → ℕ → (H → Done) → (Node → LoopEnd → Type 0) → Result Node StartFault → H →
+    Surroundings D E → Surroundings D E → ServeEnd → Type 0
 Follows workers done runs (Ok node) host old new end = (end ≢ ends.Files) × GoesOn workers done (runs node) host old new end
 Follows workers done runs (Err fault) host old new end = StaysSo old new × (end ≡ end_of_start fault)
 
@@ -69,5 +70,6 @@ pub record Unstarted {D E : Type 0} (old new : Surroundings D E) (end : ServeEnd
   pub stays : StaysSo old new
   pub end_is : end ≡ ends.NoMemory
 
-abbrev pub Serves : {D E H : Type 0} → Serve → (H → Done) → (D → Disk Text → Type 0) → (D → Node → LoopEnd → Type 0) → H → Surroundings D E → Surroundings D E → ServeEnd → Type 0
+abbrev pub Serves : {D E H : Type 0} → Serve → (H → Done) → (D → Disk Text → Type 0) → (D → Node → LoopEnd → Type 0) → H →
+    Surroundings D E → Surroundings D E → ServeEnd → Type 0
 Serves words done states runs host old new end = Unstarted old new end ⊎ Started words done states runs host old new end

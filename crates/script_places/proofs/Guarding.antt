@@ -1,5 +1,5 @@
 -- A script over places of whole nodes is safe, up to where a checksum matches by chance.
-use Rattle.std.proofs.Common.{◌≡◌, ◌==◌, ℕ, Bool, true, false, cond, List, [], ◌∷◌, ◌++◌, length, Option, Some, None, refl, ap, sym, subst, ◌∙◌, append-nil}
+use Rattle.std.proofs.Common.{◌≡◌, ℕ, Bool, true, false, List, [], ◌∷◌, ◌++◌, length, Option, Some, None, refl, ap, sym, subst, ◌∙◌, append-nil}
 use Rattle.std.proofs.lemmas.Bool.{true≢false}
 use Rattle.sql_engine.specs.declared.kind.EngineKind.{EngineKind}
 use Rattle.sqlite_engine.specs.Any.{any_meaning}
@@ -8,6 +8,7 @@ use Rattle.script_nodes.specs.Outcomes.{Turn}
 use Rattle.script_nodes.specs.Knowing.{AllCanHold, KnowsAt, KnowsOver, actor, turns_at, node_at}
 use Rattle.script_runs.specs.Seats.{Seat as NodeSeat, Rests, PathSo, setup_of}
 use Rattle.script_runs.specs.Mails.{OverByNode, ScriptsAreSafe}
+use Rattle.script_runs.proofs.Scripts.{turns_join}
 use Rattle.script_places.specs.declared.seat.Seat.{Seat}
 use Rattle.script_places.specs.Lives.{Begins}
 use Rattle.script_places.specs.Safe.{LifeOf, idle, lived, AllLive, IsFairLife, OverLives, IsFairOver, PlacesTell, WholeScriptsAreSafe}
@@ -15,15 +16,6 @@ use Rattle.script_places.specs.Turns.{Knows, running_in, states_in}
 use Rattle.script_places.proofs.Living.{life_leads}
 
 -- ---- fronts
-
-one_joins : (b : Bool) (turn : Turn) (front rest : List Turn) → cond b (turn ∷ (front ++ rest)) (front ++ rest) ≡ cond b (turn ∷ front) front ++ rest
-one_joins true turn front rest = refl
-one_joins false turn front rest = refl
-
-turns_join : (n : ℕ) (front rest : List Turn) → turns_at n (front ++ rest) ≡ turns_at n front ++ turns_at n rest
-turns_join n [] rest = refl
-turns_join n (turn ∷ front) rest =
-    ap (λ (turns : List Turn). cond (actor turn == n) (turn ∷ turns) turns) (turns_join n front rest) ∙ one_joins (actor turn == n) turn (turns_at n front) (turns_at n rest)
 
 begins_at : (n : ℕ) (front turns : List Turn) → Begins front turns → Begins (turns_at n front) (turns_at n turns)
 begins_at n front turns begins = (turns_at n begins.0, ap (turns_at n) begins.1 ∙ turns_join n front begins.0)

@@ -19,6 +19,7 @@ use Rattle.store_laws.specs.Store.{Kept}
 use Rattle.node_replica.specs.Replicas.{IsKept}
 use Rattle.node_core.specs.declared.event.Event.{Event}
 use Rattle.node_core.specs.declared.fault.StartFault.{StartFault}
+use Rattle.node_core.specs.declared.fault.StartFault.TheVariants as start
 use Rattle.node_core.specs.declared.node.Node.{Node}
 use Rattle.node_core.specs.declared.outs.Outs.{Outs as CoreOuts}
 use Rattle.node_core.specs.declared.running.Running.{Running}
@@ -47,7 +48,7 @@ use Rattle.script_nodes.specs.Seen.{answers_in}
 use Rattle.script_nodes.specs.Voters.{voters_from}
 use Rattle.script_nodes.specs.World.{Place}
 use Rattle.script_runs.specs.Seats.{EventIs, StepDone, has_told, outs_of as core_outs, setup_of}
-use Rattle.script_runs.specs.Places.{IsFall as Falls, IsNoStart, does}
+use Rattle.script_runs.specs.Places.{IsFall as Falls, IsNoStart, LoadsNothing, does}
 use Rattle.script_runs.proofs.Placing.{steps_on_hold, finds_on_hold, crashes_on_hold, starts_on_hold, starts_fail_hold}
 use Rattle.script_places.specs.declared.happening.StartEnd.{StartEnd}
 use Rattle.script_places.specs.declared.happening.StartEnd.TheVariants as ends
@@ -110,7 +111,7 @@ module _ (kind : EngineKind) (voters n finds : ℕ) (turns : List Turn) (old new
       (c.0, c.1.0, (crashes_on_hold (any_meaning kind) kind (setup_of voters) n pick turns d c.0 was stands c.1.1, rest_is_fair c.0 c.1.1.rest)))
       life
 
-  none_on : (mid : Disk Text → Type 0) (why : StartFault) (aim : Aim) (answers : List Answer) (ending : Ending) → IsNoStart ending → StartsOver old mid (Err why)
+  none_on : (mid : Disk Text → Type 0) (why : StartFault) (aim : Aim) (answers : List Answer) (ending : Ending) → IsNoStart why ending → StartsOver old mid (Err why)
       → ((d : Disk Text) → mid d → (e : Disk Text) × new e × FoundBy ending d e) → Lives (any_meaning kind) kind (setup_of voters) n finds old turns None
       → Lives (any_meaning kind) kind (setup_of voters) n (suc finds) new (turns ++ does n (Start voters) aim answers ending ∷ []) None
   none_on mid why aim answers ending is over found life =
@@ -220,15 +221,15 @@ pub record FallEnds (failed : Bool) (old new : Contents) (e : Ended) : Type 0 wh
   pub ending : Ending
   pub tells : TellsEnding failed e ending
   pub falls : Falls ending
-  pub starts_none : IsNoStart ending
+  pub starts_none : IsNoStart start.DiskFault ending
   pub after : (place : Place) → place_after ending place ≡ down_place true
   pub found : IsFoundBy ending old new
 
 fall_ends : (failed : Bool) (keeps : ℕ) (old new : Contents) (e : Ended) → FallsTo keeps old new e → FallEnds failed old new e
 fall_ends failed keeps old new (ended.Stepped outs) fall = absurd fall
 fall_ends failed keeps old new (ended.Started loaded) fall = absurd fall
-fall_ends failed keeps old new (ended.Stopped told_keeps) fall = record { ending = Stops told_keeps; tells = refl; falls = tt; starts_none = tt; after = λ place. refl; found = fall.1 }
-fall_ends failed keeps old new (ended.Failed told_keeps) fall = record { ending = Fails told_keeps; tells = refl; falls = tt; starts_none = tt; after = λ place. refl; found = fall.1 }
+fall_ends failed keeps old new (ended.Stopped told_keeps) fall = record { ending = Stops told_keeps; tells = refl; falls = tt; starts_none = refl; after = λ place. refl; found = fall.1 }
+fall_ends failed keeps old new (ended.Failed told_keeps) fall = record { ending = Fails told_keeps; tells = refl; falls = tt; starts_none = refl; after = λ place. refl; found = fall.1 }
 fall_ends failed keeps old new ended.Unreadable fall = absurd fall
 
 pub stop_leads : (old mid fallen new : Seat) (event : NodeEvent) (aim : Aim) (keeps : ℕ) (e : Ended) (r : Result Came AllocError) → any_kind old.engine.engine ≡ old.kind → HasStopped old mid (core_event event)
@@ -271,7 +272,7 @@ start_leads old mid new number voters aim loaded (Ok came) down runs told_is ans
   );
 }
 
-pub none_leads : (old mid fallen new : Seat) (number voters : ℕ) (aim : Aim) (keeps : ℕ) (e : Ended) (r : Result Came AllocError) → old.node ≡ None → NoneStarted old mid
+pub none_leads : (old mid fallen new : Seat) (number voters : ℕ) (aim : Aim) (keeps : ℕ) (e : Ended) (r : Result Came AllocError) → old.node ≡ None → NoneStarted (λ why. why ≡ start.DiskFault) old mid
     → FallsTo keeps mid.disk.contents fallen.disk.contents e → HasFallen fallen.node fallen.has_failed → IfOk r (λ (came : Came). came.ended ≡ e) → OnOk r (new.node ≡ fallen.node)
     → new.has_failed ≡ fallen.has_failed → new.disk ≡ fallen.disk
     → IfOk r (λ (came : Came). Comes (place_of old) (place_of new) came (StartsOn (Knows old.kind) old new number voters aim))
@@ -285,12 +286,13 @@ none_leads old mid fallen new number voters aim keeps e (Ok came) down none fall
       on = λ turns known. (
         suc known.0,
         life_at old.kind voters number (suc known.0) _ fallen.disk.contents new.disk.contents None new.node (ap (λ (d : OverMemory). d.contents) disk) (same ∙ fallen_is.none)
-            (none_on old.kind voters number known.0 turns (states_in old.disk.contents) (states_in fallen.disk.contents) (states_in mid.disk.contents) none.why aim (answers_in came.answers) ends.ending ends.starts_none none.over ends.found
+            (none_on old.kind voters number known.0 turns (states_in old.disk.contents) (states_in fallen.disk.contents) (states_in mid.disk.contents) none.why aim (answers_in came.answers) ends.ending
+            (subst (λ (why : StartFault). IsNoStart why ends.ending) (sym none.cause) ends.starts_none) none.over ends.found
             (subst (λ (s : Option Node). Lives (any_meaning old.kind) old.kind (setup_of voters) number known.0 (states_in old.disk.contents) turns (running_in s)) down known.1)),
       );
     }
 
-pub unread_leads : (old mid new : Seat) (number voters : ℕ) (aim : Aim) (r : Result Came AllocError) → old.node ≡ None → NoneStarted old mid
+pub unread_leads : (old mid new : Seat) (number voters : ℕ) (aim : Aim) (r : Result Came AllocError) → old.node ≡ None → NoneStarted LoadsNothing old mid
     → IfOk r (λ (came : Came). came.ended ≡ ended.Unreadable) → OnOk r (new.node ≡ mid.node) → new.has_failed ≡ mid.has_failed → new.disk ≡ mid.disk
     → IfOk r (λ (came : Came). Comes (place_of old) (place_of new) came (StartsOn (Knows old.kind) old new number voters aim))
 unread_leads old mid new number voters aim (Err x) down none told_is same still disk = tt
@@ -301,7 +303,7 @@ unread_leads old mid new number voters aim (Ok came) down none told_is same stil
   on = λ turns known. (
     suc known.0,
     life_at old.kind voters number (suc known.0) _ mid.disk.contents new.disk.contents None new.node (ap (λ (d : OverMemory). d.contents) disk) (same ∙ none.none)
-        (none_on old.kind voters number known.0 turns (states_in old.disk.contents) (states_in mid.disk.contents) (states_in mid.disk.contents) none.why aim (answers_in came.answers) Unreadable tt none.over
+        (none_on old.kind voters number known.0 turns (states_in old.disk.contents) (states_in mid.disk.contents) (states_in mid.disk.contents) none.why aim (answers_in came.answers) Unreadable none.cause none.over
         (λ d is. (d, is, refl))
         (subst (λ (s : Option Node). Lives (any_meaning old.kind) old.kind (setup_of voters) number known.0 (states_in old.disk.contents) turns (running_in s)) down known.1)),
   );
@@ -389,9 +391,15 @@ starts_by number voters old mid new node (Ok end) same started seated =
       started = subst (λ (d : Contents). NodeStarted number voters old.disk.contents d node) (sym seated.disk) started;
     })
 
-pub none_started : (old new : Seat) (why : StartFault) (mid : Contents) → new.node ≡ None → new.has_failed ≡ old.has_failed → mid ≡ old.disk.contents → StartsOver (states_in mid) (states_in new.disk.contents) (Err why) → NoneStarted old new
-none_started old new why mid none failed same over =
-    record { none = none; failed = failed; why = why; over = subst (λ (d : Contents). StartsOver (states_in d) (states_in new.disk.contents) (Err why)) same over }
+pub none_started : (IsCause : StartFault → Type 0) (old new : Seat) (why : StartFault) (mid : Contents) → new.node ≡ None → new.has_failed ≡ old.has_failed
+    → mid ≡ old.disk.contents → StartsOver (states_in mid) (states_in new.disk.contents) (Err why) → IsCause why → NoneStarted IsCause old new
+none_started IsCause old new why mid none failed same over cause = record {
+  none = none;
+  failed = failed;
+  why = why;
+  over = subst (λ (d : Contents). StartsOver (states_in d) (states_in new.disk.contents) (Err why)) same over;
+  cause = cause;
+}
 
 -- ---- at a place whose engine is of a kind
 

@@ -14,6 +14,7 @@ use Rattle.raft_member.specs.Members.{read_setup}
 use Rattle.node_replica.specs.Replicas.{IsKept}
 use Rattle.node_core.specs.declared.event.Event.{Event}
 use Rattle.node_core.specs.declared.fault.StartFault.{StartFault}
+use Rattle.node_core.specs.declared.fault.StartFault.TheVariants as start
 use Rattle.node_core.specs.declared.node.Node.{Node}
 use Rattle.node_core.specs.declared.outs.Outs.{Outs as CoreOuts}
 use Rattle.node_core.specs.declared.running.Running.{Running}
@@ -33,6 +34,7 @@ use Rattle.script_nodes.specs.declared.place.Ended.TheVariants as ended
 use Rattle.script_nodes.specs.Outcomes.{Ending, Stops, Fails, Turn}
 use Rattle.script_nodes.specs.Voters.{voters_from}
 use Rattle.script_runs.specs.Seats.{setup_of}
+use Rattle.script_runs.specs.Places.{LoadsNothing}
 use Rattle.script_places.specs.declared.happening.StartEnd.{StartEnd}
 use Rattle.script_places.specs.declared.happening.StartEnd.TheVariants as ends
 use Rattle.script_places.specs.declared.seat.Seat.{Seat}
@@ -146,15 +148,16 @@ pub record IsSeatedBy (old new : Seat) (node : Node) (ended : StartEnd) : Type 0
   pub unasked : new.engine.noted ≡ []
   pub disk : new.disk.contents ≡ old.disk.contents
 
--- none has started, for some cause
-pub record NoneStarted (old new : Seat) : Type 0 where
+-- none has started, for a cause of these
+pub record NoneStarted (IsCause : StartFault → Type 0) (old new : Seat) : Type 0 where
   pub none : new.node ≡ None
   pub failed : new.has_failed ≡ old.has_failed
   pub why : StartFault
   pub over : StartsOver (states_in old.disk.contents) (states_in new.disk.contents) (Err why)
+  pub cause : IsCause why
 
 -- what a start did, by how it ended
 abbrev pub StartsBy : ℕ → ℕ → Seat → Seat → StartEnd → Type 0
 StartsBy number voters old new (ends.Runs loaded) = RunsNow number voters old new loaded
-StartsBy number voters old new ends.DiskFault = NoneStarted old new
-StartsBy number voters old new ends.Unreadable = NoneStarted old new
+StartsBy number voters old new ends.DiskFault = NoneStarted (λ why. why ≡ start.DiskFault) old new
+StartsBy number voters old new ends.Unreadable = NoneStarted LoadsNothing old new

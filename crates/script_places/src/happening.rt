@@ -39,7 +39,7 @@ pub(crate) enum StartEnd {
     Runs(Option<Kept>),
     /// The disk stopped, or a call of it failed.
     DiskFault,
-    /// What lies on the disk doesn't load.
+    /// What lies on the disk doesn't load, which comes in a script only where a checksum matches by chance.
     Unreadable,
 }
 

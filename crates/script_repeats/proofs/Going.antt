@@ -21,7 +21,8 @@ use Rattle.script_nodes.specs.World.{after_step, after_ending, with_turn, unless
 use Rattle.script_repeats.specs.Plain.{plain_answer, plain_outcome, plain_turn, plain_turns, plain_item, plain_items}
 use Rattle.script_repeats.specs.Nodes.{Nodes, AreLed, AreExact}
 use Rattle.script_repeats.specs.Repeats.{StartWith}
-use Rattle.script_repeats.proofs.Growing.{AlwaysGrows, ending_keeps, settles_grows, start_grows}
+use Rattle.script_runner.proofs.Growing.{AlwaysGrows, ending_keeps, settles_grows}
+use Rattle.script_repeats.proofs.Growing.{start_grows}
 use Rattle.script_repeats.proofs.Paths.{led_front, asked_same}
 
 -- ---- worlds

@@ -1,5 +1,5 @@
 -- Two runs of one script, line by line.
-use Rattle.std.proofs.Common.{◌≡◌, ◌≢◌, ℕ, suc, Bool, true, false, cond, List, [], ◌∷◌, ◌++◌, map, Option, Some, None, refl, sym, ap, subst, ◌∙◌, append_assoc, append-nil}
+use Rattle.std.proofs.Common.{◌≡◌, ℕ, suc, Bool, true, false, cond, List, [], ◌∷◌, ◌++◌, map, Option, Some, None, refl, sym, ap, subst, ◌∙◌, append_assoc, append-nil}
 use Rattle.std.specs.Prelude.{nat_le}
 use Rattle.std.specs.Option.{option_map}
 use Rattle.std.proofs.lemmas.List.{map-append}
@@ -23,10 +23,10 @@ use Rattle.script_runner.proofs.Growing.{run_grows}
 use Rattle.script_runner.proofs.Printed.{text_of-append}
 use Rattle.script_repeats.specs.Plain.{plain_turns, plain_items}
 use Rattle.script_repeats.specs.Nodes.{Nodes, AreLed, AreExact, MayCrash}
-use Rattle.script_repeats.specs.Repeats.{AreAlike, IsLed, StartWith, EndsBefore, Compared, Same, Shorter, Longer, RunsCompare, IsWhole, FrontsRepeat, BrokeOff, BrokenRunsRepeat, WholeRunsRepeat}
+use Rattle.script_repeats.specs.Repeats.{AreAlike, IsLed, StartWith, EndsBefore, Compared, Same, Shorter, Longer, RunsCompare, IsWhole, FrontsRepeat, BrokenRunsRepeat, WholeRunsRepeat}
 use Rattle.script_repeats.proofs.Using.{over_behind, only_crashes}
 use Rattle.script_repeats.proofs.Paths.{led_front, led_crashes}
-use Rattle.script_repeats.proofs.Going.{Beside, Past, world_with, beside_of, past_of, SamePast, SameWorld, GoAlike, GoShort, FitsBy, Together, takes_repeats, opened_repeats}
+use Rattle.script_repeats.proofs.Going.{Beside, Past, world_with, beside_of, past_of, SamePast, SameWorld, GoShort, FitsBy, Together, takes_repeats, opened_repeats}
 use Rattle.script_repeats.proofs.Going as going
 
 -- ---- stages

@@ -22,7 +22,7 @@ use Rattle.script_nodes.specs.Knowing.{outcomes_of, outcomes_in, outcomes_over, 
 use Rattle.script_nodes.specs.Outcomes.{Standing, Outs, Ending, Steps, Starts, Stops, Fails, Unreadable, Outcome, Doing, Timeout, Beat, Connect, Bytes, Hangup, Receive, Start, Turn, Does, Crashes}
 use Rattle.script_nodes.specs.Run as nodes
 use Rattle.script_nodes.specs.Run.{Fault, Large, fault_by}
-use Rattle.script_nodes.specs.World.{World, Letter, Halt, NotThere, TooMany, Untold, Went, quiet, halted, said_before, onward, then_on, after_step, after_ending, with_turn, unless_many, asked, at_node, connects, on_link, node_of, hangs_up, is_up, arrived_at, arriving, is_node, arrives, with_link, without, fallen, place_at, closings}
+use Rattle.script_nodes.specs.World.{World, Letter, Halt, NotThere, Went, quiet, halted, onward, after_step, after_ending, with_turn, unless_many, asked, at_node, connects, on_link, node_of, hangs_up, is_up, arrived_at, arriving, is_node, arrives, with_link, without, fallen, place_at, closings}
 use Rattle.script_nodes.specs.World.{delivered, delivers, crashes, starts, counted_so, counted, settled_so, settles, first_waiting, exists, happens, takes, bytes_in, shown, all_start, empty_world, opened}
 use Rattle.script_pages.specs.declared.said.Said.{Said as MachineSaid}
 use Rattle.script_pages.specs.Machines.{Fleet, applies, standing_of}

@@ -1,5 +1,5 @@
 -- Two runs of one script whose nodes do what is decided by what they are asked.
-use Rattle.std.specs.Prelude.{◌≡◌, ◌≢◌, ℕ, List, ◌++◌, Option, Some, None}
+use Rattle.std.specs.Prelude.{◌≡◌, ◌≢◌, ℕ, List, ◌++◌, Option, Some}
 use Rattle.script_nodes.specs.Outcomes.{Outcome, Turn}
 use Rattle.script_nodes.specs.Knowing.{outcomes_in, outcomes_over, with_over}
 use Rattle.script_nodes.specs.Run.{Fault, Untold}

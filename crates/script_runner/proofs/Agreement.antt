@@ -25,7 +25,6 @@ use Rattle.script_nodes.specs.declared.said.Said.{Said as NodeSaid}
 use Rattle.script_nodes.specs.Outcomes.{Outcome}
 use Rattle.script_nodes.specs.Run as nodes
 use Rattle.script_pages.specs.declared.said.Said.{Said as MachineSaid}
-use Rattle.script_pages.specs.declared.said.Said.TheVariants.{Machine}
 use Rattle.script_pages.specs.Alike as pages
 use Rattle.script_pages.specs.Alike.{BeginsWith, Follows, AllFollow, IsDigestOf, IsSound, PutsBytes, GoesAlike, length_of_all}
 use Rattle.script_pages.specs.Holding.{Holding}

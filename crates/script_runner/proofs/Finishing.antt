@@ -8,14 +8,14 @@ use Rattle.script_lines.specs.Lines.{Cursor, to_come, TakesLine}
 use Rattle.script_lines.specs.declared.lines.LineFault.{LineFault}
 use Rattle.script_lines.specs.declared.lines.LineFault.TheVariants as line
 use Rattle.script_nodes.specs.Knowing.{Knowing, outcomes_in}
-use Rattle.script_nodes.specs.Outcomes.{Outcome as Came, Item, Turn}
+use Rattle.script_nodes.specs.Outcomes.{Item, Turn}
 use Rattle.script_nodes.specs.Run.{Fault, Line, Large, fault_text}
 use Rattle.script_runner.specs.declared.printing.PrintFault.{PrintFault}
 use Rattle.script_runner.specs.declared.printing.PrintFault.TheVariants as print
 use Rattle.script_runner.specs.declared.run.Outcome.{Outcome}
 use Rattle.script_runner.specs.declared.run.Outcome.TheVariants as outcome
 use Rattle.script_runner.specs.Run.{Said, Stage, Next, Run, step, run, turns_at, text_of, printed}
-use Rattle.script_runner.specs.Scenes.{Holds, Known, Goes, Ends, EndsAt, stage_of, journal_of, closing_of, turns_of}
+use Rattle.script_runner.specs.Scenes.{Holds, Goes, Ends, EndsAt, stage_of, journal_of, closing_of, turns_of}
 use Rattle.script_runner.specs.Ending.{MayFollow, Anything, IsRun, IsBeside, EndsBeside, BeginWith, Reached, ReadWhole, Settles, StopsShort, Stopped, Prints, PrintsFront, Ended, Ran, RanOut, RanShort, Breaks, line_outcome, print_outcome, fault_line, HasLine}
 use Rattle.script_runner.proofs.Scening.{told_at}
 use Rattle.script_runner.proofs.Growing.{step_grows}

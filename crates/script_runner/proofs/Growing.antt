@@ -1,5 +1,5 @@
 -- The turns of a run only grow.
-use Rattle.std.proofs.Common.{◌≡◌, ℕ, ◌-◌, zero, suc, Bool, true, false, cond, List, [], ◌∷◌, ◌++◌, Option, Some, None, Result, Ok, Err, refl, sym, ap, subst, ◌∙◌, append_assoc}
+use Rattle.std.proofs.Common.{◌≡◌, ℕ, ◌-◌, zero, suc, Bool, true, false, cond, List, [], ◌∷◌, ◌++◌, Option, Some, None, Result, Ok, Err, refl, sym, ap, ◌∙◌, append_assoc}
 use Rattle.std.specs.Prelude.{nat_le, slice_get}
 use Rattle.std.proofs.lemmas.List.{append-nil}
 use Rattle.script_lines.specs.ScriptSize.{line_count_limit}
@@ -15,11 +15,10 @@ use Rattle.script_lines.specs.declared.usage.Usage.{Usage}
 use Rattle.raft_vote.specs.declared.message.RaftMessage.{RaftMessage}
 use Rattle.raft_vote.specs.declared.fault.PeerFault.{PeerFault}
 use Rattle.script_nodes.specs.Outcomes.{Standing, Outs, Ending, Steps, Starts, Stops, Fails, Unreadable, Outcome, Doing, Timeout, Beat, Connect, Bytes, Hangup, Receive, Start, Turn, Does, Crashes}
-use Rattle.script_nodes.specs.World.{World, Letter, Halt, Untold, NotThere, Went, quiet, halted, said_before, onward, then_on, after_step, after_ending, with_turn, unless_many, asked, at_node, connects, on_link, node_of, hangs_up, is_up, arrived_at, arriving, is_node, arrives}
+use Rattle.script_nodes.specs.World.{World, Letter, Halt, NotThere, Went, quiet, halted, onward, after_step, after_ending, with_turn, unless_many, asked, at_node, connects, on_link, node_of, hangs_up, is_up, arrived_at, arriving, is_node, arrives}
 use Rattle.script_nodes.specs.World.{delivered, delivers, crashes, starts, counted_so, counted, settled_so, settles, first_waiting, exists, happens, takes, bytes_in, shown}
 use Rattle.script_nodes.specs.declared.said.Said.{Said as NodeSaid}
 use Rattle.script_nodes.specs.Run as nodes
-use Rattle.script_pages.specs.declared.said.Said.{Said as MachineSaid}
 use Rattle.script_nodes.specs.Run.{Fault, Large}
 use Rattle.script_runner.specs.Run.{Stage, AtNodes, AtMachines, Next, stops, line_step, said_step, step, onward as run_onward, turns_at, run_from}
 use Rattle.script_runner.specs.Ending.{BeginWith}
@@ -34,10 +33,10 @@ begin_then last middle first b c = (c.0 ++ b.0, b.1 ∙ ap (λ (t : List Turn). 
 
 -- ---- what is done to a world
 
-abbrev Grows : World → Went → Type 0
+abbrev pub Grows : World → Went → Type 0
 Grows w went = BeginWith went.world.turns w.turns
 
-abbrev AlwaysGrows : (World → Went) → Type 0
+abbrev pub AlwaysGrows : (World → Went) → Type 0
 AlwaysGrows go = (w : World) → Grows w (go w)
 
 either : (w : World) (b : Bool) (x y : Went) → Grows w x → Grows w y → Grows w (cond b x y)
@@ -48,7 +47,7 @@ step_keeps : (n : ℕ) (outs : Outs) (standing : Standing) (w : World) (usage : 
 step_keeps n outs standing w None = refl
 step_keeps n outs standing w (Some usage) = refl
 
-ending_keeps : (n : ℕ) (ending : Ending) (w : World) → (after_ending n ending w).world.turns ≡ w.turns
+pub ending_keeps : (n : ℕ) (ending : Ending) (w : World) → (after_ending n ending w).world.turns ≡ w.turns
 ending_keeps n (Steps outs standing) w = step_keeps n outs standing w (with_messages w.usage (bytes_in outs.messages))
 ending_keeps n (Starts kept standing) w = refl
 ending_keeps n (Stops keeps) w = refl
@@ -92,7 +91,7 @@ delivers_grows place aim w = delivered_grows aim w place (slice_get w.mail place
 crashes_grows : (n pick : ℕ) → AlwaysGrows (crashes n pick)
 crashes_grows n pick w = either w (is_up w n) _ (quiet w) (Crashes n pick ∷ [], refl) (same_turns w.turns)
 
-starts_grows : (n : ℕ) (aim : Aim) → AlwaysGrows (starts n aim)
+pub starts_grows : (n : ℕ) (aim : Aim) → AlwaysGrows (starts n aim)
 starts_grows n aim w = either w (is_up w n) (quiet w) (asked n (Start w.voters) aim w w.outcomes) (same_turns w.turns) (asked_grows n (Start w.voters) aim w w.outcomes)
 
 counted_so_grows : (go : World → Went) → AlwaysGrows go → (w : World) (usage : Option Usage) → Grows w (counted_so go w usage)
@@ -102,7 +101,7 @@ counted_so_grows go grows w (Some usage) = grows (record w { usage = usage })
 counted_grows : (go : World → Went) → AlwaysGrows go → AlwaysGrows (counted go)
 counted_grows go grows w = counted_so_grows go grows w (with_event w.usage)
 
-onward_grows : (go : World → Went) → AlwaysGrows go → (w : World) (went : Went) (halt : Option Halt) → Grows w went → Grows w (onward go went halt)
+pub onward_grows : (go : World → Went) → AlwaysGrows go → (w : World) (went : Went) (halt : Option Halt) → Grows w went → Grows w (onward go went halt)
 onward_grows go grows w went None g = begin_then (go went.world).world.turns went.world.turns w.turns (grows went.world) g
 onward_grows go grows w went (Some why) g = g
 
@@ -112,7 +111,7 @@ settled_grows go grows w (Some place) =
     let went = counted (delivers place Nothing) w in
     onward_grows go grows w went went.halt (counted_grows (delivers place Nothing) (delivers_grows place Nothing) w)
 
-settles_grows : (count : ℕ) → AlwaysGrows (settles count)
+pub settles_grows : (count : ℕ) → AlwaysGrows (settles count)
 settles_grows zero w = same_turns w.turns
 settles_grows (suc count) w = settled_grows (settles count) (settles_grows count) w (first_waiting w.mail)
 

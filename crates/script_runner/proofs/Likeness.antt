@@ -1,5 +1,5 @@
 -- What happens at the nodes of a script is as in the run of nodes.
-use Rattle.std.proofs.Common.{◌≡◌, ℕ, suc, Bool, true, false, cond, List, [], ◌∷◌, Option, Some, None, refl, sym, ap, subst, ◌∙◌}
+use Rattle.std.proofs.Common.{◌≡◌, ℕ, suc, Bool, true, false, cond, List, [], ◌∷◌, Option, Some, None, refl, sym, subst}
 use Rattle.script_lines.specs.ScriptSize.{line_count_limit}
 use Rattle.std.specs.Prelude.{nat_le}
 use Rattle.script_lines.specs.Lines.{lines_of}

@@ -11,9 +11,9 @@ use Rattle.script_lines.specs.Grammar.{line_of}
 use Rattle.script_nodes.specs.Knowing.{Knowing, Told, outcomes_in, outcomes_over}
 use Rattle.script_nodes.specs.Outcomes.{Outcome, Item, Turn}
 use Rattle.script_nodes.specs.Run.{Fault, Line, Large}
-use Rattle.script_runner.specs.Run.{Said, Stage, Next, Run, step, said_before, onward, ends_at, closing, journal_at, turns_at, over_at, run_from, run, stops, text_of, OfNodes}
+use Rattle.script_runner.specs.Run.{Said, Stage, Next, Run, step, said_before, onward, ends_at, closing, journal_at, turns_at, over_at, run_from, run, stops, text_of}
 use Rattle.script_runner.specs.Stages.{AtStart, AtNodes}
-use Rattle.script_runner.specs.Scenes.{Holds, Nodes, Machines, Known, stage_of, journal_of, closing_of, turns_of, Goes, Ends, EndsAt}
+use Rattle.script_runner.specs.Scenes.{Holds, Nodes, Machines, stage_of, journal_of, closing_of, turns_of, Goes, Ends, EndsAt}
 use Rattle.script_runner.specs.Ending.{MayFollow, Anything, IsRun, IsBeside, EndsBeside, BeginWith, Reached, ReadWhole, RanShort, Settles, StopsShort}
 use Rattle.script_runner.proofs.Lining.{lines_feed, lines_last, feed_first, last_first, line_begins, end_left, held, held_end, without_separator, some_line, starts, Consumes-none}
 use Rattle.script_runner.proofs.Printed.{text_of-append}

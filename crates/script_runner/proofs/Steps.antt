@@ -1,5 +1,5 @@
 -- What a line does, from what the cluster did.
-use Rattle.std.proofs.Common.{◌≡◌, ℕ, ◌+◌, ◌≤◌, zero, suc, Bool, cond, List, [], ◌∷◌, ◌++◌, length, map, Option, Some, None, Result, Ok, Err, refl, sym, ap, subst, ◌∙◌, append_assoc}
+use Rattle.std.proofs.Common.{◌≡◌, ℕ, ◌+◌, zero, suc, List, [], ◌∷◌, ◌++◌, length, map, Option, Some, None, Result, Ok, Err, refl, sym, ap, subst, ◌∙◌, append_assoc}
 use Rattle.std.specs.Option.{option_map}
 use Rattle.std.proofs.lemmas.List.{append-nil, length-map}
 use Rattle.script_lines.specs.Grammar.{line_of}
@@ -14,7 +14,7 @@ use Rattle.script_nodes.specs.Outcomes.{Outcome, Item, Turn}
 use Rattle.script_nodes.specs.World.{Place, World, Went, Halt, NotThere, TooMany, takes, opened, all_start, empty_places, shown}
 use Rattle.script_nodes.specs.Holding.{Held, world_of, Leads, Halts, HaltsAt, Does}
 use Rattle.script_nodes.specs.Clusters.{empty_held, held, world_now}
-use Rattle.script_nodes.specs.Run.{Stage, Within, Next, Line, Large, line_step, next_by, fault_by, stays, stops, shows, journal_at, turns_at, over_at}
+use Rattle.script_nodes.specs.Run.{Stage, Within, Next, Line, line_step, next_by, fault_by, stays, stops, shows, journal_at, turns_at, over_at}
 use Rattle.script_nodes.specs.declared.cluster.Cluster.{Cluster}
 use Rattle.script_runner.specs.declared.stage.Stage.{Stage as CodeStage}
 use Rattle.script_runner.specs.declared.stage.Stage.TheVariants as stage

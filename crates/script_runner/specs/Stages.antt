@@ -12,7 +12,7 @@ use Rattle.script_nodes.specs.Knowing.{Knowing, AllKnow, Told, outcomes_in, outc
 use Rattle.script_nodes.specs.Voters.{IsVoterCount}
 use Rattle.script_nodes.specs.Clusters.{held}
 use Rattle.script_nodes.specs.Run as run
-use Rattle.script_nodes.specs.Run.{Fault, Line, Large, Next, step, line_step, closing, journal_at, turns_at, over_at}
+use Rattle.script_nodes.specs.Run.{Fault, Line, Large, Next, closing, journal_at, turns_at, over_at}
 use Rattle.script_runner.specs.declared.stage.Stage.{Stage}
 use Rattle.script_runner.specs.declared.stage.Stage.TheVariants as stage
 

@@ -1,5 +1,6 @@
 pub mod Answering
 mod Mailing
+mod Reading
 pub mod Running
 pub mod Placing
 mod Worlds

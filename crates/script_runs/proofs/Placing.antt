@@ -1,20 +1,28 @@
 -- Each call at a place leads its turns on.
-use Rattle.std.proofs.Common.{◌≡◌, inl, ℕ, List, [], ◌∷◌, ◌++◌, refl, sym, subst}
+use Rattle.std.proofs.Common.{◌≡◌, ◌<◌, inl, ℕ, List, [], ◌∷◌, ◌++◌, None, Err, refl, sym, subst}
 use Rattle.sql_engine.specs.declared.kind.EngineKind.{EngineKind}
 use Rattle.sql_engine.specs.Meanings.{Meaning}
+use Rattle.session_rules.specs.Engines.{Answer}
 use Rattle.disk_model.specs.Disk.{Disk}
 use Rattle.disk_model.specs.Trait.{Text}
 use Rattle.raft_world.specs.Members.{Setup}
 use Rattle.store_laws.specs.Names.{NodeDisk}
 use Rattle.store_laws.specs.Store.{Kept, Outcome as Found, Loaded, Damaged, NoMeta, Gap}
+use Rattle.segment_store.specs.declared.load_fault.LoadFault.TheVariants as fault
 use Rattle.segment_store.specs.Keeps.{folder}
+use Rattle.segment_store.specs.Loading.{kept_in}
 use Rattle.segment_store.specs.Restarts.{StandsFor, Begins}
 use Rattle.node_replica.specs.Replicas.{kept_of}
+use Rattle.node_rules.specs.Steps.{StartStopsSo}
+use Rattle.node_core.specs.declared.fault.StartFault.{StartFault}
+use Rattle.node_core.specs.declared.fault.StartFault.TheVariants as start
+use Rattle.node_core.specs.Starting.{SnapshotUnread, StartLeaves}
 use Rattle.node_runs.proofs.FirstDisk.{first_disk_holds}
 use Rattle.node_runs.proofs.Starting.{starts_keep_hold, fails, finds, crashes, crash_leaves_kept_hold}
+use Rattle.script_lines.specs.declared.grammar.Aim.{Aim}
 use Rattle.script_nodes.specs.Outcomes.{Ending, Steps, Starts, Stops, Fails, Unreadable, Doing, Start, Turn}
-use Rattle.script_runs.specs.Seats.{Seat, Runs, Rests, EndsSo, StopDone, TurnSo, PathSo, setup_of}
-use Rattle.script_runs.specs.Places.{IsLeft, IsFair, PlacesBegin, StepsOn, FallsOn, IsFall, CrashesOn, DisksCrashOn, StartsOn, IsNoStart, StartsFail, FindsOn}
+use Rattle.script_runs.specs.Seats.{Seat, Runs, Rests, AsksStart, EndsSo, IsUnreadable, StopDone, TurnSo, PathSo, setup_of}
+use Rattle.script_runs.specs.Places.{Led, IsLeft, IsFair, IsPlaced, does, PlacesBegin, StepsOn, FallsOn, IsFall, CrashesOn, DisksCrashOn, StartsOn, LoadsNothing, IsNoStart, StartsFail, FindsOn}
 
 -- what is found has the weaker property too
 weaker : (P Q : Kept → Type 0) → ((kept : Kept) → P kept → Q kept) → (o : Found) → IsLeft P o → IsLeft Q o
@@ -39,12 +47,9 @@ module _ (m : Meaning) (kind : EngineKind) (setup : Setup) (n : ℕ) where
   falls (Starts loaded standing) is old doing answers kept h = absurd is
   falls Unreadable is old doing answers kept h = absurd is
 
-  no_start : (voters : ℕ) → setup ≡ setup_of voters → (ending : Ending) → IsNoStart ending → (answers : _) (kept : Kept) → EndsSo m kind setup n (Rests kept) (Start voters) answers ending (Rests kept)
-  no_start voters opens (Stops keeps) is answers kept = (record { voters = voters; is = refl; opens = opens }, starts_keep_hold setup kept)
-  no_start voters opens (Fails keeps) is answers kept = (record { voters = voters; is = refl; opens = opens }, starts_keep_hold setup kept)
-  no_start voters opens Unreadable is answers kept = (record { voters = voters; is = refl; opens = opens }, refl)
-  no_start voters opens (Steps outs standing) is answers kept = absurd is
-  no_start voters opens (Starts loaded standing) is answers kept = absurd is
+-- a start that failed or was stopped by a disk's fault
+abbrev no_start : (setup : Setup) (voters : ℕ) → setup ≡ setup_of voters → (kept : Kept) → AsksStart setup (Start voters) × StartStopsSo setup kept kept
+no_start setup voters opens kept = (record { voters = voters; is = refl; opens = opens }, starts_keep_hold setup kept)
 
 as_it_is : (d : Disk Text) → IsFair d → Begins d d
 as_it_is d fair = record { came = inl refl; fair = fair }
@@ -76,9 +81,56 @@ module _ (m : Meaning) (kind : EngineKind) where
       let f = finds (IsLeft _) d d e node p (as_it_is d fair) leaves in
       (path_on m kind (setup_of voters) n _ (Rests _) (Runs node.running) turns _ f.0 (record { voters = voters; is = refl; opens = refl }, done), f.1)
 
+  -- ---- a start after which no node runs
+
+  module _ (voters n : ℕ) (turns : List Turn) (d e : Disk Text) (aim : Aim) (answers : List Answer) (p : IsPlaced m kind (setup_of voters) n turns d None) (fair : IsFair d) where
+    -- what it reads
+    read_so : (found : Found) → kept_in (folder d).read ≡ found → IsLeft (λ kept. Led m kind (setup_of voters) n turns (Rests kept)) found
+    read_so found is = subst (IsLeft _) is (p.crash (folder d).read p.seen fair)
+
+    -- whatever it may have left was led to before
+    left_so : (why : StartFault) → StartLeaves (Err why) d e → StandsFor (IsLeft (λ kept. Led m kind (setup_of voters) n turns (Rests kept))) (folder e)
+    left_so why leaves = fails (IsLeft _) d d e why p (as_it_is d fair) leaves
+
+    abbrev Goes : Ending → Type 0
+    Goes ending = IsPlaced m kind (setup_of voters) n (turns ++ does n (Start voters) aim answers ending ∷ []) e None
+
+    -- by a disk's fault
+    falls_short : (ending : Ending) → ((kept : Kept) → EndsSo m kind (setup_of voters) n (Rests kept) (Start voters) answers ending (Rests kept)) → StartLeaves (Err start.DiskFault) d e → Goes ending
+    falls_short ending ends leaves =
+        stands_weaker _ _ (folder e) (λ kept h. path_on m kind (setup_of voters) n _ (Rests kept) (Rests kept) turns _ h (ends kept)) (left_so start.DiskFault leaves)
+
+    -- over a snapshot that is none of a node
+    reads_none : (index : ℕ) → StartLeaves (Err (start.Snapshot index)) d e → Goes Unreadable
+    reads_none index leaves =
+        let u : SnapshotUnread index d = leaves.0 in
+        let bad : IsUnreadable u.kept = record { some = subst (λ (i : ℕ). 0 < i) (sym u.at_is) u.some; unread = u.unread } in
+        stands_weaker _ _ (folder e)
+        (λ kept h. path_on m kind (setup_of voters) n _ (Rests u.kept) (Rests kept) turns _ (read_so (Loaded u.kept) u.reads) (record { voters = voters; is = refl; opens = refl }, bad))
+        (left_so (start.Snapshot index) leaves)
+
+    -- files with a fault are none that the turns have led to
+    unread : (why : StartFault) → StartLeaves (Err why) d e → LoadsNothing why → Goes Unreadable
+    unread (start.Damaged fault.NoMeta) leaves is = absurd (read_so NoMeta leaves.1)
+    unread (start.Damaged (fault.Damaged segment at)) leaves is = absurd (read_so Damaged leaves.0.1)
+    unread (start.Damaged (fault.Gap first last)) leaves is = absurd (read_so (Gap first last) leaves.1)
+    unread (start.Damaged fault.DiskFault) leaves is = absurd leaves
+    unread (start.Damaged fault.NoMemory) leaves is = absurd leaves
+    unread (start.Snapshot index) leaves is = reads_none index leaves
+    unread start.DiskFault leaves is = absurd is
+    unread start.NoMemory leaves is = absurd is
+
+    none_starts : (why : StartFault) (ending : Ending) → StartLeaves (Err why) d e → IsNoStart why ending → Goes ending
+    none_starts why (Stops keeps) leaves is =
+        falls_short (Stops keeps) (λ kept. no_start (setup_of voters) voters refl kept) (subst (λ (w : StartFault). StartLeaves (Err w) d e) is leaves)
+    none_starts why (Fails keeps) leaves is =
+        falls_short (Fails keeps) (λ kept. no_start (setup_of voters) voters refl kept) (subst (λ (w : StartFault). StartLeaves (Err w) d e) is leaves)
+    none_starts why Unreadable leaves is = unread why leaves is
+    none_starts why (Steps outs standing) leaves is = absurd is
+    none_starts why (Starts loaded standing) leaves is = absurd is
+
   pub starts_fail_hold : StartsFail m kind
-  starts_fail_hold voters n turns d e why aim answers ending p fair leaves is =
-      stands_weaker _ _ (folder e) (λ kept h. path_on m kind (setup_of voters) n _ (Rests kept) (Rests kept) turns _ h (no_start m kind (setup_of voters) n voters refl ending is answers kept)) (fails (IsLeft _) d d e why p (as_it_is d fair) leaves)
+  starts_fail_hold voters n turns d e why aim answers ending p fair leaves is = none_starts voters n turns d e aim answers p fair why ending leaves is
 
   pub finds_on_hold : FindsOn m kind
   finds_on_hold setup n turns d e old doing event aim answers ending p fall is finds =

@@ -1,23 +1,26 @@
 -- What whole nodes do in a script is a run.
 use Rattle.std.proofs.Common.{◌≡◌, ◌≢◌, ℕ, Bool, true, false, List, [], ◌∷◌, ◌++◌, refl, sym, ap, ◌∙◌, subst}
-use Rattle.std.specs.Prelude.{cond, ◌==◌}
+use Rattle.std.specs.Prelude.{cond, ◌==◌, ◌<◌, Some, None}
 use Rattle.std.specs.List.{AllByRecursion}
 use Rattle.std.proofs.lemmas.Bool.{eq-eqb, eqb-true, eqb-false}
-use Rattle.std.proofs.lemmas.List.{append-nil, append_assoc}
+use Rattle.std.proofs.lemmas.List.{append_assoc}
 use Rattle.sql_engine.specs.declared.kind.EngineKind.{EngineKind}
 use Rattle.sql_engine.specs.Meanings.{Meaning}
 use Rattle.session_rules.specs.Engines.{Answer}
 use Rattle.session_rules.specs.Sessions.{Reply}
 use Rattle.raft_vote.specs.declared.message.RaftMessage.{RaftMessage}
+use Rattle.raft_rules.specs.Account.{stored_of}
+use Rattle.raft_world.specs.Laws.{node_at}
 use Rattle.raft_world.specs.Members.{Setup}
 use Rattle.store_laws.specs.Store.{Kept}
-use Rattle.cluster_world.specs.Clusters.{Act as RuleAct}
+use Rattle.cluster_world.specs.Clusters.{Act as RuleAct, cluster}
+use Rattle.node_rules.specs.Nodes.{KeptIs}
 use Rattle.node_rules.specs.Steps.{Letter, StartStopsSo, StartsSo}
 use Rattle.node_core.specs.declared.event.Event as core
 use Rattle.node_core.specs.declared.running.Running.{Running}
 use Rattle.node_core.specs.Account.{Sends, Begin, Happens, Comes, Compacts, IsMore, AreOf, IsAlone}
 use Rattle.node_core.specs.Values.{seen}
-use Rattle.node_world.specs.Acts.{RunIs}
+use Rattle.node_world.specs.Acts.{PlaceIs, RunIs}
 use Rattle.node_world.specs.Runs.{Place, Up, Down, Run, Event, Starts as Boots, StartFails, Crashes as Halts, kept_at, nothing_kept, happens, first_run, run_from, AllHold}
 use Rattle.node_world.proofs.Runs.{runs_go_on_hold, first_run_is}
 use Rattle.node_world.proofs.Safes.{runs_are_safe_hold}
@@ -27,12 +30,13 @@ use Rattle.node_runs.specs.Steps.{Leads, used_in, AreAmong, StopRuns}
 use Rattle.node_runs.proofs.Stepping.{step_at, stop_at}
 use Rattle.node_runs.proofs.Starting.{leads_by}
 use Rattle.script_nodes.specs.Outcomes.{Standing, Outs, Ending, Steps, Starts, Stops, Fails, Unreadable, Doing, Timeout, Beat, Connect, Bytes, Hangup, Receive, Start, Turn, Does, Crashes}
-use Rattle.script_runs.specs.Seats.{Seat, Runs, Rests, EventIs, StepDone, StopDone, StartDone, EndsSo, CrashesSo, TurnSo, PathSo, setup_of}
-use Rattle.script_runs.specs.Turns.{actor, turns_at, messages_of, messages_in, WasSent, SentTo, AllSentTo, IsDown, EndShows, TurnRuns, AreRun, events_of}
+use Rattle.script_runs.specs.Seats.{Seat, Runs, Rests, EventIs, StepDone, StopDone, StartDone, EndsSo, IsUnreadable, CrashesSo, TurnSo, PathSo, setup_of}
+use Rattle.script_runs.specs.Turns.{actor, turns_at, messages_of, messages_in, WasSent, SentTo, AllSentTo, IsDown, EndShows, TurnShows, TurnRuns, AreRun, events_of, HasLoaded, AllLoad}
 use Rattle.script_runs.specs.Laws.{TurnsAreRuns, RunsHold, NodesAreSafe, LatersAreSafe}
 use Rattle.script_runs.proofs.Bringing.{Brought, true_false, brought, by_doing}
 use Rattle.script_runs.proofs.Answering.{told_are}
 use Rattle.script_runs.proofs.Mailing.{among_none, among_join}
+use Rattle.script_runs.proofs.Reading.{snapshots_read}
 
 -- the run's place is this seat, of a node without links
 SeatIs : ℕ → Seat → Place → Type 0
@@ -142,18 +146,17 @@ module _ (m : Meaning) (kind : EngineKind) (setup : Setup) (r : Run) (n : ℕ) w
       fails_bring : (doing : Doing) (left : Kept) → Brought n doing (StartFails n left ∷ [])
       fails_bring doing left = record { starts = λ k none. tt; joined = λ k conn none. tt; asks = λ k conn none. refl }
 
-      none_bring : (doing : Doing) → Brought n doing []
-      none_bring doing = record { starts = λ k none. tt; joined = λ k conn none. tt; asks = λ k conn none. refl }
-
-      abbrev stays_so : (kept left : Kept) → r.places n ≡ Down kept → left ≡ kept → Leads m kind setup r n (Down left) [] []
-      stays_so kept left down same = record {
-        events = [];
-        hold = tt;
-        here = down ∙ ap Down (sym same);
-        others = λ k e. (refl, refl);
-        letters_are = sym (append-nil r.letters);
-        said_is = sym (append-nil r.said);
-      }
+      -- a snapshot that is kept reads as one of a node, as it is spelled so
+      all_read : (kept : Kept) → r.places n ≡ Down kept → IsUnreadable kept → ⊥
+      all_read kept down bad =
+          let c = cluster setup acts in
+          let s = node_at setup c.raft n in
+          let is : KeptIs setup kept (stored_of s) = subst (λ (p : Place). PlaceIs setup p (r.jobs n) s (c.lives n)) down (was.places n) in
+          let some : 0 < (stored_of s).snapshot.index = subst (λ (i : ℕ). 0 < i) is.index bad.some in
+          none_some (sym bad.unread ∙ snapshots_read _ kept.snap.bytes (is.bytes some))
+        where
+          none_some : {A : Type 0} {x : A} → None ≡ Some x → ⊥
+          none_some e = cc
 
       ends_so : (old : Seat) (doing : Doing) (answers : List Answer) (ending : Ending) (new : Seat) → SeatIs n old (r.places n) → WasSent sent n doing → EndsSo m kind setup n old doing answers ending new → Done doing answers ending new
       unfolding SeatIs
@@ -167,7 +170,7 @@ module _ (m : Meaning) (kind : EngineKind) (setup : Setup) (r : Run) (n : ℕ) w
       ends_so (Rests kept) doing answers (Starts loaded standing) (Runs new) seat was_sent h = subst (λ z. Done z answers (Starts loaded standing) (Runs new)) (sym h.0.is) (begins_so kept loaded new answers standing seat h.0.voters h.0.opens h.1)
       ends_so (Rests kept) doing answers (Stops keeps) (Rests left) seat was_sent h = down_so doing answers (Stops keeps) left [] [] (fails_so kept left seat h.1) (fails_bring doing left) (λ place used d. d) refl
       ends_so (Rests kept) doing answers (Fails keeps) (Rests left) seat was_sent h = down_so doing answers (Fails keeps) left [] [] (fails_so kept left seat h.1) (fails_bring doing left) (λ place used d. d) refl
-      ends_so (Rests kept) doing answers Unreadable (Rests left) seat was_sent h = down_so doing answers Unreadable left [] [] (stays_so kept left seat h.1) (none_bring doing) (λ place used d. d) refl
+      ends_so (Rests kept) doing answers Unreadable (Rests left) seat was_sent h = absurd (all_read kept seat h.1)
       ends_so (Runs old) doing answers (Steps outs standing) (Rests kept) seat was_sent h = absurd h
       ends_so (Runs old) doing answers (Starts loaded standing) new seat was_sent h = absurd h
       ends_so (Runs old) doing answers (Stops keeps) (Runs new) seat was_sent h = absurd h
@@ -267,6 +270,20 @@ module _ (m : Meaning) (kind : EngineKind) (setup : Setup) where
   all_hold [] r is = tt
   all_hold (turn ∷ turns) r is = hold_join is.0.leads.events (events_of m kind setup (run_from r is.0.leads.events) turns is.1) r is.0.leads.hold (all_hold turns (run_from r is.0.leads.events) is.1)
 
+  -- ---- loads
+
+  -- what comes in no run isn't how an event ended
+  loads_end : (answers : List Answer) (ending : Ending) (place : Place) (letters : List Letter) (replies : List (ℕ × Reply)) (used : List Answer) → EndShows answers ending place letters replies used → ending ≢ Unreadable
+  loads_end answers ending place letters replies used shows e = subst (λ (z : Ending). EndShows answers z place letters replies used) e shows
+
+  turn_loads : (turn : Turn) (place : Place) (letters : List Letter) (replies : List (ℕ × Reply)) (used : List Answer) → TurnShows turn place letters replies used → HasLoaded turn
+  turn_loads (Does n doing aim outcome) place letters replies used shows = loads_end outcome.answers outcome.ending place letters replies used shows
+  turn_loads (Crashes n pick) place letters replies used shows = tt
+
+  pub all_load : (turns : List Turn) (r : Run) → AreRun m kind setup r turns → AllLoad turns
+  all_load [] r is = tt
+  all_load (turn ∷ turns) r is = (turn_loads turn is.0.place is.0.letters is.0.replies _ is.0.shows, all_load turns (run_from r is.0.leads.events) is.1)
+
   -- ---- two moments
 
   front_of : (turns more : List Turn) (r : Run) → AreRun m kind setup r (turns ++ more) → AreRun m kind setup r turns
@@ -315,7 +332,7 @@ module _ (m : Meaning) (kind : EngineKind) where
       let is = turns_are_runs_hold setup turns d in
       let holds = runs_hold_hold setup turns is in
       let s = runs_are_safe_hold m kind setup (events_of m kind setup first_run turns is) holds in
-      record { is = is; holds = holds; chosen = s.0; said = s.1; safe = s.2 }
+      record { is = is; holds = holds; chosen = s.0; said = s.1; safe = s.2; loads = all_load m kind setup turns first_run is }
 
   pub laters_are_safe_hold : LatersAreSafe m kind
   laters_are_safe_hold setup turns more is =

@@ -38,7 +38,7 @@ end_shown answers (Steps outs standing) place letters replies used h = record { 
 end_shown answers (Starts kept standing) place letters replies used h = record { node = h.node; up = h.up; so = h.stands }
 end_shown answers (Stops keeps) place letters replies used h = tt
 end_shown answers (Fails keeps) place letters replies used h = tt
-end_shown answers Unreadable place letters replies used h = tt
+end_shown answers Unreadable place letters replies used h = absurd h
 
 turn_shown : (turn : Turn) (place : Place) (letters : List Letter) (replies : List (ℕ × Reply)) (used : List Answer) → TurnShows turn place letters replies used → IsShown place (standing_in turn)
 turn_shown (Does n doing aim outcome) place letters replies used h = end_shown outcome.answers outcome.ending place letters replies used h

@@ -10,7 +10,7 @@ use Rattle.node_world.specs.Acts.{NotStarted, NotJoined, asked}
 use Rattle.node_world.specs.Laws.{SafeRun, SafeLater}
 use Rattle.node_world.specs.Runs.{Run, first_run, run, run_from, AllHold}
 use Rattle.script_nodes.specs.Outcomes.{Turn}
-use Rattle.script_runs.specs.Turns.{actor, is_start, joins_of, asks_of, NodesDo, AreRun, events_of}
+use Rattle.script_runs.specs.Turns.{actor, is_start, joins_of, asks_of, NodesDo, AreRun, events_of, AllLoad}
 
 -- What whole nodes do is a run, turn by turn.
 abbrev pub TurnsAreRuns : Meaning → EngineKind → Type 0
@@ -21,13 +21,14 @@ abbrev pub RunsHold : Meaning → EngineKind → Type 0
 RunsHold m kind =
     (setup : Setup) (turns : List Turn) (is : AreRun m kind setup first_run turns) → AllHold m kind setup first_run (events_of m kind setup first_run turns is)
 
--- A script is safe: what came of its events is a run of whole nodes, turn by turn, and the run is safe.
+-- A script is safe: what came of its events is a run of whole nodes, turn by turn, the run is safe, and no load fails in it.
 pub record IsSafe (m : Meaning) (kind : EngineKind) (setup : Setup) (turns : List Turn) : Type 0 where
   pub is : AreRun m kind setup first_run turns
   pub holds : AllHold m kind setup first_run (events_of m kind setup first_run turns is)
   pub chosen : List Line
   pub said : List Said
   pub safe : SafeRun m setup (run (events_of m kind setup first_run turns is)) chosen said
+  pub loads : AllLoad turns
 
 abbrev pub NodesAreSafe : Meaning → EngineKind → Type 0
 NodesAreSafe m kind = (setup : Setup) (turns : List Turn) → NodesDo m kind setup turns → IsSafe m kind setup turns

@@ -6,10 +6,11 @@ use Rattle.raft_world.specs.Members.{Setup}
 use Rattle.node_world.specs.Runs.{nothing_kept}
 use Rattle.script_nodes.specs.Outcomes.{Outcome, Turn}
 use Rattle.script_nodes.specs.Run.{run}
+use Rattle.script_nodes.specs.Knowing.{with_over}
 pub use Rattle.script_nodes.specs.Knowing.{CanHold, AllCanHold}
 use Rattle.script_runs.specs.Laws.{IsSafe}
 use Rattle.script_runs.specs.Seats.{Seat, Rests, PathSo}
-use Rattle.script_runs.specs.Turns.{actor, turns_at, AllSentTo}
+use Rattle.script_runs.specs.Turns.{actor, turns_at, AllSentTo, AllLoad}
 
 -- In a script, whatever came of its events, a node receives only messages that were sent to it; up to any moment, where the wire could
 -- hold what was sent until then.
@@ -35,3 +36,9 @@ abbrev pub ScriptsAreSafe : Meaning → EngineKind → Type 0
 ScriptsAreSafe m kind =
     (setup : Setup) (script : List ℕ) (outcomes : List Outcome) (front rest : List Turn) → (run script outcomes).turns ≡ front ++ rest →
     ByNodes m kind setup front → IsSafe m kind setup front
+
+-- And no load fails in it until then, nor in what a node did behind that: no start finds `Damaged`, `Gap`, `NoMeta` or `Snapshot`.
+abbrev pub LoadsNeverFail : Meaning → EngineKind → Type 0
+LoadsNeverFail m kind =
+    (setup : Setup) (script : List ℕ) (outcomes : List Outcome) (front rest : List Turn) (over : Option Turn) →
+    (run script outcomes).turns ≡ front ++ rest → ByNodes m kind setup front → OverByNode m kind setup front over → AllLoad (with_over front over)

@@ -1,5 +1,5 @@
 -- The place of a script's node with its disk: what its turns so far have led to, and that each call of a node leads on.
-use Rattle.std.specs.Prelude.{ℕ, List, [], ◌∷◌, ◌++◌, Option, Some, None, Ok, Err}
+use Rattle.std.specs.Prelude.{◌≡◌, ℕ, List, [], ◌∷◌, ◌++◌, Option, Some, None, Ok, Err}
 use Rattle.sql_engine.specs.declared.kind.EngineKind.{EngineKind}
 use Rattle.sql_engine.specs.Meanings.{Meaning}
 use Rattle.session_rules.specs.Engines.{Answer}
@@ -14,6 +14,7 @@ use Rattle.segment_store.specs.Keeps.{folder, HasNew}
 use Rattle.segment_store.specs.Restarts.{StandsFor}
 use Rattle.node_replica.specs.Replicas.{kept_of}
 use Rattle.node_core.specs.declared.fault.StartFault.{StartFault}
+use Rattle.node_core.specs.declared.fault.StartFault.TheVariants as start
 use Rattle.node_core.specs.declared.node.Node.{Node}
 use Rattle.node_core.specs.declared.running.Running.{Running}
 use Rattle.node_core.specs.declared.event.Event as core
@@ -102,18 +103,27 @@ StartsOn m kind =
     StartDone voters n (kept_by node) (kept_by node) node.running answers standing →
     IsPlaced m kind (setup_of voters) n (turns ++ does n (Start voters) aim answers (Starts (kept_by node) standing) ∷ []) e (Some node.running)
 
--- the ending of a start that failed or was stopped, or found what doesn't load
-abbrev pub IsNoStart : Ending → Type 0
-IsNoStart (Stops keeps) = Unit {0}
-IsNoStart (Fails keeps) = Unit {0}
-IsNoStart Unreadable = Unit {0}
-IsNoStart (Steps outs standing) = ⊥
-IsNoStart (Starts kept standing) = ⊥
+-- a start finds what doesn't load: files with a fault (`NoMeta`, `Damaged`, `Gap`), or a snapshot that is none of a node
+abbrev pub LoadsNothing : StartFault → Type 0
+LoadsNothing (start.Damaged fault) = Unit {0}
+LoadsNothing (start.Snapshot index) = Unit {0}
+LoadsNothing start.DiskFault = ⊥
+LoadsNothing start.NoMemory = ⊥
 
+-- the ending of a start that failed or was stopped, or found what doesn't load, by its cause
+abbrev pub IsNoStart : StartFault → Ending → Type 0
+IsNoStart why (Stops keeps) = why ≡ start.DiskFault
+IsNoStart why (Fails keeps) = why ≡ start.DiskFault
+IsNoStart why Unreadable = LoadsNothing why
+IsNoStart why (Steps outs standing) = ⊥
+IsNoStart why (Starts kept standing) = ⊥
+
+-- So such a start leads on. Where nothing is read by chance it never finds that files have a fault, so one that didn't load found a snapshot
+-- that is none of a node (`EndsSo`).
 abbrev pub StartsFail : Meaning → EngineKind → Type 0
 StartsFail m kind =
     (voters n : ℕ) (turns : List Turn) (d e : Disk Text) (why : StartFault) (aim : Aim) (answers : List Answer) (ending : Ending) →
-    IsPlaced m kind (setup_of voters) n turns d None → IsFair d → StartLeaves (Err why) d e → IsNoStart ending →
+    IsPlaced m kind (setup_of voters) n turns d None → IsFair d → StartLeaves (Err why) d e → IsNoStart why ending →
     IsPlaced m kind (setup_of voters) n (turns ++ does n (Start voters) aim answers ending ∷ []) e None
 
 -- ---- what `Node::step` says of the disk where it failed

@@ -1,5 +1,5 @@
 -- What whole nodes do in the turns of a script, each at its place.
-use Rattle.std.specs.Prelude.{◌≡◌, ℕ, false, List, [], ◌∷◌, ◌++◌, Option, Some}
+use Rattle.std.specs.Prelude.{◌≡◌, ◌<◌, ℕ, false, List, [], ◌∷◌, ◌++◌, Option, Some, None}
 use Rattle.sql_engine.specs.declared.kind.EngineKind.{EngineKind}
 use Rattle.sql_engine.specs.Meanings.{Meaning, Told}
 use Rattle.session_rules.specs.Engines.{Answer}
@@ -10,7 +10,7 @@ use Rattle.store_laws.specs.Store.{Kept}
 use Rattle.page_apply.specs.Databases.{contents_of}
 use Rattle.node_replica.specs.Replicas.{kept_of}
 use Rattle.node_rules.specs.Nodes.{Node}
-use Rattle.node_state.specs.Snapshot.{contents_in}
+use Rattle.node_state.specs.Snapshot.{contents_in, snapshot_in}
 use Rattle.node_rules.specs.Steps.{StartsSo, StartStopsSo}
 use Rattle.node_core.specs.declared.event.Event as core
 use Rattle.node_core.specs.declared.event.Event.TheVariants as events
@@ -101,7 +101,13 @@ pub record AsksStart (setup : Setup) (doing : Doing) : Type 0 where
   pub is : doing ≡ Start voters
   pub opens : setup ≡ setup_of voters
 
--- What a node did at its place, and how that ended.
+-- The snapshot that is kept, of an index above 0, is none of a node: its bytes don't read as one.
+pub record IsUnreadable (kept : Kept) : Type 0 where
+  pub some : 0 < kept.snap.index
+  pub unread : snapshot_in kept.snap.bytes ≡ None
+
+-- What a node did at its place, and how that ended. A start doesn't load only over such a snapshot. In no run of a script is one kept, so
+-- nothing is said of what is kept behind it.
 abbrev pub EndsSo : Meaning → EngineKind → Setup → ℕ → Seat → Doing → List Answer → Ending → Seat → Type 0
 EndsSo m kind setup n (Runs old) doing answers (Steps outs standing) (Runs new) = StepDone m kind setup old new doing answers outs standing
 EndsSo m kind setup n (Runs old) doing answers (Stops keeps) (Rests kept) = StopDone m kind setup old doing kept
@@ -110,7 +116,7 @@ EndsSo m kind setup n (Rests kept) doing answers (Starts loaded standing) (Runs 
     (asks : AsksStart setup doing) × StartDone asks.voters n kept loaded new answers standing
 EndsSo m kind setup n (Rests kept) doing answers (Stops keeps) (Rests left) = AsksStart setup doing × StartStopsSo setup kept left
 EndsSo m kind setup n (Rests kept) doing answers (Fails keeps) (Rests left) = AsksStart setup doing × StartStopsSo setup kept left
-EndsSo m kind setup n (Rests kept) doing answers Unreadable (Rests left) = AsksStart setup doing × (left ≡ kept)
+EndsSo m kind setup n (Rests kept) doing answers Unreadable (Rests left) = AsksStart setup doing × IsUnreadable kept
 EndsSo m kind setup n old doing answers ending new = ⊥
 
 -- A crash leaves what is kept.

@@ -1,5 +1,6 @@
 -- The turns of a script as a run of whole nodes.
 use Rattle.std.specs.Prelude.{◌≢◌, Bool, true, false, Option, None, ◌≡◌, ℕ, List, [], ◌∷◌, ◌++◌, Some, slice_get}
+use Rattle.std.specs.List.{AllByRecursion}
 use Rattle.sql_engine.specs.declared.kind.EngineKind.{EngineKind}
 use Rattle.sql_engine.specs.Meanings.{Meaning}
 use Rattle.session_rules.specs.Engines.{Answer}
@@ -67,12 +68,13 @@ pub record IsDown (place : Place) : Type 0 where
   pub kept : Kept
   pub down : place ≡ Down kept
 
+-- what it shows that an event ended so; that a start didn't load comes in no run
 abbrev pub EndShows : List Answer → Ending → Place → List Letter → List (ℕ × Reply) → List Answer → Type 0
 EndShows answers (Steps outs standing) place letters replies used = StepShows answers outs standing place letters replies used
 EndShows answers (Starts kept standing) place letters replies used = StartShows standing place
 EndShows answers (Stops keeps) place letters replies used = IsDown place
 EndShows answers (Fails keeps) place letters replies used = IsDown place
-EndShows answers Unreadable place letters replies used = IsDown place
+EndShows answers Unreadable place letters replies used = ⊥
 
 abbrev pub TurnShows : Turn → Place → List Letter → List (ℕ × Reply) → List Answer → Type 0
 TurnShows (Does n doing aim outcome) place letters replies used = EndShows outcome.answers outcome.ending place letters replies used
@@ -139,3 +141,15 @@ AreRun m kind setup r (turn ∷ turns) = (one : TurnRuns m kind setup r turn) ×
 abbrev pub events_of : (m : Meaning) (kind : EngineKind) (setup : Setup) (r : Run) (turns : List Turn) → AreRun m kind setup r turns → List Event
 events_of m kind setup r [] is = []
 events_of m kind setup r (turn ∷ turns) is = is.0.leads.events ++ events_of m kind setup (run_from r is.0.leads.events) turns is.1
+
+-- ---- loads
+
+-- A start found on its node's disk what loads. What doesn't has damaged entries (`Damaged`), a gap between its files (`Gap`), entries
+-- without metadata (`NoMeta`), or a snapshot that is none of a node (`Snapshot`); each of these four ends a start as `Unreadable`.
+abbrev pub HasLoaded : Turn → Type 0
+HasLoaded (Does n doing aim outcome) = outcome.ending ≢ Unreadable
+HasLoaded (Crashes n pick) = Unit {0}
+
+-- no load failed in these turns
+abbrev pub AllLoad : List Turn → Type 0
+AllLoad turns = AllByRecursion HasLoaded turns

@@ -4,7 +4,7 @@
 
 ghost use Rattle.script_runs.specs.Complete.{ScriptsAreComplete};
 ghost use Rattle.script_runs.specs.Laws.{LatersAreSafe, NodesAreSafe, RunsHold, TurnsAreRuns, TurnsBring};
-ghost use Rattle.script_runs.specs.Mails.{MailIsSent, ScriptsAreSafe};
+ghost use Rattle.script_runs.specs.Mails.{LoadsNeverFail, MailIsSent, ScriptsAreSafe};
 ghost use Rattle.script_runs.specs.Places.{CrashesOn, DisksCrashOn, FallsOn, FindsOn, PlacesBegin, StartsFail, StartsOn, StepsOn};
 ghost use Rattle.script_runs.specs.Showing.{ShownAlike};
 
@@ -38,10 +38,11 @@ pub fn places_lead_on<E: Engine>()
 
 /// In a script, whatever came of its events, a node receives only messages that were sent to it, as bytes that are read back; the wire has
 /// to be able to hold what is sent. So each script is safe whose nodes do at their places what whole nodes do; and up to any moment, where
-/// they did so until then.
+/// they did so until then. No load fails in it: no start finds damaged files, a gap, no metadata, or a snapshot that is none of a node.
 pub fn scripts_are_safe<E: Engine>()
     ensures mail { MailIsSent }
     ensures safe { (kind : _) → ScriptsAreSafe (E.meaning kind) kind }
+    ensures loads { (kind : _) → LoadsNeverFail (E.meaning kind) kind }
 {}
 
 /// Two nodes of a script that stand, at one moment, with as many entries applied have the same files, so what is shown of them is the

@@ -19,7 +19,7 @@ use Rattle.node_edge.specs.declared.looping.LoopEnd.{LoopEnd}
 use Rattle.node_edge.specs.declared.looping.LoopEnd.TheVariants.{Closed, DiskFault, Spent, NoMemory, Unfit}
 use Rattle.node_edge.specs.Stepping.{Steps}
 use Rattle.node_edge.specs.Looping.{Taken, Broke, Ends, Loops}
-use Rattle.sql_engine.specs.Meanings.{Meaning, Stays, Told}
+use Rattle.sql_engine.specs.Meanings.{Meaning, Told}
 use Rattle.served_node.specs.declared.said.Said.{Said}
 use Rattle.served_node.specs.Bridge.{event_of}
 use Rattle.served_node.specs.Watching.{MayShut, speaker_of}
@@ -97,7 +97,7 @@ ends_keep breaks kept none each last now before after events budget Unfit ends =
 lent_same : {A B : Type 0} (a : Lent A B) → StaysLent a a
 lent_same a = record { disk = refl; engine = refl; faults = omega arith; stays = record { kind = refl; openings = omega arith } }
 
-lent_then : {A B : Type 0} (a b c : Lent A B) → StaysLent a b → StaysLent b c → StaysLent a c
+pub lent_then : {A B : Type 0} (a b c : Lent A B) → StaysLent a b → StaysLent b c → StaysLent a c
 lent_then a b c first more =
     let f : a.faults ≤ b.faults = first.faults in
     let h : b.faults ≤ c.faults = more.faults in

@@ -1,3 +1,4 @@
 pub mod Bridge
 pub mod Watching
+pub mod Telling
 pub mod Serving

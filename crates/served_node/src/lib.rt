@@ -3,6 +3,7 @@
 #![tactic(auto)]
 
 mod bridge;
+mod newest;
 mod running;
 mod said;
 mod served;

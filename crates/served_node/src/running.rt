@@ -6,6 +6,7 @@ ghost use Rattle.sql_engine.specs.Meanings.{Stays};
 ghost use Rattle.node_edge.specs.declared.looping.LoopEnd.TheVariants as ends;
 ghost use Rattle.served_node.specs.Serving.{CanStep, Runs, RunsByRules};
 
+use crate::newest::Telling;
 use crate::said::Said;
 use crate::served::ServedNode;
 use crate::watch::Watch;
@@ -74,6 +75,7 @@ pub fn run_node<D: Disk, E: Engine, I: Inbox<Read>, O: Outbox<Said>>(
         disk,
         engine,
         watch: Watch::new(most),
+        telling: Telling::new(),
     };
     served.run(inbox, outbox, budget)
 }

@@ -5,6 +5,7 @@ ghost use Rattle.node_edge.specs.Stepping.{StepCause};
 ghost use Rattle.served_node.specs.Serving.{CanStep, StaysLent, StepsByRules, StopsByRules};
 
 use crate::bridge::{event_of, fault_of};
+use crate::newest::{Telling, tell_at};
 use crate::said::Said;
 use crate::watch::{Watch, piece_of};
 use disk_model::Disk;
@@ -13,13 +14,14 @@ use node_core::Node;
 use node_edge::{Core, Event, StepFault};
 use sql_engine::Engine;
 
-/// A node, the disk and the engine that are lent to its steps, and how much it may hold.
+/// A node, the disk and the engine that are lent to its steps, how much it may hold, and of how many databases its engine was told.
 #[derive(Drop)]
 pub(crate) struct ServedNode<'n, 'd, 'e, D: Disk, E: Engine> {
     pub(crate) node: &'n mut Node,
     pub(crate) disk: &'d mut D,
     pub(crate) engine: &'e mut E,
     pub(crate) watch: Watch,
+    pub(crate) telling: Telling,
 }
 
 impl<'n, 'd, 'e, D: Disk, E: Engine> Core for ServedNode<'n, 'd, 'e, D, E> {
@@ -66,6 +68,15 @@ impl<'n, 'd, 'e, D: Disk, E: Engine> Core for ServedNode<'n, 'd, 'e, D, E> {
                 shut: self.watch.shuts(&*self.node, piece),
             }),
             Err(fault) => Err(fault_of(fault)),
+        }
+    }
+
+    /// A node that leads and has applied all of its log tells its engine of its databases' newest images, of one behind each step, so
+    /// that the first statements of its term find them open.
+    fn rest(&mut self) {
+        let state = self.node.state();
+        if let Some(place) = self.telling.next(state) {
+            tell_at(&*self.node, place, self.engine);
         }
     }
 }

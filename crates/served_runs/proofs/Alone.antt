@@ -18,14 +18,14 @@ use Rattle.node_core.specs.declared.outs.Outs.{Outs}
 use Rattle.node_core.specs.declared.running.Running.{Running}
 use Rattle.node_core.specs.Account.{Begin, Happens, Comes, Compacts, IsMore, IsAlone, AreOf, StepsBy}
 use Rattle.node_core.specs.Values.{seen}
-use Rattle.node_world.specs.Runs.{Place, Up, Down, Run, Event, Starts, nothing_kept, spoken, happens, first_run, run, run_from, AllHold}
+use Rattle.node_world.specs.Runs.{Up, Down, Run, Event, Starts, nothing_kept, spoken, first_run, run, AllHold}
 use Rattle.node_world.proofs.Runs.{other_place, here_place}
 use Rattle.node_world.proofs.Safes.{runs_are_safe_hold}
 use Rattle.node_runs.specs.Comings.{ReadTells, Arrives, ArrivesLater, AllArrive}
 use Rattle.node_runs.specs.Steps.{StepRuns}
 use Rattle.node_runs.proofs.Stepping.{steps_run_hold}
 use Rattle.served_runs.specs.Paths.{PathSo}
-use Rattle.served_runs.specs.Alone.{TellsOver, ComesAlone, Orderly, AllSend, joined, Served, AloneIsSafe}
+use Rattle.served_runs.specs.Alone.{TellsOver, ComesAlone, Orderly, AllSend, joined, AloneIsSafe}
 use Rattle.served_runs.proofs.Onward.{run_more, hold_more}
 
 -- ---- what comes

@@ -1,19 +1,12 @@
 -- The steps of a served node are events of a run, whatever other nodes do before each.
-use Rattle.std.proofs.Common.{◌≡◌, ℕ, List, [], ◌∷◌, ◌++◌, refl, sym, ap, ◌∙◌, subst}
-use Rattle.std.specs.Prelude.{Option}
+use Rattle.std.proofs.Common.{◌≡◌, [], ◌∷◌, ◌++◌, sym, ap, ◌∙◌}
 use Rattle.sql_engine.specs.declared.kind.EngineKind.{EngineKind}
-use Rattle.sql_engine.specs.Meanings.{Meaning, Told}
-use Rattle.raft_world.specs.Members.{Setup}
-use Rattle.node_rules.specs.Nodes.{Node}
-use Rattle.node_core.specs.declared.event.Event as core
-use Rattle.node_core.specs.declared.outs.Outs.{Outs}
+use Rattle.sql_engine.specs.Meanings.{Meaning}
 use Rattle.node_core.specs.declared.running.Running.{Running}
 use Rattle.node_core.specs.Values.{seen}
-use Rattle.node_world.specs.Runs.{Place, Up, Run, Event, first_run, run, run_from, AllHold}
-use Rattle.node_runs.specs.Steps.{StepRuns}
+use Rattle.node_world.specs.Runs.{Up, Run, run}
 use Rattle.node_runs.proofs.Stepping.{steps_run_hold}
-use Rattle.served_runs.specs.Paths.{PathSo}
-use Rattle.served_runs.specs.Beside.{LeavesAlone, PathRuns, PathsAreRuns}
+use Rattle.served_runs.specs.Beside.{PathsAreRuns}
 use Rattle.served_runs.proofs.Onward.{run_more, hold_more}
 
 module _ (m : Meaning) (kind : EngineKind) where

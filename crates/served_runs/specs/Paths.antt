@@ -63,8 +63,8 @@ pub record ServedSo (m : Meaning) (kind : EngineKind) (setup : Setup) (tells : B
   pub ends : EndsSo m kind setup tells states last before after events end
 
 -- So it is where a loop has run over a disk that kept what Raft was.
-abbrev pub ServesByRules : {D E : Type 0} → Bool → (D → Disk Text → Type 0) → (D → ℕ) → (EngineKind → Meaning) → (E → EngineKind) → (E → Option Told) → (E → ℕ) →
-    Type 0
+abbrev pub ServesByRules : {D E : Type 0} → Bool → (D → Disk Text → Type 0) → (D → ℕ) → (EngineKind → Meaning) → (E → EngineKind) →
+    (E → Option Told) → (E → ℕ) → Type 0
 ServesByRules {D = D} {E = E} tells states faults meaning kind told refused =
     (opening : List Server) (node : Node) (disk disk_after : D) (engine engine_after : E) (before after : Taken Read) (said said_after : Option (List Said))
     (budget : ℕ) (end : LoopEnd) →

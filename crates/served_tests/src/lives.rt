@@ -27,7 +27,7 @@ pub(crate) const THREE: &[u8] =
     \x02\0\0\0\0\0\0\0n\0\0\0\0\0\0\0\0\0\0\0\0\0\0\0\x03\0\0\0\0\0\0\0n\0\0\0\0\0\0\0\0\0\0\0\0\0\0\0";
 
 /// How many events a life has at most.
-const EVENTS: u64 = 1_000;
+pub(crate) const EVENTS: u64 = 1_000;
 
 /// What a node is started with: its voters, the limits of steps, and how many bytes of what clients say it may hold.
 #[derive(Clone, Copy)]
@@ -75,7 +75,11 @@ pub(crate) fn event_of(alloc: Global, what: What) -> Option<Event<Read>> {
 }
 
 /// A queue with these events.
-fn fed<R: Wait + Copy + Drop>(rt: R, alloc: Global, happens: &[What]) -> Option<Feed<R>> {
+pub(crate) fn fed<R: Wait + Copy + Drop>(
+    rt: R,
+    alloc: Global,
+    happens: &[What],
+) -> Option<Feed<R>> {
     let feed = Feed::new(rt, alloc).ok()?;
     for what in happens {
         let event = event_of(alloc, *what)?;

@@ -53,6 +53,8 @@ impl Core for Echo {
             _ => Ok(Said { reply: None }),
         }
     }
+
+    fn rest(&mut self) {}
 }
 
 /// A reader that tells the number after its job.

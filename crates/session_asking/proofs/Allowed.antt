@@ -1,5 +1,5 @@
 -- The rules ask for what can be done.
-use Rattle.std.proofs.Common.{Result, Ok, Err}
+use Rattle.std.proofs.Common.{ℕ, Result, Ok, Err}
 use Rattle.std.specs.Prelude.{IfOk}
 use Rattle.wire_msgs.specs.declared.request.Request.{Request}
 use Rattle.session_rules.specs.Allowed as rules
@@ -72,5 +72,5 @@ allowed_of v g s r (asking.Changes servers) h = (h.0, h.3)
 allowed_of v g s r (asking.Runs statements) h = h
 allowed_of v g s r (asking.Reads statement) h = h
 
-pub all_allowed : (v : View) (m : Machine) (g : Gateway) (s : Session) (r : Request) → IsAllowed v s (asked_by v m g s r)
-all_allowed v m g s r = allowed_of v g s r (asked_by v m g s r) (walk.all_allowed v m g s r)
+pub all_allowed : (v : View) (m : Machine) (g : Gateway) (conn : ℕ) (s : Session) (r : Request) → IsAllowed v s (asked_by v m g conn s r)
+all_allowed v m g conn s r = allowed_of v g s r (asked_by v m g conn s r) (walk.all_allowed v m g conn s r)

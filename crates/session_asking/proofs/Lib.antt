@@ -12,3 +12,4 @@ pub mod Asked
 pub mod Changing
 pub mod Opening
 pub mod Allowed
+pub mod Hindered

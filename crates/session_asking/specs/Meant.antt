@@ -56,6 +56,11 @@ abbrev pub refused_by : Option Cause → Asked → Asked
 refused_by None asked = asked
 refused_by (Some cause) asked = rules.Never (cause_named cause)
 
+-- what hinders a write, as the rules have it
+abbrev pub hinders_named : Option Cause → Option RuleCause
+hinders_named None = None
+hinders_named (Some cause) = Some (cause_named cause)
+
 -- the statements stand in their text, and want as many parameters as there are
 abbrev pub CanRun : List Value → Wanted → Type 0
 CanRun params (wanted.RunsAll script) = All (StandsIn script.text) script.pieces × (wants script.pieces ≡ length params)

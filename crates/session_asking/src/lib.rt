@@ -13,6 +13,7 @@ mod statement_requests;
 mod text_requests;
 mod view;
 mod wanted;
+mod write_hindrance;
 
 pub use databases::database_named;
 pub use names::all_names;

@@ -18,6 +18,7 @@ use crate::statement_requests::{
 };
 use crate::view::View;
 use crate::wanted::{Effect, Wanted};
+use crate::write_hindrance::write_hindrance;
 use page_apply::Machine;
 use session_table::{Cause, HEARTBEAT_TIMEOUT, Session};
 use std::alloc::{AllocError, Global};
@@ -149,7 +150,8 @@ fn ask(
     requires apart { AreApart sessions.now }
     requires name { NameHasNoNul request.now }
     ensures wants { IfOk result (λ wanted. meant (params_of request.now) wanted ≡
-        rules.asked_by view.now (machine_of machine.now) (table_of machine.now sessions.now weight) (session_of machine.now session.now) request.now) }
+        rules.asked_by view.now (machine_of machine.now) (table_of machine.now sessions.now weight) session.now.conn
+        (session_of machine.now session.now) request.now) }
     ensures fits { IfOk result (FitsStatements session.now.statements.items (params_of request.now)) }
 {
     match request {
@@ -178,7 +180,9 @@ fn ask(
             ..
         } => {
             let db = *db as u64;
-            executes(alloc, view, session, db, *statement, params.as_slice())
+            let hinders = write_hindrance(machine, sessions, session);
+            let params = params.as_slice();
+            executes(alloc, view, session, hinders, db, *statement, params)
         }
         Request::Query {
             db,
@@ -187,7 +191,9 @@ fn ask(
             ..
         } => {
             let db = *db as u64;
-            queries(alloc, view, session, db, *statement, params.as_slice())
+            let hinders = write_hindrance(machine, sessions, session);
+            let params = params.as_slice();
+            queries(alloc, view, session, hinders, db, *statement, params)
         }
         Request::Finalize { db, statement } => { Ok(finalizes(session, *db as u64, *statement)) }
         Request::ExecSql {
@@ -195,13 +201,21 @@ fn ask(
             sql,
             params,
             ..
-        } => executes_text(alloc, view, session, *db, sql.as_str(), params.as_slice()),
+        } => {
+            let hinders = write_hindrance(machine, sessions, session);
+            let params = params.as_slice();
+            executes_text(alloc, view, session, hinders, *db, sql.as_str(), params)
+        }
         Request::QuerySql {
             db,
             sql,
             params,
             ..
-        } => queries_text(alloc, view, session, *db, sql.as_str(), params.as_slice()),
+        } => {
+            let hinders = write_hindrance(machine, sessions, session);
+            let params = params.as_slice();
+            queries_text(alloc, view, session, hinders, *db, sql.as_str(), params)
+        }
         Request::Interrupt { db } => Ok(interrupts(session, *db)),
         Request::Connect { id, .. } => Ok(wanted_by_connect(view, *id)),
         Request::Add { id, address } => adds(alloc, view, sessions, *id, address),
@@ -233,7 +247,8 @@ pub fn wanted_by(
     requires apart { AreApart sessions.now }
     requires name { NameHasNoNul request.now }
     ensures wants { IfOk result (λ wanted. meant (params_of request.now) wanted ≡
-        rules.asked_by view.now (machine_of machine.now) (table_of machine.now sessions.now weight) (session_of machine.now session.now) request.now) }
+        rules.asked_by view.now (machine_of machine.now) (table_of machine.now sessions.now weight) session.now.conn
+        (session_of machine.now session.now) request.now) }
     ensures can { IfOk result (CanBeDone view.now (session_of machine.now session.now) (params_of request.now)) }
 {
     ask(alloc, view, machine, sessions, weight, session, request)

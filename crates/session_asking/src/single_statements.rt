@@ -4,9 +4,10 @@ ghost use Rattle.std.specs.Prelude.{◌≡◌, [], ◌∷◌};
 ghost use Rattle.session_rules.specs.Asking as rules;
 ghost use Rattle.session_rules.specs.Statements as statements;
 ghost use Rattle.session_rules.specs.Statements.{with_all};
-ghost use Rattle.session_asking.specs.Meant.{meant, CanRun, FitsStatements};
+ghost use Rattle.session_asking.specs.Meant.{meant, hinders_named, CanRun, FitsStatements};
 
 use crate::wanted::Wanted;
+use crate::write_hindrance::{hindrance_of, is_write_word};
 use session_table::{Cause, Prepared, Session, prepared_at};
 use sql_scan::WordKind;
 use statement_runs::{is_control, is_left_out};
@@ -20,9 +21,25 @@ fn wrong_params(prepared: &Prepared, params: &[Value]) -> bool
     wants != params.len() as u64
 }
 
+/// What a write wants.
+fn wanted_by_write(hinders: Option<Cause>, prepared: Prepared, params: &[Value]) -> Wanted
+    ensures wants { meant params.now result ≡ rules.never_or (hinders_named hinders) (rules.Runs (with_all prepared params.now ∷ [])) }
+    ensures runs { CanRun params.now result }
+{
+    match hinders {
+        Some(cause) => Wanted::Never(cause),
+        None => Wanted::RunsOne(prepared),
+    }
+}
+
 /// What a statement that may run wants, by its kind.
-fn wanted_by_kind(inside: bool, prepared: Prepared, params: &[Value]) -> Wanted
-    ensures wants { meant params.now result ≡ rules.asks_kind inside prepared.word (with_all prepared params.now) }
+fn wanted_by_kind(
+    hinders: Option<Cause>,
+    inside: bool,
+    prepared: Prepared,
+    params: &[Value],
+) -> Wanted
+    ensures wants { meant params.now result ≡ rules.asks_kind (hinders_named hinders) inside prepared.word (with_all prepared params.now) }
     ensures runs { CanRun params.now result }
 {
     let word = prepared.word;
@@ -49,14 +66,19 @@ fn wanted_by_kind(inside: bool, prepared: Prepared, params: &[Value]) -> Wanted
             }
         }
         WordKind::LeftOut => Wanted::Never(Cause::NotAllowed),
-        WordKind::Write => Wanted::RunsOne(prepared),
+        WordKind::Write => wanted_by_write(hinders, prepared, params),
         WordKind::Other => Wanted::RunsOne(prepared),
     }
 }
 
-/// What one statement wants whose rows are dropped, where a transaction is open or none is.
-pub(crate) fn wanted_by_one(inside: bool, prepared: Prepared, params: &[Value]) -> Wanted
-    ensures wants { meant params.now result ≡ rules.asks_one inside prepared params.now }
+/// What one statement wants whose rows are dropped, where a transaction is open or none is, and where this hinders a write.
+pub(crate) fn wanted_by_one(
+    hinders: Option<Cause>,
+    inside: bool,
+    prepared: Prepared,
+    params: &[Value],
+) -> Wanted
+    ensures wants { meant params.now result ≡ rules.asks_one (hinders_named hinders) inside prepared params.now }
     ensures runs { CanRun params.now result }
 {
     let word = prepared.word;
@@ -66,12 +88,16 @@ pub(crate) fn wanted_by_one(inside: bool, prepared: Prepared, params: &[Value]) 
     if wrong_params(&prepared, params) {
         return Wanted::Never(Cause::WrongParameters);
     }
-    wanted_by_kind(inside, prepared, params)
+    wanted_by_kind(hinders, inside, prepared, params)
 }
 
-/// What one statement wants whose rows are told.
-pub(crate) fn wanted_by_reading(prepared: Prepared, params: &[Value]) -> Wanted
-    ensures { meant params.now result ≡ rules.asks_query prepared params.now }
+/// What one statement wants whose rows are told, where this hinders a write.
+pub(crate) fn wanted_by_reading(
+    hinders: Option<Cause>,
+    prepared: Prepared,
+    params: &[Value],
+) -> Wanted
+    ensures { meant params.now result ≡ rules.asks_query (hinders_named hinders) prepared params.now }
 {
     let word = prepared.word;
     if is_control(word) || is_left_out(word) {
@@ -80,27 +106,39 @@ pub(crate) fn wanted_by_reading(prepared: Prepared, params: &[Value]) -> Wanted
     if wrong_params(&prepared, params) {
         return Wanted::Never(Cause::WrongParameters);
     }
-    Wanted::Reads(prepared)
+    match hindrance_of(hinders, is_write_word(word)) {
+        Some(cause) => Wanted::Never(cause),
+        None => Wanted::Reads(prepared),
+    }
 }
 
-/// What an EXEC of a prepared statement wants, where a transaction is open or none is. The statement is that of the
-/// request's number, if there is one. Takes no memory.
-pub(crate) fn wanted_by_exec(inside: bool, statement: Option<Prepared>, params: &[Value]) -> Wanted
-    ensures wants { meant params.now result ≡ rules.asks_exec inside statement params.now }
+/// What an EXEC of a prepared statement wants, where a transaction is open or none is, and where this hinders a write. The
+/// statement is that of the request's number, if there is one. Takes no memory.
+pub(crate) fn wanted_by_exec(
+    hinders: Option<Cause>,
+    inside: bool,
+    statement: Option<Prepared>,
+    params: &[Value],
+) -> Wanted
+    ensures wants { meant params.now result ≡ rules.asks_exec (hinders_named hinders) inside statement params.now }
     ensures runs { CanRun params.now result }
 {
     match statement {
-        Some(prepared) => wanted_by_one(inside, prepared, params),
+        Some(prepared) => wanted_by_one(hinders, inside, prepared, params),
         None => Wanted::Never(Cause::NoStatement),
     }
 }
 
-/// What a QUERY of a prepared statement wants. Takes no memory.
-pub(crate) fn wanted_by_query(statement: Option<Prepared>, params: &[Value]) -> Wanted
-    ensures { meant params.now result ≡ rules.asks_prepared_query statement params.now }
+/// What a QUERY of a prepared statement wants, where this hinders a write. Takes no memory.
+pub(crate) fn wanted_by_query(
+    hinders: Option<Cause>,
+    statement: Option<Prepared>,
+    params: &[Value],
+) -> Wanted
+    ensures { meant params.now result ≡ rules.asks_prepared_query (hinders_named hinders) statement params.now }
 {
     match statement {
-        Some(prepared) => wanted_by_reading(prepared, params),
+        Some(prepared) => wanted_by_reading(hinders, prepared, params),
         None => Wanted::Never(Cause::NoStatement),
     }
 }

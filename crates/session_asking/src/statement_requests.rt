@@ -9,7 +9,7 @@ ghost use Rattle.session_rules.specs.Sessions.{in_tx};
 ghost use Rattle.session_rules.specs.Statements as statements;
 ghost use Rattle.session_table.specs.Table.{session_of};
 ghost use Rattle.wire_msgs.specs.declared.response.Response.TheVariants as responses;
-ghost use Rattle.session_asking.specs.Meant.{meant, refused_by, FitsStatements};
+ghost use Rattle.session_asking.specs.Meant.{meant, hinders_named, refused_by, FitsStatements};
 
 use crate::databases::has_database;
 use crate::prepare_requests::wanted_by_prepare;
@@ -102,88 +102,93 @@ pub(crate) fn prepares(
     }
 }
 
-/// What EXEC wants. `Err` is want of memory.
+/// What EXEC wants, where this hinders a write. `Err` is want of memory.
 pub(crate) fn executes(
     alloc: Global,
     view: &View,
     session: &Session,
+    hinders: Option<Cause>,
     db: u64,
     id: u32,
     params: &[Value],
 ) -> Result<Wanted, AllocError>
     ensures wants { (databases : List Database) → IfOk result (λ wanted. meant params.now wanted ≡
         rules.at_leader view.now (rules.in_database (session_of databases session.now) db
-        (rules.asks_exec (in_tx (session_of databases session.now)) (statements.prepared_at session.now.statements.items id) params.now))) }
+        (rules.asks_exec (hinders_named hinders) (in_tx (session_of databases session.now)) (statements.prepared_at session.now.statements.items id) params.now))) }
     ensures can { IfOk result (FitsStatements session.now.statements.items params.now) }
 {
     match hindrance_at_leader(view, session, db) {
         Some(cause) => Ok(Wanted::Never(cause)),
         None => {
             let statement = statement_at(alloc, session, id)?;
-            Ok(wanted_by_exec(is_inside(session), statement, params))
+            Ok(wanted_by_exec(hinders, is_inside(session), statement, params))
         }
     }
 }
 
-/// What QUERY wants. `Err` is want of memory.
+/// What QUERY wants, where this hinders a write. `Err` is want of memory.
 pub(crate) fn queries(
     alloc: Global,
     view: &View,
     session: &Session,
+    hinders: Option<Cause>,
     db: u64,
     id: u32,
     params: &[Value],
 ) -> Result<Wanted, AllocError>
     ensures wants { (databases : List Database) → IfOk result (λ wanted. meant params.now wanted ≡
         rules.at_leader view.now (rules.in_database (session_of databases session.now) db
-        (rules.asks_prepared_query (statements.prepared_at session.now.statements.items id) params.now))) }
+        (rules.asks_prepared_query (hinders_named hinders) (statements.prepared_at session.now.statements.items id) params.now))) }
     ensures can { IfOk result (FitsStatements session.now.statements.items params.now) }
 {
     match hindrance_at_leader(view, session, db) {
         Some(cause) => Ok(Wanted::Never(cause)),
         None => {
             let statement = statement_at(alloc, session, id)?;
-            Ok(wanted_by_query(statement, params))
+            Ok(wanted_by_query(hinders, statement, params))
         }
     }
 }
 
-/// What EXEC_SQL wants. `Err` is want of memory.
+/// What EXEC_SQL wants, where this hinders a write. `Err` is want of memory.
 pub(crate) fn executes_text(
     alloc: Global,
     view: &View,
     session: &Session,
+    hinders: Option<Cause>,
     db: u64,
     sql: &str,
     params: &[Value],
 ) -> Result<Wanted, AllocError>
     ensures wants { (databases : List Database) → IfOk result (λ wanted. meant params.now wanted ≡
         rules.at_leader view.now (rules.in_database (session_of databases session.now) db
-        (rules.asks_text (in_tx (session_of databases session.now)) sql.now (scan_of sql.now) params.now))) }
+        (rules.asks_text (hinders_named hinders) (in_tx (session_of databases session.now)) sql.now (scan_of sql.now) params.now))) }
     ensures can { IfOk result (FitsStatements session.now.statements.items params.now) }
 {
     match hindrance_at_leader(view, session, db) {
         Some(cause) => Ok(Wanted::Never(cause)),
-        None => wanted_by_text(alloc, is_inside(session), sql, params),
+        None => wanted_by_text(alloc, hinders, is_inside(session), sql, params),
     }
 }
 
-/// What QUERY_SQL wants. `Err` is want of memory.
+/// What QUERY_SQL wants, where this hinders a write. `Err` is want of memory.
 pub(crate) fn queries_text(
     alloc: Global,
     view: &View,
     session: &Session,
+    hinders: Option<Cause>,
     db: u64,
     sql: &str,
     params: &[Value],
 ) -> Result<Wanted, AllocError>
     ensures wants { (databases : List Database) → IfOk result (λ wanted. meant params.now wanted ≡
-        rules.at_leader view.now (rules.in_database (session_of databases session.now) db (rules.asks_rows sql.now (scan_of sql.now) params.now))) }
+        rules.at_leader view.now (rules.in_database (session_of databases session.now) db
+        (rules.asks_rows (hinders_named hinders) sql.now (scan_of sql.now) params.now))) }
     ensures can { IfOk result (FitsStatements session.now.statements.items params.now) }
 {
     match hindrance_at_leader(view, session, db) {
         Some(cause) => Ok(Wanted::Never(cause)),
-        None => wanted_by_rows(alloc, sql, params),
+        None => wanted_by_rows(alloc, hinders, sql, params),
     }
 }
 

@@ -9,10 +9,11 @@ ghost use Rattle.session_table.specs.Named.{cause_named};
 ghost use Rattle.session_rules.specs.Asking as rules;
 ghost use Rattle.session_rules.specs.Statements as statements;
 ghost use Rattle.statement_runs.specs.Texts.{cut_at};
-ghost use Rattle.session_asking.specs.Meant.{meant, CanRun, CutInto};
+ghost use Rattle.session_asking.specs.Meant.{meant, hinders_named, CanRun, CutInto};
 
 use crate::single_statements::{wanted_by_one, wanted_by_reading};
 use crate::wanted::{Script, Wanted};
+use crate::write_hindrance::{any_write, hindrance_of};
 use dq_base::Items;
 use session_table::{Cause, Prepared};
 use sql_scan::{Piece, ScanFault, scan};
@@ -64,15 +65,16 @@ fn is_sole(pieces: &[Piece]) -> bool
     pieces.len() == 1
 }
 
-/// What several statements want, or none. `Err` is want of memory.
+/// What several statements want, or none, where this hinders a write. `Err` is want of memory.
 fn wanted_by_several(
     alloc: Global,
+    hinders: Option<Cause>,
     sql: &str,
     pieces: Items<Piece>,
     params: &[Value],
 ) -> Result<Wanted, AllocError>
     requires { All (StandsIn sql.now) pieces }
-    ensures wants { IfOk result (λ wanted. meant params.now wanted ≡ rules.asks_several (cut_at sql.now pieces) params.now) }
+    ensures wants { IfOk result (λ wanted. meant params.now wanted ≡ rules.asks_several (hinders_named hinders) (cut_at sql.now pieces) params.now) }
     ensures runs { IfOk result (CanRun params.now) }
 {
     if any_barred(pieces.as_slice()) {
@@ -81,65 +83,73 @@ fn wanted_by_several(
     if !params_fit(pieces.as_slice(), params) {
         return Ok(Wanted::Never(Cause::WrongParameters));
     }
-    Ok(Wanted::RunsAll(Script {
-        text: WireText::new(String::from_str(alloc, sql)?),
-        pieces,
-    }))
+    match hindrance_of(hinders, any_write(pieces.as_slice())) {
+        Some(cause) => Ok(Wanted::Never(cause)),
+        None => Ok(Wanted::RunsAll(Script {
+            text: WireText::new(String::from_str(alloc, sql)?),
+            pieces,
+        })),
+    }
 }
 
-/// What the statements of a text want whose rows are dropped. `Err` is want of memory.
+/// What the statements of a text want whose rows are dropped, where this hinders a write. `Err` is want of memory.
 fn wanted_by_pieces(
     alloc: Global,
+    hinders: Option<Cause>,
     inside: bool,
     sql: &str,
     pieces: Items<Piece>,
     params: &[Value],
 ) -> Result<Wanted, AllocError>
     requires { All (StandsIn sql.now) pieces }
-    ensures wants { IfOk result (λ wanted. meant params.now wanted ≡ rules.asks_text inside sql.now (Ok pieces) params.now) }
+    ensures wants { IfOk result (λ wanted. meant params.now wanted ≡ rules.asks_text (hinders_named hinders) inside sql.now (Ok pieces) params.now) }
     ensures runs { IfOk result (CanRun params.now) }
 {
     if is_sole(pieces.as_slice()) {
         let piece = &pieces.as_slice()[0];
         let prepared = prepared_from(alloc, sql, piece)?;
-        return Ok(wanted_by_one(inside, prepared, params));
+        return Ok(wanted_by_one(hinders, inside, prepared, params));
     }
-    let wanted = wanted_by_several(alloc, sql, pieces, params)?;
+    let wanted = wanted_by_several(alloc, hinders, sql, pieces, params)?;
     Ok(wanted)
 }
 
-/// What an EXEC_SQL wants by its text and parameters, where a transaction is open or none is. `Err` is want of memory.
+/// What an EXEC_SQL wants by its text and parameters, where a transaction is open or none is, and where this hinders a write.
+/// `Err` is want of memory.
 pub(crate) fn wanted_by_text(
     alloc: Global,
+    hinders: Option<Cause>,
     inside: bool,
     sql: &str,
     params: &[Value],
 ) -> Result<Wanted, AllocError>
-    ensures wants { IfOk result (λ wanted. meant params.now wanted ≡ rules.asks_text inside sql.now (scan_of sql.now) params.now) }
+    ensures wants { IfOk result (λ wanted. meant params.now wanted ≡ rules.asks_text (hinders_named hinders) inside sql.now (scan_of sql.now) params.now) }
     ensures runs { IfOk result (CanRun params.now) }
 {
     match cut(alloc, sql)? {
         Ok(pieces) => {
-            let wanted = wanted_by_pieces(alloc, inside, sql, pieces, params)?;
+            let wanted = wanted_by_pieces(alloc, hinders, inside, sql, pieces, params)?;
             Ok(wanted)
         }
         Err(cause) => Ok(Wanted::Never(cause)),
     }
 }
 
-/// What the statements of a text want where one is to be, whose rows are told. `Err` is want of memory.
+/// What the statements of a text want where one is to be, whose rows are told, and where this hinders a write. `Err` is want of
+/// memory.
 fn wanted_by_sole(
     alloc: Global,
+    hinders: Option<Cause>,
     sql: &str,
     pieces: &[Piece],
     params: &[Value],
 ) -> Result<Wanted, AllocError>
     requires { All (StandsIn sql.now) pieces.now }
-    ensures { IfOk result (λ wanted. meant params.now wanted ≡ rules.asks_rows sql.now (Ok pieces.now) params.now) }
+    ensures { IfOk result (λ wanted. meant params.now wanted ≡ rules.asks_rows (hinders_named hinders) sql.now (Ok pieces.now) params.now) }
 {
     if let [piece] = pieces {
         let prepared = prepared_from(alloc, sql, piece)?;
-        return Ok(wanted_by_reading(prepared, params));
+        return Ok(wanted_by_reading(hinders, prepared, params));
     }
     if any_barred(pieces) {
         return Ok(Wanted::Never(Cause::NotAllowed));
@@ -147,17 +157,18 @@ fn wanted_by_sole(
     Ok(Wanted::Never(Cause::OneStatementWanted))
 }
 
-/// What a QUERY_SQL wants by its text and parameters. `Err` is want of memory.
+/// What a QUERY_SQL wants by its text and parameters, where this hinders a write. `Err` is want of memory.
 pub(crate) fn wanted_by_rows(
     alloc: Global,
+    hinders: Option<Cause>,
     sql: &str,
     params: &[Value],
 ) -> Result<Wanted, AllocError>
-    ensures wants { IfOk result (λ wanted. meant params.now wanted ≡ rules.asks_rows sql.now (scan_of sql.now) params.now) }
+    ensures wants { IfOk result (λ wanted. meant params.now wanted ≡ rules.asks_rows (hinders_named hinders) sql.now (scan_of sql.now) params.now) }
 {
     match cut(alloc, sql)? {
         Ok(pieces) => {
-            let wanted = wanted_by_sole(alloc, sql, pieces.as_slice(), params)?;
+            let wanted = wanted_by_sole(alloc, hinders, sql, pieces.as_slice(), params)?;
             Ok(wanted)
         }
         Err(cause) => Ok(Wanted::Never(cause)),

@@ -3,6 +3,7 @@ pub mod RowsTold
 pub mod LowNumbers
 pub mod Flights
 pub mod Turned
+pub mod ChangeSizes
 pub mod Shown
 pub mod Formed
 pub mod OutsideRun

@@ -13,12 +13,12 @@ use Rattle.sql_scan.specs.declared.heading.WordKind.{WordKind}
 use Rattle.sql_scan.specs.declared.heading.WordKind.TheVariants as words
 use Rattle.sql_scan.specs.Statements.{scan_of}
 use Rattle.sql_scan.specs.declared.fault.ScanFault.TheVariants as scan_faults
-use Rattle.session_rules.specs.Causes.{scan_cause, NotLeader, NoDatabase, DatabaseOpen, ChangeInFlight, BadName, BadNode, BadRole, BadFormat, TransferFirst, TooManyVoters, TargetBehind, TooManyDatabases, TooManyStatements, AnswerTooBig, LogFull, NotAllowed, WrongParameters, OneStatementWanted}
-use Rattle.session_rules.specs.Limits.{change_in_flight, one_too_many, log_full}
+use Rattle.session_rules.specs.Causes.{Cause, scan_cause, Locked, OutOfDate, NotLeader, NoDatabase, DatabaseOpen, ChangeInFlight, BadName, BadNode, BadRole, BadFormat, TransferFirst, TooManyVoters, TargetBehind, TooManyDatabases, TooManyStatements, AnswerTooBig, LogFull, NotAllowed, WrongParameters, OneStatementWanted}
+use Rattle.session_rules.specs.Limits.{change_in_flight, other_holds, one_too_many, log_full, first_cause, hinders_in, write_hindrance}
 use Rattle.session_rules.specs.Machine.{Machine, is_named}
 use Rattle.session_rules.specs.Servers.{has_server, server_of}
-use Rattle.session_rules.specs.Sessions.{Prepared, Session, Gateway, View, JoinsPeer, HandsOver, in_tx}
-use Rattle.session_rules.specs.Statements.{prepared_from, prepared_at, prepared_count, is_left_out, any_barred, wrong_params, with_params, with_all}
+use Rattle.session_rules.specs.Sessions.{Prepared, Transaction, Session, Gateway, View, JoinsPeer, HandsOver, in_tx}
+use Rattle.session_rules.specs.Statements.{prepared_from, prepared_at, prepared_count, is_left_out, is_write_word, any_barred, any_write, wrong_params, with_params, with_all}
 use Rattle.session_rules.specs.Asking as asking
 use Rattle.session_rules.specs.Asking.{Asked, Never, Tells, Sets, Opens, Creates, Prepares, Drops, Begins, Commits, RollsBack, Changes, Runs, Reads, has_database, barriers_asked, fits_one_voter, asked_by}
 use Rattle.session_rules.specs.Allowed.{IsFailure, IsEarlyCause, IsServed, IsOneChange, IsAllowed, AllAreAllowed}
@@ -53,6 +53,29 @@ scan_early (scan_faults.OpenComment at) = tt
 scan_early (scan_faults.Named at) = tt
 scan_early (scan_faults.Number at) = tt
 scan_early scan_faults.NoMemory = tt
+
+-- a cause, if there is one, is found before an engine runs
+abbrev EarlyIfAny : Option Cause → Type 0
+EarlyIfAny None = Unit {0}
+EarlyIfAny (Some cause) = IsEarlyCause cause
+
+turn_early : (b : Bool) → EarlyIfAny (first_cause b Locked None)
+turn_early true = tt
+turn_early false = tt
+
+either_early : (a b : Bool) → EarlyIfAny (first_cause a Locked (first_cause b OutOfDate None))
+either_early true b = tt
+either_early false true = tt
+either_early false false = tt
+
+hinders_early : (m : Machine) (g : Gateway) (c : ℕ) (s : Session) (o : Option Transaction) → EarlyIfAny (hinders_in m g c s o)
+hinders_early m g c s None = turn_early (other_holds g c s.database)
+hinders_early m g c s (Some x) = either_early (other_holds g c x.name) (not ((m.base x.name).newest == x.mark))
+
+-- what hinders a write is found before it runs
+write_early : (m : Machine) (g : Gateway) (c : ℕ) (s : Session) → EarlyIfAny (write_hindrance m g c s)
+unfolding write_hindrance
+write_early m g c s = hinders_early m g c s s.tx
 
 leader_told : (o : Option Server) → IsFailure (asking.told_leader o) → ⊥
 leader_told None h = h
@@ -89,62 +112,75 @@ module _ (v : View) (g : Gateway) (s : Session) (r : Request) where
   finalize_too None id h = tt
   finalize_too (Some p) id h = h
 
-  module _ (h : IsServed v s) where
-    kind_too : (active : Bool) → in_tx s ≡ active → (word : WordKind) (p : Prepared) (params : List Value) → IsAllowed v g s r (asking.asks_kind active word (with_all p params))
+  never_too : (hinders : Option Cause) → EarlyIfAny hinders → (asked : Asked) → IsAllowed v g s r asked → IsAllowed v g s r (asking.never_or hinders asked)
+  never_too None early asked h = h
+  never_too (Some cause) early asked h = early
+
+  module _ (h : IsServed v s) (hinders : Option Cause) (early : EarlyIfAny hinders) where
+    kind_too : (active : Bool) → in_tx s ≡ active → (word : WordKind) (p : Prepared) (params : List Value) → IsAllowed v g s r (asking.asks_kind hinders active word (with_all p params))
     kind_too true e (words.Begin at_once) p params = tt
     kind_too false e (words.Begin at_once) p params = (h, e)
     kind_too true e words.Commit p params = (h, e)
     kind_too false e words.Commit p params = tt
     kind_too true e words.Rollback p params = (h, e)
     kind_too false e words.Rollback p params = tt
-    kind_too active e words.Write p params = h
+    kind_too active e words.Write p params = never_too hinders early (Runs (with_all p params ∷ [])) h
     kind_too active e words.LeftOut p params = tt
     kind_too active e words.Other p params = h
 
-    one_too : (p : Prepared) (params : List Value) → IsAllowed v g s r (asking.asks_one (in_tx s) p params)
+    one_too : (p : Prepared) (params : List Value) → IsAllowed v g s r (asking.asks_one hinders (in_tx s) p params)
     one_too p params =
-        either (is_left_out p.word) (Never NotAllowed) (cond (wrong_params (p ∷ []) params) (Never WrongParameters) (asking.asks_kind (in_tx s) p.word (with_all p params))) tt
-        (either (wrong_params (p ∷ []) params) (Never WrongParameters) (asking.asks_kind (in_tx s) p.word (with_all p params)) tt (kind_too (in_tx s) refl p.word p params))
+        either (is_left_out p.word) (Never NotAllowed) (cond (wrong_params (p ∷ []) params) (Never WrongParameters) (asking.asks_kind hinders (in_tx s) p.word (with_all p params))) tt
+        (either (wrong_params (p ∷ []) params) (Never WrongParameters) (asking.asks_kind hinders (in_tx s) p.word (with_all p params)) tt (kind_too (in_tx s) refl p.word p params))
 
-    several_too : (ps : List Prepared) (params : List Value) → IsAllowed v g s r (asking.asks_several ps params)
+    -- what runs, or is refused where it is a write
+    write_too : (is_write : Bool) (asked : Asked) → IsAllowed v g s r asked → IsAllowed v g s r (cond is_write (asking.never_or hinders asked) asked)
+    write_too is_write asked a = either is_write (asking.never_or hinders asked) asked (never_too hinders early asked a) a
+
+    several_too : (ps : List Prepared) (params : List Value) → IsAllowed v g s r (asking.asks_several hinders ps params)
     several_too ps params =
-        either (any_barred ps) (Never NotAllowed) (cond (wrong_params ps params) (Never WrongParameters) (Runs (with_params ps params))) tt
-        (either (wrong_params ps params) (Never WrongParameters) (Runs (with_params ps params)) tt h)
+        let runs = Runs (with_params ps params) in
+        let last = cond (any_write ps) (asking.never_or hinders runs) runs in
+        either (any_barred ps) (Never NotAllowed) (cond (wrong_params ps params) (Never WrongParameters) last) tt
+        (either (wrong_params ps params) (Never WrongParameters) last tt (write_too (any_write ps) runs h))
 
-    statements_too : (ps : List Prepared) (params : List Value) → IsAllowed v g s r (asking.asks_statements (in_tx s) ps params)
+    statements_too : (ps : List Prepared) (params : List Value) → IsAllowed v g s r (asking.asks_statements hinders (in_tx s) ps params)
     statements_too [] params = several_too [] params
     statements_too (p ∷ []) params = one_too p params
     statements_too (p ∷ q ∷ ps) params = several_too (p ∷ q ∷ ps) params
 
-    text_too : (sql : List ℕ) (t : Result (List Piece) ScanFault) (params : List Value) → IsAllowed v g s r (asking.asks_text (in_tx s) sql t params)
+    text_too : (sql : List ℕ) (t : Result (List Piece) ScanFault) (params : List Value) → IsAllowed v g s r (asking.asks_text hinders (in_tx s) sql t params)
     text_too sql (Err fault) params = scan_early fault
     text_too sql (Ok pieces) params = statements_too (map (prepared_from sql) pieces) params
 
-    query_too : (p : Prepared) (params : List Value) → IsAllowed v g s r (asking.asks_query p params)
+    query_too : (p : Prepared) (params : List Value) → IsAllowed v g s r (asking.asks_query hinders p params)
     query_too p params =
-        either (any_barred (p ∷ [])) (Never NotAllowed) (cond (wrong_params (p ∷ []) params) (Never WrongParameters) (Reads (with_all p params))) tt
-        (either (wrong_params (p ∷ []) params) (Never WrongParameters) (Reads (with_all p params)) tt h)
+        let reads = Reads (with_all p params) in
+        let last = cond (is_write_word p.word) (asking.never_or hinders reads) reads in
+        either (any_barred (p ∷ [])) (Never NotAllowed) (cond (wrong_params (p ∷ []) params) (Never WrongParameters) last) tt
+        (either (wrong_params (p ∷ []) params) (Never WrongParameters) last tt (write_too (is_write_word p.word) reads h))
 
     not_one_too : (ps : List Prepared) → IsAllowed v g s r (asking.not_one ps)
     not_one_too ps = either (any_barred ps) (Never NotAllowed) (Never OneStatementWanted) tt tt
 
-    sole_too : (ps : List Prepared) (params : List Value) → IsAllowed v g s r (asking.asks_sole ps params)
+    sole_too : (ps : List Prepared) (params : List Value) → IsAllowed v g s r (asking.asks_sole hinders ps params)
     sole_too [] params = not_one_too []
     sole_too (p ∷ []) params = query_too p params
     sole_too (p ∷ q ∷ ps) params = not_one_too (p ∷ q ∷ ps)
 
-    rows_too : (sql : List ℕ) (t : Result (List Piece) ScanFault) (params : List Value) → IsAllowed v g s r (asking.asks_rows sql t params)
+    rows_too : (sql : List ℕ) (t : Result (List Piece) ScanFault) (params : List Value) → IsAllowed v g s r (asking.asks_rows hinders sql t params)
     rows_too sql (Err fault) params = scan_early fault
     rows_too sql (Ok pieces) params = sole_too (map (prepared_from sql) pieces) params
 
-    exec_too : (o : Option Prepared) (params : List Value) → IsAllowed v g s r (asking.asks_exec (in_tx s) o params)
+    exec_too : (o : Option Prepared) (params : List Value) → IsAllowed v g s r (asking.asks_exec hinders (in_tx s) o params)
     exec_too None params = tt
     exec_too (Some p) params = one_too p params
 
-    prepared_query_too : (o : Option Prepared) (params : List Value) → IsAllowed v g s r (asking.asks_prepared_query o params)
+    prepared_query_too : (o : Option Prepared) (params : List Value) → IsAllowed v g s r (asking.asks_prepared_query hinders o params)
     prepared_query_too None params = tt
     prepared_query_too (Some p) params = query_too p params
 
+  module _ (h : IsServed v s) where
     room_too : (p : Prepared) (tail : Option ℕ) → IsAllowed v g s r (asking.with_room s p tail)
     room_too p tail = either (nat_le 64 (prepared_count s.statements)) (Never TooManyStatements) (Prepares p tail) tt h
 
@@ -199,24 +235,24 @@ module _ (v : View) (g : Gateway) (s : Session) (r : Request) where
 
 pub all_allowed : AllAreAllowed
 unfolding asked_by fits_one_voter
-all_allowed v m g s requests.Leader = leader_tells v.servers v.leader
-all_allowed v m g s (requests.Client id) = λ h. h
-all_allowed v m g s (requests.Open name flags vfs) = leading v g s (requests.Open name flags vfs) _ (λ e. open_too v g s (requests.Open name flags vfs) m name (barriers_asked flags) e (λ b. ap not b))
-all_allowed v m g s (requests.Prepare db sql wide) = served v g s (requests.Prepare db sql wide) db (asking.asks_prepare s sql wide (scan_of sql)) (λ h. prepare_too v g s (requests.Prepare db sql wide) h sql wide (scan_of sql))
-all_allowed v m g s (requests.Exec db id params wide) = served v g s (requests.Exec db id params wide) db (asking.asks_exec (in_tx s) (prepared_at s.statements id) params) (λ h. exec_too v g s (requests.Exec db id params wide) h (prepared_at s.statements id) params)
-all_allowed v m g s (requests.Query db id params wide) = served v g s (requests.Query db id params wide) db (asking.asks_prepared_query (prepared_at s.statements id) params) (λ h. prepared_query_too v g s (requests.Query db id params wide) h (prepared_at s.statements id) params)
-all_allowed v m g s (requests.Finalize db id) = with_database v g s (requests.Finalize db id) db (asking.asks_finalize (prepared_at s.statements id) id) (λ h. finalize_too v g s (requests.Finalize db id) (prepared_at s.statements id) id h)
-all_allowed v m g s (requests.ExecSql db sql params wide) = served v g s (requests.ExecSql db sql params wide) db (asking.asks_text (in_tx s) sql (scan_of sql) params) (λ h. text_too v g s (requests.ExecSql db sql params wide) h sql (scan_of sql) params)
-all_allowed v m g s (requests.QuerySql db sql params wide) = served v g s (requests.QuerySql db sql params wide) db (asking.asks_rows sql (scan_of sql) params) (λ h. rows_too v g s (requests.QuerySql db sql params wide) h sql (scan_of sql) params)
-all_allowed v m g s (requests.Interrupt db) = with_database v g s (requests.Interrupt db) db (Tells responses.Empty) (λ h. λ f. f)
-all_allowed v m g s (requests.Connect id address) = either v g s (requests.Connect id address) (v.links && asking.is_other_node v id) (Sets (JoinsPeer id)) (Never BadNode) tt tt
-all_allowed v m g s (requests.Add id address) = leading v g s (requests.Add id address) _ (λ e. settled_too v g s (requests.Add id address) _ (add_too v g s (requests.Add id address) e refl id address))
-all_allowed v m g s (requests.Assign id role) = leading v g s (requests.Assign id role) _ (λ e. settled_too v g s (requests.Assign id role) _ (assign_too v g s (requests.Assign id role) e refl id role))
-all_allowed v m g s (requests.Remove id) = leading v g s (requests.Remove id) _ (λ e. settled_too v g s (requests.Remove id) _ (remove_too v g s (requests.Remove id) e refl id))
-all_allowed v m g s (requests.Dump name) =
+all_allowed v m g c s requests.Leader = leader_tells v.servers v.leader
+all_allowed v m g c s (requests.Client id) = λ h. h
+all_allowed v m g c s (requests.Open name flags vfs) = leading v g s (requests.Open name flags vfs) _ (λ e. open_too v g s (requests.Open name flags vfs) m name (barriers_asked flags) e (λ b. ap not b))
+all_allowed v m g c s (requests.Prepare db sql wide) = served v g s (requests.Prepare db sql wide) db (asking.asks_prepare s sql wide (scan_of sql)) (λ h. prepare_too v g s (requests.Prepare db sql wide) h sql wide (scan_of sql))
+all_allowed v m g c s (requests.Exec db id params wide) = served v g s (requests.Exec db id params wide) db (asking.asks_exec (write_hindrance m g c s) (in_tx s) (prepared_at s.statements id) params) (λ h. exec_too v g s (requests.Exec db id params wide) h (write_hindrance m g c s) (write_early m g c s) (prepared_at s.statements id) params)
+all_allowed v m g c s (requests.Query db id params wide) = served v g s (requests.Query db id params wide) db (asking.asks_prepared_query (write_hindrance m g c s) (prepared_at s.statements id) params) (λ h. prepared_query_too v g s (requests.Query db id params wide) h (write_hindrance m g c s) (write_early m g c s) (prepared_at s.statements id) params)
+all_allowed v m g c s (requests.Finalize db id) = with_database v g s (requests.Finalize db id) db (asking.asks_finalize (prepared_at s.statements id) id) (λ h. finalize_too v g s (requests.Finalize db id) (prepared_at s.statements id) id h)
+all_allowed v m g c s (requests.ExecSql db sql params wide) = served v g s (requests.ExecSql db sql params wide) db (asking.asks_text (write_hindrance m g c s) (in_tx s) sql (scan_of sql) params) (λ h. text_too v g s (requests.ExecSql db sql params wide) h (write_hindrance m g c s) (write_early m g c s) sql (scan_of sql) params)
+all_allowed v m g c s (requests.QuerySql db sql params wide) = served v g s (requests.QuerySql db sql params wide) db (asking.asks_rows (write_hindrance m g c s) sql (scan_of sql) params) (λ h. rows_too v g s (requests.QuerySql db sql params wide) h (write_hindrance m g c s) (write_early m g c s) sql (scan_of sql) params)
+all_allowed v m g c s (requests.Interrupt db) = with_database v g s (requests.Interrupt db) db (Tells responses.Empty) (λ h. λ f. f)
+all_allowed v m g c s (requests.Connect id address) = either v g s (requests.Connect id address) (v.links && asking.is_other_node v id) (Sets (JoinsPeer id)) (Never BadNode) tt tt
+all_allowed v m g c s (requests.Add id address) = leading v g s (requests.Add id address) _ (λ e. settled_too v g s (requests.Add id address) _ (add_too v g s (requests.Add id address) e refl id address))
+all_allowed v m g c s (requests.Assign id role) = leading v g s (requests.Assign id role) _ (λ e. settled_too v g s (requests.Assign id role) _ (assign_too v g s (requests.Assign id role) e refl id role))
+all_allowed v m g c s (requests.Remove id) = leading v g s (requests.Remove id) _ (λ e. settled_too v g s (requests.Remove id) _ (remove_too v g s (requests.Remove id) e refl id))
+all_allowed v m g c s (requests.Dump name) =
     let files = asking.files_of name (m.base name).image in
     either v g s (requests.Dump name) (is_named m.names name) _ (Never NoDatabase) (either v g s (requests.Dump name) (nat_lt 16777216 (asking.body_size files)) (Never AnswerTooBig) (Tells files) tt (λ h. h)) tt
-all_allowed v m g s (requests.Cluster format) = either v g s (requests.Cluster format) (nat_le format 1) (Tells (responses.Servers (map (asking.info_of (format == 1)) v.servers))) (Never BadFormat) (λ h. h) tt
-all_allowed v m g s (requests.Transfer id) = leading v g s (requests.Transfer id) _ (λ e. either v g s (requests.Transfer id) (among (voters v.servers) id) _ (Never BadNode) (either v g s (requests.Transfer id) (asking.may_take_over v id) (Sets (HandsOver id)) (Never TargetBehind) tt tt) tt)
-all_allowed v m g s (requests.Describe format) = either v g s (requests.Describe format) (format == 0) (Tells (responses.Metadata 0 g.weight)) (Never BadFormat) (λ h. h) tt
-all_allowed v m g s (requests.Weight weight) = tt
+all_allowed v m g c s (requests.Cluster format) = either v g s (requests.Cluster format) (nat_le format 1) (Tells (responses.Servers (map (asking.info_of (format == 1)) v.servers))) (Never BadFormat) (λ h. h) tt
+all_allowed v m g c s (requests.Transfer id) = leading v g s (requests.Transfer id) _ (λ e. either v g s (requests.Transfer id) (among (voters v.servers) id) _ (Never BadNode) (either v g s (requests.Transfer id) (asking.may_take_over v id) (Sets (HandsOver id)) (Never TargetBehind) tt tt) tt)
+all_allowed v m g c s (requests.Describe format) = either v g s (requests.Describe format) (format == 0) (Tells (responses.Metadata 0 g.weight)) (Never BadFormat) (λ h. h) tt
+all_allowed v m g c s (requests.Weight weight) = tt

@@ -117,7 +117,7 @@ does_good v m g c s r (Reads statement) answers fair = reads_good (waits_first s
 
 request_good : (v : View) (m : Machine) (g : Gateway) (c : ℕ) (request : Request) (answers : List Answer) → Good (handed v m g c request) v (on_request v m g c request answers)
 unfolding on_request handed
-request_good v m g c request answers = does_good v m g c (g.session c) request (asked v m g c request) answers (all_allowed v m g (g.session c) request)
+request_good v m g c request answers = does_good v m g c (g.session c) request (asked v m g c request) answers (all_allowed v m g c (g.session c) request)
 
 keeps : (o : Option Handed) (v : View) (g : Gateway) (c : ℕ) (t : Turned) → Good o v t → IsRefused (reply_at_once t) → NothingDone g c t
 keeps o v g c (Refused cause) good h = record { gateway = refl; none = refl }

@@ -4,7 +4,7 @@ use Rattle.wire_msgs.specs.declared.request.Request.{Request}
 use Rattle.wire_msgs.specs.declared.response.Response.{Response}
 use Rattle.wire_msgs.specs.declared.response.Response.TheVariants as responses
 use Rattle.raft_rules.specs.Node.{Server, among, voters}
-use Rattle.session_rules.specs.Causes.{Cause, BadRequest, FloatParameter, LeadershipLost, ConstraintFailed, SqlError, NotADatabase, FloatColumn, NotUtf8, NulInText, Locked, OutOfDate, DatabaseFull}
+use Rattle.session_rules.specs.Causes.{Cause, BadRequest, FloatParameter, LeadershipLost, ConstraintFailed, SqlError, NotADatabase, FloatColumn, NotUtf8, NulInText, DatabaseFull}
 use Rattle.session_rules.specs.Machine.{Machine}
 use Rattle.session_rules.specs.Sessions.{Session, Gateway, View, in_tx}
 use Rattle.session_rules.specs.Servers.{has_server, with_server, with_role, without_server}
@@ -26,8 +26,6 @@ IsEarlyCause NotADatabase = ⊥
 IsEarlyCause FloatColumn = ⊥
 IsEarlyCause NotUtf8 = ⊥
 IsEarlyCause NulInText = ⊥
-IsEarlyCause Locked = ⊥
-IsEarlyCause OutOfDate = ⊥
 IsEarlyCause DatabaseFull = ⊥
 IsEarlyCause cause = Unit {0}
 
@@ -89,4 +87,4 @@ IsAllowed v g s request (Reads statement) = IsServed v s
 
 -- Whatever a request asks for, it may.
 abbrev pub AllAreAllowed : Type 0
-AllAreAllowed = (v : View) (m : Machine) (g : Gateway) (s : Session) (request : Request) → IsAllowed v g s request (asked_by v m g s request)
+AllAreAllowed = (v : View) (m : Machine) (g : Gateway) (conn : ℕ) (s : Session) (request : Request) → IsAllowed v g s request (asked_by v m g conn s request)

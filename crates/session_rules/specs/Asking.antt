@@ -20,8 +20,8 @@ use Rattle.session_rules.specs.Causes.{Cause, NotLeader, DatabaseOpen, ChangeInF
 use Rattle.session_rules.specs.Machine.{Machine, is_named}
 use Rattle.session_rules.specs.Sessions.{Prepared, Session, Gateway, View, Effect, HandsOver, JoinsPeer, Weighs, in_tx}
 use Rattle.session_rules.specs.Servers.{has_server, server_of, with_server, with_role, without_server}
-use Rattle.session_rules.specs.Statements.{prepared_from, any_barred, is_left_out, wrong_params, with_params, with_all, prepared_at, prepared_count}
-use Rattle.session_rules.specs.Limits.{change_in_flight, one_too_many, log_full}
+use Rattle.session_rules.specs.Statements.{prepared_from, any_barred, is_left_out, is_write_word, any_write, wrong_params, with_params, with_all, prepared_at, prepared_count}
+use Rattle.session_rules.specs.Limits.{change_in_flight, one_too_many, log_full, write_hindrance}
 
 -- What is asked for: nothing, as it is refused; a response, and nothing else; an effect beside the sessions; a database
 -- that is there, or a new one (either with barrier reads, or without); a statement to be prepared, with the place of the rest of its text where that is told, or to be
@@ -166,68 +166,75 @@ in_database s db asked = if no_database s db then Never NoDatabase else asked
 
 -- ---- statements
 
+-- a write, refused for what hinders it
+abbrev pub never_or : Option Cause → Asked → Asked
+never_or None asked = asked
+never_or (Some cause) asked = Never cause
+
 -- a statement with its parameters, by its kind
-abbrev pub asks_kind : Bool → WordKind → Statement → Asked
-asks_kind active (words.Begin at_once) statement = if active then Never InTransaction else Begins at_once
-asks_kind active words.Commit statement = if active then Commits else Never NoTransaction
-asks_kind active words.Rollback statement = if active then RollsBack else Never NoTransaction
-asks_kind active words.Write statement = Runs (statement ∷ [])
-asks_kind active words.LeftOut statement = Never NotAllowed
-asks_kind active words.Other statement = Runs (statement ∷ [])
+abbrev pub asks_kind : Option Cause → Bool → WordKind → Statement → Asked
+asks_kind hinders active (words.Begin at_once) statement = if active then Never InTransaction else Begins at_once
+asks_kind hinders active words.Commit statement = if active then Commits else Never NoTransaction
+asks_kind hinders active words.Rollback statement = if active then RollsBack else Never NoTransaction
+asks_kind hinders active words.Write statement = never_or hinders (Runs (statement ∷ []))
+asks_kind hinders active words.LeftOut statement = Never NotAllowed
+asks_kind hinders active words.Other statement = Runs (statement ∷ [])
 
 -- one statement, whose rows are dropped
-abbrev pub asks_one : Bool → Prepared → List Value → Asked
-asks_one active p params =
+abbrev pub asks_one : Option Cause → Bool → Prepared → List Value → Asked
+asks_one hinders active p params =
     if is_left_out p.word then Never NotAllowed
     else if wrong_params (p ∷ []) params then Never WrongParameters
-    else asks_kind active p.word (with_all p params)
+    else asks_kind hinders active p.word (with_all p params)
 
--- several statements, or none
-abbrev pub asks_several : List Prepared → List Value → Asked
-asks_several ps params =
+-- several statements, or none; a write among them is refused before the first of them runs
+abbrev pub asks_several : Option Cause → List Prepared → List Value → Asked
+asks_several hinders ps params =
     if any_barred ps then Never NotAllowed
     else if wrong_params ps params then Never WrongParameters
+    else if any_write ps then never_or hinders (Runs (with_params ps params))
     else Runs (with_params ps params)
 
-abbrev pub asks_statements : Bool → List Prepared → List Value → Asked
-asks_statements active [] params = asks_several [] params
-asks_statements active (p ∷ []) params = asks_one active p params
-asks_statements active (p ∷ q ∷ ps) params = asks_several (p ∷ q ∷ ps) params
+abbrev pub asks_statements : Option Cause → Bool → List Prepared → List Value → Asked
+asks_statements hinders active [] params = asks_several hinders [] params
+asks_statements hinders active (p ∷ []) params = asks_one hinders active p params
+asks_statements hinders active (p ∷ q ∷ ps) params = asks_several hinders (p ∷ q ∷ ps) params
 
 -- a text of statements, as it was cut
-abbrev pub asks_text : Bool → List ℕ → Result (List Piece) ScanFault → List Value → Asked
-asks_text active sql (Err fault) params = Never (scan_cause fault)
-asks_text active sql (Ok pieces) params = asks_statements active (map (prepared_from sql) pieces) params
+abbrev pub asks_text : Option Cause → Bool → List ℕ → Result (List Piece) ScanFault → List Value → Asked
+asks_text hinders active sql (Err fault) params = Never (scan_cause fault)
+asks_text hinders active sql (Ok pieces) params = asks_statements hinders active (map (prepared_from sql) pieces) params
 
 -- one statement, whose rows are told
-abbrev pub asks_query : Prepared → List Value → Asked
-asks_query p params =
+abbrev pub asks_query : Option Cause → Prepared → List Value → Asked
+asks_query hinders p params =
     if any_barred (p ∷ []) then Never NotAllowed
     else if wrong_params (p ∷ []) params then Never WrongParameters
+    else if is_write_word p.word then never_or hinders (Reads (with_all p params))
     else Reads (with_all p params)
 
 -- not exactly one statement where one is wanted
 abbrev pub not_one : List Prepared → Asked
 not_one ps = if any_barred ps then Never NotAllowed else Never OneStatementWanted
 
-abbrev pub asks_sole : List Prepared → List Value → Asked
-asks_sole [] params = not_one []
-asks_sole (p ∷ []) params = asks_query p params
-asks_sole (p ∷ q ∷ ps) params = not_one (p ∷ q ∷ ps)
+abbrev pub asks_sole : Option Cause → List Prepared → List Value → Asked
+asks_sole hinders [] params = not_one []
+asks_sole hinders (p ∷ []) params = asks_query hinders p params
+asks_sole hinders (p ∷ q ∷ ps) params = not_one (p ∷ q ∷ ps)
 
-abbrev pub asks_rows : List ℕ → Result (List Piece) ScanFault → List Value → Asked
-asks_rows sql (Err fault) params = Never (scan_cause fault)
-asks_rows sql (Ok pieces) params = asks_sole (map (prepared_from sql) pieces) params
+abbrev pub asks_rows : Option Cause → List ℕ → Result (List Piece) ScanFault → List Value → Asked
+asks_rows hinders sql (Err fault) params = Never (scan_cause fault)
+asks_rows hinders sql (Ok pieces) params = asks_sole hinders (map (prepared_from sql) pieces) params
 
 -- ---- prepared statements
 
-abbrev pub asks_exec : Bool → Option Prepared → List Value → Asked
-asks_exec active None params = Never NoStatement
-asks_exec active (Some p) params = asks_one active p params
+abbrev pub asks_exec : Option Cause → Bool → Option Prepared → List Value → Asked
+asks_exec hinders active None params = Never NoStatement
+asks_exec hinders active (Some p) params = asks_one hinders active p params
 
-abbrev pub asks_prepared_query : Option Prepared → List Value → Asked
-asks_prepared_query None params = Never NoStatement
-asks_prepared_query (Some p) params = asks_query p params
+abbrev pub asks_prepared_query : Option Cause → Option Prepared → List Value → Asked
+asks_prepared_query hinders None params = Never NoStatement
+asks_prepared_query hinders (Some p) params = asks_query hinders p params
 
 abbrev pub asks_finalize : Option Prepared → ℕ → Asked
 asks_finalize None id = Never NoStatement
@@ -260,33 +267,34 @@ asks_prepare s sql wide (Ok pieces) = asks_prepare_pieces s sql wide pieces
 abbrev pub at_leader : View → Asked → Asked
 at_leader v asked = if v.serving then asked else Never NotLeader
 
--- What a session asks for by a request. The refusals are tried in this order: not a serving leader; a second database, or
--- a change of the cluster while one is in flight; no such database or statement; a text, statement, parameters, name,
--- node or format that may not be; a limit on statements, databases or the log.
-unfoldable pub asked_by : View → Machine → Gateway → Session → Request → Asked
-asked_by v m g s requests.Leader = Tells (leader_known v.servers v.leader)
-asked_by v m g s (requests.Client id) = Tells (responses.Welcome 15000)
-asked_by v m g s (requests.Open name flags vfs) = at_leader v (asks_open v m g s name (barriers_asked flags))
-asked_by v m g s (requests.Prepare db sql wide) = at_leader v (in_database s db (asks_prepare s sql wide (scan_of sql)))
-asked_by v m g s (requests.Exec db id params wide) = at_leader v (in_database s db (asks_exec (in_tx s) (prepared_at s.statements id) params))
-asked_by v m g s (requests.Query db id params wide) = at_leader v (in_database s db (asks_prepared_query (prepared_at s.statements id) params))
-asked_by v m g s (requests.Finalize db id) = in_database s db (asks_finalize (prepared_at s.statements id) id)
-asked_by v m g s (requests.ExecSql db sql params wide) = at_leader v (in_database s db (asks_text (in_tx s) sql (scan_of sql) params))
-asked_by v m g s (requests.QuerySql db sql params wide) = at_leader v (in_database s db (asks_rows sql (scan_of sql) params))
-asked_by v m g s (requests.Interrupt db) = in_database s db (Tells responses.Empty)
-asked_by v m g s (requests.Connect id address) = asks_connect v id
-asked_by v m g s (requests.Add id address) = at_leader v (if_settled g (asks_add v.servers id address))
-asked_by v m g s (requests.Assign id role) = at_leader v (if_settled g (asks_assign v id role))
-asked_by v m g s (requests.Remove id) = at_leader v (if_settled g (asks_remove v id))
-asked_by v m g s (requests.Dump name) = asks_dump m name
-asked_by v m g s (requests.Cluster format) = asks_cluster v format
-asked_by v m g s (requests.Transfer id) = at_leader v (asks_transfer v id)
-asked_by v m g s (requests.Describe format) = asks_describe g.weight format
-asked_by v m g s (requests.Weight weight) = Sets (Weighs weight)
+-- What the session of a connection asks for by a request. The refusals are tried in this order: not a serving leader; a second
+-- database, or a change of the cluster while one is in flight; no such database or statement; a text, statement, parameters,
+-- name, node or format that may not be; a limit on statements, databases or the log; a write that couldn't be kept, as another
+-- session has the turn or the image is old.
+unfoldable pub asked_by : View → Machine → Gateway → ℕ → Session → Request → Asked
+asked_by v m g conn s requests.Leader = Tells (leader_known v.servers v.leader)
+asked_by v m g conn s (requests.Client id) = Tells (responses.Welcome 15000)
+asked_by v m g conn s (requests.Open name flags vfs) = at_leader v (asks_open v m g s name (barriers_asked flags))
+asked_by v m g conn s (requests.Prepare db sql wide) = at_leader v (in_database s db (asks_prepare s sql wide (scan_of sql)))
+asked_by v m g conn s (requests.Exec db id params wide) = at_leader v (in_database s db (asks_exec (write_hindrance m g conn s) (in_tx s) (prepared_at s.statements id) params))
+asked_by v m g conn s (requests.Query db id params wide) = at_leader v (in_database s db (asks_prepared_query (write_hindrance m g conn s) (prepared_at s.statements id) params))
+asked_by v m g conn s (requests.Finalize db id) = in_database s db (asks_finalize (prepared_at s.statements id) id)
+asked_by v m g conn s (requests.ExecSql db sql params wide) = at_leader v (in_database s db (asks_text (write_hindrance m g conn s) (in_tx s) sql (scan_of sql) params))
+asked_by v m g conn s (requests.QuerySql db sql params wide) = at_leader v (in_database s db (asks_rows (write_hindrance m g conn s) sql (scan_of sql) params))
+asked_by v m g conn s (requests.Interrupt db) = in_database s db (Tells responses.Empty)
+asked_by v m g conn s (requests.Connect id address) = asks_connect v id
+asked_by v m g conn s (requests.Add id address) = at_leader v (if_settled g (asks_add v.servers id address))
+asked_by v m g conn s (requests.Assign id role) = at_leader v (if_settled g (asks_assign v id role))
+asked_by v m g conn s (requests.Remove id) = at_leader v (if_settled g (asks_remove v id))
+asked_by v m g conn s (requests.Dump name) = asks_dump m name
+asked_by v m g conn s (requests.Cluster format) = asks_cluster v format
+asked_by v m g conn s (requests.Transfer id) = at_leader v (asks_transfer v id)
+asked_by v m g conn s (requests.Describe format) = asks_describe g.weight format
+asked_by v m g conn s (requests.Weight weight) = Sets (Weighs weight)
 
 -- the same of a connection's session
 abbrev pub asked : View → Machine → Gateway → ℕ → Request → Asked
-asked v m g conn request = asked_by v m g (g.session conn) request
+asked v m g conn request = asked_by v m g conn (g.session conn) request
 
 -- The request asks neither for other servers nor for barrier reads. A node without others, without readers and without these
 -- requests has no query that is answered apart from its request.

@@ -123,3 +123,12 @@ first_cause holds cause others = if holds then Some cause else others
 -- pinned, when there were so many; or there would be too many pages.
 unfoldable pub hindrance : Machine → Gateway → ℕ → List ℕ → ℕ → List NumberedPage → Image → Option Cause
 hindrance m g conn name mark pages to = first_cause (other_holds g conn name) Locked (first_cause (not ((m.base name).newest == mark)) OutOfDate (first_cause (too_full m g name pages to) DatabaseFull None))
+
+-- the same before a statement ran, whose pages aren't known yet: outside a transaction no image is pinned
+abbrev pub hinders_in : Machine → Gateway → ℕ → Session → Option Transaction → Option Cause
+hinders_in m g conn s None = first_cause (other_holds g conn s.database) Locked None
+hinders_in m g conn s (Some x) = first_cause (other_holds g conn x.name) Locked (first_cause (not ((m.base x.name).newest == x.mark)) OutOfDate None)
+
+-- What hinders a session's write before an engine runs it: its changes would be refused for the turn, or for an old image.
+unfoldable pub write_hindrance : Machine → Gateway → ℕ → Session → Option Cause
+write_hindrance m g conn s = hinders_in m g conn s s.tx

@@ -29,6 +29,19 @@ is_left_out words.Write = false
 is_left_out words.LeftOut = true
 is_left_out words.Other = false
 
+-- it begins an INSERT, REPLACE, UPDATE or DELETE
+abbrev pub is_write_word : WordKind → Bool
+is_write_word (words.Begin at_once) = false
+is_write_word words.Commit = false
+is_write_word words.Rollback = false
+is_write_word words.Write = true
+is_write_word words.LeftOut = false
+is_write_word words.Other = false
+
+-- one of these statements is such a write
+abbrev pub any_write : List Prepared → Bool
+any_write ps = list_any (λ (p : Prepared). is_write_word p.word) ps
+
 -- one of these statements may not stand in a query, or among several
 abbrev pub any_barred : List Prepared → Bool
 any_barred ps = list_any (λ (p : Prepared). is_control p.word || is_left_out p.word) ps

@@ -3,7 +3,7 @@
 
 use crate::messages::{
     BAD_NUMBER, DATABASE_FULL, LOCKED, LOG_FULL, LOST, NO_ROW, NO_TRANSACTION, NONE_AFFECTED,
-    NOT_A_DATABASE, NOT_LEADER, ONE_AFFECTED, OPENED, ROW_OF_9, TOO_BIG,
+    NOT_A_DATABASE, NOT_LEADER, ONE_AFFECTED, OPENED, OUT_OF_DATE, ROW_OF_9, TOO_BIG,
 };
 use crate::node::{Node, Step};
 use std::alloc::{AllocError, Global};
@@ -217,6 +217,68 @@ const HINDRANCES: &[Life] = &[
     ),
 ];
 
+/// Lives in which writes are refused before an engine runs them: of a statement that it ran it would tell that the files aren't
+/// opened.
+const WRITES: &[Life] = &[
+    // Another session has the turn: broken texts, texts that would find no row, and those among others are refused for it.
+    (
+        &[
+            Step::Exec(8, "BEGIN IMMEDIATE"),
+            Step::Spoil,
+            Step::Exec(7, "INSERT"),
+            Step::Exec(7, "replace into t values (1)"),
+            Step::Exec(7, "UPDATE t SET v = 1 WHERE FALSE"),
+            Step::Exec(7, "GET 3; DELETE FROM t"),
+            Step::Query(7, "DELETE FROM t RETURNING v"),
+            Step::Exec(7, "SET 3 9"),
+            Step::Query(7, "GET 3"),
+            Step::Exec(8, "INSERT"),
+            Step::Exec(8, "COMMIT"),
+            Step::Exec(7, "INSERT"),
+        ],
+        &[
+            (8, NONE_AFFECTED),
+            (7, LOCKED),
+            (7, LOCKED),
+            (7, LOCKED),
+            (7, LOCKED),
+            (7, LOCKED),
+            (7, NOT_A_DATABASE),
+            (7, NOT_A_DATABASE),
+            (8, NOT_A_DATABASE),
+            (8, NONE_AFFECTED),
+            (7, NOT_A_DATABASE),
+        ],
+        0,
+    ),
+    // In a transaction: while another session's write is out, and behind it.
+    (
+        &[
+            Step::Exec(7, "BEGIN"),
+            Step::Exec(8, "SET 3 9"),
+            Step::Spoil,
+            Step::Exec(7, "INSERT"),
+            Step::Apply,
+            Step::Exec(7, "INSERT"),
+            Step::Exec(7, "UPDATE t SET v = 1 WHERE FALSE"),
+            Step::Query(7, "GET 3"),
+            Step::Exec(7, "COMMIT"),
+            Step::Exec(7, "INSERT"),
+        ],
+        &[
+            (7, NONE_AFFECTED),
+            (7, LOCKED),
+            (8, ONE_AFFECTED),
+            (7, OUT_OF_DATE),
+            (7, OUT_OF_DATE),
+            (7, NOT_A_DATABASE),
+            (7, NONE_AFFECTED),
+            (7, NOT_A_DATABASE),
+        ],
+        0,
+    ),
+];
+
 /// Lives in which clients 9 and 10 ask for barrier reads.
 const BARRIERS: &[Life] = &[
     // A query waits for its barrier, and so sees the write that was out when it was asked; another client's doesn't.
@@ -372,7 +434,7 @@ fn after(
 
 #[test]
 fn replies_and_pins_are_those_of_each_life(rt: HostRuntime) -> Result<(), Fail> {
-    for lives in [LOSSES, HANGUPS, HINDRANCES, BARRIERS, FAULTS] {
+    for lives in [LOSSES, HANGUPS, HINDRANCES, WRITES, BARRIERS, FAULTS] {
         for (place, life) in lives.iter().enumerate() {
             let came = after(rt.alloc(), life.0, life.1)?;
             assert_eq!(rt; came, (true, life.2), "at {place}");

@@ -33,6 +33,10 @@ pub(crate) const LOST: &[u8] = b"\x03\0\0\0\0\0\0\0\x0a\x29\0\0\0\0\0\0leadershi
 pub(crate) const LOCKED: &[u8] =
     b"\x04\0\0\0\0\0\0\0\x05\0\0\0\0\0\0\0database is locked\0\0\0\0\0\0";
 
+/// FAILURE 517.
+pub(crate) const OUT_OF_DATE: &[u8] =
+    b"\x04\0\0\0\0\0\0\0\x05\x02\0\0\0\0\0\0snapshot is out of date\0";
+
 /// FAILURE 1, for a COMMIT outside a transaction.
 pub(crate) const NO_TRANSACTION: &[u8] = b"\x03\0\0\0\0\0\0\0\x01\0\0\0\0\0\0\0no transaction\0\0";
 

@@ -120,7 +120,7 @@ idle_log w c standing (Reads s) answers h = absurd h
 
 request_log : (w : Node) (c : ℕ) (standing : Standing) (r : Request) (answers : List Answer) → w.serving ≡ false → (called w c (on_request (view_of w standing) (databases w) w.gate c r answers)).log ≡ w.log
 unfolding on_request
-request_log w c standing r answers off = idle_log w c standing (asked_by (view_of w standing) (databases w) w.gate (w.gate.session c) r) answers (request_idle (view_of w standing) (databases w) w.gate (w.gate.session c) off r)
+request_log w c standing r answers off = idle_log w c standing (asked_by (view_of w standing) (databases w) w.gate c (w.gate.session c) r) answers (request_idle (view_of w standing) (databases w) w.gate c (w.gate.session c) off r)
 
 pub call_log : (w : Node) (c : ℕ) (standing : Standing) (r : Request) (answers : List Answer) → w.serving ≡ false → (happens w (Call c standing r answers)).log ≡ w.log
 unfolding happens

@@ -86,8 +86,8 @@ idle_of v g s r (Changes servers) off h = no (sym off ∙ h.0)
 idle_of v g s r (Runs ss) off h = no (sym off ∙ h.serves)
 idle_of v g s r (Reads s') off h = no (sym off ∙ h.serves)
 
-pub request_idle : (v : View) (m : Machine) (g : Gateway) (s : Session) → v.serving ≡ false → (r : Request) → IsIdle (asked_by v m g s r)
-request_idle v m g s off r = idle_of v g s r (asked_by v m g s r) off (all_allowed v m g s r)
+pub request_idle : (v : View) (m : Machine) (g : Gateway) (c : ℕ) (s : Session) → v.serving ≡ false → (r : Request) → IsIdle (asked_by v m g c s r)
+request_idle v m g c s off r = idle_of v g s r (asked_by v m g c s r) off (all_allowed v m g c s r)
 
 module _ (mean : Meaning) (standing : Standing) (w : Node) (a : NodeOk mean w) (c : ℕ) (free : (w.gate.session c).flight ≡ None) (here : (w.gate.session c).there ≡ true) (rest : (w.gate.session c).later ≡ None) where
   Good : Turned → Type 0
@@ -306,6 +306,6 @@ module _ (mean : Meaning) (standing : Standing) (w : Node) (a : NodeOk mean w) (
   pub request_ok : (kind : EngineKind) (r : Request) (answers : List Answer) → AllowsFor mean kind (handed (view_of w standing) (databases w) w.gate c r) answers → NodeOk mean (called w c (on_request (view_of w standing) (databases w) w.gate c r answers))
   unfolding on_request handed
   request_ok kind r answers h = ⊎_elim
-      (λ (on : w.serving ≡ true). does_ok kind (asked_by (view_of w standing) (databases w) w.gate (w.gate.session c) r) answers on h)
-      (λ (off : w.serving ≡ false). idle_ok (asked_by (view_of w standing) (databases w) w.gate (w.gate.session c) r) answers (request_idle (view_of w standing) (databases w) w.gate (w.gate.session c) off r))
+      (λ (on : w.serving ≡ true). does_ok kind (asked_by (view_of w standing) (databases w) w.gate c (w.gate.session c) r) answers on h)
+      (λ (off : w.serving ≡ false). idle_ok (asked_by (view_of w standing) (databases w) w.gate c (w.gate.session c) r) answers (request_idle (view_of w standing) (databases w) w.gate c (w.gate.session c) off r))
       (cases_Bool w.serving)

@@ -121,8 +121,8 @@ mild_of v g s r (Changes servers) fits h = absurd (true≢false (sym fits ∙ h.
 mild_of v g s r (Runs ss) fits h = tt
 mild_of v g s r (Reads st) fits h = tt
 
-request_mild : (v : View) (m : Machine) (g : Gateway) (s : Session) (r : Request) → fits_one_voter r ≡ true → IsMild (asked_by v m g s r)
-request_mild v m g s r fits = mild_of v g s r (asked_by v m g s r) fits (all_allowed v m g s r)
+request_mild : (v : View) (m : Machine) (g : Gateway) (c : ℕ) (s : Session) (r : Request) → fits_one_voter r ≡ true → IsMild (asked_by v m g c s r)
+request_mild v m g c s r fits = mild_of v g s r (asked_by v m g c s r) fits (all_allowed v m g c s r)
 
 -- ---- what comes of it
 
@@ -219,7 +219,7 @@ module _ (v : View) (m : Machine) (g : Gateway) (c : ℕ) (s : Session) where
 
 turned_mild : (v : View) (m : Machine) (g : Gateway) (c : ℕ) (r : Request) (answers : List Answer) → fits_one_voter r ≡ true → TurnedMild (on_request v m g c r answers)
 unfolding on_request
-turned_mild v m g c r answers fits = does_mild v m g c (g.session c) (asked_by v m g (g.session c) r) answers (request_mild v m g (g.session c) r fits)
+turned_mild v m g c r answers fits = does_mild v m g c (g.session c) (asked_by v m g c (g.session c) r) answers (request_mild v m g c (g.session c) r fits)
 
 -- ---- events
 

@@ -116,7 +116,7 @@ module _ (v : View) (m : Machine) (g : Gateway) (c : ℕ) (s : Session) (free : 
 
 pub request_opened : (v : View) (m : Machine) (g : Gateway) (c : ℕ) (r : Request) (answers : List Answer) → (g.session c).flight ≡ None → (g.session c).later ≡ None → LeavesOpened (on_request v m g c r answers)
 unfolding on_request
-request_opened v m g c r answers free rest = does_opened v m g c (g.session c) free rest r (asked v m g c r) answers (all_allowed v m g (g.session c) r)
+request_opened v m g c r answers free rest = does_opened v m g c (g.session c) free rest r (asked v m g c r) answers (all_allowed v m g c (g.session c) r)
 
 pub later_opened : (v : View) (m : Machine) (g : Gateway) (c : ℕ) (s : Statement) (answers : List Answer) → (g.session c).flight ≡ None → (g.session c).later ≡ None → LeavesOpened (on_later v m g c s answers)
 later_opened v m g c s answers free rest = later_both LeavesOpened v m g c s answers tt (λ e. run_opened v m g c (g.session c) free rest (g.session c).tx (s ∷ []) true answers)

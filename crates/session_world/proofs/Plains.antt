@@ -98,7 +98,7 @@ module _ (v : View) (m : Machine) (g : Gateway) (c : ℕ) (s : Session) (p : Pla
 
 pub request_plain : (v : View) (m : Machine) (g : Gateway) (c : ℕ) (r : Request) (answers : List Answer) → Plain (g.session c) → fits_one_voter r ≡ true → v.readers ≡ false → TurnedPlain (on_request v m g c r answers)
 unfolding on_request
-request_plain v m g c r answers p fits off = does_plain v m g c (g.session c) p r (asked v m g c r) answers fits off (all_allowed v m g (g.session c) r)
+request_plain v m g c r answers p fits off = does_plain v m g c (g.session c) p r (asked v m g c r) answers fits off (all_allowed v m g c (g.session c) r)
 
 -- ---- what happens to a session
 

@@ -1,8 +1,11 @@
 -- Texts that look, and change nothing.
 use Rattle.std.specs.Prelude.{◌≡◌, ℕ, ◌<◌, List, [], length, Option, None, IsSome, Result, Ok, Err}
+use Rattle.std.specs.List.{All}
 use Rattle.dq_base.specs.declared.images.Image.{Image}
 use Rattle.sqlite.specs.Files.{file_state}
 use Rattle.sqlite.specs.Listing.{understood}
+use Rattle.sqlite_schema.specs.declared.schema.Schema.{Schema}
+use Rattle.counts.specs.Counts.{LooksOnly}
 use Rattle.sqlite_resolve.specs.declared.compiled.Compiled.{Compiled}
 use Rattle.sqlite_resolve.specs.declared.error.CompileError.{CompileError}
 use Rattle.sql_engine.specs.declared.answer.Ran.{Ran}
@@ -24,3 +27,7 @@ ReturnsNothing image text = (limit : Option ℕ) (c : Conn) → Finds image limi
 -- a text that shows rows, and has no RETURNING, leaves the image as it is
 abbrev pub LeavesLooked : Image → List ℕ → Ran → Type 0
 LeavesLooked image text ran = 0 < length ran.columns → ReturnsNothing image text → ran.after.pages ≡ []
+
+-- each of these texts changes nothing where it shows rows, under this schema
+abbrev pub AllLook : Schema → List (List ℕ) → Type 0
+AllLook schema texts = All (λ (text : List ℕ). LooksOnly (understood schema text)) texts

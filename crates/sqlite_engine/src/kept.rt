@@ -8,7 +8,7 @@ ghost use Rattle.sqlite.specs.State.{Executes, FailsToQuery};
 ghost use Rattle.sqlite.specs.Values.{bound};
 ghost use Rattle.sqlite_engine.specs.Sql.{Closed, HasColumns, Stands, RanOn, FailsOn, is_of_store};
 ghost use Rattle.sqlite_engine.specs.Led.{Led, IsRefused, IsLedTo};
-ghost use Rattle.sqlite_engine.specs.Looking.{HasReturning};
+ghost use Rattle.sqlite_engine.specs.Looking.{AllLook, HasReturning};
 ghost use Rattle.sqlite_engine.specs.Refusing.{IsRefusedOpening};
 ghost use Rattle.sqlite_engine.specs.Settling.{files_beneath, Asked, Settled};
 ghost use Rattle.sqlite_engine.specs.Shows.{showing, FailsSomehow};
@@ -17,7 +17,8 @@ use crate::connection::{Conn, OpenFault, close, execute, let_go, open, outline, 
 use crate::errors::is_of_store;
 use crate::plan::looks_only;
 use crate::shows::Shows;
-use dq_base::{Image, PAGE_SIZE, PageSet, apply};
+use crate::texts::{has_text, note_text};
+use dq_base::{Bytes, Image, PAGE_SIZE, PageSet, apply};
 use open_files::{connected, held, log_of, main_of};
 use record_disk::changes_between;
 use sqlite::types::ValueRef;
@@ -29,13 +30,20 @@ use std::alloc::{AllocError, Global};
 pub(crate) struct Kept {
     pub(crate) base: Image,
     pub(crate) conn: Conn,
+    /// Texts that look only under the schema that the connection has.
+    looking: Vec<Bytes>,
     ghost stands: { ∥ Stands base conn ∥₁ },
+    ghost looks: { ∥ AllLook (file_state conn).now.schema looking.items ∥₁ },
 }
 
 // It is written out, so that a caller does not prove again how a connection is dropped.
 impl Drop for Kept {
     fn drop(self) {
-        let Kept { base: _, conn } = self;
+        let Kept {
+            base: _,
+            conn,
+            looking: _,
+        } = self;
         let_go(conn);
     }
 }
@@ -47,12 +55,32 @@ pub(crate) struct Failure {
     pub(crate) error: Error,
 }
 
-fn kept_over(base: Image, conn: Conn) -> Kept
+fn kept_over(base: Image, conn: Conn, looking: Vec<Bytes>) -> Kept
+    requires stands { ∥ Stands base conn ∥₁ }
+    requires looks { ∥ AllLook (file_state conn).now.schema looking.items ∥₁ }
+    ensures base { result.base ≡ base }
+    ensures conn { result.conn ≡ conn }
+{
+    Kept {
+        base,
+        conn,
+        looking,
+    }
+}
+
+/// A connection of which no text is known to look only. Takes no memory.
+fn kept_anew(alloc: Global, base: Image, conn: Conn) -> Kept
     requires { ∥ Stands base conn ∥₁ }
     ensures base { result.base ≡ base }
     ensures conn { result.conn ≡ conn }
 {
-    Kept { base, conn }
+    kept_over(base, conn, Vec::new(alloc))
+}
+
+fn is_yes(looks: Option<bool>) -> bool
+    ensures { IsTrue result → looks ≡ Some true }
+{
+    looks == Some(true)
 }
 
 impl Kept {
@@ -65,18 +93,44 @@ impl Kept {
             return Err(OpenFault::NoMemory);
         };
         match open(alloc, image) {
-            Ok(conn) => Ok(kept_over(base, conn)),
+            Ok(conn) => Ok(kept_anew(alloc, base, conn)),
             Err(fault) => Err(fault),
         }
     }
 
     /// Whether the text changes nothing where it shows rows, or is one with RETURNING. `None` is want of memory, or a text
-    /// that isn't understood.
-    pub(crate) fn looks_only(&self, alloc: Global, text: &str) -> Option<bool>
-        ensures looks { result ≡ Some true → LooksOnly (understood (file_state self.now.conn).now.schema text.now) }
-        ensures returns { result ≡ Some false → HasReturning (understood (file_state self.now.conn).now.schema text.now) }
+    /// that isn't understood. A text that changes nothing is noted, so that it isn't compiled for this again while the connection
+    /// stays over its image.
+    pub(crate) fn looks_only(self, alloc: Global, text: &str) -> (Kept, Option<bool>)
+        ensures base { result.0.base ≡ self.base }
+        ensures conn { result.0.conn ≡ self.conn }
+        ensures looks { result.1 ≡ Some true → ∥ LooksOnly (understood (file_state self.conn).now.schema text.now) ∥₁ }
+        ensures returns { result.1 ≡ Some false → HasReturning (understood (file_state self.conn).now.schema text.now) }
     {
-        looks_only(alloc, &self.conn, text)
+        if has_text(self.looking.as_slice(), text) {
+            return (self, Some(true));
+        }
+        let looks = looks_only(alloc, &self.conn, text);
+        if is_yes(looks) {
+            (self.noting(alloc, text), looks)
+        } else {
+            (self, looks)
+        }
+    }
+
+    /// The connection, beside which this text is noted as one that looks only.
+    fn noting(self, alloc: Global, text: &str) -> Kept
+        requires { LooksOnly (understood (file_state self.conn).now.schema text.now) }
+        ensures base { result.base ≡ self.base }
+        ensures conn { result.conn ≡ self.conn }
+    {
+        let Kept {
+            base,
+            conn,
+            mut looking,
+        } = self;
+        note_text(alloc, &mut looking, text);
+        kept_over(base, conn, looking)
     }
 
     /// Whether it is open over this image. It compares the bytes, the side file's first.
@@ -92,9 +146,13 @@ impl Kept {
         ensures base { result.base ≡ self.base }
         ensures limit { result.conn.step_limit ≡ limit }
     {
-        let Kept { base, mut conn } = self;
+        let Kept {
+            base,
+            mut conn,
+            looking,
+        } = self;
         conn.set_step_limit(limit);
-        kept_over(base, conn)
+        kept_over(base, conn, looking)
     }
 
     /// What the statement of a text shows, before it is run.
@@ -105,11 +163,15 @@ impl Kept {
         ensures left { IfErr result (λ failure. IfSome failure.left (λ left. left.base ≡ self.base)) }
         ensures fails { IfErr result (λ failure. (params : _) → ∥ FailsOn self.base self.conn.step_limit text.now params failure.error ∥₁) }
     {
-        let Kept { base, mut conn } = self;
+        let Kept {
+            base,
+            mut conn,
+            looking,
+        } = self;
         match outline(&mut conn, text) {
-            Ok(statement) => Ok((kept_over(base, conn), statement)),
+            Ok(statement) => Ok((kept_over(base, conn, looking), statement)),
             Err(error) => Err(Failure {
-                left: left_after(base, conn, error),
+                left: left_after(base, conn, looking, error),
                 error,
             }),
         }
@@ -123,20 +185,24 @@ impl Kept {
         params: &[ValueRef<'_>],
     ) -> Result<(Kept, Shows), Failure>
         requires columns { HasColumns (file_state self.conn) text.now statement.now.columns }
-        requires only { LooksOnly (understood (file_state self.conn).now.schema text.now) }
+        requires only { ∥ LooksOnly (understood (file_state self.conn).now.schema text.now) ∥₁ }
         ensures base { IfOk result (λ r. r.0.base ≡ self.base) }
         ensures ran { IfOk result (λ r. ∥ RanOn self.base text.now (bound params.now) self.base (showing statement.now.columns r.1) ∥₁) }
         ensures left { IfErr result (λ failure. IfSome failure.left (λ left. left.base ≡ self.base)) }
         ensures fails { IfErr result (λ failure. ∥ FailsOn self.base self.conn.step_limit text.now (bound params.now) failure.error ∥₁) }
     {
-        let Kept { base, mut conn } = self;
+        let Kept {
+            base,
+            mut conn,
+            looking,
+        } = self;
         match query(&mut conn, text, params) {
             Ok(rows) => {
                 let shows = Shows { affected: 0, rows };
-                Ok((kept_over(base, conn), shows))
+                Ok((kept_over(base, conn, looking), shows))
             }
             Err(error) => Err(Failure {
-                left: left_after(base, conn, error),
+                left: left_after(base, conn, looking, error),
                 error,
             }),
         }
@@ -160,7 +226,11 @@ impl Kept {
         ensures left { IfErr result (λ failure. IfSome failure.left (λ left. left.base ≡ self.base)) }
         ensures fails { IfErr result (λ failure. IsRefused self.base self.conn.step_limit text.now (bound params.now) failure.error) }
     {
-        let Kept { base, mut conn } = self;
+        let Kept {
+            base,
+            mut conn,
+            looking,
+        } = self;
         match ask(alloc, &mut conn, statement, text, params) {
             Ok(shows) => match settled(alloc, base, conn, tx) {
                 Some((left, set)) => Ok((left, shows, set)),
@@ -170,7 +240,7 @@ impl Kept {
                 }),
             },
             Err(error) => Err(Failure {
-                left: left_after(base, conn, error),
+                left: left_after(base, conn, looking, error),
                 error,
             }),
         }
@@ -213,7 +283,7 @@ fn followed(alloc: Global, base: Image, conn: Conn, tx: u64) -> Option<(Option<K
     held(&conn);
     match changes_beneath(alloc, &base, &conn, tx) {
         Ok(set) => {
-            let left = moved_on(base, conn, &set);
+            let left = moved_on(alloc, base, conn, &set);
             Some((left, set))
         }
         Err(_) => {
@@ -235,8 +305,9 @@ fn changes_beneath(alloc: Global, base: &Image, conn: &Conn, tx: u64) -> Result<
 }
 
 /// The connection over what its files are, to which these pages lead from the image. `None` where no memory is left to grow the
-/// image, or where the pages state a file that is longer than any may be.
-fn moved_on(base: Image, conn: Conn, set: &PageSet) -> Option<Kept>
+/// image, or where the pages state a file that is longer than any may be. Its schema may be another one, so no text is known to look
+/// only.
+fn moved_on(alloc: Global, base: Image, conn: Conn, set: &PageSet) -> Option<Kept>
     requires pages { set.now.pages ≡ changed base (files_beneath conn) }
     requires short { IsShort (files_beneath conn) }
     requires stands { ∥ Stands (files_beneath conn) conn ∥₁ }
@@ -244,7 +315,7 @@ fn moved_on(base: Image, conn: Conn, set: &PageSet) -> Option<Kept>
 {
     let mut base = base;
     if takes_over(&mut base, set) {
-        Some(kept_over(base, conn))
+        Some(kept_anew(alloc, base, conn))
     } else {
         let_go(conn);
         None
@@ -292,15 +363,16 @@ pub(crate) fn is_short(image: &Image)
 }
 
 /// What is left of a connection after an error.
-fn left_after(base: Image, conn: Conn, error: Error) -> Option<Kept>
-    requires { is_of_store error ≡ false → ∥ Stands base conn ∥₁ }
+fn left_after(base: Image, conn: Conn, looking: Vec<Bytes>, error: Error) -> Option<Kept>
+    requires stands { is_of_store error ≡ false → ∥ Stands base conn ∥₁ }
+    requires looks { is_of_store error ≡ false → ∥ AllLook (file_state conn).now.schema looking.items ∥₁ }
     ensures { IfSome result (λ left. left.base ≡ base) }
 {
     if is_of_store(error) {
         let_go(conn);
         None
     } else {
-        Some(kept_over(base, conn))
+        Some(kept_over(base, conn, looking))
     }
 }
 

@@ -31,4 +31,4 @@ returns-clause-ran g c =
     (c.decision_of.ensures.ran found c.args.weight)
 
 pub decision_of-requires-clause-configures : goal.decision_of-requires-clause-configures
-decision_of-requires-clause-configures g c = configured c.args.call.now.view.now (machine_of c.args.machine.now) (table_of c.args.machine.now c.args.sessions.now c.args.weight) (session_of c.args.machine.now c.index-known-seat.result) c.args.request _ c.in_ok-wanted.wanted c.requires.configured c.requires.address c.in_ok-wanted.ensures.wants
+decision_of-requires-clause-configures g c = configured c.args.call.now.view.now (machine_of c.args.machine.now) (table_of c.args.machine.now c.args.sessions.now c.args.weight) c.index-known-seat.result.conn (session_of c.args.machine.now c.index-known-seat.result) c.args.request _ c.in_ok-wanted.wanted c.requires.configured c.requires.address c.in_ok-wanted.ensures.wants

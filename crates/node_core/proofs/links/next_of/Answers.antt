@@ -1,4 +1,4 @@
-use Rattle.std.proofs.Common.{◌≡◌, ◌<◌, ◌≤◌, ℕ, List, Option, Some, None, length, get_or, set, ap, subst, ◌∙◌, arith}
+use Rattle.std.proofs.Common.{◌≡◌, ◌<◌, ◌≤◌, List, Option, length, get_or, set, ap, subst, ◌∙◌, arith}
 use Rattle.node_core.specs.declared.links.Letter.{Letter}
 use Rattle.node_core.specs.declared.links.Link.{Link}
 use Rattle.node_core.specs.Carrying.{LinkTook}

@@ -1,4 +1,4 @@
-use Rattle.std.proofs.Common.{◌≡◌, ◌≤◌, ◌*◌}
+use Rattle.std.proofs.Common.{◌≡◌, ◌≤◌}
 use Rattle.node_service.specs.Crew.{Hires}
 use Rattle.node_service.proofs.crew.read_all.Given as goal
 

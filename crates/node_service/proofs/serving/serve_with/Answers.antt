@@ -1,4 +1,4 @@
-use Rattle.std.proofs.Common.{◌≡◌, Ok, Err, refl, ap}
+use Rattle.std.proofs.Common.{Ok, Err, refl, ap}
 use Rattle.dq_base.proofs.FaultLaws.{Rose-earlier}
 use Rattle.node_service.proofs.Ends.{start_no_host, start_not_spent, start_disk}
 use Rattle.node_service.proofs.serving.serve_with.Goals as goal

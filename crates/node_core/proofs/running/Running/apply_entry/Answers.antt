@@ -1,5 +1,5 @@
-use Rattle.std.proofs.Common.{◌≡◌, ◌-◌, Option, Some, refl, sym, ap, subst, ◌∙◌}
-use Rattle.std.specs.Prelude.{IfSome, is_some, slice_get, slice_index_or}
+use Rattle.std.proofs.Common.{◌≡◌, ◌-◌, refl, ap, subst, ◌∙◌}
+use Rattle.std.specs.Prelude.{IfSome, is_some, slice_index_or}
 use Rattle.raft_member.specs.Members.{settled}
 use Rattle.node_core.specs.declared.running.Running.{Running}
 use Rattle.node_core.proofs.CoreEntries.{next_found, takes_other, takes_servers}

@@ -17,7 +17,7 @@ use Rattle.node_core.specs.Finding.{StopsCompacting, StopsLetter}
 use Rattle.node_core.proofs.StopsOfStep.{always_err, stopped_here, stopped_compacting, stopped_letter}
 use Rattle.std.proofs.Common.{true≢false}
 use Rattle.node_core.specs.Core.{core_of}
-use Rattle.node_core.proofs.ExactTurns.{NoQuery, NoOffer, linked_core, query_turn, no_query, message_turn, no_offer, compact_turn, uncompacted, still_unlinked, letter_turn, heard_turn}
+use Rattle.node_core.proofs.ExactTurns.{linked_core, query_turn, no_query, message_turn, no_offer, compact_turn, uncompacted, still_unlinked, letter_turn, heard_turn}
 use Rattle.node_core.proofs.running.Running.attend.Goals as goal
 
 pub returns-then-branch-2-clause-conns : goal.returns-then-branch-2-clause-conns

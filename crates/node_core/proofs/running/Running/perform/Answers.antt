@@ -1,7 +1,7 @@
 use Rattle.node_core.proofs.CoreMoves.{performed, transferred}
 use Rattle.node_core.specs.Core.{core_of}
 use Rattle.client_sessions.specs.declared.act.Act.TheVariants as acts
-use Rattle.std.proofs.Common.{refl, sym, ap, subst, Some}
+use Rattle.std.proofs.Common.{refl, sym, ap, subst}
 use Rattle.client_sessions.specs.declared.act.Act.{Act}
 use Rattle.node_core.specs.Conns.{ConnsBehind}
 use Rattle.client_sessions.specs.Clients.{Clients}

@@ -1,4 +1,4 @@
-use Rattle.node_core.proofs.ConnStreams.{conns_both, conns_same}
+use Rattle.node_core.proofs.ConnStreams.{conns_both}
 use Rattle.node_core.proofs.Turning.{none_turned, turned_on, under_kind}
 use Rattle.raft_member.specs.Members.{read_setup}
 use Rattle.node_core.proofs.Finding.{more, kept_finds, failed as always_err}

@@ -1,9 +1,16 @@
 use Rattle.std.proofs.Common.{sym, subst}
 use Rattle.std.proofs.Math.Logic.{∥∥₁_map}
+use Rattle.sqlite.specs.Files.{file_state}
+use Rattle.sqlite_engine.specs.Looking.{AllLook}
 use Rattle.sqlite_engine.specs.Sql.{Conn, Stands}
 use Rattle.sqlite_engine.proofs.Standing.{limited_stands}
 use Rattle.sqlite_engine.proofs.kept.Kept.limited.Goals as goal
 
-pub kept_over-requires : goal.kept_over-requires
-kept_over-requires c =
+pub kept_over-requires-clause-stands : goal.kept_over-requires-clause-stands
+kept_over-requires-clause-stands c =
     ∥∥₁_map c.args.self.stands (λ h. subst (λ (it : Conn). Stands c.args.self.base it) (sym c.set_step_limit.ensures) (limited_stands c.args.self.base c.args.self.conn c.args.limit h))
+
+pub kept_over-requires-clause-looks : goal.kept_over-requires-clause-looks
+kept_over-requires-clause-looks c =
+    ∥∥₁_map c.args.self.looks (λ h.
+    subst (λ (it : Conn). AllLook (file_state it).now.schema c.args.self.looking.items) (sym c.set_step_limit.ensures) h)
