@@ -58,7 +58,7 @@ impl TcpDoor {
         let (stream, _) = self.listener.accept()?;
         stream.set_nodelay(true)?;
         let front = self.front_of(&stream)?;
-        TcpLink::accepted(stream, Front::of(front))
+        TcpLink::accepted(self.rt.alloc(), stream, Front::of(front))
     }
 
     /// The first bytes of a link.
@@ -87,7 +87,7 @@ impl TcpDoor {
         let time = Duration::from_secs(DIAL_SECONDS);
         for found in address.to_socket_addrs(rt)? {
             if let Ok(stream) = TcpStream::connect_timeout(rt, &found, time) {
-                return TcpLink::dialled(stream);
+                return TcpLink::dialled(rt.alloc(), stream);
             }
         }
         Err(ErrorKind::NotConnected.into())

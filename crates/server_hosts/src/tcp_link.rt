@@ -6,9 +6,12 @@ ghost use Rattle.node_server.specs.Counts.{IsCounted};
 use crate::front::{Front, HEADER_SIZE};
 use dq_base::Failed;
 use node_edge::Link;
+use std::alloc::Global;
 use std::io;
 use std::io::{ErrorKind, Read, Write};
 use std::net::{Shutdown, TcpStream};
+use std::sync::Arc;
+use std::sync::atomic::{AtomicU64, Ordering};
 use std::time::Duration;
 
 /// How long a read of an accepted link may take, in seconds, unless a peer speaks.
@@ -26,15 +29,50 @@ const MAX_RETRIES: u32 = 1_000;
 /// A link over a TCP socket. It tells nothing of content. A read gives bytes of one message at most, so that each message of a client is
 /// a step of the node by itself, and other clients come in between. A message is written at once, in one write, and goes out at once; a
 /// write of which only a front was taken has failed, since its time was over. An interrupted call is tried again, up to 1,000 times in a
-/// row.
+/// row. Once an end of it was shut no end reads any more, not even what came before: so a client that is gone is not read for long.
 ///
 /// The error stream is told that a door's link to another machine is up, and that it is down once a write fails.
 #[derive(Drop)]
 pub struct TcpLink {
     stream: TcpStream,
     front: Front,
+    shut: ShutNote,
     faults: u64,
     announced: Option<Announced>,
+}
+
+/// Whether an end of a link was shut, which all its ends know.
+#[derive(Drop)]
+struct ShutNote {
+    noted: Arc<AtomicU64, Global>,
+}
+
+impl ShutNote {
+    /// None was shut yet.
+    fn new(alloc: Global) -> io::Result<ShutNote> {
+        match Arc::new(alloc, AtomicU64::new(0)) {
+            Ok(noted) => Ok(ShutNote { noted }),
+            Err(_) => Err(ErrorKind::OutOfMemory.into()),
+        }
+    }
+
+    /// The note of another end of the same link.
+    fn again(&self) -> io::Result<ShutNote> {
+        match Arc::try_clone(&self.noted) {
+            Ok(noted) => Ok(ShutNote { noted }),
+            Err(_) => Err(ErrorKind::OutOfMemory.into()),
+        }
+    }
+
+    /// An end was shut.
+    fn set(&self) {
+        self.noted.store(1, Ordering::SeqCst);
+    }
+
+    /// Whether one was.
+    fn is_set(&self) -> bool {
+        self.noted.load(Ordering::SeqCst) != 0
+    }
 }
 
 /// A link that the error stream was told of.
@@ -104,7 +142,7 @@ fn write_whole(mut stream: &TcpStream, bytes: &[u8]) -> io::Result<()> {
 impl TcpLink {
     /// A link that was accepted and began with these bytes. A read takes at most ten minutes, but of a peer's link as long as it
     /// takes; a write takes at most thirty seconds.
-    pub(crate) fn accepted(stream: TcpStream, front: Front) -> io::Result<TcpLink> {
+    pub(crate) fn accepted(alloc: Global, stream: TcpStream, front: Front) -> io::Result<TcpLink> {
         let time = if front.is_peer() {
             None
         } else {
@@ -115,18 +153,31 @@ impl TcpLink {
         Ok(TcpLink {
             stream,
             front,
+            shut: ShutNote::new(alloc)?,
             faults: 0,
             announced: None,
         })
     }
 
     /// A link that was dialled. A write takes at most ten seconds.
-    pub(crate) fn dialled(stream: TcpStream) -> io::Result<TcpLink> {
+    pub(crate) fn dialled(alloc: Global, stream: TcpStream) -> io::Result<TcpLink> {
         stream.set_nodelay(true)?;
         stream.set_write_timeout(Some(Duration::from_secs(PEER_SECONDS)))?;
         Ok(TcpLink {
             stream,
             front: Front::none(),
+            shut: ShutNote::new(alloc)?,
+            faults: 0,
+            announced: None,
+        })
+    }
+
+    /// A second end, which nothing was said to before.
+    fn twin_of(&self) -> io::Result<TcpLink> {
+        Ok(TcpLink {
+            stream: self.stream.try_clone()?,
+            front: Front::none(),
+            shut: self.shut.again()?,
             faults: 0,
             announced: None,
         })
@@ -156,11 +207,14 @@ impl TcpLink {
         Failed
     }
 
-    /// Reads what was said first, or bytes of the message behind it.
+    /// Reads what was said first, or bytes of the message behind it; none where an end was shut.
     fn read_on(&mut self, into: &mut [u8]) -> io::Result<usize>
         ensures fits { IfOk result (λ count. count ≤ length into.new) }
         ensures faults { self.new.faults ≡ self.old.faults }
     {
+        if self.shut.is_set() {
+            return Ok(0);
+        }
         let held = self.front.hand(into);
         if held > 0 {
             return Ok(held);
@@ -233,18 +287,14 @@ impl Link for TcpLink {
     }
 
     fn twin(&mut self) -> Result<TcpLink, Failed> {
-        match self.stream.try_clone() {
-            Ok(stream) => Ok(TcpLink {
-                stream,
-                front: Front::none(),
-                faults: 0,
-                announced: None,
-            }),
+        match self.twin_of() {
+            Ok(twin) => Ok(twin),
             Err(_) => Err(self.fail()),
         }
     }
 
     fn shut(&mut self) {
+        self.shut.set();
         let _ = self.stream.shutdown(Shutdown::Both);
     }
 }
