@@ -203,7 +203,11 @@ pub(crate) fn start_node(
         Ok(node) => seat_node(seat, node),
         Err(StartFault::DiskFault) => Ok(StartEnd::DiskFault),
         Err(StartFault::NoMemory) => Err(AllocError),
-        Err(StartFault::Damaged(_)) | Err(StartFault::Snapshot(_)) => {
+        Err(StartFault::Damaged(_)) => {
+            seat.disk.arm(None, None);
+            Ok(StartEnd::Unreadable)
+        }
+        Err(StartFault::Snapshot(_)) => {
             seat.disk.arm(None, None);
             Ok(StartEnd::Unreadable)
         }
