@@ -8,7 +8,7 @@ use std::test::*;
 const FRONT: &[u8; 16] = b"\x01\0\0\0\0\0\0\0\x01\0\0\0\x03\0\0\0";
 
 /// What comes of calls over two ends of a link: the bytes that the far end reads first, those that come behind them, those that its twin
-/// answers, and whether the near end finds the end once the twin is shut.
+/// answers, and whether both ends find the end once the twin is shut, though the near end said more.
 fn talk<L: Link>(mut near: L, mut far: L) -> Option<([u8; 16], [u8; 5], [u8; 4], bool)> {
     let mut front = [0; 16];
     far.read(&mut front).ok()?;
@@ -19,8 +19,9 @@ fn talk<L: Link>(mut near: L, mut far: L) -> Option<([u8; 16], [u8; 5], [u8; 4],
     twin.write_all(b"told").ok()?;
     let mut told = [0; 4];
     near.read(&mut told).ok()?;
+    near.write_all(b"more").ok()?;
     twin.shut();
-    let is_over = near.read(&mut [0; 4]) == Ok(0);
+    let is_over = near.read(&mut [0; 4]) == Ok(0) && far.read(&mut [0; 4]) == Ok(0);
     Some((front, asked, told, is_over))
 }
 
