@@ -1,12 +1,13 @@
-use Rattle.std.proofs.Common.{◌≡◌, ◌⊎◌, inl, inr, ℕ, Some, None, sym, ap, subst, ◌∙◌}
+use Rattle.std.proofs.Common.{◌≡◌, ◌⊎◌, inl, inr, ℕ, true, false, Some, None, sym, ap, subst, ◌∙◌}
 use Rattle.dq_base.specs.Faults.{Rose}
 use Rattle.program_words.specs.declared.asked.Asked.TheVariants as asks
 use Rattle.dqnode.specs.declared.status.Status.{Status}
 use Rattle.dqnode.specs.Status.{status_code, IsScriptCode, IsStatementCode, IsCheckCode}
 use Rattle.node_service.specs.Rules.{GoesWell}
+use Rattle.dqnode.specs.Generating.{RunEnds}
 use Rattle.dqnode.specs.Serving.{ServedBy}
 use Rattle.dqnode.proofs.Asked.{statement_code}
-use Rattle.dqnode.proofs.Generated.{generated_code, made_code}
+use Rattle.dqnode.proofs.Generated.{generated_code, made_code, made_for}
 use Rattle.dqnode.proofs.ServeEnds.{script_not_ten, statement_not_ten, check_not_ten, words_not_ten, script_not_six, statement_not_six, check_not_six, words_not_six, script_not_five, statement_not_five, words_not_five, host_status, disk_status, moved, served_for}
 use Rattle.dqnode.proofs.program.run.Goals.{in-Some-Script, in-Some-Statement, in-Some-Check, in-Some-Generate-default-default-false, in-Some-Generate-default-default-true, in-Some-Serve, in-None}
 use Rattle.dqnode.proofs.program.run.Goals as goal
@@ -90,4 +91,18 @@ returns-clause-serves_well g c = λ is. elim c.match-asked.branch [
       (g.H.Inbox.faults c.args.network.now.host) (g.H.Inbox.faults network.host) → (code ≡ 10) ⊎ (code ≡ 7))
       w.serve_node-status.ensures.ends_well
   | in-None w ↦ let bad : None ≡ Some (asks.Serve is.0) = sym w.in-None.is ∙ is.1 in absurd cc
+]
+
+pub returns-clause-made : goal.returns-clause-made
+returns-clause-made g c = λ number writes asked. elim c.match-asked.branch [
+  | in-Some-Script w ↦ let bad : Some (asks.Script w.in-Some-Script.engine) ≡ Some (asks.Generate number writes true) = sym (w.in-Some-Script.is ∙ ap Some w.in-Some-Script.field-0-is) ∙ asked in absurd cc
+  | in-Some-Statement w ↦ let bad : Some (asks.Statement w.in-Some-Statement.statement) ≡ Some (asks.Generate number writes true) = sym (w.in-Some-Statement.is ∙ ap Some w.in-Some-Statement.field-0-is) ∙ asked in absurd cc
+  | in-Some-Check w ↦ let bad : Some asks.Check ≡ Some (asks.Generate number writes true) = sym (w.in-Some-Check.is ∙ ap Some w.in-Some-Check.field-0-is) ∙ asked in absurd cc
+  | in-Some-Generate-default-default-false w ↦ let bad : Some (asks.Generate _ _ false) ≡ Some (asks.Generate number writes true) = sym (w.in-Some-Generate-default-default-false.is ∙ ap Some w.in-Some-Generate-default-default-false.field-0-is) ∙ asked in absurd cc
+  | in-Some-Generate-default-default-true w ↦ moved _ _ _ _ _ _ _ w.journal-is w.output-is w.status-is c.code.ensures
+      (λ journal output code. RunEnds number writes journal (g.K.Sink.written c.args.output.now) (g.K.Sink.written output) code)
+      (made_for _ _ _ _ _ _ w.run_made-status.ensures.ended number writes
+      (sym (w.in-Some-Generate-default-default-true.is ∙ ap Some w.in-Some-Generate-default-default-true.field-0-is) ∙ asked))
+  | in-Some-Serve w ↦ let bad : Some (asks.Serve w.in-Some-Serve.words) ≡ Some (asks.Generate number writes true) = sym (w.in-Some-Serve.is ∙ ap Some w.in-Some-Serve.field-0-is) ∙ asked in absurd cc
+  | in-None w ↦ let bad : None ≡ Some (asks.Generate number writes true) = sym w.in-None.is ∙ asked in absurd cc
 ]
