@@ -1,5 +1,5 @@
 -- How it ends where a script is made.
-use Rattle.std.proofs.Common.{◌≡◌, ◌⊎◌, inl, inr, ℕ, true, false, List, Option, Some, refl, sym, ap, subst, ◌∙◌}
+use Rattle.std.proofs.Common.{◌≡◌, ◌⊎◌, inl, inr, ℕ, Bool, true, false, List, Option, Some, refl, sym, ap, subst, ◌∙◌}
 use Rattle.std.specs.Io.KnownBytes.{Appends}
 use Rattle.dq_base.specs.Sink.{AppendsFront}
 use Rattle.dq_base.proofs.ContentLaws.{AppendsFront-nothing}
@@ -48,6 +48,13 @@ pub made_for : (one many : ℕ) (journal : List Item) (a b : Option (List ℕ)) 
     → (number writes : ℕ) → ForRun number writes (Some (asks.Generate one many true)) → RunEnds number writes journal a b code
 unfolding count_in number_in
 made_for one many journal a b code h number writes e =
+    subst (λ (n : ℕ). RunEnds n writes journal a b code) (ap (number_in one) e) (subst (λ (n : ℕ). RunEnds one n journal a b code) (ap (count_in many) e) h)
+
+-- a script that is run is that of its number and its count, whatever is done with it besides
+pub made_by : (one many : ℕ) (runs : Bool) (journal : List Item) (a b : Option (List ℕ)) (code : ℕ) → RunEnds one many journal a b code
+    → (number writes : ℕ) → Some (asks.Generate one many runs) ≡ Some (asks.Generate number writes true) → RunEnds number writes journal a b code
+unfolding count_in number_in
+made_by one many runs journal a b code h number writes e =
     subst (λ (n : ℕ). RunEnds n writes journal a b code) (ap (number_in one) e) (subst (λ (n : ℕ). RunEnds one n journal a b code) (ap (count_in many) e) h)
 
 pub made_code : (number writes : ℕ) (journal : List Item) (a b : Option (List ℕ)) (code : ℕ) → RunEnds number writes journal a b code → IsScriptCode code

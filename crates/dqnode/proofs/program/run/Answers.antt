@@ -1,4 +1,4 @@
-use Rattle.std.proofs.Common.{◌≡◌, ◌⊎◌, inl, inr, ℕ, true, false, Some, None, sym, ap, subst, ◌∙◌}
+use Rattle.std.proofs.Common.{◌≡◌, ◌⊎◌, inl, inr, ℕ, true, Some, None, sym, ap, subst, ◌∙◌}
 use Rattle.dq_base.specs.Faults.{Rose}
 use Rattle.program_words.specs.declared.asked.Asked.TheVariants as asks
 use Rattle.dqnode.specs.declared.status.Status.{Status}
@@ -7,7 +7,7 @@ use Rattle.node_service.specs.Rules.{GoesWell}
 use Rattle.dqnode.specs.Generating.{RunEnds}
 use Rattle.dqnode.specs.Serving.{ServedBy}
 use Rattle.dqnode.proofs.Asked.{statement_code}
-use Rattle.dqnode.proofs.Generated.{generated_code, made_code, made_for}
+use Rattle.dqnode.proofs.Generated.{generated_code, made_code, made_by}
 use Rattle.dqnode.proofs.ServeEnds.{script_not_ten, statement_not_ten, check_not_ten, words_not_ten, script_not_six, statement_not_six, check_not_six, words_not_six, script_not_five, statement_not_five, words_not_five, host_status, disk_status, moved, served_for}
 use Rattle.dqnode.proofs.program.run.Goals.{in-Some-Script, in-Some-Statement, in-Some-Check, in-Some-Generate-default-default-false, in-Some-Generate-default-default-true, in-Some-Serve, in-None}
 use Rattle.dqnode.proofs.program.run.Goals as goal
@@ -98,10 +98,15 @@ returns-clause-made g c = λ number writes asked. elim c.match-asked.branch [
   | in-Some-Script w ↦ let bad : Some (asks.Script w.in-Some-Script.engine) ≡ Some (asks.Generate number writes true) = sym (w.in-Some-Script.is ∙ ap Some w.in-Some-Script.field-0-is) ∙ asked in absurd cc
   | in-Some-Statement w ↦ let bad : Some (asks.Statement w.in-Some-Statement.statement) ≡ Some (asks.Generate number writes true) = sym (w.in-Some-Statement.is ∙ ap Some w.in-Some-Statement.field-0-is) ∙ asked in absurd cc
   | in-Some-Check w ↦ let bad : Some asks.Check ≡ Some (asks.Generate number writes true) = sym (w.in-Some-Check.is ∙ ap Some w.in-Some-Check.field-0-is) ∙ asked in absurd cc
-  | in-Some-Generate-default-default-false w ↦ let bad : Some (asks.Generate _ _ false) ≡ Some (asks.Generate number writes true) = sym (w.in-Some-Generate-default-default-false.is ∙ ap Some w.in-Some-Generate-default-default-false.field-0-is) ∙ asked in absurd cc
+  | in-Some-Generate-default-default-false w ↦
+      let test = w.in-Some-Generate-default-default-false.field-0-2-test in
+      let runs = w.in-Some-Generate-default-default-false.field-0-2-is in
+      let bad : Some (asks.Generate w.in-Some-Generate-default-default-false.number w.in-Some-Generate-default-default-false.count w.in-Some-Generate-default-default-false.field-0-2) ≡ Some (asks.Generate number writes true)
+      = sym (w.in-Some-Generate-default-default-false.is ∙ ap Some w.in-Some-Generate-default-default-false.field-0-is) ∙ asked in
+      absurd cc
   | in-Some-Generate-default-default-true w ↦ moved _ _ _ _ _ _ _ w.journal-is w.output-is w.status-is c.code.ensures
       (λ journal output code. RunEnds number writes journal (g.K.Sink.written c.args.output.now) (g.K.Sink.written output) code)
-      (made_for _ _ _ _ _ _ w.run_made-status.ensures.ended number writes
+      (made_by _ _ _ _ _ _ _ w.run_made-status.ensures.ended number writes
       (sym (w.in-Some-Generate-default-default-true.is ∙ ap Some w.in-Some-Generate-default-default-true.field-0-is) ∙ asked))
   | in-Some-Serve w ↦ let bad : Some (asks.Serve w.in-Some-Serve.words) ≡ Some (asks.Generate number writes true) = sym (w.in-Some-Serve.is ∙ ap Some w.in-Some-Serve.field-0-is) ∙ asked in absurd cc
   | in-None w ↦ let bad : None ≡ Some (asks.Generate number writes true) = sym w.in-None.is ∙ asked in absurd cc
