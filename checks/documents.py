@@ -13,8 +13,8 @@ import subprocess
 import sys
 
 TOP = os.path.dirname(os.path.dirname(os.path.realpath(__file__)))
-# Names of the system and of the kit.
-FOREIGN = {"TCP_NODELAY", "FailsBy", "group_concat"}
+# Names of the system, of the kit and of SQLite.
+FOREIGN = {"TCP_NODELAY", "FailsBy", "group_concat", "sqlite3_stmt_readonly"}
 # Paths that the kit makes, that the system has, or in which a word stands for others; and SQL's comments.
 ELSEWHERE = re.compile(r"/.*|out/.*|(.*[/.])?[A-Z]{2,}([/.].*)?")
 

@@ -65,7 +65,7 @@ def kind_of(firsts):
     """The kind of a statement by its words up to the first token that is none, and whether something else follows."""
     names, whole = firsts
     first = names[0] if names else ""
-    if first in ("INSERT", "REPLACE", "UPDATE", "DELETE"):
+    if first in ("INSERT", "REPLACE", "UPDATE", "DELETE", "CREATE", "DROP", "ALTER"):
         return "Write", False
     if first in ("ATTACH", "DETACH", "PRAGMA", "VACUUM", "SAVEPOINT", "RELEASE"):
         return "LeftOut", False

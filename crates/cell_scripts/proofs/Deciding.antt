@@ -1,5 +1,5 @@
 -- Whole nodes with engines of cells are exact, and so their scripts repeat.
-use Rattle.std.proofs.Common.{◌≡◌, ◌≢◌, ℕ, ◌==◌, Bool, true, false, cond, List, [], ◌∷◌, ◌++◌, map, Option, Some, None, refl, sym, ap, subst, ◌∙◌, append-nil}
+use Rattle.std.proofs.Common.{◌≡◌, ◌≢◌, ℕ, ◌==◌, Bool, true, false, cond, List, [], ◌∷◌, ◌++◌, Option, Some, None, refl, sym, ap, subst, ◌∙◌, append-nil}
 use Rattle.std.specs.List.{AllByRecursion}
 use Rattle.std.proofs.lemmas.Bool.{eqb-true}
 use Rattle.sql_engine.specs.declared.kind.EngineKind.TheVariants.{Cells}
@@ -8,10 +8,8 @@ use Rattle.session_rules.specs.Engines.{Answer}
 use Rattle.raft_world.specs.Members.{Setup}
 use Rattle.store_laws.specs.Store.{Kept}
 use Rattle.node_replica.specs.Keeping.{kept_at}
-use Rattle.node_replica.specs.Replicas.{kept_of}
 use Rattle.node_state.specs.Snapshot.{contents_in}
 use Rattle.node_core.specs.declared.event.Event as core
-use Rattle.node_core.specs.declared.event.Event.TheVariants as events
 use Rattle.node_core.specs.declared.outs.Outs as core_outs
 use Rattle.node_core.specs.declared.running.Running.{Running}
 use Rattle.node_core.specs.Core.{Core, core_of}
@@ -25,16 +23,16 @@ use Rattle.script_lines.specs.declared.grammar.Aim.{Aim}
 use Rattle.script_nodes.specs.Voters.{voters_from}
 use Rattle.script_nodes.specs.Knowing.{actor, turns_at, with_over}
 use Rattle.script_nodes.specs.Outcomes.{Standing, Outs, Ending, Steps, Starts, Stops, Fails, Unreadable, Outcome, Doing, Timeout, Beat, Connect, Bytes, Hangup, Receive, Start, Turn, Does, Crashes}
-use Rattle.script_runner.specs.Run.{run, printed}
+use Rattle.script_runner.specs.Run.{run}
 use Rattle.script_runner.proofs.Likeness.{run_twin}
-use Rattle.script_runs.specs.Seats.{Seat, Runs as NodeRuns, Rests as NodeRests, EventIs, StepDone, StartDone, StandsSo, EndsSo, CrashesSo, TurnSo, PathSo, outs_of, setup_of}
+use Rattle.script_runs.specs.Seats.{Seat, Runs as NodeRuns, Rests as NodeRests, EventIs, StepDone, StartDone, StandsSo, EndsSo, TurnSo, PathSo, outs_of, setup_of}
 use Rattle.script_runs.specs.Mails.{ByNodes, OverByNode}
 use Rattle.script_runs.specs.Turns.{HasLoaded, AllLoad}
 use Rattle.script_runs.proofs.Answering.{told_are}
 use Rattle.script_runs.proofs.Scripts.{loads_never_fail_hold}
-use Rattle.script_repeats.specs.Plain.{plain_answer, plain_outcome}
-use Rattle.script_repeats.specs.Nodes.{Path, ComesWell, EndsWell, IsAmple, GoesWell, AreLed, ComesTo, AreExact, MayCrash}
-use Rattle.script_repeats.specs.Repeats.{Compared, IsLed, StartWith, BrokeOff, BrokenRunsRepeat, FrontsRepeat, RunsCompare, WholeRunsRepeat}
+use Rattle.script_repeats.specs.Plain.{plain_outcome}
+use Rattle.script_repeats.specs.Nodes.{Path, EndsWell, IsAmple, GoesWell, AreLed, ComesTo, AreExact, MayCrash}
+use Rattle.script_repeats.specs.Repeats.{IsLed, StartWith, BrokeOff, BrokenRunsRepeat, FrontsRepeat, RunsCompare, WholeRunsRepeat}
 use Rattle.script_repeats.proofs.Paths.{turns_join, well_at}
 use Rattle.script_repeats.proofs.Running.{broken_runs_repeat, fronts_repeat, runs_compare, whole_runs_repeat}
 use Rattle.cell_scripts.specs.Cores.{CoreSeat, Runs, Rests, stands_at, StepsAt, StartsAt, EndsAt, CrashesAt, TurnsAt, cell_nodes}

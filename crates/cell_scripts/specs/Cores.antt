@@ -14,7 +14,7 @@ use Rattle.node_core.specs.ExactStart.{StartsExactly}
 use Rattle.node_world.specs.Runs.{nothing_kept}
 use Rattle.core_runs.specs.Decided.{IsAlone}
 use Rattle.script_nodes.specs.Voters.{voters_from}
-use Rattle.script_nodes.specs.Outcomes.{Standing, Outs, Ending, Steps, Starts, Stops, Fails, Unreadable, Doing, Start, Turn, Does, Crashes}
+use Rattle.script_nodes.specs.Outcomes.{Standing, Outs, Ending, Steps, Starts, Doing, Start, Turn, Does, Crashes}
 use Rattle.script_runs.specs.Seats.{EventIs, outs_of}
 use Rattle.script_repeats.specs.Nodes.{Nodes}
 

@@ -16,7 +16,7 @@ use Rattle.session_table.specs.declared.session.Session.{Session}
 use Rattle.session_table.specs.declared.session.Transaction.{Transaction}
 use Rattle.session_table.specs.Marks.{AreMarks}
 use Rattle.session_table.specs.Table as tables
-use Rattle.session_table.specs.Table.{IsTable, image_pinned, transaction_of, session_of, session_found, session_at, has_conn, table_of, mark_of, pin_of}
+use Rattle.session_table.specs.Table.{IsTable, image_pinned, transaction_of, session_found, session_at, has_conn, table_of, mark_of, pin_of}
 use Rattle.session_table.specs.Working.{work_of, works_of}
 use Rattle.session_table.proofs.Following.{IsSame, same_session}
 use Rattle.session_table.proofs.Found.{IsFound, all_found}

@@ -15,8 +15,8 @@ use Rattle.session_world.specs.Life.{Event as Doing, Connect, Hangup, Call, Resu
 use Rattle.session_world.proofs.Invariant.{NodeOk, free_later}
 use Rattle.session_world.proofs.Laters.{resumed_both, undue_here}
 use Rattle.session_world.proofs.Lives.{none_is, happens_ok}
-use Rattle.session_world.proofs.Alones.{call_same, resumed_same, read_same}
 use Rattle.session_world.proofs.Flying.{FlightNext, request_next, later_next}
+use Rattle.session_world.proofs.Terms.{term_up, terms_up}
 use Rattle.raft_rules.specs.Node.{is_leader}
 use Rattle.raft_world.specs.Members.{Setup}
 use Rattle.raft_world.specs.Laws.{node_at, log_at}
@@ -175,25 +175,6 @@ asked_call k conn c w standing r answers a =
     (λ e. a)
 
 module _ (mean : Meaning) (kind : EngineKind) where
-  -- terms only grow
-  term_up : (w : Life) (e : Doing) → Fits mean kind w e → w.term ≤ (goes_on w e).term
-  unfolding goes_on
-  term_up w (Connect c) h = cond_both (connects w.gate c) _ w (λ (v : Life). w.term ≤ v.term) (λ e. omega arith) (λ e. omega arith)
-  term_up w (Hangup c) h = omega arith
-  term_up w (Call c standing r answers) h = let s = (call_same w c standing r answers).term in omega arith
-  term_up w (Resume c standing answers) h = let s = (resumed_same w c standing answers (later_query (w.gate.session c).later)).term in omega arith
-  term_up w (Done c answers) h = let s = (read_same w c answers (lent_query (w.gate.session c).later)).term in omega arith
-  term_up w Apply h = omega arith
-  term_up w (Lose t) h = omega (arith, h)
-  term_up w (Lead t) h = omega (arith, h.1)
-  term_up w Serve h = omega arith
-  term_up w (Append contents) h = omega arith
-  term_up w (Follow es) h = omega arith
-
-  terms_up : (es : List Doing) (w : Life) → AllFit mean kind w es → w.term ≤ (lives_on w es).term
-  terms_up [] w h = omega arith
-  terms_up (e ∷ es) w h = let one = term_up w e h.0 in let rest = terms_up es (goes_on w e) h.1 in omega arith
-
   asked_step : (k conn : ℕ) (w : Life) (e : Doing) → NodeOk mean w → Fits mean kind w e → (goes_on w e).term ≡ w.term → Asked k conn w → Asked k conn (goes_on w e)
   unfolding goes_on connected on_hangup on_applied tidy
   asked_step k conn w (Connect c) ok h t a = cond_both (connects w.gate c) _ w (Asked k conn)
@@ -224,8 +205,8 @@ module _ (mean : Meaning) (kind : EngineKind) where
   asked_run : (k conn : ℕ) (es : List Doing) (w : Life) → NodeOk mean w → AllFit mean kind w es → (lives_on w es).term ≡ w.term → Asked k conn w → Asked k conn (lives_on w es)
   asked_run k conn [] w ok h t a = a
   asked_run k conn (e ∷ es) w ok h t a =
-      let one = term_up w e h.0 in
-      let rest = terms_up es (goes_on w e) h.1 in
+      let one = term_up mean kind w e h.0 in
+      let rest = terms_up mean kind es (goes_on w e) h.1 in
       let same : (goes_on w e).term ≡ w.term = omega arith in
       asked_run k conn es (goes_on w e) (happens_ok mean kind w e h.0 ok) h.1 (t ∙ sym same) (asked_step k conn w e ok h.0 same a)
 
@@ -234,7 +215,7 @@ module _ (mean : Meaning) (kind : EngineKind) where
   terms_acts vs n [] c old h starts = omega arith
   terms_acts vs n (a ∷ more) c old h starts =
       let s = head_starts n a more starts in
-      let one = terms_up (doings n a) (c.lives n) (act_fit mean kind vs c a n old h.0) in
+      let one = terms_up mean kind (doings n a) (c.lives n) (act_fit mean kind vs c a n old h.0) in
       let same = ap (λ (w : Life). w.term) (life_after vs c a n s.0) in
       let rest = terms_acts vs n more (acted vs c a) (act_ok mean kind vs c a old h.0) h.1 s.1 in
       omega arith
@@ -245,7 +226,7 @@ module _ (mean : Meaning) (kind : EngineKind) where
       let s = head_starts n x more starts in
       let next = act_ok mean kind vs c x old h.0 in
       let fit = act_fit mean kind vs c x n old h.0 in
-      let one = terms_up (doings n x) (c.lives n) fit in
+      let one = terms_up mean kind (doings n x) (c.lives n) fit in
       let is = life_after vs c x n s.0 in
       let same = ap (λ (w : Life). w.term) is in
       let rest = terms_acts vs n more (acted vs c x) next h.1 s.1 in
@@ -274,8 +255,8 @@ module _ (mean : Meaning) (kind : EngineKind) where
       let front = front_fit mean kind before (Resume conn standing answers ∷ after) (d.lives n) fit in
       let back = back_fit mean kind before (Resume conn standing answers ∷ after) (d.lives n) fit in
       let v = lives_on (d.lives n) before in
-      let two = terms_up before (d.lives n) front in
-      let three = terms_up (Resume conn standing answers ∷ after) v back in
+      let two = terms_up mean kind before (d.lives n) front in
+      let three = terms_up mean kind (Resume conn standing answers ∷ after) v back in
       let whole = ap (λ (x : Life). x.term) (lives_join before (Resume conn standing answers ∷ after) (d.lives n)) in
       let end = move_term mean kind vs d n cs places ls fits in
       let begin = co.term in

@@ -1,14 +1,8 @@
 -- Lists of names in which none stands twice.
-use Rattle.std.proofs.Common.{◌≡◌, ◌≢◌, ℕ, zero, suc, ◌+◌, ◌<◌, Bool, true, false, cond, ◌⊎◌, inl, inr, List, [], ◌∷◌, length, get_or, sum_by, refl, sym, ap, subst, ◌∙◌, arith, true≢false}
-use Rattle.std.specs.Prelude.{bytes_eq}
+use Rattle.std.proofs.Common.{◌≡◌, ◌≢◌, ℕ, zero, suc, ◌<◌, ◌⊎◌, inl, inr, List, [], ◌∷◌, length, sum_by, refl, sym, subst, arith}
 use Rattle.std.specs.List.{AllPairs, Contains}
 use Rattle.std.proofs.lemmas.List.Sums.{sum_by-cons}
-use Rattle.std.proofs.lemmas.Slice.Eq.{bytes_eq-Decides}
-
--- the name is among these
-abbrev pub IsIn : List ℕ → List (List ℕ) → Type 0
-IsIn name [] = ⊥
-IsIn name (other ∷ names) = (other ≡ name) ⊎ IsIn name names
+use Rattle.frame_commands.proofs.NamesAmong.{IsIn, at_place, same_or_other, without, without_sum, without_other}
 
 -- no name stands twice
 abbrev pub AreDistinct : List (List ℕ) → Type 0
@@ -17,18 +11,10 @@ AreDistinct (name ∷ names) = (IsIn name names → ⊥) × AreDistinct names
 
 -- ---- by places
 
-pub at_place : (name : List ℕ) (names : List (List ℕ)) (k : ℕ) (d : List ℕ) → k < length names → get_or names k d ≡ name → IsIn name names
-at_place name [] k d lt e = absurd (omega arith)
-at_place name (n ∷ ns) zero d lt e = inl e
-at_place name (n ∷ ns) (suc k) d lt e = inr (at_place name ns k d (omega arith) e)
-
 pub contains : (name : List ℕ) (names : List (List ℕ)) → IsIn name names → Contains names name
 contains name [] i = absurd i
 contains name (n ∷ ns) (inl e) = (0, omega arith, e)
 contains name (n ∷ ns) (inr i) = let c = contains name ns i in let lt : c.0 < length ns = c.1 in (suc c.0, omega arith, c.2)
-
-pub is_in : (name : List ℕ) (names : List (List ℕ)) → Contains names name → IsIn name names
-is_in name names c = at_place name names c.0 name c.1 c.2
 
 pub apart : (names : List (List ℕ)) → AreDistinct names → AllPairs (λ one other. one ≢ other) names
 apart [] h i j d lt within = absurd (omega arith)
@@ -46,28 +32,6 @@ distinct (n ∷ ns) h = (
 
 -- ---- a list without a name
 
-tested : (a b : List ℕ) (same : Bool) → bytes_eq a b ≡ same → ((bytes_eq a b ≡ true) × (a ≡ b)) ⊎ ((bytes_eq a b ≡ false) × (a ≢ b))
-tested a b true e = inl (e, (bytes_eq-Decides a b).0 e)
-tested a b false e = inr (e, λ p. true≢false (sym ((bytes_eq-Decides a b).1 p) ∙ e))
-
-pub same_or_other : (a b : List ℕ) → ((bytes_eq a b ≡ true) × (a ≡ b)) ⊎ ((bytes_eq a b ≡ false) × (a ≢ b))
-same_or_other a b = tested a b (bytes_eq a b) refl
-
-abbrev without : List ℕ → List (List ℕ) → List (List ℕ)
-without x [] = []
-without x (y ∷ ys) = cond (bytes_eq y x) ys (y ∷ without x ys)
-
-without_sum : (f : List ℕ → ℕ) (x : List ℕ) (ys : List (List ℕ)) → IsIn x ys → sum_by f ys ≡ f x + sum_by f (without x ys)
-without_sum f x [] i = absurd i
-without_sum f x (y ∷ ys) i =
-    elim (same_or_other y x) [
-      | inl p ↦ rw p.0 (sum_by-cons f y ys ∙ ap (λ (z : List ℕ). f z + sum_by f ys) p.1)
-      | inr p ↦
-          let j : IsIn x ys = elim i [ inl e ↦ absurd (p.1 e) | inr j ↦ j ] in
-          let rest = without_sum f x ys j in
-          rw p.0 (omega (arith, sum_by-cons f y ys, sum_by-cons f y (without x ys), rest))
-    ]
-
 without_in : (x n : List ℕ) (ys : List (List ℕ)) → IsIn n (without x ys) → IsIn n ys
 without_in x n [] i = absurd i
 without_in x n (y ∷ ys) i =
@@ -76,14 +40,6 @@ without_in x n (y ∷ ys) i =
       | inr p ↦
           let j : (y ≡ n) ⊎ IsIn n (without x ys) = rw p.0 at i in
           elim j [ inl e ↦ inl e | inr k ↦ inr (without_in x n ys k) ]
-    ]
-
-without_other : (x n : List ℕ) (ys : List (List ℕ)) → x ≢ n → IsIn n ys → IsIn n (without x ys)
-without_other x n [] other i = absurd i
-without_other x n (y ∷ ys) other i =
-    elim (same_or_other y x) [
-      | inl p ↦ rw p.0 (elim i [ inl e ↦ absurd (other (sym p.1 ∙ e)) | inr j ↦ j ])
-      | inr p ↦ rw p.0 (elim i [ inl e ↦ inl e | inr j ↦ inr (without_other x n ys other j) ])
     ]
 
 without_gone : (x : List ℕ) (ys : List (List ℕ)) → AreDistinct ys → IsIn x (without x ys) → ⊥

@@ -10,7 +10,8 @@ use Rattle.std.proofs.lemmas.Slice.Eq.{bytes_eq-Decides}
 use Rattle.command_list.specs.declared.stated.Stated.{Stated}
 use Rattle.command_list.specs.Limits.{note, noted, is_allowed}
 use Rattle.command_list.specs.StatedLengths.{AreNamesIn, greatest_stated, names_in}
-use Rattle.command_list.proofs.NameLists.{IsIn, AreDistinct, contains, is_in, apart, distinct, same_or_other, same_sum, length_is_sum}
+use Rattle.frame_commands.proofs.NamesAmong.{IsIn, is_in, same_or_other}
+use Rattle.command_list.proofs.NameLists.{AreDistinct, contains, apart, distinct, same_sum, length_is_sum}
 
 -- ---- the names after one more
 

@@ -1,5 +1,5 @@
 -- Calls that are counted, one after another.
-use Rattle.std.proofs.Common.{Bool, false, List, length, ◌≡◌, ◌≤◌, ℕ, zero, suc, ◌+◌, refl, sym, ap, ◌∙◌, subst, arith, Result, Ok, Err, OnOk}
+use Rattle.std.proofs.Common.{Bool, false, List, length, ◌≡◌, ◌≤◌, ℕ, zero, suc, ◌+◌, refl, sym, ap, ◌∙◌, subst, arith, Result, Ok, Err}
 use Rattle.dq_base.specs.Faults.{one_more, last_count}
 use Rattle.disk_model.specs.Trait.{Text, after_calls, MakesCalls}
 use Rattle.disk_model.specs.Writing.{replace_calls}

@@ -1,6 +1,6 @@
 -- The front of a file that no call touched since it was put down.
-use Rattle.std.proofs.Common.{◌≡◌, ℕ, zero, suc, ◌+◌, ◌<◌, ◌≤◌, min, List, [], ◌∷◌, ◌++◌, length, take, drop, refl, sym, ap, ◌∙◌, arith}
-use Rattle.std.proofs.lemmas.List.{take_at, take-append-le, take-append-drop, length-take, length-append, length-take-le}
+use Rattle.std.proofs.Common.{◌≡◌, ℕ, zero, suc, ◌+◌, ◌≤◌, min, List, [], ◌∷◌, ◌++◌, length, take, drop, refl, sym, ap, ◌∙◌, arith}
+use Rattle.std.proofs.lemmas.List.{take_at, take-append-le, take-append-drop, length-take, length-append}
 use Rattle.disk_model.specs.Disk.{Found}
 use Rattle.disk_model.specs.Calls.{put}
 use Rattle.disk_model.specs.Memory.{done_to}

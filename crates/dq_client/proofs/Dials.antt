@@ -1,5 +1,5 @@
 -- What a client's steps want of the dials.
-use Rattle.std.proofs.Common.{◌≡◌, ◌+◌, ◌*◌, ◌<◌, ◌≤◌, ℕ, Bool, true, false, not, List, [], ◌∷◌, ◌++◌, length, cond, Ok, Err, Result, refl, sym, ap, subst, ◌∙◌, arith}
+use Rattle.std.proofs.Common.{◌≡◌, ◌+◌, ◌*◌, ℕ, Bool, true, false, List, [], length, Ok, Err, Result, refl, sym, subst}
 use Rattle.std.proofs.lemmas.Bool.{eqb-true}
 use Rattle.std.specs.Prelude.{◌==◌, nat_lt, if◌then◌else◌}
 use Rattle.wire_msgs.specs.declared.response.Response.{Response}
@@ -12,14 +12,13 @@ use Rattle.wire_rows.specs.Reading.{part_of}
 use Rattle.dq_client.specs.declared.events.ClientEvent.{ClientEvent}
 use Rattle.dq_client.specs.declared.events.ClientEvent.TheVariants as events
 use Rattle.dq_client.specs.declared.events.ClientDo.{ClientDo}
-use Rattle.dq_client.specs.declared.events.ClientDo.TheVariants.{Dial, Send, Wait, Done}
-use Rattle.dq_client.specs.declared.events.ClientEnd.{ClientEnd}
+use Rattle.dq_client.specs.declared.events.ClientDo.TheVariants.{Dial}
 use Rattle.dq_client.specs.declared.events.ClientEnd.TheVariants as client_ends
 use Rattle.dq_client.specs.declared.course.Awaited.{Awaited}
 use Rattle.dq_client.specs.declared.course.Awaited.TheVariants as awaited
 use Rattle.dq_client.specs.declared.course.Course.{Course}
-use Rattle.dq_client.specs.Course.{next_address, is_own, waits, awaiting, sends, ends, refuses, follows, next_try, try_ends, on_begin, on_link, on_leader_link, server_is, on_server, db_refuses, on_db, answer_refuses, part_comes, rows_come, on_answer, on_asked, on_opened, on_stated, on, step}
-use Rattle.dq_client.specs.Sending.{leader_bytes, open_bytes, opening_bytes, statement_bytes}
+use Rattle.dq_client.specs.Course.{next_address, is_own, waits, sends, ends, refuses, follows, next_try, try_ends, server_is, on_server, db_refuses, on_db, answer_refuses, part_comes, rows_come, on_answer, on, step}
+use Rattle.dq_client.specs.Sending.{open_bytes}
 use Rattle.dq_client.specs.Driving.{FineAt, DoneBy}
 
 -- what an address that was dialled, or not, adds to this

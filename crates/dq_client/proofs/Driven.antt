@@ -1,5 +1,5 @@
 -- A client over a dialer, from one call to the next.
-use Rattle.std.proofs.Common.{◌≡◌, ◌⊎◌, inl, inr, ◌+◌, ◌*◌, ◌<◌, ◌≤◌, ℕ, suc, min, Bool, true, false, List, [], ◌∷◌, ◌++◌, length, Option, Some, None, refl, sym, ap, subst, ◌∙◌, arith, add-one, true≢false}
+use Rattle.std.proofs.Common.{◌≡◌, inl, inr, ◌+◌, ◌*◌, ◌<◌, ◌≤◌, ℕ, suc, Bool, true, false, List, [], ◌∷◌, ◌++◌, length, Option, Some, None, refl, sym, ap, subst, ◌∙◌, arith}
 use Rattle.std.proofs.lemmas.Bool.Decides.{leb_tells}
 use Rattle.std.proofs.lemmas.List.{append_assoc, append-nil}
 use Rattle.std.specs.declared.alloc.AllocError.{AllocError}
@@ -16,7 +16,7 @@ use Rattle.dq_client.specs.declared.course.Course.{Course}
 use Rattle.dq_client.specs.declared.run.Run.{Run}
 use Rattle.dq_client.specs.declared.dialer.NetCall.{NetCall}
 use Rattle.dq_client.specs.declared.dialer.NetCall.TheVariants.{Dial, Write, Read}
-use Rattle.dq_client.specs.Course.{step, begun}
+use Rattle.dq_client.specs.Course.{step}
 use Rattle.dq_client.specs.Net.{Net, Tells}
 use Rattle.std.specs.Prelude.{nat_lt, drop, if◌then◌else◌, Result, Ok, Err, OnOk, IfOk}
 use Rattle.wire_words.specs.Message.{header_of}
@@ -24,9 +24,9 @@ use Rattle.wire_words.specs.Stream.{message_with}
 use Rattle.wire_msgs.specs.declared.response.Response.{Response}
 use Rattle.wire_msgs.specs.declared.fault.MsgFault.{MsgFault}
 use Rattle.wire_msgs.specs.Reading.{response_of}
-use Rattle.dq_client.specs.Running.{event_of, message_event, Came, came_of, read_of, heard, heard_behind, goes_on, started, IsNamed, AreNamed, after_call, after_calls, Leads, HasLed, HaveDialled, EndHasCause, Counted, Made, is_done}
+use Rattle.dq_client.specs.Running.{event_of, message_event, Came, came_of, read_of, heard, goes_on, started, IsNamed, AreNamed, after_call, after_calls, HasLed, HaveDialled, EndHasCause, Counted, Made}
 use Rattle.dq_client.specs.Driving.{IsBegun, Goes, Stops, FineAt, DoneBy, Going, HaveNamed, HaveEnded, Drives}
-use Rattle.dq_client.proofs.Dials.{Gains, Stays, steps}
+use Rattle.dq_client.proofs.Dials.{Gains, steps}
 use Rattle.dq_client.proofs.Failing.{failed_on, none_failed}
 
 -- ---- the calls

@@ -1,10 +1,10 @@
 -- Statements that were sent before the last one.
-use Rattle.std.proofs.Common.{◌≡◌, ◌+◌, ℕ, Bool, true, false, List, [], ◌∷◌, refl, sym, ap, subst, ◌∙◌, true≢false}
+use Rattle.std.proofs.Common.{◌≡◌, ℕ, Bool, true, false, List, [], ◌∷◌, refl, sym, subst, ◌∙◌, true≢false}
 use Rattle.std.specs.Prelude.{◌||◌, if◌then◌else◌}
 use Rattle.dq_client.specs.declared.events.ClientEvent.{ClientEvent}
 use Rattle.dq_client.specs.declared.events.ClientDo.{ClientDo}
 use Rattle.dq_client.specs.declared.events.ClientDo.TheVariants.{Dial, Send, Wait, Done}
-use Rattle.dq_client.specs.Laws.{Turn, Wanted, is_statement, is_open, Phase, Free, Stated, Over, with_body, heard, phase_after, tries_after, Obeys, AllObey, sends_statement, any_statement, IsFirst, FirstElsewhere, AreElsewhere}
+use Rattle.dq_client.specs.Laws.{Turn, Wanted, is_open, Phase, Free, Stated, Over, with_body, phase_after, tries_after, Obeys, AllObey, sends_statement, any_statement, IsFirst, FirstElsewhere, AreElsewhere}
 
 module _ (w : Wanted) where
   -- after its end a client sends nothing

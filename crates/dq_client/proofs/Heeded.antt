@@ -1,5 +1,5 @@
 -- What a client awaits.
-use Rattle.std.proofs.Common.{◌≡◌, ◌⊎◌, inl, inr, ◌+◌, ◌*◌, ℕ, Bool, true, false, List, [], ◌∷◌, length, Ok, Err, Result, refl, sym, ap, subst, ◌∙◌, true≢false}
+use Rattle.std.proofs.Common.{◌≡◌, inl, inr, ◌+◌, ◌*◌, ℕ, Bool, true, false, List, [], ◌∷◌, length, Ok, Err, Result, refl, sym, ap, subst, true≢false}
 use Rattle.std.specs.Prelude.{◌==◌, nat_lt, if◌then◌else◌}
 use Rattle.wire_msgs.specs.declared.response.Response.{Response}
 use Rattle.wire_msgs.specs.declared.response.Response.TheVariants as responses
@@ -11,15 +11,15 @@ use Rattle.wire_rows.specs.Reading.{part_of}
 use Rattle.dq_client.specs.declared.events.ClientEvent.{ClientEvent}
 use Rattle.dq_client.specs.declared.events.ClientEvent.TheVariants as events
 use Rattle.dq_client.specs.declared.events.ClientDo.{ClientDo}
-use Rattle.dq_client.specs.declared.events.ClientDo.TheVariants.{Dial, Send, Wait, Done}
+use Rattle.dq_client.specs.declared.events.ClientDo.TheVariants.{Dial, Wait}
 use Rattle.dq_client.specs.declared.events.ClientEnd.TheVariants as client_ends
 use Rattle.dq_client.specs.declared.course.Awaited.{Awaited}
 use Rattle.dq_client.specs.declared.course.Awaited.TheVariants as awaited
 use Rattle.dq_client.specs.declared.course.Course.{Course}
 use Rattle.dq_client.specs.Course.{next_address, is_own, waits, sends, ends, refuses, follows, next_try, try_ends, server_is, on_server, db_refuses, on_db, answer_refuses, part_comes, rows_come, on_answer, on, step}
 use Rattle.dq_client.specs.Sending.{open_bytes}
-use Rattle.dq_client.specs.Awaiting.{Awaits, ToBegin, ToDial, ToHear, ToRest, awaits_after, is_awaited, awaits_of, IsPart, Heeds, AllHeed}
-use Rattle.dq_client.specs.Laws.{Turn, turns}
+use Rattle.dq_client.specs.Awaiting.{Awaits, awaits_after, is_awaited, awaits_of, Heeds, AllHeed}
+use Rattle.dq_client.specs.Laws.{turns}
 
 -- It heeded the event, and awaits what it did last says.
 pub record Heeded (a : Awaited) (event : ClientEvent) (turned : ClientDo × Course) : Type 0 where

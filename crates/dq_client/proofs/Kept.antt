@@ -1,7 +1,7 @@
 -- What a client does at each event, whatever happened before.
-use Rattle.std.proofs.Common.{◌≡◌, ◌⊎◌, inl, inr, ◌+◌, ◌*◌, ◌<◌, ◌≤◌, ◌≢◌, ℕ, Bool, true, false, not, List, [], ◌∷◌, ◌++◌, length, get_or, cond, Ok, Err, Result, refl, sym, ap, subst, ◌∙◌, arith, true≢false}
+use Rattle.std.proofs.Common.{◌≡◌, inl, inr, ◌+◌, ◌*◌, ◌<◌, ◌≤◌, ◌≢◌, ℕ, Bool, true, false, not, List, [], ◌∷◌, ◌++◌, length, Ok, Err, Result, refl, sym, ap, subst, ◌∙◌, arith, true≢false}
 use Rattle.std.proofs.lemmas.Bool.{eqb-true, eqb-false, ltb-true, ltb-false}
-use Rattle.std.specs.Prelude.{◌==◌, ◌%◌, nat_lt, if◌then◌else◌}
+use Rattle.std.specs.Prelude.{◌==◌, nat_lt, if◌then◌else◌}
 use Rattle.wire_msgs.specs.declared.response.Response.{Response}
 use Rattle.wire_msgs.specs.declared.response.Response.TheVariants as responses
 use Rattle.wire_rows.specs.declared.part.Part.{Part}
@@ -12,15 +12,15 @@ use Rattle.wire_rows.specs.Reading.{part_of}
 use Rattle.dq_client.specs.declared.events.ClientEvent.{ClientEvent}
 use Rattle.dq_client.specs.declared.events.ClientEvent.TheVariants as events
 use Rattle.dq_client.specs.declared.events.ClientDo.{ClientDo}
-use Rattle.dq_client.specs.declared.events.ClientDo.TheVariants.{Dial, Send, Wait, Done}
+use Rattle.dq_client.specs.declared.events.ClientDo.TheVariants.{Dial, Wait, Done}
 use Rattle.dq_client.specs.declared.events.ClientEnd.{ClientEnd}
 use Rattle.dq_client.specs.declared.events.ClientEnd.TheVariants as client_ends
 use Rattle.dq_client.specs.declared.course.Awaited.{Awaited}
 use Rattle.dq_client.specs.declared.course.Awaited.TheVariants as awaited
 use Rattle.dq_client.specs.declared.course.Course.{Course}
-use Rattle.dq_client.specs.Course.{next_address, is_own, waits, awaiting, sends, ends, refuses, follows, next_try, try_ends, on_begin, on_link, on_leader_link, server_is, on_server, db_refuses, on_db, answer_refuses, part_comes, rows_come, on_answer, on_asked, on_opened, on_stated, on, step}
+use Rattle.dq_client.specs.Course.{next_address, is_own, waits, sends, ends, refuses, follows, next_try, try_ends, on_begin, on_link, on_leader_link, server_is, on_server, db_refuses, on_db, answer_refuses, part_comes, rows_come, on_answer, on_asked, on_opened, on_stated, on, step}
 use Rattle.dq_client.specs.Sending.{leader_bytes, open_bytes, opening_bytes, statement_bytes}
-use Rattle.dq_client.specs.Laws.{Turn, turns, Wanted, is_statement, is_open, Phase, Free, Stated, Over, with_body, heard, phase_after, is_followed, tries_after, IsElsewhere, BeginsOrEnds, IsNextTry, AreOver, MayDial, MaySend, MayEnd, bytes_in, AreRead, AreParts, IsUnreadable, LeavesOpen, IsSaid, Obeys, AllObey}
+use Rattle.dq_client.specs.Laws.{turns, Wanted, is_statement, is_open, Phase, Free, Stated, Over, heard, phase_after, is_followed, tries_after, BeginsOrEnds, IsNextTry, AreOver, bytes_in, AreRead, IsUnreadable, LeavesOpen, Obeys, AllObey}
 
 abbrev pub wanted_of : Course → Wanted
 wanted_of course = record { addresses = course.addresses; sql = course.sql; query = course.query }

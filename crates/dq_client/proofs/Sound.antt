@@ -1,5 +1,5 @@
 -- A client stays sound.
-use Rattle.std.proofs.Common.{◌≡◌, ◌⊎◌, inl, inr, ◌+◌, ◌*◌, ◌<◌, ◌≤◌, ℕ, Bool, true, false, List, [], ◌∷◌, length, Ok, Err, Result, refl, sym, ap, subst, ◌∙◌, arith}
+use Rattle.std.proofs.Common.{◌≡◌, ◌+◌, ◌*◌, ◌<◌, ◌≤◌, ℕ, Bool, true, false, List, [], length, Ok, Err, Result, refl, sym, ap, subst, arith}
 use Rattle.std.proofs.lemmas.Bool.{eqb-false, ltb-false}
 use Rattle.std.specs.declared.alloc.AllocError.{AllocError}
 use Rattle.std.specs.Prelude.{◌==◌, nat_lt, if◌then◌else◌}
@@ -13,12 +13,12 @@ use Rattle.wire_rows.specs.Reading.{part_of}
 use Rattle.dq_client.specs.declared.events.ClientEvent.{ClientEvent}
 use Rattle.dq_client.specs.declared.events.ClientEvent.TheVariants as events
 use Rattle.dq_client.specs.declared.events.ClientDo.{ClientDo}
-use Rattle.dq_client.specs.declared.events.ClientDo.TheVariants.{Dial, Send, Wait, Done}
+use Rattle.dq_client.specs.declared.events.ClientDo.TheVariants.{Dial}
 use Rattle.dq_client.specs.declared.events.ClientEnd.TheVariants as client_ends
 use Rattle.dq_client.specs.declared.course.Awaited.{Awaited}
 use Rattle.dq_client.specs.declared.course.Awaited.TheVariants as awaited
 use Rattle.dq_client.specs.declared.course.Course.{Course}
-use Rattle.dq_client.specs.Course.{Turned, Takes, IsSound, next_address, is_own, waits, sends, ends, refuses, follows, next_try, try_ends, server_is, on_server, db_refuses, on_db, answer_refuses, part_comes, rows_come, on_answer, on, step}
+use Rattle.dq_client.specs.Course.{Turned, Takes, IsSound, next_address, is_own, sends, ends, refuses, follows, next_try, try_ends, server_is, on_server, db_refuses, on_db, answer_refuses, part_comes, rows_come, on_answer, on, step}
 use Rattle.dq_client.specs.Sending.{open_bytes}
 
 module _ (course : Course) (s : IsSound course) where

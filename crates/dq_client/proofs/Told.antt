@@ -1,5 +1,5 @@
 -- How it ended for a client over a dialer.
-use Rattle.std.proofs.Common.{◌≡◌, ◌++◌, ℕ, List, [], length, Option, Some, None, sym, subst}
+use Rattle.std.proofs.Common.{ℕ, List, [], length, Option, Some, None, sym, subst}
 use Rattle.std.proofs.lemmas.List.{append-nil}
 use Rattle.std.specs.Io.KnownBytes.{Appends}
 use Rattle.dq_client.specs.declared.events.ClientEnd.{ClientEnd}

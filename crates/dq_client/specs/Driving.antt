@@ -1,8 +1,8 @@
 -- A client that is driven: what holds at each moment, and at its end.
-use Rattle.std.specs.Prelude.{◌≡◌, ◌≤◌, ◌<◌, ◌+◌, ◌*◌, ℕ, Bool, true, false, List, ◌++◌, length, Option, Some, None, Result, Ok, Err, MatchResult}
+use Rattle.std.specs.Prelude.{◌≡◌, ◌≤◌, ◌<◌, ◌+◌, ◌*◌, ℕ, List, ◌++◌, length, Option, Some, None, Result, MatchResult}
 use Rattle.std.specs.declared.alloc.AllocError.{AllocError}
 use Rattle.dq_client.specs.declared.events.ClientDo.{ClientDo}
-use Rattle.dq_client.specs.declared.events.ClientDo.TheVariants.{Dial, Send, Wait, Done}
+use Rattle.dq_client.specs.declared.events.ClientDo.TheVariants.{Done}
 use Rattle.dq_client.specs.declared.events.ClientEnd.{ClientEnd}
 use Rattle.dq_client.specs.declared.events.ClientEnd.TheVariants as client_ends
 use Rattle.dq_client.specs.declared.course.Awaited.{Awaited}

@@ -1,5 +1,5 @@
 -- A dialer over memory.
-use Rattle.std.specs.Prelude.{◌≡◌, ◌+◌, ◌==◌, ℕ, Bool, true, false, List, [], ◌∷◌, ◌++◌, drop, get_or, Option, Some, None}
+use Rattle.std.specs.Prelude.{◌≡◌, ◌+◌, ℕ, Bool, true, false, List, [], ◌∷◌, ◌++◌, Option, Some, None}
 use Rattle.dq_base.specs.Calls.{Counted}
 use Rattle.dq_client.specs.declared.dialer.NetCall.{NetCall}
 use Rattle.dq_client.specs.Net.{Net}

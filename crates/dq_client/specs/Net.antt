@@ -1,5 +1,5 @@
 -- What a call does to a dialer.
-use Rattle.std.specs.Prelude.{◌≡◌, ◌≤◌, ◌<◌, ◌+◌, ◌⊎◌, ℕ, Bool, true, false, not, cond, List, [], ◌∷◌, ◌++◌, length, take, Option, Some, None, Result, Ok, Err, MatchResult, OnOk, IfOk}
+use Rattle.std.specs.Prelude.{◌≡◌, ◌≤◌, ◌+◌, ◌⊎◌, ℕ, Bool, true, false, not, cond, List, [], ◌∷◌, ◌++◌, length, take, Option, Some, None, Result, Ok, Err, IfOk}
 use Rattle.dq_base.specs.declared.faults.Failed.{Failed}
 use Rattle.dq_base.specs.Faults.{HasCause, one_more, last_count}
 use Rattle.dq_client.specs.declared.dialer.NetCall.{NetCall}

@@ -1,8 +1,7 @@
 -- A client over a dialer: the calls that it makes, and the events that their answers make.
-use Rattle.std.specs.Prelude.{◌≡◌, ◌≤◌, ◌<◌, ◌+◌, ◌-◌, ◌*◌, ◌==◌, ℕ, Bool, true, false, List, [], ◌∷◌, ◌++◌, length, drop, nat_lt, Option, Some, None, Result, Ok, Err, MatchResult, if◌then◌else◌, ◌⊎◌, IfOk}
+use Rattle.std.specs.Prelude.{◌≡◌, ◌≤◌, ◌<◌, ◌+◌, ◌*◌, ℕ, Bool, true, false, List, [], ◌∷◌, ◌++◌, length, drop, nat_lt, Option, Some, None, Result, Ok, Err, if◌then◌else◌, ◌⊎◌, IfOk}
 use Rattle.std.specs.declared.alloc.AllocError.{AllocError}
 use Rattle.dq_base.specs.Faults.{last_count, one_more, Rose}
-use Rattle.wire_words.specs.declared.message.Message.{Message}
 use Rattle.wire_words.specs.declared.message.Header.{Header}
 use Rattle.wire_words.specs.Message.{header_of}
 use Rattle.wire_words.specs.Stream.{message_with}
@@ -19,7 +18,7 @@ use Rattle.dq_client.specs.declared.course.Course.{Course}
 use Rattle.dq_client.specs.declared.run.Run.{Run}
 use Rattle.dq_client.specs.declared.dialer.NetCall.{NetCall}
 use Rattle.dq_client.specs.declared.dialer.NetCall.TheVariants.{Dial, Write, Read}
-use Rattle.dq_client.specs.Course.{step, begun}
+use Rattle.dq_client.specs.Course.{step}
 use Rattle.dq_client.specs.Net.{Net, Tells, has_failed}
 
 abbrev pub event_of : Result Response MsgFault → ClientEvent

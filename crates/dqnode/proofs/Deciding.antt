@@ -1,5 +1,5 @@
 -- With an engine of cells a script alone decides what is written.
-use Rattle.std.proofs.Common.{◌≡◌, List, [], ◌++◌, ℕ, Option, refl, sym, ap, subst, ◌∙◌, append-nil}
+use Rattle.std.proofs.Common.{◌≡◌, List, [], ◌++◌, ℕ, Option, sym, ap, subst, ◌∙◌, append-nil}
 use Rattle.std.specs.List.{AllByRecursion}
 use Rattle.std.specs.Io.KnownBytes.{Appends}
 use Rattle.dq_base.specs.Sink.{AppendsFront}
@@ -7,7 +7,7 @@ use Rattle.dq_base.proofs.ContentLaws.{AppendsFront-longer}
 use Rattle.sql_engine.specs.declared.kind.EngineKind.TheVariants.{Cells}
 use Rattle.sql_engine.specs.Cells.{cells}
 use Rattle.script_nodes.specs.Knowing.{with_over}
-use Rattle.script_nodes.specs.Outcomes.{Outcome, Item, Turn}
+use Rattle.script_nodes.specs.Outcomes.{Item, Turn}
 use Rattle.script_nodes.specs.Run.{Fault, fault_text}
 use Rattle.script_runner.specs.Run.{Run, run, text_of, printed}
 use Rattle.script_runner.specs.Ending.{Anything, MayFollow}
@@ -17,7 +17,7 @@ use Rattle.script_repeats.specs.Plain.{plain_items, plain_turns}
 use Rattle.script_repeats.specs.Repeats.{AreAlike, Compared, Same, Shorter, Longer, IsWhole, StartWith}
 use Rattle.cell_scripts.specs.Decided.{GoesUntroubled, IsOfCells, BrokeOffCells, CellBrokenRepeat, CellScriptsCompare}
 use Rattle.dqnode.specs.Program.{BreaksOff, Gives}
-use Rattle.dqnode.specs.Decided.{WentWell, BrokeWell, WroteSame, WroteFront, BrokenDecideBy, ScriptsDecide, BrokenScriptsDecide}
+use Rattle.dqnode.specs.Decided.{WentWell, BrokeWell, BrokenDecideBy, ScriptsDecide, BrokenScriptsDecide}
 
 module _ (fault : Option Fault) (journal : List Item) (left left' written written' : Option (List ℕ)) (gives : Gives Cells fault journal left left' written written') (well : WentWell gives) (rest : List ℕ) (may : MayFollow left' rest) where
   -- its run is one of cells

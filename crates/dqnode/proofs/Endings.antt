@@ -1,7 +1,5 @@
 -- What a script did, from how running it ended.
 use Rattle.std.proofs.Common.{◌≡◌, ℕ, List, [], ◌++◌, Option, Some, None, refl, sym, ap, ◌∙◌, append_assoc, append-nil}
-use Rattle.std.specs.Io.KnownBytes.{Appends, Consumes}
-use Rattle.dq_base.specs.Sink.{AppendsFront}
 use Rattle.dq_base.proofs.ContentLaws.{Consumes-nothing, AppendsFront-nothing}
 use Rattle.sql_engine.specs.declared.kind.EngineKind.{EngineKind}
 use Rattle.sqlite_engine.specs.Any.{any_meaning}
@@ -9,7 +7,7 @@ use Rattle.script_nodes.specs.Outcomes.{Outcome as Came, Item, Turn}
 use Rattle.script_nodes.specs.Run.{Fault, Line, Large}
 use Rattle.script_runner.specs.declared.run.Outcome.{Outcome}
 use Rattle.script_runner.specs.declared.run.Outcome.TheVariants as outcome
-use Rattle.script_runner.specs.Ending.{MayFollow, Anything, BeginWith, Prints, PrintsFront, Ended}
+use Rattle.script_runner.specs.Ending.{MayFollow, Anything, Prints, PrintsFront, Ended}
 use Rattle.script_runner.specs.Run.{run}
 use Rattle.script_runner.proofs.Likeness.{run_twin}
 use Rattle.script_runner.proofs.Scening.{none_told}

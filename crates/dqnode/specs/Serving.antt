@@ -1,5 +1,5 @@
 -- How the program ends where a node is served.
-use Rattle.std.specs.Prelude.{◌≡◌, ℕ, Bool, List, [], None}
+use Rattle.std.specs.Prelude.{◌≡◌, ℕ, Bool, [], None}
 use Rattle.disk_model.specs.Disk.{Disk}
 use Rattle.disk_model.specs.Trait.{Text}
 use Rattle.session_decisions.specs.declared.job.Read.{Read}

@@ -22,6 +22,7 @@ const STATEMENTS: &[(&str, u64, u64, WordKind, u64, u64)] = &[
         18,
     ),
     ("end x", 0, 5, WordKind::LeftOut, 0, 5),
+    ("create table t (a)", 0, 18, WordKind::Write, 0, 18),
 ];
 
 #[test]

@@ -8,7 +8,7 @@ use Rattle.std.specs.List.{position}
 use Rattle.wire_words.specs.Items.{word, text, raw, zeros_after, is_zero, AreBytes}
 use Rattle.wire_words.specs.Reading.{◌>>=◌, Unread, unread, word_at, raw_at, text_at}
 use Rattle.wire_words.proofs.Choices.{one_of, none_of}
-use Rattle.wire_words.proofs.ReadBack.{bind_ok, ok_is, passed}
+use Rattle.wire_words.proofs.ReadBack.{bind_ok, passed}
 use Rattle.frame_commands.specs.declared.command.Command.{Command}
 use Rattle.frame_commands.specs.declared.command.Command.TheVariants.{OpenDb, Frames, Undo, Checkpoint}
 use Rattle.frame_commands.specs.declared.kind.CommandKind.{CommandKind}
@@ -20,7 +20,7 @@ use Rattle.frame_commands.specs.Spelling.{head, frames_bytes, command_bytes, IsT
 use Rattle.dq_base.specs.declared.pages.NumberedPage.{NumberedPage}
 use Rattle.frame_commands.specs.Reading.{in_command, command_kind, known, kind_of, kind_at, may_be_name, name_at, frames_at, named_frames_at, named_at, undo_at, command_after, command_at, ended, command_of, Gives}
 use Rattle.frame_commands.proofs.ItemFacts.{in_command_ok, command_is, both_true, is_short, text_ends}
-use Rattle.wire_words.proofs.Passing.{Passed, passed_none, pass_none, passed_both, between, passed_first, passed_second, bytes_after, word_passed, word_stood, raw_passed, raw_stood, text_passed, text_stood}
+use Rattle.wire_words.proofs.Passing.{Passed, passed_both, between, passed_first, passed_second, bytes_after, word_passed, word_stood, raw_passed, raw_stood, text_passed, text_stood}
 use Rattle.frame_commands.proofs.FrameLaws.{frames_passed, frames_stood}
 use Rattle.frame_commands.proofs.Ranges.{few_pages}
 

@@ -9,3 +9,4 @@ pub mod FrameLaws
 pub mod CommandLaws
 pub mod InOtherWords
 pub mod SplitFits
+pub mod NamesAmong

@@ -1,8 +1,8 @@
 -- A set that may be split gives commands whose numbers are in range, and the loop that cuts it.
-use Rattle.std.proofs.Common.{◌≡◌, ℕ, zero, suc, ◌+◌, ◌-◌, ◌/◌, ◌<◌, ◌≤◌, ◌^◌, Bool, true, false, cond, ◌&&◌, eqb, leb, List, [], ◌∷◌, ◌++◌, length, take, drop, Option, Some, None, Result, Ok, Err, refl, sym, ap, subst, ◌∙◌, append_assoc, arith}
+use Rattle.std.proofs.Common.{◌≡◌, ℕ, zero, suc, ◌+◌, ◌-◌, ◌<◌, ◌≤◌, ◌^◌, Bool, true, false, cond, ◌&&◌, leb, List, [], ◌∷◌, ◌++◌, length, take, drop, Option, Some, None, Result, Ok, Err, refl, sym, ap, subst, ◌∙◌, append_assoc, arith}
 use Rattle.std.specs.Prelude.{IfOk}
 use Rattle.std.specs.List.{All, AllByRecursion}
-use Rattle.std.proofs.lemmas.Bool.{leb-true, le-leb, leb-false, eq-eqb}
+use Rattle.std.proofs.lemmas.Bool.{leb-true, leb-false, eq-eqb}
 use Rattle.std.proofs.lemmas.List.{length-take-le, length-drop, take-append-le, drop-append-le, take_at, length_push}
 use Rattle.std.proofs.lemmas.List.Elements.{recursion_from_All, All-take}
 use Rattle.dq_base.specs.declared.pages.NumberedPage.{NumberedPage}
@@ -13,10 +13,10 @@ use Rattle.dq_base.specs.Applying.{is_sizes, stated_main, stated_side, longest_f
 use Rattle.dq_base.proofs.PageFaults.{last_page-push}
 use Rattle.frame_commands.specs.declared.command.Command.{Command}
 use Rattle.frame_commands.specs.declared.command.Command.TheVariants.{Frames}
-use Rattle.frame_commands.specs.Numbers.{numbers_ascend, highest_number, most_pages, stated_count, pages_before_last, ends_with, frames_fit, numbers_fit}
+use Rattle.frame_commands.specs.Numbers.{numbers_ascend, highest_number, stated_count, pages_before_last, ends_with, frames_fit, numbers_fit}
 use Rattle.frame_commands.specs.Splitting.{count_stated, split_from, before_last, split, ends_in_sizes, can_split}
 use Rattle.frame_commands.proofs.ItemFacts.{both_true}
-use Rattle.frame_commands.proofs.InOtherWords.{Steps, steps_of, test_of, HasLast, has_last}
+use Rattle.frame_commands.proofs.InOtherWords.{Steps, steps_of, test_of, has_last}
 use Rattle.frame_commands.proofs.Ranges.{frames_fit-push}
 
 -- ---- the page count

@@ -6,7 +6,7 @@ use Rattle.session_rules.specs.Sessions.{Gateway, no_sessions, is_busy}
 use Rattle.session_rules.specs.Events.{connects, connected}
 use Rattle.session_table.specs.declared.session.Session.{Session}
 use Rattle.session_table.specs.Table as tables
-use Rattle.session_table.specs.Table.{session_at, session_of, table_of, AreApart, IsTable}
+use Rattle.session_table.specs.Table.{session_at, session_of, table_of, IsTable}
 use Rattle.session_table.specs.Marks.{AreMarks}
 use Rattle.session_table.specs.Changing.{IsAbsent, StandsAt, Joined}
 use Rattle.session_table.proofs.Placing.{stands}

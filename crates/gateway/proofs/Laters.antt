@@ -26,7 +26,6 @@ use Rattle.session_table.specs.Named.{later_named}
 use Rattle.session_table.specs.Table.{has_conn, session_found, session_at, session_of, table_of, AreApart}
 use Rattle.session_table.specs.Working.{works_of}
 use Rattle.session_table.proofs.Found.{IsFound, all_found}
-use Rattle.session_table.proofs.Placing.{stands}
 use Rattle.session_table.proofs.Swept.{none_there}
 use Rattle.session_decisions.specs.declared.decision.Decision.{Decision}
 use Rattle.session_decisions.specs.declared.decision.Decision.TheVariants as decisions

@@ -9,7 +9,7 @@ use Rattle.client_connection.specs.Connection.{Conn}
 use Rattle.sql_engine.specs.declared.kind.EngineKind.{EngineKind}
 use Rattle.sql_engine.specs.Meanings.{Meaning, Told}
 use Rattle.statement_runs.specs.Running.{TellsAll}
-use Rattle.session_rules.specs.Engines.{Answer}
+use Rattle.statement_runs.proofs.Telling.{tells_none, tells_join}
 use Rattle.session_rules.specs.Sessions.{Reply, Job}
 use Rattle.page_apply.specs.Machines.{IsMachine}
 use Rattle.raft_rules.specs.Node as raft
@@ -24,7 +24,7 @@ use Rattle.node_rules.specs.ClientTurns.{Hears}
 use Rattle.node_rules.specs.RaftTurns.{HasServers}
 use Rattle.node_rules.proofs.Connecting.{hearing_goes_holds}
 use Rattle.node_rules.proofs.Ends.{goes_to_end_holds, stops_between_holds, stops_within_holds}
-use Rattle.node_rules.proofs.Stretches.{nothing_goes_holds, goes_begins_holds, begins_on_holds, sent_on_holds}
+use Rattle.node_rules.proofs.Stretches.{nothing_goes_holds, goes_begins_holds, goes_on_holds, begins_on_holds, sent_on_holds}
 use Rattle.node_core.specs.declared.event.Event.{Event}
 use Rattle.node_core.specs.declared.event.Event.TheVariants as events
 use Rattle.node_core.specs.declared.outs.Outs.{Outs}
@@ -80,17 +80,6 @@ says_join a b c xs ys rs qs js ks x y = record {
   reads = y.reads ∙ ap (λ l. l ++ ks) x.reads ∙ append_assoc a.outs.reads.items js ks;
 }
 
--- ---- what the engine told
-
-pub heard_none : (told : Option Told) → TellsAll [] told told
-unfolding TellsAll
-heard_none told = refl
-
-pub heard_join : (xs ys : List Answer) (before mid now : Option Told) → TellsAll xs before mid → TellsAll ys mid now → TellsAll (xs ++ ys) before now
-unfolding TellsAll
-heard_join [] ys before mid now a b = subst (λ (t : Option Told). TellsAll ys t now) (sym a) b
-heard_join (x ∷ xs) ys before mid now a b = (a.0, a.1, heard_join xs ys a.0 mid now a.2 b)
-
 -- ---- what is taken in
 
 own_join : (xs ys : List raft.Input) → AllByRecursion IsOwn xs → AllByRecursion IsOwn ys → AllByRecursion IsOwn (xs ++ ys)
@@ -119,6 +108,22 @@ QuietTurns m kind setup bytes joins old new before now = TurnsIn m kind setup by
 abbrev pub SinceIn : Meaning → EngineKind → Setup → Brought → Bool → Running → Running → Option Told → Option Told → List raft.Input → Type 0
 SinceIn m kind setup x late old new before now inputs = (s : Since m kind setup x late old new before now) × (s.piece.inputs ≡ inputs)
 
+-- a turn, and one more that leaves term and leadership, where the kept snapshot stayed in the first
+unfoldable pub turns_both : {before mid now : Option Told} (m : Meaning) (kind : EngineKind) (setup : Setup) (bytes : List ℕ) (joins : Option ℕ)
+    (a b c : Running) → Turns m kind setup bytes joins a b before mid → Turns m kind setup bytes joins b c mid now →
+    SameTerm (moment_of b) (moment_of c) → (kept_of a.replica).snap ≡ (kept_of b.replica).snap → Turns m kind setup bytes joins a c before now
+turns_both m kind setup bytes joins a b c s t same snap = record {
+  piece = both s.piece t.piece;
+  goes = goes_on_holds m kind setup a.replica.id bytes joins (moment_of a) (moment_of b) (moment_of c) s.piece t.piece s.goes
+      (subst (λ me. Goes m kind setup me bytes joins (moment_of b) (moment_of c) t.piece) s.id t.goes) (inr same);
+  inputs = adds_join s.piece.inputs t.piece.inputs [] s.inputs t.inputs;
+  asks = λ conn. ap (λ (l : List Request). l ++ t.piece.asks conn) (s.asks conn) ∙ t.asks conn;
+  says = says_join a b c s.piece.letters t.piece.letters s.piece.replies t.piece.replies s.piece.jobs t.piece.jobs s.says t.says;
+  heard = tells_join s.piece.answers t.piece.answers _ _ _ s.heard t.heard;
+  sent = sent_on_holds (kept_of a.replica) (kept_of b.replica) (kept_of c.replica) s.piece.letters t.piece.letters s.sent t.sent (inl snap);
+  id = t.id ∙ s.id;
+}
+
 -- nothing was brought but what may come with an event beside Raft's inputs and requests
 unfoldable pub since_nothing : {told : Option Told} (m : Meaning) (kind : EngineKind) (setup : Setup) (x : Brought) (n : Running) → x.inputs ≡ [] → ((conn : ℕ) → x.asks conn ≡ []) → Since m kind setup x false n n told told
 since_nothing m kind setup x n inputs asks = record {
@@ -128,7 +133,7 @@ since_nothing m kind setup x n inputs asks = record {
   asks = λ conn. sym (asks conn);
   is_late = refl;
   says = says_none n n refl refl refl;
-  heard = heard_none _;
+  heard = tells_none _;
   sent = tt;
   id = refl;
 }
@@ -149,7 +154,7 @@ since_on m kind setup x late a b c s t when once = record {
   asks = λ conn. ap (λ l. l ++ t.piece.asks conn) (s.asks conn) ∙ ap (λ l. x.asks conn ++ l) (t.asks conn) ∙ append-nil (x.asks conn);
   is_late = ap (λ z. z || t.piece.late) s.is_late;
   says = says_join a b c s.piece.letters t.piece.letters s.piece.replies t.piece.replies s.piece.jobs t.piece.jobs s.says t.says;
-  heard = heard_join s.piece.answers t.piece.answers _ _ _ s.heard t.heard;
+  heard = tells_join s.piece.answers t.piece.answers _ _ _ s.heard t.heard;
   sent = sent_on_holds (kept_of a.replica) (kept_of b.replica) (kept_of c.replica) s.piece.letters t.piece.letters s.sent t.sent once;
   id = t.id ∙ s.id;
 }
@@ -304,7 +309,7 @@ brings_same a b (events.Bytes conn bytes) asks same h = record {
 
 -- none yet
 pub went_none : {told : Option Told} (m : Meaning) (kind : EngineKind) (setup : Setup) (a : Running) → Went m kind setup a a [] told told
-went_none m kind setup a = record { made = none_made; acts = (refl, refl); says = says_none a a refl refl refl; heard = heard_none _ }
+went_none m kind setup a = record { made = none_made; acts = (refl, refl); says = says_none a a refl refl refl; heard = tells_none _ }
 
 pub went_on : {before mid now : Option Told} (m : Meaning) (kind : EngineKind) (setup : Setup) (a b c d : Running) (begins : List Begin) (begin : Begin) (ys : Made) →
     Went m kind setup a b begins before mid → Between b c → Act m kind setup c d begin ys → Says c d ys.letters ys.replies ys.jobs → TellsAll ys.answers mid now → Went m kind setup a d (begins ++ begin ∷ []) before now
@@ -313,7 +318,7 @@ went_on m kind setup a b c d begins begin ys w between act says heard = record {
   acts = acts_end m kind setup a b c d begins begin w.made ys w.acts between.same act;
   says = says_join a b d w.made.letters ys.letters w.made.replies ys.replies w.made.jobs ys.jobs w.says
       (says_join b c d [] ys.letters [] ys.replies [] ys.jobs (says_none b c between.mail between.replies between.reads) says);
-  heard = heard_join w.made.answers ys.answers _ _ _ w.heard heard;
+  heard = tells_join w.made.answers ys.answers _ _ _ w.heard heard;
 }
 
 went_asks : (before mid now : Option Told) (m : Meaning) (kind : EngineKind) (setup : Setup) (a b c d : Running) (begins : List Begin) (begin : Begin) (ys : Made) (w : Went m kind setup a b begins before mid)

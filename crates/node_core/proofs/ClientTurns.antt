@@ -14,6 +14,7 @@ use Rattle.session_rules.specs.Engines.{Answer}
 use Rattle.session_rules.specs.Sessions.{Reply, Job, responses_of, later_query, lent_query}
 use Rattle.session_world.specs.Lending.{lends_by}
 use Rattle.statement_runs.specs.Running.{TellsAll}
+use Rattle.statement_runs.proofs.Telling.{tells_none}
 use Rattle.raft_rules.specs.Log.{Entry}
 use Rattle.raft_rules.specs.Node.{is_leader}
 use Rattle.raft_rules.specs.NodeValues.{NodeValue}
@@ -35,7 +36,7 @@ use Rattle.node_core.specs.Performing.{SaysNothing, gone_by, Performed, ReadsSo}
 use Rattle.node_core.specs.Acts.{messages_by, proposals_by, jobs_by}
 use Rattle.node_core.specs.Values.{clients_in}
 use Rattle.node_core.specs.Whole.{InOffice, IsGoing}
-use Rattle.node_core.proofs.Accounting.{QuietTurns, heard_none}
+use Rattle.node_core.proofs.Accounting.{QuietTurns}
 use Rattle.node_core.proofs.Bridges.{as_sent, Shows, Sees, took_handles, took_stays, ran_resumes, finished_reads, same_stays, hung_up_goes}
 
 -- ---- what is said
@@ -147,7 +148,7 @@ module _ (m : Meaning) (kind : EngineKind) (on : GoesOn m kind) (staying : Stayi
       piece = no_piece;
       goes = staying setup old.replica.id bytes joins (moment_of old) (moment_of new) s;
       says = record { posted = []; letters_are = refl; mail = quiet.mail; told = []; outs = quiet.replies ∙ sym (append-nil old.outs.replies.items); tells = record { items = []; lives = refl; sends = refl }; reads = quiet.reads ∙ sym (append-nil old.outs.reads.items) };
-      heard = heard_none _;
+      heard = tells_none _;
       inputs = record { own = []; each = tt; is = refl };
       asks = λ conn. refl;
       sent = tt;
@@ -220,7 +221,7 @@ module _ (m : Meaning) (kind : EngineKind) (on : GoesOn m kind) (staying : Stayi
           subst (λ (b : Moment). Goes m kind setup old.replica.id bytes joins (moment_of old) b no_piece) same (staying setup old.replica.id bytes joins (moment_of old) (moment_of mid) s.0),
           refused_so x.offer.conn fault (messages_by act) (ap messages_by s.1),
           ap jobs_by s.1,
-          subst (λ (t : Option Told). TellsAll [] before t) (sym s.2) (heard_none before),
+          subst (λ (t : Option Told). TellsAll [] before t) (sym s.2) (tells_none before),
         )
 
     decided : (new : Running) → Decided → Performed mid new act → QuietTurns m kind setup bytes joins old new before now
@@ -354,7 +355,7 @@ nothing_turns m kind nothing setup bytes joins n = (
     inputs = record { own = []; each = tt; is = refl };
     asks = λ conn. refl;
     says = record { posted = []; letters_are = refl; mail = refl; told = []; outs = sym (append-nil n.outs.replies.items); tells = record { items = []; lives = refl; sends = refl }; reads = sym (append-nil n.outs.reads.items) };
-    heard = heard_none _;
+    heard = tells_none _;
     sent = tt;
     id = refl;
   },

@@ -12,6 +12,7 @@ use Rattle.sql_engine.specs.declared.kind.EngineKind.{EngineKind}
 use Rattle.sql_engine.specs.Meanings.{Meaning, Told}
 use Rattle.sql_engine.specs.Replies.{Statement}
 use Rattle.statement_runs.specs.Running.{TellsAll}
+use Rattle.statement_runs.proofs.Telling.{tells_none}
 use Rattle.session_rules.specs.Causes.{failure, unread_cause}
 use Rattle.session_rules.specs.Entries.{written}
 use Rattle.session_rules.specs.Machine.{Machine, machine_of}
@@ -39,7 +40,6 @@ use Rattle.node_core.specs.Core.{Core, core_of, clients_at, giving, replied, tak
 use Rattle.node_core.specs.Exact.{TurnsTo, MessageBy, resuming, LaterBy, LaterIf, OnHeard}
 use Rattle.node_core.specs.ExactParts.{Answered, ResumesBy, PerformsBy, OfferIf, gone_for, ClosesBy}
 use Rattle.node_core.specs.Values.{clients_in}
-use Rattle.node_core.proofs.Accounting.{heard_none}
 use Rattle.node_core.proofs.PlainGates.{hangup_plain, connected_plain, joining_plain, with_plain, without_plain, due_plain, next_plain}
 
 -- ---- what is due, and what is said
@@ -115,7 +115,7 @@ unfolding core_of
 idle_core old mid is files rest = ap core_of is ∙ (λ i. record (core_of old) { files = files i; sessions = plain_gate (rest i).sessions; streams = (rest i).streams; turns = (rest i).turns })
 
 told_none : (before now : Option Told) → now ≡ before → TellsAll [] before now
-told_none before now same = subst (λ (t : Option Told). TellsAll [] before t) (sym same) (heard_none before)
+told_none before now same = subst (λ (t : Option Told). TellsAll [] before t) (sym same) (tells_none before)
 
 module _ (m : Meaning) (kind : EngineKind) (before now : Option Told) (refused refused_now : ℕ) (old mid new : Running) (act : Act) (done : PerformsBy act (core_of mid) (core_of new)) where
   -- a message of a connection, which came to this
@@ -298,7 +298,7 @@ due_by m kind before now old new conn first a =
 pub none_due_by : (m : Meaning) (kind : EngineKind) (told : Option Told) (old : Running) → first_due (core_of old).sessions ≡ None
     → Answered told told (LaterIf m kind (first_due (core_of old).sessions) (core_of old) (core_of old))
 none_due_by m kind told old none =
-    subst (λ (o : Option ℕ). Answered told told (LaterIf m kind o (core_of old) (core_of old))) (sym none) (record { answers = []; told = heard_none told; by = (refl, refl) })
+    subst (λ (o : Option ℕ). Answered told told (LaterIf m kind o (core_of old) (core_of old))) (sym none) (record { answers = []; told = tells_none told; by = (refl, refl) })
 
 -- ---- connections
 

@@ -5,6 +5,7 @@ use Rattle.std.proofs.lemmas.Bool.{lt-ltb, le-ltb}
 use Rattle.sql_engine.specs.declared.kind.EngineKind.{EngineKind}
 use Rattle.sql_engine.specs.Meanings.{Meaning, Told}
 use Rattle.statement_runs.specs.Running.{TellsAll}
+use Rattle.statement_runs.proofs.Telling.{tells_join}
 use Rattle.session_rules.specs.Engines.{Answer}
 use Rattle.gateway.specs.Later.{first_due}
 use Rattle.client_sessions.specs.Clients.{Offer, next_offer}
@@ -22,7 +23,6 @@ use Rattle.node_core.specs.Exact.{DueIf, LaterIf, EntryBy, MayCompact, CompactsB
 use Rattle.node_core.specs.ExactParts.{Answered, OfferIf, CompactsIf}
 use Rattle.node_core.specs.Taking.{takes, loses, TookLetter, came, none_came}
 use Rattle.node_core.specs.Whole.{IsQuiet}
-use Rattle.node_core.proofs.Accounting.{heard_join}
 
 -- ---- answers
 
@@ -245,7 +245,7 @@ none_ahead m kind told w = record { answers = []; told_so = refl; on = λ turns 
 pub one_ahead : (M : EngineKind → Meaning) (k l : EngineKind) (s t u : Option Told) (w x y : Core) (more : Bool) → l ≡ k → more ≡ true → Ahead (M k) k s t w x → Answered t u (UnlinkedTurn (M l) l x y more) → Ahead (M k) k s u w y
 one_ahead M k l s t u w x y more kind left a h = record {
   answers = a.answers ++ h.answers;
-  told_so = heard_join a.answers h.answers s t u a.told_so h.told;
+  told_so = tells_join a.answers h.answers s t u a.told_so h.told;
   on = λ turns v rest r.
       let turn = subst (λ (b : Bool). UnlinkedTurn (M k) k x y b h.answers) left (subst (λ (z : EngineKind). UnlinkedTurn (M z) z x y more h.answers) kind h.by) in
       let p = a.on (suc turns) v (h.answers ++ rest) (y, h.answers, rest, refl, turn, r) in
@@ -256,7 +256,7 @@ pub last_ahead : (M : EngineKind → Meaning) (k l : EngineKind) (s t u : Option
 last_ahead M k l s t u w x y more kind left a h =
     let turn = subst (λ (b : Bool). UnlinkedTurn (M k) k x y b h.answers) left (subst (λ (z : EngineKind). UnlinkedTurn (M z) z x y more h.answers) kind h.by) in
     let p = a.on zero y h.answers turn in
-    record { answers = a.answers ++ h.answers; told = heard_join a.answers h.answers s t u a.told_so h.told; by = record { turns = p.0; are = p.1 } }
+    record { answers = a.answers ++ h.answers; told = tells_join a.answers h.answers s t u a.told_so h.told; by = record { turns = p.0; are = p.1 } }
 
 -- ---- a step
 
@@ -282,7 +282,7 @@ pub step_of : (r : Result Outs NodeFault) (M : EngineKind → Meaning) (k l : En
 step_of (Err fault) M k l s t u event w x y z v same kind begun ran says = tt
 step_of (Ok outs) M k l s t u event w x y z v same kind begun ran says = record {
   answers = begun.answers ++ ran.answers;
-  told = heard_join begun.answers ran.answers s t u begun.told ran.told;
+  told = tells_join begun.answers ran.answers s t u begun.told ran.told;
   by = record {
     first = begun.answers;
     rest = ran.answers;

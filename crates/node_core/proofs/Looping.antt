@@ -1,10 +1,10 @@
 -- Turns of a step join, and lead a step that is under way to its end.
 use Rattle.std.proofs.Common.{◌≡◌, inl, inr, ℕ, Bool, true, false, true≢false, List, [], ◌∷◌, ◌++◌, Option, Some, None, Result, Ok, Err, refl, sym, ap, subst, ◌∙◌, append-nil}
 use Rattle.std.specs.Prelude.{OnOk, IfOk}
-use Rattle.wire_msgs.specs.declared.request.Request.{Request}
 use Rattle.sql_engine.specs.declared.kind.EngineKind.{EngineKind}
 use Rattle.sql_engine.specs.Meanings.{Meaning, Told}
 use Rattle.client_connection.specs.Connection.{Conn}
+use Rattle.statement_runs.proofs.Telling.{tells_none}
 use Rattle.session_rules.specs.Events.{told_applied}
 use Rattle.session_rules.specs.Sessions.{Gateway, is_due}
 use Rattle.raft_rules.specs.Node.{is_leader}
@@ -15,10 +15,10 @@ use Rattle.client_sessions.specs.Clients.{offered_on}
 use Rattle.store_laws.specs.Store.{Kept}
 use Rattle.node_replica.specs.Mails.{sent}
 use Rattle.node_replica.specs.Replicas.{ReplicaValue, kept_of}
-use Rattle.node_rules.specs.Accounts.{Moment, no_piece, both, Goes, MayEnd}
+use Rattle.node_rules.specs.Accounts.{Moment, no_piece, Goes, MayEnd}
 use Rattle.node_rules.specs.ClientTurns.{Stays}
 use Rattle.node_rules.specs.RaftTurns.{SnapshotGoes}
-use Rattle.node_rules.proofs.Stretches.{nothing_goes_holds, goes_on_holds, sent_on_holds}
+use Rattle.node_rules.proofs.Stretches.{nothing_goes_holds}
 use Rattle.node_core.specs.declared.event.Event.{Event}
 use Rattle.node_core.specs.declared.outs.Outs.{Outs}
 use Rattle.node_core.specs.declared.running.Running.{Running}
@@ -32,7 +32,7 @@ use Rattle.node_core.specs.Values.{seen, clients_in, waiting_on}
 use Rattle.node_core.specs.Waiting.{is_among, NoneIsDue}
 use Rattle.node_core.specs.Whole.{IsGoing, IsQuiet}
 use Rattle.node_core.specs.Voters.{Beside, RestsBeside}
-use Rattle.node_core.proofs.Accounting.{QuietTurns, says_none, says_join, heard_none, heard_join, adds_none, adds_join, underway_on, underway_next, underway_ends}
+use Rattle.node_core.proofs.Accounting.{QuietTurns, turns_both, says_none, adds_none, underway_on, underway_next, underway_ends}
 use Rattle.node_core.proofs.Besides.{rests_same, beside_rest, beside_none, beside_on, beside_then}
 use Rattle.node_core.specs.Carrying.{MovesLines, lines_in, first_waiting}
 use Rattle.node_core.specs.Conns.{KeepsConns}
@@ -60,26 +60,15 @@ module _ (m : Meaning) (kind : EngineKind) (setup : Setup) (bytes : List ℕ) (j
   pub turns_kept : {before now : Option Told} (a b : Running) → b.replica ≡ a.replica → b.members ≡ a.members → b.has_links ≡ a.has_links → QuietTurns m kind setup bytes joins a b before now → TurnsOn m kind setup bytes joins a b before now
   turns_kept a b replica members links t = turns_rest a b replica (rests_same a b replica members links) t
 
-  pub turns_join : {before mid now : Option Told} (a b c : Running) → TurnsOn m kind setup bytes joins a b before mid → TurnsOn m kind setup bytes joins b c mid now → TurnsOn m kind setup bytes joins a c before now
-  turns_join a b c x y =
-      let s = x.turns in
-      let t = y.turns in
-      record {
-        turns = record {
-          piece = both s.piece t.piece;
-          goes = goes_on_holds m kind setup a.replica.id bytes joins (moment_of a) (moment_of b) (moment_of c) s.piece t.piece s.goes
-              (subst (λ me. Goes m kind setup me bytes joins (moment_of b) (moment_of c) t.piece) s.id t.goes) (inr y.same);
-          inputs = adds_join s.piece.inputs t.piece.inputs [] s.inputs t.inputs;
-          asks = λ conn. ap (λ (l : List Request). l ++ t.piece.asks conn) (s.asks conn) ∙ t.asks conn;
-          says = says_join a b c s.piece.letters t.piece.letters s.piece.replies t.piece.replies s.piece.jobs t.piece.jobs s.says t.says;
-          heard = heard_join s.piece.answers t.piece.answers _ _ _ s.heard t.heard;
-          sent = sent_on_holds (kept_of a.replica) (kept_of b.replica) (kept_of c.replica) s.piece.letters t.piece.letters s.sent t.sent (inl x.snap);
-          id = t.id ∙ s.id;
-        };
-        same = record { term = y.same.term ∙ x.same.term; leads = y.same.leads ∙ x.same.leads };
-        snap = x.snap ∙ y.snap;
-        beside = beside_on setup bytes a b c s.piece.inputs t.piece.inputs s.id x.beside y.beside;
-      }
+  pub turns_join : {before mid now : Option Told} (a b c : Running) → TurnsOn m kind setup bytes joins a b before mid →
+      TurnsOn m kind setup bytes joins b c mid now → TurnsOn m kind setup bytes joins a c before now
+  unfolding turns_both
+  turns_join a b c x y = record {
+    turns = turns_both m kind setup bytes joins a b c x.turns y.turns y.same x.snap;
+    same = record { term = y.same.term ∙ x.same.term; leads = y.same.leads ∙ x.same.leads };
+    snap = x.snap ∙ y.snap;
+    beside = beside_on setup bytes a b c x.turns.piece.inputs y.turns.piece.inputs x.turns.id x.beside y.beside;
+  }
 
   id_stays : (a b : Running) → b.replica ≡ a.replica → b.replica.id ≡ a.replica.id
   id_stays a b replica = ap (λ (r : ReplicaValue). r.id) replica
@@ -92,7 +81,7 @@ module _ (m : Meaning) (kind : EngineKind) (setup : Setup) (bytes : List ℕ) (j
       inputs = adds_none [];
       asks = λ conn. refl;
       says = says_none a b f.mail f.replies f.reads;
-      heard = heard_none _;
+      heard = tells_none _;
       sent = tt;
       id = f.id;
     };

@@ -7,17 +7,15 @@ use Rattle.wire_msgs.specs.declared.fault.MsgFault.{MsgFault}
 use Rattle.wire_msgs.specs.declared.request.Request.{Request}
 use Rattle.wire_msgs.specs.declared.request.Request.TheVariants as requests
 use Rattle.wire_msgs.specs.Reading.{request_of}
-use Rattle.raft_rules.specs.Node.{Server, among, voters}
+use Rattle.raft_rules.specs.Node.{among, voters}
 use Rattle.sql_scan.specs.declared.pieces.Piece.{Piece}
 use Rattle.sql_scan.specs.declared.fault.ScanFault.{ScanFault}
 use Rattle.sql_scan.specs.declared.heading.WordKind.{WordKind}
 use Rattle.sql_scan.specs.declared.heading.WordKind.TheVariants as words
 use Rattle.sql_scan.specs.Statements.{scan_of}
-use Rattle.sql_engine.specs.declared.kind.EngineKind.{EngineKind}
-use Rattle.sql_engine.specs.Meanings.{Meaning, Told}
 use Rattle.sql_engine.specs.Replies.{Statement}
 use Rattle.session_rules.specs.Causes.{Cause, BadNode}
-use Rattle.session_rules.specs.Engines.{Answer, no_pages, Ending, Lacking, TooLarge, Stopped, Ended}
+use Rattle.session_rules.specs.Engines.{Answer, Ending, Lacking, TooLarge, Stopped, Ended}
 use Rattle.session_rules.specs.Limits.{change_in_flight, one_too_many, log_full, write_hindrance}
 use Rattle.session_rules.specs.Machine.{Machine, is_named}
 use Rattle.session_rules.specs.Requests as rules
@@ -28,16 +26,15 @@ use Rattle.session_rules.specs.Sessions.{Turned, Refused, Lacks, Answers, Propos
 use Rattle.session_rules.specs.Statements.{prepared_from, prepared_at, prepared_count, is_left_out, is_write_word, any_barred, any_write, wrong_params, with_params, with_all}
 use Rattle.session_rules.specs.Asking as asking
 use Rattle.session_rules.specs.Asking.{Asked, Never, Tells, Sets, Opens, Creates, Prepares, Drops, Begins, Commits, RollsBack, Changes, Runs, Reads, asked_by}
-use Rattle.session_decisions.specs.Scenes.{Scene, scene}
-use Rattle.statement_runs.specs.Calls.{EngineCall, call_of}
+use Rattle.session_decisions.specs.Scenes.{scene}
+use Rattle.statement_runs.specs.Calls.{EngineCall}
 use Rattle.gateway.specs.declared.act.Act.{Act as GatewayAct}
-use Rattle.gateway.specs.declared.act.Act.TheVariants as gateway
 use Rattle.gateway.specs.Calls.{Is}
 use Rattle.client_sessions.specs.declared.act.Act.{Act}
 use Rattle.client_sessions.specs.declared.act.Act.TheVariants as acts
-use Rattle.client_sessions.specs.Calls.{act_on, Asked as CameTo, Comes, TookOffer}
+use Rattle.client_sessions.specs.Calls.{act_on, Comes, TookOffer}
 use Rattle.client_sessions.specs.Clients.{Clients}
-use Rattle.client_sessions.specs.Later.{Resumes, RanLater}
+use Rattle.client_sessions.specs.Later.{Resumes}
 
 -- this holds of the peer whose messages the connection is to carry, if it is to
 abbrev ForEffect : (ℕ → Type 0) → Effect → Type 0

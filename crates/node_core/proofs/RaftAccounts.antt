@@ -3,6 +3,7 @@ use Rattle.std.proofs.Common.{◌≡◌, inl, inr, ℕ, Bool, false, List, [], �
 use Rattle.std.specs.Prelude.{map, Option}
 use Rattle.sql_engine.specs.declared.kind.EngineKind.{EngineKind}
 use Rattle.sql_engine.specs.Meanings.{Meaning, Told}
+use Rattle.statement_runs.proofs.Telling.{tells_none}
 use Rattle.session_rules.specs.Sessions.{Reply, Job}
 use Rattle.raft_rules.specs.Log.{Entry}
 use Rattle.raft_rules.specs.Node as raft
@@ -16,18 +17,18 @@ use Rattle.raft_world.specs.Members.{Setup}
 use Rattle.store_laws.specs.Store.{Kept}
 use Rattle.node_replica.specs.Mails.{all_posted}
 use Rattle.node_replica.specs.Replicas.{kept_of}
-use Rattle.node_rules.specs.Accounts.{SameTerm, no_piece, both, Goes, Begins}
+use Rattle.node_rules.specs.Accounts.{SameTerm, no_piece, Goes, Begins}
 use Rattle.node_rules.specs.Steps.{Letter, AllSent}
 use Rattle.node_rules.proofs.RaftGoes.{leaving_goes_holds, following_goes_holds}
 use Rattle.node_rules.proofs.RaftSnapshots.{install_goes_holds}
-use Rattle.node_rules.proofs.Stretches.{nothing_goes_holds, goes_on_holds, sent_on_holds}
+use Rattle.node_rules.proofs.Stretches.{nothing_goes_holds}
 use Rattle.node_core.specs.declared.outs.Outs.{Outs}
 use Rattle.node_core.specs.declared.running.Running.{Running}
 use Rattle.node_core.specs.Account.{moment_of, bytes_in, letter_of, Sends, Says, Brought, IsOwn, Turns, Fresh}
 use Rattle.node_core.specs.Posting.{LeavesSo, ToldOr, untold, told_servers, told_inputs, ProposesSo, FollowsSo, InstallsSo, FollowsOn, InstallsOn, OwnsSo, owns_proposal, owns_transfer}
 use Rattle.node_core.specs.Taking.{TurnsOn, bytes_with, came_by, BeganBy, takes}
 use Rattle.node_core.specs.Voters.{Beside}
-use Rattle.node_core.proofs.Accounting.{SinceIn, sends_none, says_none, adds_none, adds_join, says_join, heard_none, heard_join, since_on}
+use Rattle.node_core.proofs.Accounting.{SinceIn, turns_both, sends_none, says_none, adds_none, since_on}
 use Rattle.node_core.proofs.Besides.{beside_then}
 use Rattle.node_core.proofs.TurnsOf.{turns_proposes, turns_leaves, early_leaves, since_follows, since_installs}
 
@@ -72,19 +73,11 @@ module _ (m : Meaning) (kind : EngineKind) (setup : Setup) where
       snap = t.snap ∙ sym (ap (λ (k : Kept). k.snap) f.kept);
     }
 
-    turns_on : {before mid now : Option Told} (a b c : Running) (xs ys : List raft.Input) → So a b before mid xs → So b c mid now ys → So a c before now (xs ++ ys)
+    turns_on : {before mid now : Option Told} (a b c : Running) (xs ys : List raft.Input) → So a b before mid xs → So b c mid now ys →
+        So a c before now (xs ++ ys)
+    unfolding turns_both
     turns_on a b c xs ys s t = record {
-      turns = record {
-        piece = both s.turns.piece t.turns.piece;
-        goes = goes_on_holds m kind setup a.replica.id bytes joins (moment_of a) (moment_of b) (moment_of c) s.turns.piece t.turns.piece s.turns.goes
-            (subst (λ me. Goes m kind setup me bytes joins (moment_of b) (moment_of c) t.turns.piece) s.turns.id t.turns.goes) (inr t.same);
-        inputs = adds_join s.turns.piece.inputs t.turns.piece.inputs [] s.turns.inputs t.turns.inputs;
-        asks = λ conn. ap (λ l. l ++ t.turns.piece.asks conn) (s.turns.asks conn) ∙ t.turns.asks conn;
-        says = says_join a b c s.turns.piece.letters t.turns.piece.letters s.turns.piece.replies t.turns.piece.replies s.turns.piece.jobs t.turns.piece.jobs s.turns.says t.turns.says;
-        heard = heard_join s.turns.piece.answers t.turns.piece.answers _ _ _ s.turns.heard t.turns.heard;
-        sent = sent_on_holds (kept_of a.replica) (kept_of b.replica) (kept_of c.replica) s.turns.piece.letters t.turns.piece.letters s.turns.sent t.turns.sent (inl s.snap);
-        id = t.turns.id ∙ s.turns.id;
-      };
+      turns = turns_both m kind setup bytes joins a b c s.turns t.turns t.same s.snap;
       is = λ i. s.is i ++ t.is i;
       same = record { term = t.same.term ∙ s.same.term; leads = t.same.leads ∙ s.same.leads };
       snap = s.snap ∙ t.snap;
@@ -205,7 +198,7 @@ told_turns {told} m kind setup bytes joins a b (untold e) = subst (λ (n : Runni
     inputs = adds_none [];
     asks = λ conn. refl;
     says = says_none a a refl refl refl;
-    heard = heard_none told;
+    heard = tells_none told;
     sent = tt;
     id = refl;
   };

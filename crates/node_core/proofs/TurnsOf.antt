@@ -5,6 +5,7 @@ use Rattle.wire_msgs.specs.declared.request.Request.{Request}
 use Rattle.sql_engine.specs.declared.kind.EngineKind.{EngineKind}
 use Rattle.sql_engine.specs.Meanings.{Meaning, Told}
 use Rattle.statement_runs.specs.Running.{TellsAll}
+use Rattle.statement_runs.proofs.Telling.{tells_none}
 use Rattle.session_rules.specs.Entries.{Content}
 use Rattle.session_rules.specs.Sessions.{Reply}
 use Rattle.session_world.specs.Lending.{lends_by}
@@ -26,7 +27,7 @@ use Rattle.node_rules.proofs.Stretches.{goes_begins_holds}
 use Rattle.node_rules.proofs.Taking.{proposal_goes_holds}
 use Rattle.node_core.specs.declared.running.Running.{Running}
 use Rattle.node_core.specs.Account.{moment_of, Says, Brought, IsOwn, KnowsServers}
-use Rattle.node_core.proofs.Accounting.{TurnsIn, QuietTurns, SinceIn, adds_none, heard_none, since_nothing, since_on}
+use Rattle.node_core.proofs.Accounting.{TurnsIn, QuietTurns, SinceIn, adds_none, since_nothing, since_on}
 
 module _ (m : Meaning) (kind : EngineKind) (setup : Setup) (a b : Running) (id : b.replica.id ≡ a.replica.id) where
   module _ (bytes : List ℕ) (joins : Option ℕ) where
@@ -37,10 +38,10 @@ module _ (m : Meaning) (kind : EngineKind) (setup : Setup) (a b : Running) (id :
     -- ---- what is done for clients
 
     pub turns_stays : {told : Option Told} → Stays (moment_of a) (moment_of b) → Says a b [] [] [] → So told
-    turns_stays x says = (record { piece = no_piece; goes = staying_goes_holds m kind setup a.replica.id bytes joins (moment_of a) (moment_of b) x; inputs = adds_none []; asks = λ conn. refl; says = says; heard = heard_none _; sent = tt; id = id }, refl)
+    turns_stays x says = (record { piece = no_piece; goes = staying_goes_holds m kind setup a.replica.id bytes joins (moment_of a) (moment_of b) x; inputs = adds_none []; asks = λ conn. refl; says = says; heard = tells_none _; sent = tt; id = id }, refl)
 
     pub turns_hangs : {told : Option Told} → (conn : ℕ) → HangsUp (moment_of a) (moment_of b) conn → Says a b [] [] [] → So told
-    turns_hangs conn x says = (record { piece = no_piece; goes = hanging_goes_holds m kind setup a.replica.id bytes joins (moment_of a) (moment_of b) conn x; inputs = adds_none []; asks = λ conn. refl; says = says; heard = heard_none _; sent = tt; id = id }, refl)
+    turns_hangs conn x says = (record { piece = no_piece; goes = hanging_goes_holds m kind setup a.replica.id bytes joins (moment_of a) (moment_of b) conn x; inputs = adds_none []; asks = λ conn. refl; says = says; heard = tells_none _; sent = tt; id = id }, refl)
 
     pub turns_handles : {before now : Option Told} → HandlingGoes m kind → (conn : ℕ) (request : Request) (replies : List (ℕ × Reply)) → (x : Handles m kind (moment_of a) (moment_of b) conn request replies) → Says a b [] replies (lends_by conn x.turned) → TellsAll x.answers before now → QuietTurns m kind setup bytes joins a b before now
     turns_handles law conn request replies x says heard = (record { piece = record no_piece { replies = replies; jobs = lends_by conn x.turned; answers = x.answers }; goes = law setup a.replica.id bytes joins (moment_of a) (moment_of b) conn request replies x; inputs = adds_none []; asks = λ conn. refl; says = says; heard = heard; sent = tt; id = id }, refl)
@@ -50,13 +51,13 @@ module _ (m : Meaning) (kind : EngineKind) (setup : Setup) (a b : Running) (id :
 
     -- this one is late
     pub turns_applies : {told : Option Told} → (replies : List (ℕ × Reply)) → Applies (moment_of a) (moment_of b) replies → Says a b [] replies [] → So told
-    turns_applies replies x says = (record { piece = record no_piece { replies = replies; late = true }; goes = applying_goes_holds m kind setup a.replica.id bytes joins (moment_of a) (moment_of b) replies x; inputs = adds_none []; asks = λ conn. refl; says = says; heard = heard_none _; sent = tt; id = id }, refl)
+    turns_applies replies x says = (record { piece = record no_piece { replies = replies; late = true }; goes = applying_goes_holds m kind setup a.replica.id bytes joins (moment_of a) (moment_of b) replies x; inputs = adds_none []; asks = λ conn. refl; says = says; heard = tells_none _; sent = tt; id = id }, refl)
 
     pub turns_owes : {told : Option Told} → (contents : List Content) → Owes (moment_of a) (moment_of b) contents → Says a b [] [] [] → So told
-    turns_owes contents x says = (record { piece = no_piece; goes = owing_goes_holds m kind setup a.replica.id bytes joins (moment_of a) (moment_of b) contents x; inputs = adds_none []; asks = λ conn. refl; says = says; heard = heard_none _; sent = tt; id = id }, refl)
+    turns_owes contents x says = (record { piece = no_piece; goes = owing_goes_holds m kind setup a.replica.id bytes joins (moment_of a) (moment_of b) contents x; inputs = adds_none []; asks = λ conn. refl; says = says; heard = tells_none _; sent = tt; id = id }, refl)
 
     pub turns_serves : {told : Option Told} → Serves (moment_of a) (moment_of b) → Says a b [] [] [] → So told
-    turns_serves x says = (record { piece = no_piece; goes = serving_goes_holds m kind setup a.replica.id bytes joins (moment_of a) (moment_of b) x; inputs = adds_none []; asks = λ conn. refl; says = says; heard = heard_none _; sent = tt; id = id }, refl)
+    turns_serves x says = (record { piece = no_piece; goes = serving_goes_holds m kind setup a.replica.id bytes joins (moment_of a) (moment_of b) x; inputs = adds_none []; asks = λ conn. refl; says = says; heard = tells_none _; sent = tt; id = id }, refl)
 
     -- ---- Raft's own inputs
 
@@ -68,7 +69,7 @@ module _ (m : Meaning) (kind : EngineKind) (setup : Setup) (a b : Running) (id :
         inputs = record { own = raft.Local (raft.Propose es) ∷ []; each = (tt, tt); is = refl };
         asks = λ conn. refl;
         says = says;
-        heard = heard_none _;
+        heard = tells_none _;
         sent = sent;
         id = id;
       },
@@ -83,7 +84,7 @@ module _ (m : Meaning) (kind : EngineKind) (setup : Setup) (a b : Running) (id :
         inputs = record { own = i ∷ []; each = (own, tt); is = refl };
         asks = λ conn. refl;
         says = says;
-        heard = heard_none _;
+        heard = tells_none _;
         sent = sent;
         id = id;
       },
@@ -112,7 +113,7 @@ module _ (m : Meaning) (kind : EngineKind) (setup : Setup) (a b : Running) (id :
       asks = λ other. refl;
       is_late = refl;
       says = says;
-      heard = heard_none _;
+      heard = tells_none _;
       sent = tt;
       id = id;
     },
@@ -128,7 +129,7 @@ module _ (m : Meaning) (kind : EngineKind) (setup : Setup) (a b : Running) (id :
       asks = λ other. refl;
       is_late = refl;
       says = says;
-      heard = heard_none _;
+      heard = tells_none _;
       sent = tt;
       id = id;
     },
@@ -144,7 +145,7 @@ module _ (m : Meaning) (kind : EngineKind) (setup : Setup) (a b : Running) (id :
       asks = λ other. refl;
       is_late = refl;
       says = says;
-      heard = heard_none _;
+      heard = tells_none _;
       sent = tt;
       id = id;
     },
@@ -166,7 +167,7 @@ module _ (m : Meaning) (kind : EngineKind) (setup : Setup) (a b : Running) (id :
         asks = λ other. refl;
         is_late = refl;
         says = says;
-        heard = heard_none _;
+        heard = tells_none _;
         sent = sent;
         id = id;
       },
@@ -183,7 +184,7 @@ module _ (m : Meaning) (kind : EngineKind) (setup : Setup) (a b : Running) (id :
         asks = λ other. refl;
         is_late = refl;
         says = says;
-        heard = heard_none _;
+        heard = tells_none _;
         sent = sent;
         id = id;
       },
@@ -200,7 +201,7 @@ module _ (m : Meaning) (kind : EngineKind) (setup : Setup) (a b : Running) (id :
         asks = λ other. refl;
         is_late = refl;
         says = says;
-        heard = heard_none _;
+        heard = tells_none _;
         sent = sent;
         id = id;
       },
@@ -217,7 +218,7 @@ module _ (m : Meaning) (kind : EngineKind) (setup : Setup) (a b : Running) (id :
         asks = λ other. refl;
         is_late = refl;
         says = says;
-        heard = heard_none _;
+        heard = tells_none _;
         sent = sent;
         id = id;
       },

@@ -85,8 +85,8 @@ pub data StopsChanging (setup : Setup) (came : List ℕ) (old : Running) (kept :
 -- What the node gave Raft itself: before or in the step in which Raft was told servers, or in the step of the first of what is due.
 pub data StopsOwn (setup : Setup) (came : List ℕ) (old : Running) (kept : Kept) : Type 0 where
   before_own : StopsChanging setup came old kept → StopsOwn setup came old kept
-  in_own : (mid : Running) (i : raft.Input) (tells : ToldOr old mid) → IsOwn i → IsFirst (moment_of mid) i → MayBe setup old came (told_inputs tells ++ i ∷ []) →
-      StopsIn setup came mid i kept → StopsOwn setup came old kept
+  in_own : (mid : Running) (i : raft.Input) (tells : ToldOr old mid) → IsOwn i → IsFirst (moment_of mid) i →
+      MayBe setup old came (told_inputs tells ++ i ∷ []) → StopsIn setup came mid i kept → StopsOwn setup came old kept
 
 -- An own snapshot, where the servers of the node's configurations are those that are applied.
 abbrev pub StopsCompacting : Setup → List ℕ → Running → Kept → Type 0

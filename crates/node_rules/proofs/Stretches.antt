@@ -16,7 +16,7 @@ use Rattle.session_world.specs.Lending.{lent_by, lent_in, answers_by, answers_in
 use Rattle.session_world.specs.Laws.{NoneComes}
 use Rattle.session_world.proofs.Replying.{open_back}
 use Rattle.raft_rules.specs.Node as raft
-use Rattle.raft_rules.specs.Node.{Node, Input, Outcome, Message, is_leader}
+use Rattle.raft_rules.specs.Node.{Node, Input, Outcome, is_leader}
 use Rattle.raft_rules.specs.NodeValues.{node_of}
 use Rattle.raft_rules.specs.Account.{steps, said}
 use Rattle.raft_rules.specs.Compaction.{compacted_step}

@@ -21,7 +21,6 @@ use Rattle.page_apply.specs.Files.{Content}
 use Rattle.page_apply.specs.Snapshot.{snapshot_text}
 use Rattle.node_state.specs.Snapshot.{NodeSnapshot, SpellsSnapshot, made_in}
 use Rattle.node_rules.specs.Nodes as rules
-use Rattle.node_rules.specs.Nodes.{KeptIs}
 use Rattle.node_rules.specs.Steps.{TakesIn, Counts}
 use Rattle.node_rules.specs.Voting.{taking, MayTell, IsPlain, TellsLast, with_same, with_own, with_told, MayChange, FromSnapshot, RestTells, FollowTells, ChangeTells, InstallTells, CompactTells, PlainStops, ChangeStops, StartCounts}
 use Rattle.node_rules.proofs.Proposing.{none_later, near_are_proposed}

@@ -3,13 +3,13 @@ use Rattle.std.proofs.Common.{◌≡◌, ◌⊎◌, inl, inr, ℕ, [], ◌∷◌
 use Rattle.std.specs.Prelude.{Ok, Err, min}
 use Rattle.sql_engine.specs.declared.kind.EngineKind.{EngineKind}
 use Rattle.sql_engine.specs.Meanings.{Meaning}
-use Rattle.disk_model.specs.Disk.{Disk, Leaves}
+use Rattle.disk_model.specs.Disk.{Disk}
 use Rattle.disk_model.specs.Rest.{AfterCrash}
 use Rattle.disk_model.specs.Trait.{Text}
-use Rattle.disk_model.proofs.Rests.{rest_only, rest_left}
+use Rattle.disk_model.proofs.Rests.{rest_left}
 use Rattle.raft_rules.specs.Account.{Stored, older}
 use Rattle.raft_world.specs.Members.{Setup}
-use Rattle.store_laws.specs.Names.{NodeFiles, NodeDisk}
+use Rattle.store_laws.specs.Names.{NodeFiles}
 use Rattle.store_laws.specs.Chance.{NoChance}
 use Rattle.store_laws.specs.Store.{Kept, Outcome, Loaded}
 use Rattle.store_laws.proofs.Seen.{seen_holds}
@@ -17,9 +17,10 @@ use Rattle.store_format.specs.NodeFormat.{node_format}
 use Rattle.segment_store.specs.declared.load_fault.LoadFault.TheVariants as fault
 use Rattle.segment_store.specs.FileNames.{file_name}
 use Rattle.segment_store.specs.Keeps.{folder, HasNew}
-use Rattle.segment_store.specs.Loading.{kept_in, IsSeen, StaysSeen}
+use Rattle.segment_store.specs.Loading.{kept_in, IsSeen}
 use Rattle.segment_store.specs.Open.{Open}
 use Rattle.segment_store.specs.Restarts.{StandsFor, Begins, MayHave}
+use Rattle.segment_store.proofs.Restarting.{only_read, left_by, reads, stays}
 use Rattle.node_rules.specs.Nodes.{KeptIs}
 use Rattle.node_core.specs.declared.fault.StartFault.{StartFault}
 use Rattle.node_core.specs.declared.fault.StartFault.TheVariants as start
@@ -68,13 +69,6 @@ starts_keep_hold setup kept x k = (x.base, subst (KeptIs setup kept) (sym (same_
 
 -- ---- the disk
 
--- a disk at rest leaves only what is read
-only_read : (d e : Disk Text) → AfterCrash d e → (g : NodeFiles) → Leaves (folder e) g → g ≡ (folder e).read
-only_read d e crashed g left = λ i. λ n. rest_only (e.held (file_name n)) (e.read (file_name n)) (g n) (crashed.rest (file_name n)) (left.each n) i
-
-left_by : (d e : Disk Text) → AfterCrash d e → Leaves (folder d) (folder e).read
-left_by d e crashed = record { each = λ n. crashed.left.each (file_name n) }
-
 rest_seen : (d e : Disk Text) → AfterCrash d e → IsSeen (folder e)
 rest_seen d e crashed = record { each = λ n. rest_left (e.held (file_name n)) (e.read (file_name n)) (crashed.rest (file_name n)) }
 
@@ -82,36 +76,12 @@ open_seen : (store : Open) (kept : Kept) (d : Disk Text) → HasNew store kept (
 open_seen store kept d has = (seen_holds node_format store.next (folder d) has.is_open.settled).metadata [] (folder d) (inl refl)
 
 module _ (P : Outcome → Type 0) where
-  -- what a start reads
-  reads : (d e : Disk Text) → StandsFor P (folder d) → Begins d e → P (kept_in (folder e).read)
-  reads d e stands begins = which begins.came
-    where
-      which : (e ≡ d) ⊎ AfterCrash d e → P (kept_in (folder e).read)
-      which (inl same) =
-          let fair = subst (λ (x : Disk Text). NoChance node_format (folder d) (folder x).read) same begins.fair in
-          subst (λ (x : Disk Text). P (kept_in (folder x).read)) (sym same) (stands.crash (folder d).read stands.seen fair)
-      which (inr crashed) = stands.crash (folder e).read (left_by d e crashed) begins.fair
-
-  -- a start that failed
-  stays : (d e : Disk Text) (f : NodeDisk) → StandsFor P (folder d) → Begins d e → StaysSeen (folder e) f → StandsFor P f
-  stays d e f stands begins s = record { crash = λ g left fair. crash g left fair begins.came; seen = s.seen }
-    where
-      crash : (g : NodeFiles) → Leaves f g → NoChance node_format f g → (e ≡ d) ⊎ AfterCrash d e → P (kept_in g)
-      crash g left fair (inl same) =
-          let z = s.crash g left fair in
-          let here = subst (λ (x : Disk Text). Leaves (folder x) z.0) same z.1.0 in
-          let good = subst (λ (x : Disk Text). NoChance node_format (folder x) z.0) same (z.1.1.1 (subst (λ (x : Disk Text). NoChance node_format (folder x) (folder e).read) (sym same) begins.fair)) in
-          subst P (sym z.1.1.0) (stands.crash z.0 here good)
-      crash g left fair (inr crashed) =
-          let z = s.crash g left fair in
-          subst P (sym (z.1.1.0 ∙ ap kept_in (only_read d e crashed z.0 z.1.0))) (reads d e stands begins)
-
   opened : (store : Open) (kept : Kept) (d : Disk Text) → P (Loaded kept) → HasNew store kept (folder d) → StandsFor P (folder d)
   opened store kept d h has = record { crash = λ g left fair. subst P (sym (has.crash g left)) h; seen = open_seen store kept d has }
 
   stays_kept : (d e f : Disk Text) → StandsFor P (folder d) → Begins d e → StaysKept e f → StandsFor P (folder f)
-  stays_kept d e f stands begins (inl s) = stays d e (folder f) stands begins s
-  stays_kept d e f stands begins (inr (s, (k, loaded))) = opened s k f (subst P loaded.reads (reads d e stands begins)) loaded.has
+  stays_kept d e f stands begins (inl s) = stays P d e (folder f) stands begins s
+  stays_kept d e f stands begins (inr (s, (k, loaded))) = opened s k f (subst P loaded.reads (reads P d e stands begins)) loaded.has
 
   -- a load that found the files to be none of a node's changed nothing
   unmoved : (d e f : Disk Text) → StandsFor P (folder d) → Begins d e → f ≡ e → StandsFor P (folder f)
@@ -132,7 +102,7 @@ module _ (P : Outcome → Type 0) where
   fails d e f start.NoMemory stands begins leaves = stays_kept d e f stands begins leaves
 
   pub finds : (d e f : Disk Text) (node : Node) → StandsFor P (folder d) → Begins d e → StartLeaves (Ok node) e f → P (Loaded (kept_by node)) × HasNew (replica_of node).store (kept_by node) (folder f)
-  finds d e f node stands begins leaves = (subst P leaves.reads (reads d e stands begins), leaves.has)
+  finds d e f node stands begins leaves = (subst P leaves.reads (reads P d e stands begins), leaves.has)
 
   pub crashes : (d e : Disk Text) → StandsFor P (folder d) → AfterCrash d e → NoChance node_format (folder d) (folder e).read → StandsFor P (folder e)
   crashes d e stands crashed fair = record {

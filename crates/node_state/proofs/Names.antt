@@ -1,8 +1,7 @@
 -- The databases of a machine by their names, as a snapshot has them and as it gives them back.
-use Rattle.std.proofs.Common.{◌≡◌, ℕ, suc, ◌+◌, arith, Bool, true, false, true≢false, cond, List, [], ◌∷◌, map, Option, Some, None, refl, sym, ap, subst, ◌∙◌, ⊎_elim, Ordering, Less, Equal, Greater}
+use Rattle.std.proofs.Common.{◌≡◌, ℕ, suc, ◌+◌, arith, Bool, true, false, true≢false, cond, List, [], ◌∷◌, map, Option, Some, None, refl, sym, ap, subst, ◌∙◌, ⊎_elim, Less}
 use Rattle.std.specs.Prelude.{bytes_eq}
-use Rattle.std.specs.Ordering.{nat_cmp, match_ordering, is_eq}
-use Rattle.std.specs.Cmp.Lexicographic.{slice_cmp}
+use Rattle.std.specs.Ordering.{is_eq}
 use Rattle.std.specs.List.{AllByRecursion}
 use Rattle.std.specs.List.Sorted.{IsStrictlySortedBy}
 use Rattle.std.proofs.lemmas.Bool.{cond-true, cond-false, cond_both, cases_Bool, or_cases, or_left, or_right}
@@ -10,15 +9,16 @@ use Rattle.std.proofs.lemmas.Map.Text.{is_eq-slice_cmp}
 use Rattle.frame_commands.specs.declared.command.Command.{Command}
 use Rattle.frame_commands.specs.declared.command.Command.TheVariants.{OpenDb, Frames, Undo, Checkpoint}
 use Rattle.page_apply.specs.declared.database.Database.{Database}
-use Rattle.page_apply.specs.ByName.{Ascend, at_name}
+use Rattle.page_apply.specs.ByName.{Ascend}
 use Rattle.page_apply.specs.Databases.{named, content_of, contents_of}
 use Rattle.page_apply.specs.Files.{Content, empty_image, pending_without}
 use Rattle.page_apply.specs.Machines.{names_of}
 use Rattle.page_apply.specs.Restoring.{restored_at, restored_from, restored}
 use Rattle.page_apply.proofs.Named.{compare}
 use Rattle.session_rules.specs.Entries as seen
-use Rattle.session_rules.specs.Machine.{Base, Machine, base_of, machine_of, is_named, with_name, framed, checked, act, done, nothing, files_from, files}
+use Rattle.session_rules.specs.Machine.{Base, Machine, base_of, machine_of, is_named, framed, checked, act, done, nothing, files_from, files}
 use Rattle.session_rules.proofs.Names.{same_name, name_is}
+use Rattle.session_world.proofs.AddedNames.{kept_name, another}
 use Rattle.node_state.specs.Applied.{ShowsFiles}
 use Rattle.node_state.specs.Snapshot.{contents_in}
 
@@ -147,37 +147,6 @@ restored_shows m empty = (
 )
 
 -- ---- names that entries open
-
-there_name : (names : List (List ℕ)) (k : List ℕ) → is_named (with_name k names) k ≡ true
-unfolding at_name
-there_name [] k = or_left (bytes_eq k k) false (same_name k)
-there_name (x ∷ names) k =
-    let go : (o : Ordering) → slice_cmp nat_cmp k x ≡ o → is_named (match_ordering o (k ∷ x ∷ names) (x ∷ names) (x ∷ with_name k names)) k ≡ true =
-    λ o. elim o as (λ o. slice_cmp nat_cmp k x ≡ o → is_named (match_ordering o (k ∷ x ∷ names) (x ∷ names) (x ∷ with_name k names)) k ≡ true) [
-      | Less ↦ λ e. or_left (bytes_eq k k) (is_named (x ∷ names) k) (same_name k)
-      | Equal ↦ λ e. or_left (bytes_eq k x) (is_named names k) (sym (is_eq-slice_cmp k x) ∙ ap is_eq e)
-      | Greater ↦ λ e. or_right (bytes_eq k x) (is_named (with_name k names) k) (there_name names k)
-    ] in
-    go (slice_cmp nat_cmp k x) refl
-
-still_named : (names : List (List ℕ)) (k n : List ℕ) → is_named names n ≡ true → is_named (with_name k names) n ≡ true
-unfolding at_name
-still_named [] k n h = absurd (true≢false (sym h))
-still_named (x ∷ names) k n h =
-    elim (slice_cmp nat_cmp k x) as (λ o. is_named (match_ordering o (k ∷ x ∷ names) (x ∷ names) (x ∷ with_name k names)) n ≡ true) [
-      | Less ↦ or_right (bytes_eq n k) (is_named (x ∷ names) n) h
-      | Equal ↦ h
-      | Greater ↦ ⊎_elim
-          (λ (e : bytes_eq n x ≡ true). or_left (bytes_eq n x) (is_named (with_name k names) n) e)
-          (λ (e : is_named names n ≡ true). or_right (bytes_eq n x) (is_named (with_name k names) n) (still_named names k n e))
-          (or_cases (bytes_eq n x) (is_named names n) h)
-    ]
-
-kept_name : (names : List (List ℕ)) (k n : List ℕ) → is_named (with_name k names) n ≡ false → is_named names n ≡ false
-kept_name names k n h = ⊎_elim (λ (x : is_named names n ≡ true). absurd (true≢false (sym (still_named names k n x) ∙ h))) (λ (x : is_named names n ≡ false). x) (cases_Bool (is_named names n))
-
-another : (names : List (List ℕ)) (k n : List ℕ) → is_named (with_name k names) n ≡ false → bytes_eq n k ≡ true → ⊥
-another names k n h e = true≢false (sym (subst (λ j. is_named (with_name k names) j ≡ true) (sym (name_is n k e)) (there_name names k)) ∙ h)
 
 empty_act : (m : Machine) (c : Command) → OthersEmpty m → OthersEmpty (act m c)
 unfolding act

@@ -26,12 +26,12 @@ use Rattle.session_world.specs.Nodes.{Query, Said, Trail, Standing, databases, v
 use Rattle.session_world.specs.Answering.{said_to}
 use Rattle.session_world.specs.Laws.{NoneComes}
 use Rattle.session_world.specs.Life.{Event as Doing, Connect, Hangup, Call, Resume, Done, Apply, Lose, Lead, Serve, Append, Follow, query_for, query_by, proposed_trail, landed_trail, trail_by, said_landed, said_by, said_applied, undue, outcome_later, resumed_by, resumed, told_at, read_by, read, called, happens as goes_on, run_from as lives_on, Fits, AllFit}
-use Rattle.session_world.proofs.Alones.{call_same, resumed_same, read_same}
 use Rattle.session_world.proofs.Files.{split_some}
 use Rattle.session_world.proofs.Invariant.{NodeOk}
 use Rattle.session_world.proofs.Laters.{undue_here}
 use Rattle.session_world.proofs.Lives.{none_is, happens_ok}
 use Rattle.session_world.proofs.Replying.{said_to_append}
+use Rattle.session_world.proofs.Terms.{term_up, terms_up}
 use Rattle.session_world.proofs.Ways.{barrier_both, reads_both, later_both}
 use Rattle.cluster_world.proofs.Clusters.{applied_run}
 use Rattle.node_world.proofs.Speaks.{life_said}
@@ -623,25 +623,6 @@ connect_steps k conn c w n q = cond_both (connects w.gate c) _ w (Stepped k conn
 -- ---- a life in a term
 
 module _ (mean : Meaning) (kind : EngineKind) where
-  -- terms only grow
-  term_up : (w : Life) (e : Doing) → Fits mean kind w e → w.term ≤ (goes_on w e).term
-  unfolding goes_on
-  term_up w (Connect c) h = cond_both (connects w.gate c) _ w (λ (v : Life). w.term ≤ v.term) (λ e. omega arith) (λ e. omega arith)
-  term_up w (Hangup c) h = omega arith
-  term_up w (Call c standing r answers) h = let s = (call_same w c standing r answers).term in omega arith
-  term_up w (Resume c standing answers) h = let s = (resumed_same w c standing answers (later_query (w.gate.session c).later)).term in omega arith
-  term_up w (Done c answers) h = let s = (read_same w c answers (lent_query (w.gate.session c).later)).term in omega arith
-  term_up w Apply h = omega arith
-  term_up w (Lose t) h = omega (arith, h)
-  term_up w (Lead t) h = omega (arith, h.1)
-  term_up w Serve h = omega arith
-  term_up w (Append contents) h = omega arith
-  term_up w (Follow es) h = omega arith
-
-  terms_up : (es : List Doing) (w : Life) → AllFit mean kind w es → w.term ≤ (lives_on w es).term
-  terms_up [] w h = omega arith
-  terms_up (e ∷ es) w h = let one = term_up w e h.0 in let rest = terms_up es (goes_on w e) h.1 in omega arith
-
   steps : (k conn : ℕ) (w : Life) (e : Doing) → NodeOk mean w → Fits mean kind w e → e ≢ Connect conn → (goes_on w e).term ≡ w.term → Quiet k conn w →
       Stepped k conn w (goes_on w e)
   unfolding goes_on
@@ -690,8 +671,8 @@ module _ (mean : Meaning) (kind : EngineKind) where
   lives k conn [] w ok h j t q = record { more = []; said = sym (append-nil w.said); so = inl refl }
   lives k conn (e ∷ es) w ok h j t q =
       let v = goes_on w e in
-      let one = term_up w e h.0 in
-      let two = terms_up es v h.1 in
+      let one = term_up mean kind w e h.0 in
+      let two = terms_up mean kind es v h.1 in
       let same : v.term ≡ w.term = omega (arith, one, two, t) in
       let next = happens_ok mean kind w e h.0 ok in
       let x = steps k conn w e ok h.0 j.0 same q in

@@ -324,7 +324,7 @@ find_all test P (x ∷ ds) d all e = by (λ later. find_all test P ds d all.1 la
     by on false is = on (sym (ap (λ (c : Bool). cond c (Some x) (find test ds)) is) ∙ e)
 
 -- where no two have one place, the one that was found by a test is found by its place
-own_place : (test : Database → Bool) (ds : List Database) (d : Database) → AreApart ds → find test ds ≡ Some d → at_place d.place ds ≡ Some d
+pub own_place : (test : Database → Bool) (ds : List Database) (d : Database) → AreApart ds → find test ds ≡ Some d → at_place d.place ds ≡ Some d
 own_place test [] d apart e = absurd (none_is_some d e)
 own_place test (x ∷ ds) d apart e = by (λ later. own_place test ds d apart.1 later) (test x) refl
   where

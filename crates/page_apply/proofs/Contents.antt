@@ -10,7 +10,7 @@ use Rattle.frame_commands.specs.declared.command.Command.TheVariants.{OpenDb, Fr
 use Rattle.checkpoint_core.specs.Store.{Store, after_sets, newest_image, committed, checkpointed, sets_to_move}
 use Rattle.checkpoint_core.proofs.Shown.{after_sets-append}
 use Rattle.page_apply.specs.declared.database.Database.{Database}
-use Rattle.page_apply.specs.Files.{Content, new_content, pending_of, image_after}
+use Rattle.page_apply.specs.Files.{Content, pending_of, image_after}
 use Rattle.page_apply.specs.Files as files
 use Rattle.page_apply.specs.Databases.{content_of, contents_of, has_name, opened, grown, with_commit, with_pending, frames, undone, moved, changed, act}
 use Rattle.page_apply.proofs.Named.{map_at_name, map_change_first}

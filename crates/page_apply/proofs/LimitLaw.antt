@@ -1,12 +1,11 @@
 -- The limit on stated lengths bounds the files that commands make, at every moment.
-use Rattle.std.proofs.Common.{◌≡◌, ◌≢◌, ℕ, zero, suc, ◌+◌, ◌<◌, ◌≤◌, Bool, true, false, cond, ◌⊎◌, inl, inr, List, [], ◌∷◌, ◌++◌, length, fold, get_or, sum_by, refl, sym, ap, subst, ◌∙◌, arith, true≢false, Less, Equal}
-use Rattle.std.specs.Prelude.{bytes_eq}
+use Rattle.std.proofs.Common.{◌≡◌, ◌≢◌, ℕ, ◌+◌, ◌≤◌, List, [], ◌∷◌, ◌++◌, fold, sum_by, refl, sym, ap, subst, ◌∙◌, arith, Less, Equal}
 use Rattle.std.specs.List.{AllByRecursion, Contains}
 use Rattle.std.specs.List.Sorted.{IsStrictlySortedBy}
 use Rattle.std.proofs.lemmas.List.Sums.{sum_by-cons}
-use Rattle.std.proofs.lemmas.Slice.Eq.{bytes_eq-Decides}
 use Rattle.frame_commands.specs.declared.command.Command.{Command}
 use Rattle.frame_commands.specs.declared.command.Command.TheVariants.{OpenDb, Frames, Undo, Checkpoint}
+use Rattle.frame_commands.proofs.NamesAmong.{IsIn, is_in, without, without_sum, without_other}
 use Rattle.page_apply.specs.ByName.{Ascend}
 use Rattle.page_apply.specs.Files.{Content, new_content, frames, undone, act, files}
 use Rattle.page_apply.specs.AsMap.{names_of}
@@ -19,51 +18,9 @@ use Rattle.page_apply.proofs.StatedLaw.{files_short}
 
 -- ---- names that are among others
 
-abbrev IsIn : List ℕ → List (List ℕ) → Type 0
-IsIn name [] = ⊥
-IsIn name (other ∷ names) = (other ≡ name) ⊎ IsIn name names
-
-at_index : (name : List ℕ) (names : List (List ℕ)) (k : ℕ) (d : List ℕ) → k < length names → get_or names k d ≡ name → IsIn name names
-at_index name [] k d lt e = absurd (omega arith)
-at_index name (n ∷ ns) zero d lt e = inl e
-at_index name (n ∷ ns) (suc k) d lt e = inr (at_index name ns k d (omega arith) e)
-
-is_in : (name : List ℕ) (names : List (List ℕ)) → Contains names name → IsIn name names
-is_in name names c = at_index name names c.0 name c.1 c.2
-
 all_in : (names xs : List (List ℕ)) → AllByRecursion (λ n. Contains names n) xs → AllByRecursion (λ n. IsIn n names) xs
 all_in names [] all = tt
 all_in names (x ∷ xs) all = (is_in x names all.0, all_in names xs all.1)
-
-tested : (a b : List ℕ) (same : Bool) → bytes_eq a b ≡ same → ((bytes_eq a b ≡ true) × (a ≡ b)) ⊎ ((bytes_eq a b ≡ false) × (a ≢ b))
-tested a b true e = inl (e, (bytes_eq-Decides a b).0 e)
-tested a b false e = inr (e, λ p. true≢false (sym ((bytes_eq-Decides a b).1 p) ∙ e))
-
-same_or_other : (a b : List ℕ) → ((bytes_eq a b ≡ true) × (a ≡ b)) ⊎ ((bytes_eq a b ≡ false) × (a ≢ b))
-same_or_other a b = tested a b (bytes_eq a b) refl
-
-abbrev without : List ℕ → List (List ℕ) → List (List ℕ)
-without x [] = []
-without x (y ∷ ys) = cond (bytes_eq y x) ys (y ∷ without x ys)
-
-without_sum : (f : List ℕ → ℕ) (x : List ℕ) (ys : List (List ℕ)) → IsIn x ys → sum_by f ys ≡ f x + sum_by f (without x ys)
-without_sum f x [] i = absurd i
-without_sum f x (y ∷ ys) i =
-    elim (same_or_other y x) [
-      | inl p ↦ rw p.0 (sum_by-cons f y ys ∙ ap (λ (z : List ℕ). f z + sum_by f ys) p.1)
-      | inr p ↦
-          let j : IsIn x ys = elim i [ inl e ↦ absurd (p.1 e) | inr j ↦ j ] in
-          let rest = without_sum f x ys j in
-          rw p.0 (omega (arith, sum_by-cons f y ys, sum_by-cons f y (without x ys), rest))
-    ]
-
-without_other : (x n : List ℕ) (ys : List (List ℕ)) → x ≢ n → IsIn n ys → IsIn n (without x ys)
-without_other x n [] other i = absurd i
-without_other x n (y ∷ ys) other i =
-    elim (same_or_other y x) [
-      | inl p ↦ rw p.0 (elim i [ inl e ↦ absurd (other (sym p.1 ∙ e)) | inr j ↦ j ])
-      | inr p ↦ rw p.0 (elim i [ inl e ↦ inl e | inr j ↦ inr (without_other x n ys other j) ])
-    ]
 
 others_in : (x : List ℕ) (ys xs : List (List ℕ)) → AllByRecursion (λ z. x ≢ z) xs → AllByRecursion (λ n. IsIn n ys) xs → AllByRecursion (λ n. IsIn n (without x ys)) xs
 others_in x ys [] apart all = tt

@@ -1,8 +1,8 @@
 -- What is read behind `serve` can be served.
-use Rattle.std.proofs.Common.{◌≡◌, ◌≤◌, ◌<◌, ◌+◌, ◌&&◌, ℕ, suc, Bool, true, false, true≢false, not, cond, List, [], ◌∷◌, ◌++◌, length, codes, Option, Some, None, Result, Ok, Err, IfOk, refl, sym, ap, subst, ◌∙◌, arith}
+use Rattle.std.proofs.Common.{◌≡◌, ◌≤◌, ◌+◌, ◌&&◌, ℕ, Bool, true, false, not, cond, List, [], ◌∷◌, ◌++◌, length, codes, Option, Some, None, Result, Ok, Err, IfOk, refl, sym, subst, arith}
 use Rattle.std.specs.Prelude.{nat_le, nat_lt, ◌||◌, ◌==◌, ◌^◌, IfSome}
 use Rattle.std.specs.List.{AllByRecursion, position_or_len, before_first, after_first}
-use Rattle.std.proofs.lemmas.Bool.{leb-true, ltb-true, and_parts, or_parts, or_from, not-true, ne_eqb, eqb-false}
+use Rattle.std.proofs.lemmas.Bool.{leb-true, and_parts, or_parts, or_from, not-true, ne_eqb, eqb-false}
 use Rattle.std.proofs.lemmas.List.{length-append}
 use Rattle.dq_base.specs.Decimal.{number_below}
 use Rattle.dq_base.specs.Names.{has_nul}

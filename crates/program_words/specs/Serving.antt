@@ -1,5 +1,5 @@
 -- What the words behind `serve` ask for: a node that is to be served.
-use Rattle.std.specs.Prelude.{◌≡◌, ◌≤◌, ◌<◌, ℕ, Bool, true, false, not, ◌&&◌, ◌||◌, ◌==◌, cond, List, [], ◌∷◌, ◌++◌, length, nat_le, nat_lt, codes, Option, Some, None}
+use Rattle.std.specs.Prelude.{◌≡◌, ◌≤◌, ℕ, Bool, false, not, ◌||◌, ◌==◌, cond, List, [], ◌∷◌, ◌++◌, length, nat_le, nat_lt, codes, Option, Some, None}
 use Rattle.std.specs.List.{AllByRecursion, list_any, position_or_len, before_first, after_first}
 use Rattle.clap.specs.Walk.{Row, Text, first_of, all_of}
 use Rattle.wire_words.specs.Items.{HasNoNul}

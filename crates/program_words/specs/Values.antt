@@ -1,5 +1,5 @@
 -- The values of words.
-use Rattle.std.specs.Prelude.{◌≤◌, ◌^◌, ℕ, Bool, true, false, not, ◌&&◌, cond, List, length, nat_le, codes, Option, Some, None}
+use Rattle.std.specs.Prelude.{◌^◌, ℕ, Bool, not, ◌&&◌, cond, length, nat_le, codes, Option, Some, None}
 use Rattle.std.specs.Str.{bytes_eq}
 use Rattle.clap.specs.Walk.{Text}
 use Rattle.dq_base.specs.Names.{has_nul}

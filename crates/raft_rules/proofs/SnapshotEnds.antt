@@ -3,7 +3,7 @@ use Rattle.std.proofs.Common.{◌≡◌, ◌⊎◌, inl, inr, ℕ, Bool, true, f
 use Rattle.std.specs.Prelude.{◌&&◌, nat_lt, nat_le}
 use Rattle.std.proofs.lemmas.Bool.{cond_both}
 use Rattle.raft_rules.specs.Log.{Entry, LogEnd, matches}
-use Rattle.raft_rules.specs.Node.{What, AskVote, Vote, Append, Ack, Install, TimeoutNow, Message, Node, Server, Outcome, is_leader, is_candidate, Timeout, Beat, Propose, Transfer, Snapped, UseServers, Input, Local, Receive}
+use Rattle.raft_rules.specs.Node.{What, AskVote, Vote, Append, Ack, Install, TimeoutNow, Message, Node, Server, Outcome, is_leader, is_candidate, Timeout, Beat, Propose, Transfer, Snapped, UseServers, Local, Receive}
 use Rattle.raft_rules.specs.Outcomes.{in_newer_term, with_grants}
 use Rattle.raft_rules.specs.Elections.{as_candidate, on_grants, may_start_election, start_election, on_ask_vote, grants_with, on_vote}
 use Rattle.raft_rules.specs.Replication.{agrees, replaces_committed, take_entries, on_append, on_ack, on_propose, on_beat, on_transfer}

@@ -1,5 +1,5 @@
 -- One leader a term between two steps of an event too, and leaders' terms of 32 bits.
-use Rattle.std.proofs.Common.{◌≡◌, ◌≢◌, ℕ, zero, suc, ◌≤◌, Bool, true, false, List, [], ◌∷◌, ◌++◌, length, take, refl, sym, ap, ◌∙◌, subst, true≢false}
+use Rattle.std.proofs.Common.{◌≡◌, ◌≢◌, ℕ, zero, suc, ◌≤◌, Bool, true, false, List, [], ◌∷◌, ◌++◌, take, refl, sym, ap, ◌∙◌, subst, true≢false}
 use Rattle.std.specs.Prelude.{◌==◌}
 use Rattle.std.proofs.lemmas.Bool.{cond_both, cond-true}
 use Rattle.raft_rules.specs.Node.{Role, Leader, Follower, Message, Node, Server, Input, is_leader}
@@ -10,14 +10,13 @@ use Rattle.raft_rules.specs.Laws.{HasShortTerm}
 use Rattle.raft_rules.proofs.Terms.{terms_stay_short_holds}
 use Rattle.raft_world.specs.Members.{Setup, voters_after, may_take, member_step}
 use Rattle.raft_world.specs.World.{World, Event, Acts, Stops, Crash, Start, inputs, put, picked, outs, after, stopped, happens, start, run_from, run}
-use Rattle.raft_world.specs.Laws.{Leads}
 use Rattle.raft_world.specs.Chosen.{actor}
 use Rattle.raft_world.specs.Sources.{causes_of, intake, midway}
 use Rattle.raft_world.specs.Midways.{Made, LeadsAfter, OneLeaderThen, OneLeaderMidway, LeadersShort, LeadersShortMidway}
-use Rattle.raft_world.proofs.History.{Hist, HistOk, NodeOk, LeaderOk}
+use Rattle.raft_world.proofs.History.{Hist, NodeOk, LeaderOk}
 use Rattle.raft_world.proofs.Growth.{Later, later_trans, ne_along}
-use Rattle.raft_world.proofs.Reaches.{Reach, stored_ok, loaded_ok, older_ok, StoredOk}
-use Rattle.raft_world.proofs.Steps.{InputsOk, Stands, steps_fine, Split, split_fine, StopSplit, stop_split}
+use Rattle.raft_world.proofs.Reaches.{Reach, loaded_ok, older_ok, StoredOk}
+use Rattle.raft_world.proofs.Steps.{InputsOk, steps_fine, split_fine, stop_split}
 use Rattle.raft_world.proofs.Worlds.{WorldOk, put_world, all_picked, inputs_fine, happens_fine, Next, run_from_fine, moments, run_append}
 use Rattle.raft_world.proofs.Laws.{leader_ok}
 

@@ -6,7 +6,7 @@ use Rattle.raft_world.specs.Members.{Setup, member_step}
 use Rattle.raft_world.specs.World.{World, Event, Acts, Stops, Crash, Start, inputs, run}
 use Rattle.raft_world.specs.Laws.{Leads}
 use Rattle.raft_world.specs.Chosen.{actor}
-use Rattle.raft_world.specs.Sources.{intake, midway}
+use Rattle.raft_world.specs.Sources.{midway}
 
 -- The first k steps of the event are made and kept: all of them where it ends well; where it is stopped, those whose acts all stand.
 abbrev pub Made : Setup → World → Event → ℕ → Type 0

@@ -157,10 +157,12 @@ fn pages_lead_to_the_same_rows_elsewhere(rt: HostRuntime) -> Result<(), Fail> {
     Ok(())
 }
 
-/// The fault of a statement over a filled database.
-fn fault_of(alloc: Global, text: &str) -> Result<Option<EngineFault>, Fail> {
+/// The fault of a statement over a filled database, and how many openings were tried in all: it leaves its connection.
+fn fault_of(alloc: Global, text: &str) -> Result<(Option<EngineFault>, u64), Fail> {
     let mut database = filled(alloc)?;
-    Ok(answer(&mut database.engine, &database.image, text, &[], 4).err())
+    let answered = answer(&mut database.engine, &database.image, text, &[], 4);
+    database.write("SELECT 1", &[])?;
+    Ok((answered.err(), database.engine.openings()))
 }
 
 /// Texts, and the fault of each.
@@ -182,7 +184,7 @@ const REFUSED: &[(&str, Option<EngineFault>)] = &[
 #[test]
 fn statements_are_refused(rt: HostRuntime) -> Result<(), Fail> {
     for &(text, wanted) in REFUSED {
-        assert_eq!(rt; fault_of(rt.alloc(), text)?, wanted);
+        assert_eq!(rt; fault_of(rt.alloc(), text)?, (wanted, 1));
     }
     Ok(())
 }
@@ -275,11 +277,14 @@ fn a_look_changes_nothing(rt: HostRuntime) -> Result<(), Fail> {
     Ok(())
 }
 
-/// A join of a table of 110 rows with itself twice.
-const JOIN: &str = "SELECT count(*) FROM n a, n b, n c";
+/// Joins of a table of 1,010 rows with itself twice.
+const JOINS: &[&str] = &[
+    "SELECT count(*) FROM n a, n b, n c",
+    "INSERT INTO n SELECT 2000 + a.a FROM n a, n b, n c",
+];
 
-/// What the join answers in at most so many steps, and how many openings were tried in all: it leaves its connection.
-fn joined(alloc: Global, limit: u64) -> Result<(Option<EngineFault>, u64), Fail> {
+/// What a join answers in at most so many steps, and how many openings were tried in all: it leaves its connection.
+fn joined(alloc: Global, text: &str, limit: u64) -> Result<(Option<EngineFault>, u64), Fail> {
     let mut database = Database::new(alloc);
     database.write("CREATE TABLE n (a INTEGER PRIMARY KEY)", &[])?;
     database.write(
@@ -287,19 +292,21 @@ fn joined(alloc: Global, limit: u64) -> Result<(Option<EngineFault>, u64), Fail>
         &[],
     )?;
     database.write(
-        "INSERT INTO n SELECT 10 + 10 * a.a + b.a FROM n a, n b",
+        "INSERT INTO n SELECT 100 * a.a + 10 * b.a + c.a - 100 FROM n a, n b, n c",
         &[],
     )?;
     database.engine.forget();
     let joined = database
         .engine
-        .run(&database.image, NUMBERS, JOIN, &[], 1, Some(limit));
+        .run(&database.image, NUMBERS, text, &[], 1, Some(limit));
     database.write("SELECT 1", &[])?;
     Ok((joined.err(), database.engine.openings()))
 }
 
 #[test]
 fn a_long_join_is_cut_short(rt: HostRuntime) -> Result<(), Fail> {
-    assert_eq!(rt; joined(rt.alloc(), 10_000)?, (Some(EngineFault::Cut), 1));
+    for &text in JOINS {
+        assert_eq!(rt; joined(rt.alloc(), text, 10_000)?, (Some(EngineFault::Cut), 1));
+    }
     Ok(())
 }

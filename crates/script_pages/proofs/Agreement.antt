@@ -13,13 +13,12 @@ use Rattle.frame_commands.specs.Reading.{command_of}
 use Rattle.page_apply.specs.Files.{Content, act, files}
 use Rattle.command_list.specs.Limits.{may_join}
 use Rattle.file_digest.specs.Digest.{digest}
-use Rattle.script_lines.specs.declared.events.Event.{Event}
 use Rattle.script_lines.specs.declared.events.Event.TheVariants.{Timeout, Beat, Connect, Bytes, Hangup, Deliver, Settle, Crash, Start, Put, Take}
 use Rattle.script_pages.specs.declared.said.Said.{Said}
 use Rattle.script_pages.specs.declared.said.Said.TheVariants.{Refused, Machine}
 use Rattle.script_pages.specs.Holding.{Holding}
 use Rattle.script_pages.specs.Machines.{Fleet, idle, idle_fleet, after_command, after_next, take_at, with_command, joins, refusal, applies, place_named, standing, standing_of, standings}
-use Rattle.script_pages.specs.Alike.{BeginsWith, Follows, AllFollow, IsDigestOf, Tells, AllTell, IsSeenIn, AllSeenIn, GoesAlike, EventsKeepAlike, StandsAlike, MachinesStandAlike}
+use Rattle.script_pages.specs.Alike.{BeginsWith, Follows, AllFollow, IsDigestOf, Tells, AllTell, IsSeenIn, AllSeenIn, GoesAlike, EventsKeepAlike, MachinesStandAlike}
 use Rattle.dq_base.proofs.Choices.{some_is}
 use Rattle.script_pages.proofs.Elements.{all_weaker, all_set, all_get_or, where_mapped}
 

@@ -1,5 +1,5 @@
 -- The files of a machine are never longer together than the limit on what a list of commands states.
-use Rattle.std.proofs.Common.{◌≡◌, ℕ, zero, suc, ◌+◌, ◌<◌, ◌≤◌, max, Bool, true, false, cond, List, [], ◌∷◌, ◌++◌, Option, Some, None, Ok, Err, length, take, drop, sum_by, Contains, refl, sym, ap, subst, ◌∙◌, arith}
+use Rattle.std.proofs.Common.{◌≡◌, ℕ, suc, ◌+◌, ◌<◌, ◌≤◌, max, Bool, true, false, cond, List, [], ◌∷◌, ◌++◌, Option, Some, None, Ok, Err, length, take, drop, sum_by, Contains, refl, sym, ap, subst, arith}
 use Rattle.std.specs.Prelude.{bytes_eq, Result}
 use Rattle.std.specs.List.{AllByRecursion}
 use Rattle.std.proofs.lemmas.List.{take-append-drop}
@@ -18,12 +18,10 @@ use Rattle.page_apply.proofs.LimitLaw.{limit_bounds}
 use Rattle.command_list.specs.Limits.{length_stated_by, statements, table_of, is_allowed, may_join}
 use Rattle.command_list.specs.StatedLengths.{names_in, greatest_stated}
 use Rattle.command_list.proofs.StatedTables.{names_told, allowed_told}
-use Rattle.script_lines.specs.declared.events.Event.{Event}
 use Rattle.script_lines.specs.declared.events.Event.TheVariants as event
 use Rattle.script_pages.specs.declared.said.Said.{Said}
-use Rattle.script_pages.specs.Holding.{Holding}
 use Rattle.script_pages.specs.Machines.{Fleet, take_at, with_command, applies, place_named}
-use Rattle.script_pages.specs.Alike.{Follows, length_of_all, IsSound, PutsBytes, ListsStaySound, FilesAreBounded}
+use Rattle.script_pages.specs.Alike.{length_of_all, IsSound, ListsStaySound, FilesAreBounded}
 use Rattle.dq_base.proofs.Choices.{some_is}
 use Rattle.script_pages.proofs.Elements.{all_append, where_mapped}
 

@@ -1,5 +1,5 @@
 -- Machines have one list of commands, and those that have applied as many of them hold the same files and pending pages.
-use Rattle.std.specs.Prelude.{◌≡◌, ◌≤◌, ℕ, List, [], ◌∷◌, ◌++◌, length, take, sum_by, true, Option, Some, ⊤}
+use Rattle.std.specs.Prelude.{◌≡◌, ◌≤◌, ℕ, List, [], ◌++◌, length, take, sum_by, true, Some, ⊤}
 use Rattle.std.specs.List.{AllByRecursion}
 use Rattle.wire_words.specs.Items.{AreBytes}
 use Rattle.frame_commands.specs.declared.command.Command.{Command}

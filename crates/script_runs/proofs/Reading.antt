@@ -1,5 +1,5 @@
 -- A snapshot that is spelled as one of a node reads as one.
-use Rattle.std.proofs.Common.{◌≡◌, ℕ, List, ◌++◌, length, drop, Result, refl, ap, ◌∙◌}
+use Rattle.std.proofs.Common.{ℕ, List, length, drop, Result, refl, ap, ◌∙◌}
 use Rattle.std.proofs.lemmas.List.{drop_at}
 use Rattle.raft_rules.specs.Node.{Server}
 use Rattle.raft_vote.specs.declared.servers_fault.ServersFault.{ServersFault}

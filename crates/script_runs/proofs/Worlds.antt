@@ -23,7 +23,7 @@ use Rattle.script_lines.specs.Usage.{with_event, with_messages}
 use Rattle.script_nodes.specs.declared.said.Said.{Said}
 use Rattle.script_nodes.specs.Outcomes.{Standing, Outs, Ending, Steps, Starts, Stops, Fails, Unreadable, Outcome, Doing, Timeout, Beat, Connect, Bytes, Hangup, Receive, Start, Turn, Does, Crashes}
 use Rattle.script_nodes.specs.Run as runs
-use Rattle.script_nodes.specs.Run.{Stage, Opening, Within, Fault, Next, line_step, said_step, step, run_from, run}
+use Rattle.script_nodes.specs.Run.{Stage, Opening, Within, Fault, Next, line_step, said_step, step, run_from}
 use Rattle.script_nodes.specs.World.{Letter, World, Halt, Went, quiet, onward, then_on, is_node, is_up, arrived_at, arriving, letter_of, letters_of, wire_message, after_step, after_ending, with_turn, unless_many, asked, at_node, on_link, connects, hangs_up, arrives, delivered, delivers, crashes, starts, counted_so, counted, settled_so, settles, exists, happens, takes, empty_world, all_start, opened, node_of, first_waiting, bytes_in, shown}
 use Rattle.script_runs.specs.Mails.{CanHold, AllCanHold, MailIsSent}
 use Rattle.script_runs.specs.Turns.{messages_of, messages_in, WasSent, SentTo, AllSentTo}

@@ -1,5 +1,5 @@
 -- From the calls that write a batch to what is kept.
-use Rattle.std.proofs.Common.{◌≡◌, inl, ℕ, suc, ◌+◌, ◌-◌, ◌^◌, ◌<◌, ◌≤◌, Bool, true, false, cond, List, length, Option, Some, None, Result, Ok, Err, sym, ap, ◌∙◌, subst, arith}
+use Rattle.std.proofs.Common.{◌≡◌, ℕ, ◌+◌, ◌-◌, ◌^◌, ◌<◌, ◌≤◌, Bool, true, false, cond, List, length, Option, Some, None, Result, Ok, Err, sym, ◌∙◌, subst, arith}
 use Rattle.std.specs.Prelude.{nat_lt, OnOk}
 use Rattle.disk_model.specs.Disk.{Disk}
 use Rattle.disk_model.specs.Calls.{Call, Done, Until, MayWrite}
@@ -9,16 +9,12 @@ use Rattle.disk_model.proofs.Runs.{known_map}
 use Rattle.store_laws.specs.Names.{Segment}
 use Rattle.store_laws.specs.Store.{Log, Kept}
 use Rattle.store_laws.specs.Append.{with_batch, CanAppend}
-use Rattle.store_laws.proofs.Answers.{settled_images}
-use Rattle.store_laws.proofs.Rooms.{more_room_holds}
-use Rattle.store_laws.proofs.Seen.{all_seen}
 use Rattle.raft_vote.specs.Entries.{HaveHeads}
-use Rattle.store_format.specs.NodeFormat.{node_format}
 use Rattle.store_format.specs.Batches.{batch_bytes}
 use Rattle.store_format.specs.BatchesWritten.{segment_word, Fits}
 use Rattle.segment_store.specs.FileNames.{file_name}
 use Rattle.segment_store.specs.Open.{Open, Grows, MayGrow, IsOpen}
-use Rattle.segment_store.specs.Grow.{grow_calls, begin_calls, IsFree, room_in, appended_to, with_appended}
+use Rattle.segment_store.specs.Grow.{grow_calls, begin_calls, IsFree, room_in, appended_to}
 use Rattle.segment_store.specs.Keeps.{folder, OldOrNew, HasNew, Keeps, Went}
 use Rattle.segment_store.proofs.Segments.{not_gone}
 use Rattle.segment_store.proofs.Keeping.{none_keeps, known_went, as_noted, went_err, went_ok}

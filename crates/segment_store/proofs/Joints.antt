@@ -6,13 +6,13 @@ use Rattle.disk_model.specs.Rest.{Rest}
 use Rattle.disk_model.proofs.Rests.{rest_only}
 use Rattle.disk_model.proofs.Elsewhere.{else_same, else_on, else_names}
 use Rattle.store_laws.specs.Names.{Name, First, Second, Segment, Snapshot, NodeFiles, NodeDisk, NodeCall}
-use Rattle.store_laws.specs.Store.{Kept, Loaded, Snap, Log, kept}
+use Rattle.store_laws.specs.Store.{Kept, Snap, Log, kept}
 use Rattle.store_laws.specs.Settled.{Settled}
 use Rattle.store_laws.specs.Append.{append_calls}
 use Rattle.store_laws.specs.Load.{remove_from}
-use Rattle.store_laws.specs.Laws.{OneOf, meta_file, meta_calls}
-use Rattle.store_laws.specs.Meta.{file_of, goes_first, next_stamp, set_long_calls}
-use Rattle.store_laws.specs.Snapshots.{snapshot_calls, remove_snapshots, keep_calls, IsLonger, BeforeOrLonger}
+use Rattle.store_laws.specs.Laws.{OneOf}
+use Rattle.store_laws.specs.Meta.{file_of, set_long_calls}
+use Rattle.store_laws.specs.Snapshots.{snapshot_calls, remove_snapshots, keep_calls, BeforeOrLonger}
 use Rattle.store_format.specs.NodeFormat.{node_format}
 use Rattle.segment_store.proofs.LoadRooms.{segments_up, kept_of}
 

@@ -1,28 +1,25 @@
 -- How often the files of a folder are read, and how many calls follow.
-use Rattle.std.proofs.Common.{◌≡◌, ◌≢◌, inl, inr, ℕ, zero, suc, ◌+◌, ◌<◌, ◌≤◌, Bool, true, false, cond, List, [], ◌∷◌, ◌++◌, length, take, drop, get_or, Option, Result, Ok, Err, refl, sym, ap, ◌∙◌, subst, arith, length-append}
-use Rattle.std.specs.Prelude.{◌==◌, nat_lt, max}
+use Rattle.std.proofs.Common.{◌≡◌, inl, inr, ℕ, zero, suc, ◌+◌, ◌<◌, ◌≤◌, Bool, true, false, cond, List, [], ◌∷◌, ◌++◌, length, take, drop, get_or, Option, Ok, Err, refl, sym, ap, ◌∙◌, arith, length-append}
+use Rattle.std.specs.Prelude.{◌==◌, max}
 use Rattle.std.specs.Global.{Vec}
-use Rattle.std.proofs.lemmas.Bool.{cases_Bool, cases_eq, cases_lt, cond-true, cond-false, lt-ltb, le-ltb, eq-eqb, ne_eqb}
-use Rattle.std.proofs.lemmas.List.{append-nil, take_more, take_all, take-append-drop, drop_more}
+use Rattle.std.proofs.lemmas.Bool.{cases_eq, cases_lt, cond-true, cond-false, lt-ltb, le-ltb, eq-eqb, ne_eqb}
+use Rattle.std.proofs.lemmas.List.{append-nil, take_more, take_all, take-append-drop}
 use Rattle.dq_base.specs.Faults.{one_more}
 use Rattle.disk_model.specs.Disk.{Disk}
 use Rattle.disk_model.specs.Trait.{Text, MakesCalls}
 use Rattle.store_laws.specs.Meta.{file_of}
 use Rattle.store_laws.specs.Names.{Name, First, Second, Segment, Snapshot, NodeFiles, NodeDisk}
-use Rattle.store_laws.specs.Store.{Snap, Log}
+use Rattle.store_laws.specs.Store.{Snap}
 use Rattle.store_laws.specs.Snapshots.{AllBelow}
 use Rattle.store_laws.specs.WholeLoad.{is_stale}
-use Rattle.store_laws.specs.Damage.{numbered}
-use Rattle.store_format.specs.NodeFormat.{node_format}
-use Rattle.store_format.specs.FilesRead.{FilesRead, newer_snap, with_snap, nothing_read}
-use Rattle.store_format.specs.SegmentLog.{last_in}
+use Rattle.store_format.specs.FilesRead.{FilesRead, newer_snap, with_snap}
 use Rattle.store_format.specs.Snapshots.{snap_of}
 use Rattle.store_format.specs.declared.segment_log.LastSegment.{LastSegment}
 use Rattle.store_format.proofs.Lawfully.{snap_yes, was_snapshot}
 use Rattle.segment_store.specs.declared.fault.StoreFault.{StoreFault}
 use Rattle.segment_store.specs.Keeps.{folder}
-use Rattle.segment_store.specs.Listed.{FolderList, IsListed, files_listed}
-use Rattle.segment_store.specs.LoadCounts.{Counts, LoadCounts, reads_for, reads_of, segment_reads, snapshot_reads, file_reads, look_count, segments_count, newest_from, snapshot_count, snapshots_count, meta_count, list_count, one_if, segments_there, snapshots_there, files_there, repair_count, settling_count, settle_count, load_count}
+use Rattle.segment_store.specs.Listed.{FolderList, IsListed}
+use Rattle.segment_store.specs.LoadCounts.{Counts, LoadCounts, reads_for, segment_reads, snapshot_reads, file_reads, look_count, segments_count, newest_from, snapshot_count, snapshots_count, meta_count, list_count, segments_there, snapshots_there, files_there, repair_count, settling_count, settle_count, load_count}
 use Rattle.segment_store.specs.Loading.{Sees, IsSeen, IsPlain}
 use Rattle.segment_store.specs.Open.{segment_numbers, snapshot_numbers}
 use Rattle.segment_store.specs.Reads.{snap_at, ReadsAll}

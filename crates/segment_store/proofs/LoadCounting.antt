@@ -1,11 +1,10 @@
 -- The calls of a load are counted, one after another.
-use Rattle.std.proofs.Common.{◌≡◌, ℕ, zero, suc, ◌+◌, ◌-◌, ◌*◌, ◌<◌, ◌≤◌, Bool, true, false, cond, List, [], ◌∷◌, ◌++◌, length, take, drop, Result, Ok, Err, refl, sym, ap, ◌∙◌, subst, arith, length-append, length-drop}
+use Rattle.std.proofs.Common.{◌≡◌, ℕ, zero, suc, ◌+◌, ◌-◌, ◌*◌, ◌<◌, ◌≤◌, Bool, true, false, List, [], ◌++◌, length, take, drop, Result, Ok, Err, refl, sym, ap, ◌∙◌, subst, arith, length-append, length-drop}
 use Rattle.std.specs.Prelude.{◌/◌, min}
 use Rattle.std.proofs.lemmas.List.{length-take-le, take_at}
 use Rattle.dq_base.specs.Faults.{one_more}
 use Rattle.disk_model.specs.Disk.{Disk}
-use Rattle.disk_model.specs.Trait.{Text, Looks, Reads, MakesCalls, after_calls}
-use Rattle.disk_model.specs.declared.faults.DiskFault.{DiskFault}
+use Rattle.disk_model.specs.Trait.{Text, Reads, MakesCalls, after_calls}
 use Rattle.disk_model.proofs.Counting.{after_more}
 use Rattle.segment_store.specs.LoadCounts.{Counts, reads_for}
 use Rattle.segment_store.specs.Loading.{Sees}

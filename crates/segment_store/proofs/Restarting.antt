@@ -5,7 +5,7 @@ use Rattle.disk_model.specs.Rest.{AfterCrash}
 use Rattle.disk_model.specs.Trait.{Text}
 use Rattle.disk_model.proofs.Rests.{rest_only}
 use Rattle.store_laws.specs.Names.{NodeFiles, NodeDisk}
-use Rattle.store_laws.specs.Store.{Outcome, Snap, Log, Kept, Loaded, Damaged, NoMeta, Gap}
+use Rattle.store_laws.specs.Store.{Outcome, Snap, Log, Kept, Damaged, NoMeta, Gap}
 use Rattle.store_laws.specs.Chance.{NoChance}
 use Rattle.store_laws.specs.Laws.{OneOf}
 use Rattle.store_laws.proofs.Seen.{seen_holds}
@@ -15,21 +15,20 @@ use Rattle.segment_store.specs.declared.load_fault.LoadFault.{LoadFault}
 use Rattle.segment_store.specs.declared.load_fault.LoadFault.TheVariants as fault
 use Rattle.segment_store.specs.Open.{Open}
 use Rattle.segment_store.specs.FileNames.{file_name}
-use Rattle.segment_store.specs.Keeps.{folder, OldOrNew, HasNew}
-use Rattle.segment_store.specs.Keeping.{OldOrKept}
-use Rattle.segment_store.specs.Loading.{kept_in, IsSeen, StaysSeen, LoadLeaves}
+use Rattle.segment_store.specs.Keeps.{folder}
+use Rattle.segment_store.specs.Loading.{kept_in, StaysSeen, LoadLeaves}
 use Rattle.segment_store.specs.Restarts.{StandsFor, Begins, FailedStarts, Finds, OneState, OldOrWith, MayHave, OldOrNewStarts, OldOrKeptStarts, KeptStarts, LoadStarts}
 
 -- a disk at rest leaves only what is read
-only_read : (d e : Disk Text) → AfterCrash d e → (g : NodeFiles) → Leaves (folder e) g → g ≡ (folder e).read
+pub only_read : (d e : Disk Text) → AfterCrash d e → (g : NodeFiles) → Leaves (folder e) g → g ≡ (folder e).read
 only_read d e crashed g left = λ i. λ n. rest_only (e.held (file_name n)) (e.read (file_name n)) (g n) (crashed.rest (file_name n)) (left.each n) i
 
-left_by : (d e : Disk Text) → AfterCrash d e → Leaves (folder d) (folder e).read
+pub left_by : (d e : Disk Text) → AfterCrash d e → Leaves (folder d) (folder e).read
 left_by d e crashed = record { each = λ n. crashed.left.each (file_name n) }
 
 module _ (P : Outcome → Type 0) where
   -- what a start reads
-  reads : (d e : Disk Text) → StandsFor P (folder d) → Begins d e → P (kept_in (folder e).read)
+  pub reads : (d e : Disk Text) → StandsFor P (folder d) → Begins d e → P (kept_in (folder e).read)
   reads d e stands begins = which begins.came
     where
       which : (e ≡ d) ⊎ AfterCrash d e → P (kept_in (folder e).read)
@@ -39,7 +38,7 @@ module _ (P : Outcome → Type 0) where
       which (inr crashed) = stands.crash (folder e).read (left_by d e crashed) begins.fair
 
   -- a load that failed
-  stays : (d e : Disk Text) (f : NodeDisk) → StandsFor P (folder d) → Begins d e → StaysSeen (folder e) f → StandsFor P f
+  pub stays : (d e : Disk Text) (f : NodeDisk) → StandsFor P (folder d) → Begins d e → StaysSeen (folder e) f → StandsFor P f
   stays d e f stands begins s = record { crash = λ g left fair. crash g left fair begins.came; seen = s.seen }
     where
       crash : (g : NodeFiles) → Leaves f g → NoChance node_format f g → (e ≡ d) ⊎ AfterCrash d e → P (kept_in g)

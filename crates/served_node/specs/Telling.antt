@@ -1,5 +1,5 @@
 -- Of which newest images an engine is told ahead.
-use Rattle.std.specs.Prelude.{◌≡◌, ℕ, ◌+◌, ◌==◌, ◌&&◌, Bool, nat_lt, List, Option, Some, None, if◌then◌else◌}
+use Rattle.std.specs.Prelude.{◌≡◌, ℕ, ◌==◌, ◌&&◌, Bool, List, Some}
 use Rattle.std.specs.Option.{option_map}
 use Rattle.dq_base.specs.declared.images.Image.{Image}
 use Rattle.dq_base.specs.declared.image_number.ImageNumber.{ImageNumber}
@@ -10,7 +10,6 @@ use Rattle.page_apply.specs.ImageNumbers.{number_of}
 use Rattle.raft_rules.specs.Node.{is_leader}
 use Rattle.raft_core.specs.Roles.{role_value}
 use Rattle.node_core.specs.declared.event.NodeState.{NodeState}
-use Rattle.served_node.specs.declared.newest.Telling.{Telling}
 
 -- the newest image of the database of a name, by its number
 pub record IsNewest (name : List ℕ) (databases : List Database) (number : ImageNumber) (image : Image) : Type 0 where
@@ -20,16 +19,3 @@ pub record IsNewest (name : List ℕ) (databases : List Database) (number : Imag
 -- it leads, and has applied all of its log
 abbrev pub is_settled : NodeState → Bool
 is_settled state = is_leader (role_value state.role) && (state.applied == state.last)
-
--- of how many databases the engine was told in this term
-abbrev pub count_in : ℕ → Telling → ℕ
-count_in term telling = if telling.term == term then telling.count else 0
-
--- the place of the database of which it is told next, of at most sixteen in a term
-abbrev pub next_place : Telling → NodeState → Option ℕ
-next_place telling state = if is_settled state && nat_lt (count_in state.term telling) 16 then Some (count_in state.term telling) else None
-
--- and then it was told of one more
-abbrev pub told_next : Telling → NodeState → Telling
-told_next telling state =
-    if is_settled state && nat_lt (count_in state.term telling) 16 then record { term = state.term; count = count_in state.term telling + 1 } else telling

@@ -1,10 +1,10 @@
 //! Of which newest images an engine is told ahead.
 
-ghost use Rattle.std.specs.Prelude.{◌≡◌, IfSome};
+ghost use Rattle.std.specs.Prelude.{◌≡◌, true, IfSome};
 ghost use Rattle.std.specs.Arc.{arc_value};
 ghost use Rattle.sql_engine.specs.Meanings.{Stays};
 ghost use Rattle.node_core.specs.Whole.{Agrees};
-ghost use Rattle.served_node.specs.Telling.{IsNewest, count_in, is_settled, next_place, told_next};
+ghost use Rattle.served_node.specs.Telling.{IsNewest, is_settled};
 
 use dq_base::{Image, ImageNumber};
 use node_core::{Node, NodeState};
@@ -13,18 +13,18 @@ use sql_engine::Engine;
 use std::alloc::Global;
 use std::sync::Arc;
 
-/// Of how many databases an engine is told in a term at most. SQLite's engine keeps four images more open than these.
+/// Of how many databases an engine is told at most: as many as a node has. SQLite's engine keeps four images more open than these.
 const MOST_TOLD: usize = 16;
 
 /// The most pages of an image of which an engine is told: 4 MiB. The next event is taken only once it is open, which takes 25 to 75
-/// microseconds a page.
+/// microseconds a page where it isn't open yet, and a comparison, 0.2 to 0.4 microseconds a page, where a commit of the node's own led to it.
 const MOST_PAGES: u64 = 1_024;
 
-/// Of how many databases an engine was told in a term.
+/// Of which newest images an engine was told in a term, by the places of their databases.
 #[derive(Clone, Copy)]
 pub(crate) struct Telling {
     term: u64,
-    count: usize,
+    told: [Option<ImageNumber>; MOST_TOLD],
 }
 
 /// Whether a node leads, and has applied all of its log.
@@ -34,34 +34,50 @@ fn is_settled(state: NodeState) -> bool
     state.role.leads() && state.applied == state.last
 }
 
+/// The number of the newest image of the database at a place, in the order of their names.
+fn number_at(machine: &Machine, place: usize) -> Option<ImageNumber> {
+    let database = machine.databases().get(place)?;
+    machine.number(database.name().as_str())
+}
+
 impl Telling {
     /// It was told of none.
-    pub(crate) fn new() -> Telling
-        ensures { result ≡ record { term = 0; count = 0 } }
-    {
-        Telling { term: 0, count: 0 }
+    pub(crate) fn new() -> Telling {
+        Telling::in_term(0)
     }
 
-    /// Of how many it was told in this term.
-    fn count_in(self, term: u64) -> usize
-        ensures { result ≡ count_in term self }
-    {
-        if self.term == term { self.count } else { 0 }
+    fn in_term(term: u64) -> Telling {
+        Telling {
+            term,
+            told: [None; MOST_TOLD],
+        }
+    }
+
+    /// The place of the first database whose newest image the engine wasn't told of, which counts as told from here on. Looks for each
+    /// database once by its name.
+    fn first_untold(&mut self, machine: &Machine) -> Option<usize> {
+        for place in 0..MOST_TOLD {
+            let number = number_at(machine, place);
+            if number.is_some() && self.told[place] != number {
+                self.told[place] = number;
+                return Some(place);
+            }
+        }
+        None
     }
 
     /// The place of the database of which the engine of a node that stands so is told next: `None` where the node doesn't lead or hasn't
-    /// applied all of its log, and once the engine was told of sixteen in this term.
-    pub(crate) fn next(&mut self, state: NodeState) -> Option<usize>
-        ensures place { result ≡ next_place self.old state }
-        ensures told { self.new ≡ told_next self.old state }
+    /// applied all of its log, and where the engine was told in this term of each newest image.
+    pub(crate) fn next(&mut self, state: NodeState, machine: &Machine) -> Option<usize>
+        ensures { IfSome result (λ _. is_settled state ≡ true) }
     {
-        let place = self.count_in(state.term);
-        if is_settled(state) && place < MOST_TOLD {
-            self.term = state.term;
-            self.count = place + 1;
-            return Some(place);
+        if !is_settled(state) {
+            return None;
         }
-        None
+        if self.term != state.term {
+            *self = Telling::in_term(state.term);
+        }
+        self.first_untold(machine)
     }
 }
 

@@ -85,7 +85,7 @@ pub(crate) fn write_hindrance(
     }
 }
 
-/// Whether statements of this kind are writes: INSERT, REPLACE, UPDATE and DELETE.
+/// Whether statements of this kind are writes: INSERT, REPLACE, UPDATE, DELETE, CREATE, DROP and ALTER.
 pub(crate) fn is_write_word(word: WordKind) -> bool
     ensures { result ≡ statements.is_write_word word }
 {

@@ -1,5 +1,5 @@
 -- Whatever a request asks for, it may: the one walk over the rules that come before the engine.
-use Rattle.std.proofs.Common.{◌≡◌, ◌≢◌, inl, inr, ℕ, ◌<◌, ◌≤◌, Bool, true, false, true≢false, cond, not, ◌&&◌, ◌||◌, List, [], ◌∷◌, map, Option, Some, None, Result, Ok, Err, refl, sym, ap, length}
+use Rattle.std.proofs.Common.{◌≡◌, ◌≢◌, inl, inr, ℕ, ◌≤◌, Bool, true, false, true≢false, cond, not, ◌&&◌, ◌||◌, List, [], ◌∷◌, map, Option, Some, None, Result, Ok, Err, refl, sym, ap, length}
 use Rattle.std.specs.Prelude.{◌==◌, nat_lt, nat_le}
 use Rattle.std.proofs.lemmas.Bool.{eqb-false, leb-false, ltb-false}
 use Rattle.wire_words.specs.declared.value.Value.{Value}
@@ -20,7 +20,7 @@ use Rattle.session_rules.specs.Servers.{has_server, server_of}
 use Rattle.session_rules.specs.Sessions.{Prepared, Transaction, Session, Gateway, View, JoinsPeer, HandsOver, in_tx}
 use Rattle.session_rules.specs.Statements.{prepared_from, prepared_at, prepared_count, is_left_out, is_write_word, any_barred, any_write, wrong_params, with_params, with_all}
 use Rattle.session_rules.specs.Asking as asking
-use Rattle.session_rules.specs.Asking.{Asked, Never, Tells, Sets, Opens, Creates, Prepares, Drops, Begins, Commits, RollsBack, Changes, Runs, Reads, has_database, barriers_asked, fits_one_voter, asked_by}
+use Rattle.session_rules.specs.Asking.{Asked, Never, Tells, Sets, Opens, Creates, Prepares, Changes, Runs, Reads, has_database, barriers_asked, fits_one_voter, asked_by}
 use Rattle.session_rules.specs.Allowed.{IsFailure, IsEarlyCause, IsServed, IsOneChange, IsAllowed, AllAreAllowed}
 
 -- none of five tests is passed

@@ -29,7 +29,7 @@ is_left_out words.Write = false
 is_left_out words.LeftOut = true
 is_left_out words.Other = false
 
--- it begins an INSERT, REPLACE, UPDATE or DELETE
+-- it begins an INSERT, REPLACE, UPDATE or DELETE, or a CREATE, DROP or ALTER
 abbrev pub is_write_word : WordKind → Bool
 is_write_word (words.Begin at_once) = false
 is_write_word words.Commit = false

@@ -1,8 +1,8 @@
 -- A mark that is pinned, and what it leaves of the others.
-use Rattle.std.proofs.Common.{◌≡◌, ◌≢◌, ℕ, zero, suc, ◌<◌, Bool, true, false, cond, List, [], ◌∷◌, ◌++◌, length, set, get_or, remove, find, Option, Some, None, ◌⊎◌, inl, inr, refl, sym, ap, subst, ◌∙◌, arith}
+use Rattle.std.proofs.Common.{◌≡◌, ℕ, zero, suc, ◌<◌, Bool, true, false, cond, List, [], ◌∷◌, ◌++◌, length, set, get_or, remove, find, Option, Some, None, ◌⊎◌, inl, inr, refl, sym, ap, subst, ◌∙◌, arith}
 use Rattle.std.specs.Prelude.{◌==◌, IsSome}
 use Rattle.std.specs.List.{AllByRecursion, Contains}
-use Rattle.std.proofs.lemmas.Bool.{cases_Bool, cond-true, cond-false, eqb-true, eq-eqb, ne_eqb}
+use Rattle.std.proofs.lemmas.Bool.{cases_Bool, cond-true, cond-false, eqb-true}
 use Rattle.std.proofs.lemmas.List.{append_assoc}
 use Rattle.std.proofs.lemmas.List.Elements.{Contains-append_cases, Contains-append_left, Contains-append_right}
 use Rattle.dq_base.specs.declared.images.Image.{Image}
@@ -11,10 +11,10 @@ use Rattle.checkpoint_core.specs.Store.{IsLive, pinned}
 use Rattle.page_apply.specs.declared.database.Database.{Database}
 use Rattle.page_apply.specs.ByName.{change_first}
 use Rattle.page_apply.specs.Databases.{has_name, with_store}
-use Rattle.page_apply.specs.Machines as machines
 use Rattle.page_apply.specs.Machines.{IsMachine}
 use Rattle.page_apply.specs.ImageNumbers.{NumbersStay}
 use Rattle.page_apply.specs.Pins.{Pinning, has_place, at_place, is_live_in, IsPinned, IsPin, ShowsNewest, StillPinned}
+use Rattle.page_apply.proofs.Acting.{own_place}
 use Rattle.page_apply.proofs.ImageNumbers.{pin_stays}
 use Rattle.session_rules.specs.Machine.{machine_of}
 use Rattle.session_table.specs.declared.session.Session.{Session}
@@ -44,26 +44,6 @@ some_same a b e = cc
 
 pub none_found : (d : Database) → None ≡ Some d → ⊥
 none_found d e = cc
-
-found_all : (test : Database → Bool) (P : Database → Type 0) (ds : List Database) (d : Database) → AllByRecursion P ds → find test ds ≡ Some d → P d
-found_all test P [] d all e = absurd (none_found d e)
-found_all test P (x ∷ ds) d all e = elim (cases_Bool (test x)) [
-  | inl here ↦ subst P (some_same x d (sym (cond-true (test x) (Some x) (find test ds) here) ∙ e)) all.0
-  | inr elsewhere ↦ found_all test P ds d all.1 (sym (cond-false (test x) (Some x) (find test ds) elsewhere) ∙ e)
-]
-
--- where no two have one place, the one that was found by a test is found by its place
-pub own_place : (test : Database → Bool) (ds : List Database) (d : Database) → machines.AreApart ds → find test ds ≡ Some d → at_place d.place ds ≡ Some d
-own_place test [] d apart e = absurd (none_found d e)
-own_place test (x ∷ ds) d apart e = elim (cases_Bool (test x)) [
-  | inl here ↦
-      let same : x ≡ d = some_same x d (sym (cond-true (test x) (Some x) (find test ds) here) ∙ e) in
-      cond-true (has_place d.place x) (Some x) (at_place d.place ds) (eq-eqb x.place d.place (ap (λ (y : Database). y.place) same)) ∙ ap (λ (y : Database). Some y) same
-  | inr elsewhere ↦
-      let later : find test ds ≡ Some d = sym (cond-false (test x) (Some x) (find test ds) elsewhere) ∙ e in
-      let other : x.place ≢ d.place = found_all test (λ (y : Database). x.place ≢ y.place) ds d apart.0 later in
-      cond-false (has_place d.place x) (Some x) (at_place d.place ds) (ne_eqb x.place d.place other) ∙ own_place test ds d apart.1 later
-]
 
 module _ (t : Database → Bool) (mark place : ℕ) (q : Pinning) where
   abbrev gains : Database → Database

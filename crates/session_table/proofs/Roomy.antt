@@ -14,7 +14,7 @@ use Rattle.session_table.specs.declared.session.Session.{Session}
 use Rattle.session_table.specs.declared.session.Transaction.{Transaction}
 use Rattle.session_table.specs.Table.{mark_of, pin_of, pins_of, IsTable}
 use Rattle.session_table.specs.Marks.{AreMarks, HasRoom}
-use Rattle.session_table.proofs.Gaining.{own_place}
+use Rattle.page_apply.proofs.Acting.{own_place}
 
 -- ---- as many marks as there are in a list
 

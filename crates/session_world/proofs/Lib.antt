@@ -16,11 +16,13 @@ pub mod Sees
 pub mod Answers
 mod Outcomes
 pub mod Replying
+pub mod AddedNames
 pub mod Undos
 pub mod Commits
 pub mod Plains
 pub mod Milds
 pub mod Alones
+pub mod Terms
 pub mod Turns
 pub mod Examples
 pub mod Flying

@@ -1,60 +1,21 @@
 -- Undo entries for all that is pending.
-use Rattle.std.proofs.Common.{◌≡◌, ◌⊎◌, inl, inr, ℕ, true, false, true≢false, List, [], ◌∷◌, refl, sym, ap, ◌∙◌, subst, ⊎_elim, Ordering, Less, Equal, Greater}
+use Rattle.std.proofs.Common.{◌≡◌, ◌⊎◌, inl, inr, ℕ, true, false, true≢false, List, [], ◌∷◌, refl, sym, ap, ◌∙◌, subst, ⊎_elim}
 use Rattle.std.specs.Prelude.{◌==◌, bytes_eq, Option, Some, None}
-use Rattle.std.specs.Ordering.{nat_cmp, match_ordering, is_eq}
-use Rattle.std.specs.Cmp.Lexicographic.{slice_cmp}
-use Rattle.std.proofs.lemmas.Map.Text.{is_eq-slice_cmp}
-use Rattle.std.proofs.lemmas.Bool.{cond_both, cond-true, cases_Bool, eq-eqb, or_cases, or_left, or_right}
+use Rattle.std.proofs.lemmas.Bool.{cond_both, cond-true, cases_Bool, eq-eqb, or_cases}
 use Rattle.dq_base.specs.declared.pages.PageSet.{PageSet}
 use Rattle.frame_commands.specs.declared.command.Command.{Command}
 use Rattle.frame_commands.specs.declared.command.Command.TheVariants.{OpenDb, Frames, Undo, Checkpoint}
-use Rattle.page_apply.specs.ByName.{at_name}
 use Rattle.page_apply.specs.Files.{pending_without}
 use Rattle.session_rules.specs.Entries.{Content, Does, Configures, Other, Entry, entries_of}
-use Rattle.session_rules.specs.Machine.{Base, Machine, is_named, nothing, with_name, framed, checked, act, done, files_from, files}
-use Rattle.session_rules.proofs.Names.{name_is, same_name}
+use Rattle.session_rules.specs.Machine.{Base, Machine, is_named, nothing, framed, checked, act, done, files_from, files}
+use Rattle.session_rules.proofs.Names.{name_is}
 use Rattle.session_world.specs.Logs.{with_undo, undos_for, undos, UndosClear}
+use Rattle.session_world.proofs.AddedNames.{kept_name, another}
 use Rattle.session_world.proofs.Files.{files_append}
 
 -- only databases with a name have pending pages
 abbrev Named : Machine → Type 0
 Named m = (n : List ℕ) → is_named m.names n ≡ false → (m.base n).pending ≡ None
-
--- ---- names, where one is added
-
--- a name is there after it was added
-there_name : (names : List (List ℕ)) (k : List ℕ) → is_named (with_name k names) k ≡ true
-unfolding at_name
-there_name [] k = or_left (bytes_eq k k) false (same_name k)
-there_name (x ∷ names) k =
-    let go : (o : Ordering) → slice_cmp nat_cmp k x ≡ o → is_named (match_ordering o (k ∷ x ∷ names) (x ∷ names) (x ∷ with_name k names)) k ≡ true =
-    λ o. elim o as (λ o. slice_cmp nat_cmp k x ≡ o → is_named (match_ordering o (k ∷ x ∷ names) (x ∷ names) (x ∷ with_name k names)) k ≡ true) [
-      | Less ↦ λ e. or_left (bytes_eq k k) (is_named (x ∷ names) k) (same_name k)
-      | Equal ↦ λ e. or_left (bytes_eq k x) (is_named names k) (sym (is_eq-slice_cmp k x) ∙ ap is_eq e)
-      | Greater ↦ λ e. or_right (bytes_eq k x) (is_named (with_name k names) k) (there_name names k)
-    ] in
-    go (slice_cmp nat_cmp k x) refl
-
--- and others are as before
-still_named : (names : List (List ℕ)) (k n : List ℕ) → is_named names n ≡ true → is_named (with_name k names) n ≡ true
-unfolding at_name
-still_named [] k n h = absurd (true≢false (sym h))
-still_named (x ∷ names) k n h =
-    elim (slice_cmp nat_cmp k x) as (λ o. is_named (match_ordering o (k ∷ x ∷ names) (x ∷ names) (x ∷ with_name k names)) n ≡ true) [
-      | Less ↦ or_right (bytes_eq n k) (is_named (x ∷ names) n) h
-      | Equal ↦ h
-      | Greater ↦ ⊎_elim
-          (λ (e : bytes_eq n x ≡ true). or_left (bytes_eq n x) (is_named (with_name k names) n) e)
-          (λ (e : is_named names n ≡ true). or_right (bytes_eq n x) (is_named (with_name k names) n) (still_named names k n e))
-          (or_cases (bytes_eq n x) (is_named names n) h)
-    ]
-
-kept_name : (names : List (List ℕ)) (k n : List ℕ) → is_named (with_name k names) n ≡ false → is_named names n ≡ false
-kept_name names k n h = ⊎_elim (λ (x : is_named names n ≡ true). absurd (true≢false (sym (still_named names k n x) ∙ h))) (λ (x : is_named names n ≡ false). x) (cases_Bool (is_named names n))
-
--- a database that is not the one of the name
-another : (names : List (List ℕ)) (k n : List ℕ) → is_named (with_name k names) n ≡ false → bytes_eq n k ≡ true → ⊥
-another names k n h e = true≢false (sym (subst (λ j. is_named (with_name k names) j ≡ true) (sym (name_is n k e)) (there_name names k)) ∙ h)
 
 undone_none : (tx : ℕ) (o : Option PageSet) → o ≡ None → pending_without tx o ≡ None
 undone_none tx o e = ap (pending_without tx) e

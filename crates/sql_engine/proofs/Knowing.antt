@@ -1,8 +1,7 @@
 -- What holds of all that an engine knows.
-use Rattle.std.proofs.Common.{◌≡◌, ℕ, ◌<◌, List, length, get_or, All, Contains, Result, Ok, refl, sym, subst, ◌∙◌}
+use Rattle.std.proofs.Common.{◌≡◌, List, get_or, All, Contains, Result, Ok, sym, subst}
 use Rattle.std.proofs.lemmas.List.{get_or_default}
 use Rattle.dq_base.specs.declared.images.Image.{Image}
-use Rattle.dq_base.specs.declared.image_number.ImageNumber.{ImageNumber}
 use Rattle.dq_base.specs.declared.image_number.ImageNumber.TheVariants.{Working}
 use Rattle.dq_base.specs.Applying.{applied}
 use Rattle.sql_engine.specs.declared.answer.Ran.{Ran}

@@ -12,8 +12,14 @@ use Rattle.sql_scan.specs.declared.heading.Heading.TheVariants.{Blank, Begun, Op
 abbrev pub is : List ℕ → List ℕ → Bool
 is word name = str_eq_ignore_ascii_case word name
 
+abbrev pub changes_rows : List ℕ → Bool
+changes_rows word = is word (codes "INSERT") || is word (codes "REPLACE") || is word (codes "UPDATE") || is word (codes "DELETE")
+
+abbrev pub changes_schema : List ℕ → Bool
+changes_schema word = is word (codes "CREATE") || is word (codes "DROP") || is word (codes "ALTER")
+
 unfoldable pub is_write : List ℕ → Bool
-is_write word = is word (codes "INSERT") || is word (codes "REPLACE") || is word (codes "UPDATE") || is word (codes "DELETE")
+is_write word = changes_rows word || changes_schema word
 
 unfoldable pub is_left_out : List ℕ → Bool
 is_left_out word = is word (codes "ATTACH") || is word (codes "DETACH") || is word (codes "PRAGMA") || is word (codes "VACUUM") || is word (codes "SAVEPOINT") || is word (codes "RELEASE")

@@ -1,6 +1,6 @@
 ghost use Rattle.std.specs.Prelude.{◌≡◌};
 ghost use Rattle.std.specs.Str.{str_eq_ignore_ascii_case};
-ghost use Rattle.sql_scan.specs.Words.{is_write, is_left_out, keyword_of, first_heading, after_begin, kind_so_far, followed_by};
+ghost use Rattle.sql_scan.specs.Words.{changes_rows, changes_schema, is_write, is_left_out, keyword_of, first_heading, after_begin, kind_so_far, followed_by};
 
 /// What kind of statement its first words make it.
 #[derive(Clone, Copy, Debug, PartialEq, Eq)]
@@ -11,7 +11,7 @@ pub enum WordKind {
     Commit,
     /// ROLLBACK; TRANSACTION may follow.
     Rollback,
-    /// INSERT, REPLACE, UPDATE or DELETE.
+    /// INSERT, REPLACE, UPDATE or DELETE; or CREATE, DROP or ALTER.
     Write,
     /// ATTACH, DETACH, PRAGMA, VACUUM, SAVEPOINT or RELEASE, or one of the first three kinds with anything else behind it.
     LeftOut,
@@ -58,11 +58,23 @@ fn is(word: &[u8], name: &str) -> bool
     word.eq_ignore_ascii_case(name.as_bytes())
 }
 
+fn changes_rows(word: &[u8]) -> bool
+    ensures { result ≡ changes_rows word.now }
+{
+    is(word, "INSERT") || is(word, "REPLACE") || is(word, "UPDATE") || is(word, "DELETE")
+}
+
+fn changes_schema(word: &[u8]) -> bool
+    ensures { result ≡ changes_schema word.now }
+{
+    is(word, "CREATE") || is(word, "DROP") || is(word, "ALTER")
+}
+
 #[tactic(auto, unfolding(crate::specs::Words::is_write))]
 fn is_write(word: &[u8]) -> bool
     ensures { result ≡ is_write word.now }
 {
-    is(word, "INSERT") || is(word, "REPLACE") || is(word, "UPDATE") || is(word, "DELETE")
+    changes_rows(word) || changes_schema(word)
 }
 
 #[tactic(auto, unfolding(crate::specs::Words::is_left_out))]

@@ -1,5 +1,6 @@
 pub mod Counts
 pub mod Changing
+pub mod Telling
 pub mod Reaching
 pub mod Standing
 pub mod Opened

@@ -15,6 +15,7 @@ use Rattle.sql_engine.specs.Meanings.{Meaning, Answers, Faults, IsShort, Told, T
 use Rattle.sql_engine.proofs.ChangeLists.{changed_none}
 use Rattle.sql_engine.proofs.Leading.{leads_on}
 use Rattle.statement_runs.proofs.Changing.{change_leads}
+use Rattle.statement_runs.proofs.Telling.{tells_join}
 use Rattle.session_rules.specs.Engines.{Answer, Ending, TooLarge, takes, no_answer, runs, used, AllowsRest, AllowsAll}
 use Rattle.statement_runs.specs.declared.ending.AllRan.{AllRan}
 use Rattle.statement_runs.specs.declared.ending.Ending.{Ending as CodeEnding}
@@ -50,8 +51,7 @@ reached_start m kind base statements told = record {
 
 tells_more : (answers : List Answer) (a : Answer) (before now next : Option Told) → TellsAll answers before now → Tells a now next → TellsAll (answers ++ a ∷ []) before next
 unfolding TellsAll
-tells_more [] a before now next same t = (next, subst (λ (told : Option Told). Tells a told next) (sym same) t, refl)
-tells_more (b ∷ bs) a before now next h t = (h.0, h.1, tells_more bs a h.0 now next h.2 t)
+tells_more answers a before now next h t = tells_join answers (a ∷ []) before now next h (next, t, refl)
 
 -- pages that are taken lead to the image with them applied
 after_nothing : (image : Image) → image_after image [] ≡ applied image []

@@ -1,5 +1,5 @@
 -- What a call does to the counts of a dialer that tells no call.
-use Rattle.std.proofs.Common.{◌≡◌, ◌+◌, ◌≤◌, ℕ, List, length, Ok, Err, refl, ap, subst, sym, ◌∙◌, arith}
+use Rattle.std.proofs.Common.{◌≡◌, ◌+◌, ◌≤◌, ℕ, List, length, Ok, Err, ap, ◌∙◌, arith}
 use Rattle.dq_base.specs.declared.faults.Failed.{Failed}
 use Rattle.dq_base.specs.Faults.{one_more, last_count}
 use Rattle.dq_client.specs.Net.{Dials, Writes, Reads}

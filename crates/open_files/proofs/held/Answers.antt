@@ -1,4 +1,4 @@
-use Rattle.std.proofs.Common.{IsTrue, refl, ap}
+use Rattle.std.proofs.Common.{refl, ap}
 use Rattle.sqlite_wal.proofs.StateLemmas.{clean_of}
 use Rattle.sqlite_trees.specs.View.{IsClean, doubt}
 use Rattle.sqlite_store.specs.FileStore.{state, view, files}

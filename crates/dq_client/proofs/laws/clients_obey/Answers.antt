@@ -1,9 +1,8 @@
 use Rattle.std.proofs.Common.{◌<◌, ◌*◌, ℕ, Bool, false, List, [], length, refl, arith}
 use Rattle.dq_client.specs.declared.events.ClientEvent.{ClientEvent}
-use Rattle.dq_client.specs.declared.course.Awaited.TheVariants as awaited
 use Rattle.dq_client.specs.Course.{begun}
 use Rattle.dq_client.specs.Laws.{AllObey, Free, turns}
-use Rattle.dq_client.proofs.Kept.{Stands, all_kept, statement_is_one}
+use Rattle.dq_client.proofs.Kept.{all_kept, statement_is_one}
 use Rattle.dq_client.proofs.Elsewhere.{all_elsewhere}
 use Rattle.dq_client.proofs.laws.clients_obey.Goals as goal
 

@@ -1,4 +1,4 @@
-use Rattle.std.proofs.Common.{List, ℕ, ◌+◌, ◌≤◌, drop, subst, arith}
+use Rattle.std.proofs.Common.{List, ℕ, ◌+◌, drop, subst, arith}
 use Rattle.std.proofs.lemmas.List.{drop_more}
 use Rattle.std.proofs.lemmas.Result.{err_from_is_err_and}
 use Rattle.dqnode.specs.Generating.{ShownSoFar}

@@ -1,5 +1,4 @@
-use Rattle.std.proofs.Common.{ap, sym, subst, ◌∙◌}
-use Rattle.dqnode.specs.Status.{status_code}
+use Rattle.std.proofs.Common.{sym, ◌∙◌}
 use Rattle.dqnode.proofs.Made.{run_shown}
 use Rattle.dqnode.proofs.generating.run_made.Goals as goal
 

@@ -1,8 +1,5 @@
-use Rattle.std.proofs.Common.{List, ℕ, ◌≡◌, ◌++◌, ◌∷◌, [], sym, ap, subst, ◌∙◌}
+use Rattle.std.proofs.Common.{[], sym, ◌∙◌}
 use Rattle.std.proofs.lemmas.Result.{err_from_is_err_and}
-use Rattle.dq_base.specs.Sink.{AppendsFront}
-use Rattle.std.specs.Io.KnownBytes.{Appends}
-use Rattle.dqnode.specs.Generating.{ShownSoFar, shown}
 use Rattle.dqnode.proofs.Made.{byte_within, byte_ends, byte_cut, shown_short}
 use Rattle.dqnode.proofs.generating.take_byte.Goals as goal
 

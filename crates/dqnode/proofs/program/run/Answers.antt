@@ -1,4 +1,4 @@
-use Rattle.std.proofs.Common.{◌≡◌, ◌⊎◌, inl, inr, ℕ, true, Some, None, sym, ap, subst, ◌∙◌}
+use Rattle.std.proofs.Common.{◌≡◌, ◌⊎◌, inl, inr, true, Some, None, sym, ap, subst, ◌∙◌}
 use Rattle.dq_base.specs.Faults.{Rose}
 use Rattle.program_words.specs.declared.asked.Asked.TheVariants as asks
 use Rattle.dqnode.specs.declared.status.Status.{Status}

@@ -1,7 +1,7 @@
 use Rattle.std.proofs.Common.{◌∙◌}
 use Rattle.std.proofs.lemmas.Result.{err_from_is_err_and}
 use Rattle.segment_store.proofs.KeepRuns.{went_loose, loose_stays, no_fewer}
-use Rattle.std.proofs.Common.{◌+◌, length, arith}
+use Rattle.std.proofs.Common.{length, arith}
 use Rattle.segment_store.proofs.CountedCalls.{err_after, ok_after}
 use Rattle.segment_store.proofs.keep_files.remove_loose.Goals as goal
 

@@ -1,5 +1,4 @@
 use Rattle.std.proofs.Common.{refl}
-use Rattle.wire_rows.specs.Answering.{held}
 use Rattle.wire_rows.proofs.Lengths.{sum_done}
 use Rattle.session_table.specs.SessionSizes.{sessions_size, kept_size}
 use Rattle.session_table.proofs.sizes.kept_size.Goals as goal

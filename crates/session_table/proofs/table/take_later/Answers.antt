@@ -1,5 +1,4 @@
-use Rattle.std.proofs.Common.{◌≡◌, ℕ, List, None, sym, ap, ◌∙◌}
-use Rattle.page_apply.specs.declared.database.Database.{Database}
+use Rattle.std.proofs.Common.{None, sym, ap, ◌∙◌}
 use Rattle.session_rules.specs.Requests.{with_session, with_later}
 use Rattle.session_rules.specs.Sessions.{Session as RuleSession, later_query}
 use Rattle.session_table.specs.declared.session.Session.{Session}

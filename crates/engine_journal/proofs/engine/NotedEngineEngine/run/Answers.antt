@@ -1,8 +1,7 @@
-use Rattle.std.proofs.Common.{◌≡◌, ◌∙◌, Some, refl, sym, ap, subst}
+use Rattle.std.proofs.Common.{◌∙◌, Some, refl, sym, ap, subst}
 use Rattle.std.specs.Prelude.{All}
 use Rattle.sql_engine.specs.Meanings.{Tells}
 use Rattle.sql_engine.specs.Known.{MayKnow}
-use Rattle.sql_engine.proofs.Knowing.{still_known}
 use Rattle.engine_journal.specs.Noting.{told_by}
 use Rattle.engine_journal.proofs.Telling.{told_more, told_lost}
 use Rattle.engine_journal.proofs.engine.NotedEngineEngine.run.Goals as goal

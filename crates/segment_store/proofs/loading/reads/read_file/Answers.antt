@@ -4,8 +4,7 @@ use Rattle.disk_model.specs.Trait.{Text}
 use Rattle.segment_store.specs.FileNames.{file_name, name_of}
 use Rattle.segment_store.proofs.LoadEnds.{cause_again, cause_fine}
 use Rattle.segment_store.proofs.LoadSees.{sees_ok, sees_err}
-use Rattle.std.proofs.Common.{ℕ, length, sym, arith}
-use Rattle.disk_model.specs.Disk.{Disk}
+use Rattle.std.proofs.Common.{length, sym, arith}
 use Rattle.segment_store.specs.LoadCounts.{reads_for}
 use Rattle.segment_store.specs.Keeps.{folder}
 use Rattle.segment_store.proofs.LoadCounting.{counts_err, counts_ok}

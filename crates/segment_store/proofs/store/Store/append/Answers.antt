@@ -1,6 +1,6 @@
 use Rattle.std.proofs.Common.{◌≤◌, subst}
 use Rattle.segment_store.specs.Open.{Open}
-use Rattle.std.proofs.Common.{Some, None, length, sym, ◌∙◌}
+use Rattle.std.proofs.Common.{Some, None, sym, ◌∙◌}
 use Rattle.std.proofs.lemmas.Result.{err_from_is_err_and}
 use Rattle.store_laws.specs.Store.{Log}
 use Rattle.store_laws.specs.Append.{with_batch}

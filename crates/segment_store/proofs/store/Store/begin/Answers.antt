@@ -1,9 +1,8 @@
 use Rattle.std.proofs.Common.{ℕ, ◌<◌, ◌≤◌, subst}
 use Rattle.segment_store.specs.Open.{Open}
-use Rattle.std.proofs.Common.{None, Ok, Err, length}
+use Rattle.std.proofs.Common.{None, Ok, Err}
 use Rattle.std.proofs.lemmas.Result.{err_from_is_err_and}
 use Rattle.store_laws.specs.Append.{with_batch}
-use Rattle.store_format.specs.Batches.{batch_bytes}
 use Rattle.segment_store.specs.MadeCalls.{batch_calls_in}
 use Rattle.segment_store.specs.declared.fault.StoreFault.TheVariants.{NoMemory}
 use Rattle.segment_store.proofs.Appending.{begun, none_appended}

@@ -1,4 +1,4 @@
-use Rattle.served_node.specs.Serving.{Seat, Lent, StaysLent, Makes, Breaks, MakesByRules, BreaksByRules}
+use Rattle.served_node.specs.Serving.{Makes, Breaks, MakesByRules, BreaksByRules}
 use Rattle.served_node.proofs.Serving.{loop_lends, loops_seen}
 use Rattle.served_node.proofs.served.ServedNode.run.Goals as goal
 
