@@ -1,8 +1,7 @@
 use dq_base::{MemSink, MemSource};
 use script_nodes::ClusterJournal;
-use script_places::{CellChoice, SqliteChoice, WholePlace};
+use script_places::{CellChoice, WholePlace};
 use script_runner::{Outcome, run_script};
-use sql_engine::EngineKind;
 use std::alloc::{AllocError, Global};
 use std::test::Fail;
 
@@ -23,36 +22,22 @@ struct Ended {
     text: Vec<u8>,
 }
 
-/// Runs a script in memory, where the read and the write of these numbers, from 1, fail.
-fn run(
-    alloc: Global,
-    engine: EngineKind,
-    script: &[u8],
-    read: u64,
-    write: u64,
-) -> Result<Ended, AllocError> {
+/// Runs a script in memory, where the read and the write of these numbers, from 1, fail. Its engine has cells, since no line of a
+/// script here runs a statement, and SQLite isn't compiled then.
+fn run(alloc: Global, script: &[u8], read: u64, write: u64) -> Result<Ended, AllocError> {
     let mut input = MemSource::new(
         Vec::from_slice(alloc, script)?,
         Vec::from_slice(alloc, &[read])?,
     );
     let mut output = MemSink::new(alloc, Vec::from_slice(alloc, &[write])?);
     let mut journal = ClusterJournal::new(alloc);
-    let outcome = match engine {
-        EngineKind::Sqlite => run_script(
-            alloc,
-            WholePlace::<SqliteChoice>::new(alloc),
-            &mut input,
-            &mut output,
-            &mut journal,
-        ),
-        EngineKind::Cells => run_script(
-            alloc,
-            WholePlace::<CellChoice>::new(alloc),
-            &mut input,
-            &mut output,
-            &mut journal,
-        ),
-    };
+    let outcome = run_script(
+        alloc,
+        WholePlace::<CellChoice>::new(alloc),
+        &mut input,
+        &mut output,
+        &mut journal,
+    );
     let text = Vec::from_slice(alloc, output.bytes())?;
     Ok(Ended { outcome, text })
 }
@@ -82,36 +67,23 @@ fn text_of(alloc: Global, script: Script) -> Result<String, AllocError> {
     }
 }
 
-/// An engine, a script, the read and the write that fail, how the script ends, and what it prints.
-type Row = (EngineKind, Script, u64, u64, Outcome, &'static str);
-
-const SQLITE: EngineKind = EngineKind::Sqlite;
-
-const CELLS: EngineKind = EngineKind::Cells;
+/// A script, the read and the write that fail, how the script ends, and what it prints.
+type Row = (Script, u64, u64, Outcome, &'static str);
 
 const ROWS: &[Row] = &[
-    (SQLITE, Script::Asking, 0, 0, Outcome::Done, STANDS),
-    (CELLS, Script::Asking, 0, 0, Outcome::Done, STANDS),
-    (SQLITE, Script::Asking, 1, 0, Outcome::ReadFault, ""),
+    (Script::Asking, 0, 0, Outcome::Done, STANDS),
+    (Script::Asking, 1, 0, Outcome::ReadFault, ""),
     // The first read gives the whole script, and the second is to tell that it has ended.
-    (SQLITE, Script::Asking, 2, 0, Outcome::ReadFault, NO_LEADER),
-    (SQLITE, Script::Text(""), 1, 0, Outcome::ReadFault, ""),
+    (Script::Asking, 2, 0, Outcome::ReadFault, NO_LEADER),
+    (Script::Text(""), 1, 0, Outcome::ReadFault, ""),
     // A line that is cut by a failed read is not run.
-    (SQLITE, Script::Long, 2, 0, Outcome::ReadFault, ""),
-    (
-        SQLITE,
-        Script::Long,
-        0,
-        0,
-        Outcome::Script(3),
-        "error line 3\n",
-    ),
-    (SQLITE, Script::Asking, 0, 1, Outcome::WriteFault, ""),
+    (Script::Long, 2, 0, Outcome::ReadFault, ""),
+    (Script::Long, 0, 0, Outcome::Script(3), "error line 3\n"),
+    (Script::Asking, 0, 1, Outcome::WriteFault, ""),
     // The line at the end can't be written.
-    (SQLITE, Script::Asking, 0, 2, Outcome::WriteFault, NO_LEADER),
-    (SQLITE, Script::Text(""), 0, 1, Outcome::Done, ""),
+    (Script::Asking, 0, 2, Outcome::WriteFault, NO_LEADER),
+    (Script::Text(""), 0, 1, Outcome::Done, ""),
     (
-        SQLITE,
         Script::Text("nodes"),
         0,
         0,
@@ -119,14 +91,14 @@ const ROWS: &[Row] = &[
         "error line 1\n",
     ),
     // The line that tells the fault can't be written.
-    (SQLITE, Script::Text("nodes"), 0, 1, Outcome::WriteFault, ""),
+    (Script::Text("nodes"), 0, 1, Outcome::WriteFault, ""),
 ];
 
 /// Whether the script of a row ends and prints as the row says.
 fn ends_so(alloc: Global, row: &Row) -> Result<bool, AllocError> {
-    let &(engine, script, read, write, outcome, text) = row;
+    let &(script, read, write, outcome, text) = row;
     let bytes = text_of(alloc, script)?;
-    let ended = run(alloc, engine, bytes.as_bytes(), read, write)?;
+    let ended = run(alloc, bytes.as_bytes(), read, write)?;
     Ok(ended.outcome == outcome && ended.text.as_slice() == text.as_bytes())
 }
 

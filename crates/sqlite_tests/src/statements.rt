@@ -306,7 +306,10 @@ fn joined(alloc: Global, text: &str, limit: u64) -> Result<(Option<EngineFault>,
 #[test]
 fn a_long_join_is_cut_short(rt: HostRuntime) -> Result<(), Fail> {
     for &text in JOINS {
-        assert_eq!(rt; joined(rt.alloc(), text, 10_000)?, (Some(EngineFault::Cut), 1));
+        assert_eq!(rt;
+            joined(rt.alloc(), text, 10_000)?,
+            (Some(EngineFault::Cut), 1)
+        );
     }
     Ok(())
 }

@@ -1,0 +1,8 @@
+//! The tests of SQLite's engine and of the disks below it, which call both from outside. A crate with tests of its own is
+//! proved once more with them, so these stand here; apart from those of scripts, since each of the two takes memory enough.
+#![tactic(auto)]
+
+#[cfg(test)]
+mod recorded;
+#[cfg(test)]
+mod statements;
