@@ -23,11 +23,11 @@ module _ (fault : Option Fault) (journal : List Item) (left left' written writte
   -- its run is one of cells
   of_cells : IsOfCells (gives.read ++ rest) (gives.outcomes ++ [])
   of_cells = record {
-    voters = gives.nodes.voters;
-    nodes = subst (ByNodes cells Cells (setup_of gives.nodes.voters)) (sym (gives.has rest may [])) (gives.nodes.by_nodes gives.turns [] (sym (append-nil gives.turns)) well.fair);
+    voters = gives.safe.nodes.voters;
+    nodes = subst (ByNodes cells Cells (setup_of gives.safe.nodes.voters)) (sym (gives.has rest may [])) (gives.safe.nodes.by_nodes gives.turns [] (sym (append-nil gives.turns)) well.fair);
     last =
-        subst (λ (turns : List Turn). OverByNode cells Cells (setup_of gives.nodes.voters) turns (run (gives.read ++ rest) (gives.outcomes ++ [])).over) (sym (gives.has rest may []))
-        (subst (OverByNode cells Cells (setup_of gives.nodes.voters) gives.turns) (sym (gives.beside rest may [])) (gives.nodes.by_last well.fair_last));
+        subst (λ (turns : List Turn). OverByNode cells Cells (setup_of gives.safe.nodes.voters) turns (run (gives.read ++ rest) (gives.outcomes ++ [])).over) (sym (gives.has rest may []))
+        (subst (OverByNode cells Cells (setup_of gives.safe.nodes.voters) gives.turns) (sym (gives.beside rest may [])) (gives.safe.nodes.by_last well.fair_last));
     well = subst (AllByRecursion GoesUntroubled) (λ i. with_over (sym (gives.has rest may []) i) (sym (gives.beside rest may []) i)) well.well;
   }
 
@@ -69,10 +69,10 @@ module _ (follows : List ℕ → Type 0) (left left' written written' : Option (
   broke_off : BrokeOffCells (breaks.read ++ rest) (breaks.outcomes ++ [])
   broke_off = record {
     turns = breaks.turns;
-    over = breaks.over;
-    voters = breaks.nodes.voters;
-    nodes = breaks.nodes.by_nodes breaks.turns [] (sym (append-nil breaks.turns)) well.fair;
-    last = breaks.nodes.by_last well.fair_last;
+    over = breaks.safe.over;
+    voters = breaks.safe.nodes.voters;
+    nodes = breaks.safe.nodes.by_nodes breaks.turns [] (sym (append-nil breaks.turns)) well.fair;
+    last = breaks.safe.nodes.by_last well.fair_last;
     well = well.well;
     uses = breaks.uses ∙ sym (append-nil breaks.outcomes);
     begins = breaks.begins rest may [];

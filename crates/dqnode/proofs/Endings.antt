@@ -1,5 +1,5 @@
 -- What a script did, from how running it ended.
-use Rattle.std.proofs.Common.{◌≡◌, ℕ, List, [], ◌++◌, Option, Some, None, refl, sym, ap, ◌∙◌, append_assoc, append-nil}
+use Rattle.std.proofs.Common.{◌≡◌, inl, inr, ℕ, List, [], ◌++◌, Option, Some, None, refl, sym, ap, ◌∙◌, append_assoc, append-nil}
 use Rattle.dq_base.proofs.ContentLaws.{Consumes-nothing, AppendsFront-nothing}
 use Rattle.sql_engine.specs.declared.kind.EngineKind.{EngineKind}
 use Rattle.sqlite_engine.specs.Any.{any_meaning}
@@ -61,32 +61,32 @@ module _ (kind : EngineKind) where
     text = p.text;
     notes = p.notes;
     has = p.has;
-    over = p.over;
+    safe = safe_turns kind (p.read ++ []) (p.outcomes ++ []) p.turns [] p.over (p.has [] (λ end. refl) [] ∙ sym (append-nil p.turns)) (places_tell kind p.turns p.over p.led);
     beside = p.beside;
-    nodes = places_tell kind p.turns p.over p.led;
   }
 
-  breaks : (follows : List ℕ → Type 0) (left left' a b : Option (List ℕ)) → PrintsFront (Knows kind) follows left left' a b → BreaksOff kind follows left left' a b
-  breaks follows left left' a b p = record {
-    read = p.read;
-    outcomes = p.outcomes;
-    turns = p.turns;
-    taken = p.taken;
-    front = p.front;
-    begins = p.begins;
-    over = p.over;
-    beside = p.beside;
-    nodes = places_tell kind p.turns p.over p.led;
-    uses = p.uses;
-  }
+  breaks : (follows : List ℕ → Type 0) → follows [] → (left left' a b : Option (List ℕ)) → PrintsFront (Knows kind) follows left left' a b → BreaksOff kind follows left left' a b
+  breaks follows none left left' a b p =
+      let begins = p.begins [] none [] in
+      record {
+        read = p.read;
+        outcomes = p.outcomes;
+        turns = p.turns;
+        taken = p.taken;
+        front = p.front;
+        begins = p.begins;
+        safe = safe_turns kind (p.read ++ []) (p.outcomes ++ []) p.turns begins.0 p.over begins.1 (places_tell kind p.turns p.over p.led);
+        beside = p.beside;
+        uses = p.uses;
+      }
 
   pub outcome_ends : (why : Outcome) (journal : List Item) (left left' a b : Option (List ℕ)) → Ended (Knows kind) why journal left left' a b → OutcomeEnds kind journal why left left' a b
   outcome_ends outcome.Done journal left left' a b e = (gives None journal left left' a b e.0, e.1)
   outcome_ends (outcome.Script line) journal left left' a b e = gives (Some (Line line)) journal left left' a b e
   outcome_ends outcome.Large journal left left' a b e = gives (Some Large) journal left left' a b e
-  outcome_ends outcome.ReadFault journal left left' a b e = breaks Anything left left' a b e
-  outcome_ends outcome.WriteFault journal left left' a b e = breaks (MayFollow left') left left' a b e
-  outcome_ends outcome.NoMemory journal left left' a b e = breaks (MayFollow left') left left' a b e
+  outcome_ends outcome.ReadFault journal left left' a b e = breaks Anything tt left left' a b e
+  outcome_ends outcome.WriteFault journal left left' a b e = breaks (MayFollow left') (λ end. refl) left left' a b e
+  outcome_ends outcome.NoMemory journal left left' a b e = breaks (MayFollow left') (λ end. refl) left left' a b e
 
 -- by the status
 pub status_ends : (kind : EngineKind) (why : Outcome) (journal : List Item) (left left' a b : Option (List ℕ)) → OutcomeEnds kind journal why left left' a b → ScriptEnds kind journal (status_for why) left left' a b
@@ -99,36 +99,29 @@ status_ends kind outcome.NoMemory journal left left' a b e = e
 
 -- ---- however it ended, it is safe
 
-module _ (kind : EngineKind) (left left' : Option (List ℕ)) where
-  breaks_safely : (follows : List ℕ → Type 0) → follows [] → ((more : List ℕ) → MayFollow left' more → follows more) → (a b : Option (List ℕ)) → BreaksOff kind follows left left' a b → RunsSafely kind left left'
-  breaks_safely follows none may a b x =
-      let begins = x.begins [] none [] in
-      record {
-        read = x.read;
-        outcomes = x.outcomes;
-        turns = x.turns;
-        taken = x.taken;
-        begins = λ more follow later. x.begins more (may more follow) later;
-        safe = safe_turns kind (x.read ++ []) (x.outcomes ++ []) x.turns begins.0 x.over begins.1 x.nodes;
-      }
-
-  gives_safely : (fault : Option Fault) (journal : List Item) (a b : Option (List ℕ)) → Gives kind fault journal left left' a b → RunsSafely kind left left'
-  gives_safely fault journal a b x = record {
-    read = x.read;
-    outcomes = x.outcomes;
-    turns = x.turns;
-    taken = x.taken;
-    begins = λ more follow later. ([], x.has more follow later ∙ sym (append-nil x.turns));
-    safe = safe_turns kind (x.read ++ []) (x.outcomes ++ []) x.turns [] x.over (x.has [] (λ end. refl) [] ∙ sym (append-nil x.turns)) x.nodes;
+module _ (kind : EngineKind) (left left' a b : Option (List ℕ)) where
+  breaks_safely : (journal : List Item) (follows : List ℕ → Type 0) → ((more : List ℕ) → MayFollow left' more → follows more) → BreaksOff kind follows left left' a b → RunsSafely kind journal left left' a b
+  breaks_safely journal follows may x = record {
+    is = inr (record {
+      read = x.read;
+      outcomes = x.outcomes;
+      turns = x.turns;
+      taken = x.taken;
+      front = λ more follow. x.front more (may more follow);
+      begins = λ more follow. x.begins more (may more follow);
+      safe = x.safe;
+      beside = λ more follow. x.beside more (may more follow);
+      uses = x.uses;
+    });
   }
 
-  pub ends_safely : (why : Outcome) (journal : List Item) (a b : Option (List ℕ)) → OutcomeEnds kind journal why left left' a b → RunsSafely kind left left'
-  ends_safely outcome.Done journal a b e = gives_safely None journal a b e.0
-  ends_safely (outcome.Script line) journal a b e = gives_safely (Some (Line line)) journal a b e
-  ends_safely outcome.Large journal a b e = gives_safely (Some Large) journal a b e
-  ends_safely outcome.ReadFault journal a b e = breaks_safely Anything tt (λ more may. tt) a b e
-  ends_safely outcome.WriteFault journal a b e = breaks_safely (MayFollow left') (λ end. refl) (λ more may. may) a b e
-  ends_safely outcome.NoMemory journal a b e = breaks_safely (MayFollow left') (λ end. refl) (λ more may. may) a b e
+  pub ends_safely : (why : Outcome) (journal : List Item) → OutcomeEnds kind journal why left left' a b → RunsSafely kind journal left left' a b
+  ends_safely outcome.Done journal e = record { is = inl (None, e.0) }
+  ends_safely (outcome.Script line) journal e = record { is = inl (Some (Line line), e) }
+  ends_safely outcome.Large journal e = record { is = inl (Some Large, e) }
+  ends_safely outcome.ReadFault journal e = breaks_safely journal Anything (λ more may. tt) e
+  ends_safely outcome.WriteFault journal e = record { is = inr e }
+  ends_safely outcome.NoMemory journal e = record { is = inr e }
 
 -- ---- where nothing was read of a script, it breaks off at its beginning
 
@@ -141,11 +134,10 @@ module _ (kind : EngineKind) (left written : Option (List ℕ)) where
     taken = Consumes-nothing left;
     front = λ more may later. AppendsFront-nothing written _;
     begins = λ more may later. (_, refl);
-    over = None;
+    safe = safe_turns kind [] [] [] (run [] []).turns None refl (places_tell kind [] None (none_told (Knows kind)));
     beside = λ more may later. tt;
-    nodes = places_tell kind [] None (none_told (Knows kind));
     uses = refl;
   }
 
-  pub unread_safely : RunsSafely kind left left
-  unread_safely = breaks_safely kind left left (MayFollow left) (λ end. refl) (λ more may. may) written written unread_breaks
+  pub unread_safely : (journal : List Item) → RunsSafely kind journal left left written written
+  unread_safely journal = record { is = inr unread_breaks }

@@ -13,7 +13,6 @@ use Rattle.script_runner.specs.Run.{Run, run, printed}
 use Rattle.dqnode.specs.Program.{SafeTurns, Gives}
 use Rattle.dqnode.specs.Status.{status_code, status_for, OutcomeEnds}
 use Rattle.dqnode.specs.Generating.{is_whole, shown, shown_from, shown_lines, ShownSoFar, PrintsMade, TextEnds, RunsMade, ShowsFront, RunEnds}
-use Rattle.dqnode.proofs.Endings.{safe_turns}
 
 -- ---- what was printed in memory
 
@@ -29,7 +28,7 @@ prints_made number writes fault journal rest text x =
       ends = ap (λ (r : Run). r.fault) (sym same) ∙ x.ends rest may [];
       text_is = x.text rest may [] ∙ ap printed same;
       notes = ap (λ (r : Run). r.journal) (sym same) ∙ x.notes rest may [];
-      safe = subst (SafeTurns Cells) turns (safe_turns Cells (script_text number writes) outcomes x.turns [] x.over (sym turns ∙ sym (append-nil x.turns)) x.nodes);
+      safe = subst (SafeTurns Cells) turns x.safe;
     }
 
 pub text_ends : (number writes : ℕ) (why : Outcome) (journal : List Item) (rest text : List ℕ) → OutcomeEnds Cells journal why (Some (script_text number writes)) (Some rest) (Some []) (Some text) → TextEnds number writes journal text why

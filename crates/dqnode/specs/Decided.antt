@@ -18,17 +18,17 @@ use Rattle.dqnode.specs.Program.{BreaksOff, Gives}
 -- of a disk stopped or failed, and no engine wanted memory. So each step and each start ended well, as no load fails.
 pub record WentWell {fault : Option Fault} {journal : List Item} {left left' written written' : Option (List ℕ)}
     (gives : Gives Cells fault journal left left' written written') : Type 0 where
-  pub fair : IsFairTo Cells gives.nodes.voters gives.turns gives.nodes.lives gives.turns
-  pub fair_last : IsFairOver Cells gives.nodes.voters gives.turns gives.over gives.nodes.last
-  pub well : AllByRecursion GoesUntroubled (with_over gives.turns gives.over)
+  pub fair : IsFairTo Cells gives.safe.nodes.voters gives.turns gives.safe.nodes.lives gives.turns
+  pub fair_last : IsFairOver Cells gives.safe.nodes.voters gives.turns gives.safe.over gives.safe.nodes.last
+  pub well : AllByRecursion GoesUntroubled (with_over gives.turns gives.safe.over)
   pub whole : IsWhole fault
 
 -- So of a run that broke off.
 pub record BrokeWell {follows : List ℕ → Type 0} {left left' written written' : Option (List ℕ)} (breaks : BreaksOff Cells follows left left' written written')
     : Type 0 where
-  pub fair : IsFairTo Cells breaks.nodes.voters breaks.turns breaks.nodes.lives breaks.turns
-  pub fair_last : IsFairOver Cells breaks.nodes.voters breaks.turns breaks.over breaks.nodes.last
-  pub well : AllByRecursion GoesUntroubled (with_over breaks.turns breaks.over)
+  pub fair : IsFairTo Cells breaks.safe.nodes.voters breaks.turns breaks.safe.nodes.lives breaks.turns
+  pub fair_last : IsFairOver Cells breaks.safe.nodes.voters breaks.turns breaks.safe.over breaks.safe.nodes.last
+  pub well : AllByRecursion GoesUntroubled (with_over breaks.turns breaks.safe.over)
 
 -- The same text was written behind what was written before, and the faults are the same. So is what happened at nodes, with what came of it,
 -- and what is noted, but for the numbers of transactions.

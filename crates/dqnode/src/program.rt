@@ -86,7 +86,8 @@ fn run<S: Source, K: Sink, D: Disk, N: Dialer, H: Host<Read>, W: Notes>(
     ensures large { IsScript asked → result ≡ 9 → RunsWith asked (λ kind. Gives kind (Some Large) journal.new (S.left input.old)
         (S.left input.new) (K.written output.old) (K.written output.new)) }
     ensures faulty { (result ≡ 2) ⊎ (result ≡ 9) → IsScript asked ⊎ IsRun asked }
-    ensures safe { IsScript asked → RunsWith asked (λ kind. RunsSafely kind (S.left input.old) (S.left input.new)) }
+    ensures safe { IsScript asked → RunsWith asked (λ kind. RunsSafely kind journal.new (S.left input.old) (S.left input.new)
+        (K.written output.old) (K.written output.new)) }
     ensures read_fault { result ≡ 3 → IsScript asked × Rose (S.faults input.old) (S.faults input.new) }
     ensures write_fault { result ≡ 4 → Rose (K.faults output.old) (K.faults output.new) }
     ensures cut { result ≡ 3 → RunsWith asked (λ kind. BreaksOff kind Anything (S.left input.old) (S.left input.new)
@@ -215,8 +216,10 @@ pub fn dqnode<S: Source, K: Sink, D: Disk, N: Dialer, H: Host<Read>, W: Notes>(
     ensures large { IsScript (asks_for words.now) → result ≡ 9 → RunsWith (asks_for words.now) (λ kind. Gives kind (Some Large) journal.new
         (S.left input.old) (S.left input.new) (K.written output.old) (K.written output.new)) }
     ensures faulty { (result ≡ 2) ⊎ (result ≡ 9) → IsScript (asks_for words.now) ⊎ IsRun (asks_for words.now) }
-    // However the script ended: what came of its events is what whole nodes do, and the run is safe, at each moment and at a later one.
-    ensures safe { IsScript (asks_for words.now) → RunsWith (asks_for words.now) (λ kind. RunsSafely kind (S.left input.old) (S.left input.new)) }
+    // However the script ended, all that its run prints was written, or a front of it: what came of that run's events is what whole nodes do, and
+    // it is safe, at each moment and at a later one.
+    ensures safe { IsScript (asks_for words.now) → RunsWith (asks_for words.now) (λ kind. RunsSafely kind journal.new (S.left input.old)
+        (S.left input.new) (K.written output.old) (K.written output.new)) }
     // So is the run of every script where what came of its events is what whole nodes do.
     ensures always_safe { RunsAreSafe }
     // With an engine of cells a script alone decides what comes of its events, what is written and how it ends: in two calls that ran one script

@@ -72,7 +72,7 @@ pub(crate) fn script<S: Source, K: Sink>(
     journal: &mut ClusterJournal,
 ) -> Status
     ensures ended { ScriptEnds engine journal.new result (S.left input.old) (S.left input.new) (K.written output.old) (K.written output.new) }
-    ensures safe { RunsSafely engine (S.left input.old) (S.left input.new) }
+    ensures safe { RunsSafely engine journal.new (S.left input.old) (S.left input.new) (K.written output.old) (K.written output.new) }
     ensures read_fault { result ≡ Status.ReadFault → Rose (S.faults input.old) (S.faults input.new) }
     ensures write_fault { result ≡ Status.WriteFault → Rose (K.faults output.old) (K.faults output.new) }
     ensures codes { IsScriptCode (status_code result) }

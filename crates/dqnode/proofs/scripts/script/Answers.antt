@@ -7,4 +7,4 @@ returns-clause-ended g c =
 
 pub returns-clause-safe : goal.returns-clause-safe
 returns-clause-safe g c =
-    ends_safely c.args.engine (g.S.Source.left c.args.input.now) (g.S.Source.left c.run_over.new.input) c.run_over.result c.run_over.new.journal (g.K.Sink.written c.args.output.now) (g.K.Sink.written c.run_over.new.output) c.run_over.ensures.ended
+    ends_safely c.args.engine (g.S.Source.left c.args.input.now) (g.S.Source.left c.run_over.new.input) (g.K.Sink.written c.args.output.now) (g.K.Sink.written c.run_over.new.output) c.run_over.result c.run_over.new.journal c.run_over.ensures.ended
