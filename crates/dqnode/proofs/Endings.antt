@@ -52,6 +52,7 @@ safe_turns kind script outcomes turns rest over e nodes =
 
 module _ (kind : EngineKind) where
   gives : (fault : Option Fault) (journal : List Item) (left left' a b : Option (List ℕ)) → Prints (Knows kind) fault journal left left' a b → Gives kind fault journal left left' a b
+  unfolding safe_turns
   gives fault journal left left' a b p = record {
     read = p.read;
     outcomes = p.outcomes;
@@ -66,6 +67,7 @@ module _ (kind : EngineKind) where
   }
 
   breaks : (follows : List ℕ → Type 0) → follows [] → (left left' a b : Option (List ℕ)) → PrintsFront (Knows kind) follows left left' a b → BreaksOff kind follows left left' a b
+  unfolding safe_turns
   breaks follows none left left' a b p =
       let begins = p.begins [] none [] in
       record {
@@ -127,6 +129,7 @@ module _ (kind : EngineKind) (left left' a b : Option (List ℕ)) where
 
 module _ (kind : EngineKind) (left written : Option (List ℕ)) where
   pub unread_breaks : BreaksOff kind (MayFollow left) left left written written
+  unfolding safe_turns
   unread_breaks = record {
     read = [];
     outcomes = [];

@@ -206,6 +206,84 @@ host_status status.Refused e = absurd cc
 host_status status.NoLeader e = absurd cc
 host_status status.Unknown e = absurd cc
 
+-- ---- only a script ends with 3
+
+pub statement_not_three : (code : ℕ) → IsStatementCode code → code ≡ 3 → ⊥
+statement_not_three code (inl a) e = let bad : 0 ≡ 3 = sym a ∙ e in cc
+statement_not_three code (inr (inl a)) e = let bad : 4 ≡ 3 = sym a ∙ e in cc
+statement_not_three code (inr (inr (inl a))) e = let bad : 7 ≡ 3 = sym a ∙ e in cc
+statement_not_three code (inr (inr (inr (inl a)))) e = let bad : 11 ≡ 3 = sym a ∙ e in cc
+statement_not_three code (inr (inr (inr (inr (inl a))))) e = let bad : 12 ≡ 3 = sym a ∙ e in cc
+statement_not_three code (inr (inr (inr (inr (inr a))))) e = let bad : 13 ≡ 3 = sym a ∙ e in cc
+
+pub check_not_three : (code : ℕ) → IsCheckCode code → code ≡ 3 → ⊥
+check_not_three code (inl a) e = let bad : 0 ≡ 3 = sym a ∙ e in cc
+check_not_three code (inr (inl a)) e = let bad : 4 ≡ 3 = sym a ∙ e in cc
+check_not_three code (inr (inr (inl a))) e = let bad : 5 ≡ 3 = sym a ∙ e in cc
+check_not_three code (inr (inr (inr (inl a)))) e = let bad : 7 ≡ 3 = sym a ∙ e in cc
+check_not_three code (inr (inr (inr (inr a)))) e = let bad : 8 ≡ 3 = sym a ∙ e in cc
+
+pub serve_not_three : (code : ℕ) → IsServeCode code → code ≡ 3 → ⊥
+serve_not_three code (inl a) e = let bad : 5 ≡ 3 = sym a ∙ e in cc
+serve_not_three code (inr (inl a)) e = let bad : 6 ≡ 3 = sym a ∙ e in cc
+serve_not_three code (inr (inr (inl a))) e = let bad : 7 ≡ 3 = sym a ∙ e in cc
+serve_not_three code (inr (inr (inr (inl a)))) e = let bad : 8 ≡ 3 = sym a ∙ e in cc
+serve_not_three code (inr (inr (inr (inr a)))) e = let bad : 10 ≡ 3 = sym a ∙ e in cc
+
+pub words_not_three : (s : Status) → (s ≡ status.Words) ⊎ (s ≡ status.WriteFault) → status_code s ≡ 3 → ⊥
+words_not_three s (inl a) e = let bad : 1 ≡ 3 = sym (ap status_code a) ∙ e in cc
+words_not_three s (inr a) e = let bad : 4 ≡ 3 = sym (ap status_code a) ∙ e in cc
+
+pub generated_not_three : (code : ℕ) → (code ≡ 0) ⊎ (code ≡ 4) ⊎ (code ≡ 7) → code ≡ 3 → ⊥
+generated_not_three code (inl a) e = let bad : 0 ≡ 3 = sym a ∙ e in cc
+generated_not_three code (inr (inl a)) e = let bad : 4 ≡ 3 = sym a ∙ e in cc
+generated_not_three code (inr (inr a)) e = let bad : 7 ≡ 3 = sym a ∙ e in cc
+
+pub made_not_three : (code : ℕ) → (code ≡ 0) ⊎ (code ≡ 2) ⊎ (code ≡ 4) ⊎ (code ≡ 7) ⊎ (code ≡ 9) → code ≡ 3 → ⊥
+made_not_three code (inl a) e = let bad : 0 ≡ 3 = sym a ∙ e in cc
+made_not_three code (inr (inl a)) e = let bad : 2 ≡ 3 = sym a ∙ e in cc
+made_not_three code (inr (inr (inl a))) e = let bad : 4 ≡ 3 = sym a ∙ e in cc
+made_not_three code (inr (inr (inr (inl a)))) e = let bad : 7 ≡ 3 = sym a ∙ e in cc
+made_not_three code (inr (inr (inr (inr a)))) e = let bad : 9 ≡ 3 = sym a ∙ e in cc
+
+pub read_status : (s : Status) → status_code s ≡ 3 → s ≡ status.ReadFault
+read_status status.Done e = absurd cc
+read_status status.Words e = absurd cc
+read_status status.Script e = absurd cc
+read_status status.ReadFault e = refl
+read_status status.WriteFault e = absurd cc
+read_status status.DiskFault e = absurd cc
+read_status status.HostFault e = absurd cc
+read_status status.NoMemory e = absurd cc
+read_status status.Files e = absurd cc
+read_status status.Large e = absurd cc
+read_status status.Spent e = absurd cc
+read_status status.Refused e = absurd cc
+read_status status.NoLeader e = absurd cc
+read_status status.Unknown e = absurd cc
+
+-- ---- a script, a statement and refused words don't end with 8
+
+pub script_not_eight : (code : ℕ) → IsScriptCode code → code ≡ 8 → ⊥
+script_not_eight code (inl a) e = let bad : 0 ≡ 8 = sym a ∙ e in cc
+script_not_eight code (inr (inl a)) e = let bad : 2 ≡ 8 = sym a ∙ e in cc
+script_not_eight code (inr (inr (inl a))) e = let bad : 3 ≡ 8 = sym a ∙ e in cc
+script_not_eight code (inr (inr (inr (inl a)))) e = let bad : 4 ≡ 8 = sym a ∙ e in cc
+script_not_eight code (inr (inr (inr (inr (inl a))))) e = let bad : 7 ≡ 8 = sym a ∙ e in cc
+script_not_eight code (inr (inr (inr (inr (inr a))))) e = let bad : 9 ≡ 8 = sym a ∙ e in cc
+
+pub statement_not_eight : (code : ℕ) → IsStatementCode code → code ≡ 8 → ⊥
+statement_not_eight code (inl a) e = let bad : 0 ≡ 8 = sym a ∙ e in cc
+statement_not_eight code (inr (inl a)) e = let bad : 4 ≡ 8 = sym a ∙ e in cc
+statement_not_eight code (inr (inr (inl a))) e = let bad : 7 ≡ 8 = sym a ∙ e in cc
+statement_not_eight code (inr (inr (inr (inl a)))) e = let bad : 11 ≡ 8 = sym a ∙ e in cc
+statement_not_eight code (inr (inr (inr (inr (inl a))))) e = let bad : 12 ≡ 8 = sym a ∙ e in cc
+statement_not_eight code (inr (inr (inr (inr (inr a))))) e = let bad : 13 ≡ 8 = sym a ∙ e in cc
+
+pub words_not_eight : (s : Status) → (s ≡ status.Words) ⊎ (s ≡ status.WriteFault) → status_code s ≡ 8 → ⊥
+words_not_eight s (inl a) e = let bad : 1 ≡ 8 = sym (ap status_code a) ∙ e in cc
+words_not_eight s (inr a) e = let bad : 4 ≡ 8 = sym (ap status_code a) ∙ e in cc
+
 -- what holds of a disk, a network and a status, holds of the same by other names
 pub moved : {D N : Type 0} (disk disk_then : D) (network network_then : N) (s t : Status) (code : ℕ) → disk ≡ disk_then → network ≡ network_then → s ≡ t → code ≡ status_code s
     → (P : D → N → ℕ → Type 0) → P disk_then network_then (status_code t) → P disk network code

@@ -4,11 +4,12 @@ use Rattle.program_words.specs.declared.asked.Asked.TheVariants as asks
 use Rattle.dqnode.specs.declared.status.Status.{Status}
 use Rattle.dqnode.specs.Status.{status_code, IsScriptCode, IsStatementCode, IsCheckCode}
 use Rattle.node_service.specs.Rules.{GoesWell}
+use Rattle.dqnode.specs.Checks.{CheckEnds}
 use Rattle.dqnode.specs.Generating.{RunEnds}
 use Rattle.dqnode.specs.Serving.{ServedBy}
 use Rattle.dqnode.proofs.Asked.{statement_code}
 use Rattle.dqnode.proofs.Generated.{generated_code, made_code, made_by}
-use Rattle.dqnode.proofs.ServeEnds.{script_not_ten, statement_not_ten, check_not_ten, words_not_ten, script_not_six, statement_not_six, check_not_six, words_not_six, script_not_five, statement_not_five, words_not_five, host_status, disk_status, moved, served_for}
+use Rattle.dqnode.proofs.ServeEnds.{statement_not_three, check_not_three, serve_not_three, words_not_three, generated_not_three, made_not_three, read_status, script_not_eight, statement_not_eight, words_not_eight, script_not_ten, statement_not_ten, check_not_ten, words_not_ten, script_not_six, statement_not_six, check_not_six, words_not_six, script_not_five, statement_not_five, words_not_five, host_status, disk_status, moved, served_for}
 use Rattle.dqnode.proofs.program.run.Goals.{in-Some-Script, in-Some-Statement, in-Some-Check, in-Some-Generate-default-default-false, in-Some-Generate-default-default-true, in-Some-Serve, in-None}
 use Rattle.dqnode.proofs.program.run.Goals as goal
 
@@ -110,4 +111,46 @@ returns-clause-made g c = λ number writes asked. elim c.match-asked.branch [
       (sym (w.in-Some-Generate-default-default-true.is ∙ ap Some w.in-Some-Generate-default-default-true.field-0-is) ∙ asked))
   | in-Some-Serve w ↦ let bad : Some (asks.Serve w.in-Some-Serve.words) ≡ Some (asks.Generate number writes true) = sym (w.in-Some-Serve.is ∙ ap Some w.in-Some-Serve.field-0-is) ∙ asked in absurd cc
   | in-None w ↦ let bad : None ≡ Some (asks.Generate number writes true) = sym w.in-None.is ∙ asked in absurd cc
+]
+
+pub returns-clause-read_fault : goal.returns-clause-read_fault
+returns-clause-read_fault g c = λ e.
+    let at : status_code c.match-asked.status ≡ 3 = sym c.code.ensures ∙ e in
+    elim c.match-asked.branch [
+      | in-Some-Script w ↦ (
+        (w.in-Some-Script.engine, w.in-Some-Script.is ∙ ap Some w.in-Some-Script.field-0-is),
+        subst (λ input. Rose (g.S.Source.faults c.args.input.now) (g.S.Source.faults input)) (sym w.input-is) (w.script-status.ensures.read_fault (read_status _ (ap status_code (sym w.status-is) ∙ at))),
+      )
+      | in-Some-Statement w ↦ absurd (statement_not_three _ (subst (λ (s : Status). IsStatementCode (status_code s)) (sym w.status-is) (statement_code _ _ _ _ _ _ w.ask-status.ensures.ended)) at)
+      | in-Some-Check w ↦ absurd (check_not_three _ (subst (λ (s : Status). IsCheckCode (status_code s)) (sym w.status-is) w.tell-status.ensures.codes) at)
+      | in-Some-Generate-default-default-false w ↦ absurd (generated_not_three _ w.make_script-status.ensures.ended.known (ap status_code (sym w.status-is) ∙ at))
+      | in-Some-Generate-default-default-true w ↦ absurd (made_not_three _ w.run_made-status.ensures.ended.known (ap status_code (sym w.status-is) ∙ at))
+      | in-Some-Serve w ↦ absurd (serve_not_three _ w.serve_node-status.ensures.codes (ap status_code (sym w.status-is) ∙ at))
+      | in-None w ↦ absurd (words_not_three _ w.refuse_words-status.ensures.others (ap status_code (sym w.status-is) ∙ at))
+    ]
+
+pub returns-clause-of_check : goal.returns-clause-of_check
+returns-clause-of_check g c = λ e.
+    let at : status_code c.match-asked.status ≡ 8 = sym c.code.ensures ∙ e in
+    elim c.match-asked.branch [
+      | in-Some-Script w ↦ absurd (script_not_eight _ (subst (λ (s : Status). IsScriptCode (status_code s)) (sym w.status-is) w.script-status.ensures.codes) at)
+      | in-Some-Statement w ↦ absurd (statement_not_eight _ (subst (λ (s : Status). IsStatementCode (status_code s)) (sym w.status-is) (statement_code _ _ _ _ _ _ w.ask-status.ensures.ended)) at)
+      | in-Some-Check w ↦ inl (w.in-Some-Check.is ∙ ap Some w.in-Some-Check.field-0-is)
+      | in-Some-Generate-default-default-false w ↦ absurd (script_not_eight _ (subst (λ (s : Status). IsScriptCode (status_code s)) (sym w.status-is) (generated_code _ _ _ _ _ w.make_script-status.ensures.ended)) at)
+      | in-Some-Generate-default-default-true w ↦ absurd (script_not_eight _ (subst (λ (s : Status). IsScriptCode (status_code s)) (sym w.status-is) (made_code _ _ _ _ _ _ w.run_made-status.ensures.ended)) at)
+      | in-Some-Serve w ↦ inr (w.in-Some-Serve.words, w.in-Some-Serve.is ∙ ap Some w.in-Some-Serve.field-0-is)
+      | in-None w ↦ absurd (words_not_eight _ w.refuse_words-status.ensures.others (ap status_code (sym w.status-is) ∙ at))
+    ]
+
+pub returns-clause-check : goal.returns-clause-check
+returns-clause-check g c = λ asked. elim c.match-asked.branch [
+  | in-Some-Script w ↦ let bad : Some (asks.Script w.in-Some-Script.engine) ≡ Some asks.Check = sym (w.in-Some-Script.is ∙ ap Some w.in-Some-Script.field-0-is) ∙ asked in absurd cc
+  | in-Some-Statement w ↦ let bad : Some (asks.Statement w.in-Some-Statement.statement) ≡ Some asks.Check = sym (w.in-Some-Statement.is ∙ ap Some w.in-Some-Statement.field-0-is) ∙ asked in absurd cc
+  | in-Some-Check w ↦ moved _ _ _ _ _ _ _ w.disk-is w.output-is w.status-is c.code.ensures
+      (λ disk output code. CheckEnds (g.D.Disk.states c.args.disk.now) (g.D.Disk.states disk) (g.K.Sink.written c.args.output.now) (g.K.Sink.written output) code)
+      w.tell-status.ensures.ended
+  | in-Some-Generate-default-default-false w ↦ let bad : Some (asks.Generate _ _ _) ≡ Some asks.Check = sym (w.in-Some-Generate-default-default-false.is ∙ ap Some w.in-Some-Generate-default-default-false.field-0-is) ∙ asked in absurd cc
+  | in-Some-Generate-default-default-true w ↦ let bad : Some (asks.Generate _ _ _) ≡ Some asks.Check = sym (w.in-Some-Generate-default-default-true.is ∙ ap Some w.in-Some-Generate-default-default-true.field-0-is) ∙ asked in absurd cc
+  | in-Some-Serve w ↦ let bad : Some (asks.Serve w.in-Some-Serve.words) ≡ Some asks.Check = sym (w.in-Some-Serve.is ∙ ap Some w.in-Some-Serve.field-0-is) ∙ asked in absurd cc
+  | in-None w ↦ let bad : None ≡ Some asks.Check = sym w.in-None.is ∙ asked in absurd cc
 ]
