@@ -3,24 +3,30 @@ ghost use Rattle.counts.specs.Counts.{LooksOnly};
 ghost use Rattle.dq_base.specs.Changes.{changed};
 ghost use Rattle.sql_engine.specs.Meanings.{IsShort};
 ghost use Rattle.sqlite.specs.Files.{file_state};
+ghost use Rattle.sqlite_store.specs.FileStore.{files};
+ghost use Rattle.open_files.specs.Held.{image_in};
+ghost use Rattle.same_pages.specs.Alike.{HoldAlike};
 ghost use Rattle.sqlite.specs.Listing.{understood};
 ghost use Rattle.sqlite.specs.State.{Executes, FailsToQuery};
 ghost use Rattle.sqlite.specs.Values.{bound};
-ghost use Rattle.sqlite_engine.specs.Sql.{Closed, HasColumns, Stands, RanOn, FailsOn, is_of_store};
+ghost use Rattle.sqlite_engine.specs.Sql.{Closed, files_of, HasColumns, Stands, RanOn, FailsOn, is_of_store};
 ghost use Rattle.sqlite_engine.specs.Led.{Led, IsRefused, IsLedTo};
 ghost use Rattle.sqlite_engine.specs.Looking.{AllLook, HasReturning};
 ghost use Rattle.sqlite_engine.specs.Refusing.{IsRefusedOpening};
 ghost use Rattle.sqlite_engine.specs.Settling.{files_beneath, Asked, Settled};
 ghost use Rattle.sqlite_engine.specs.Shows.{showing, FailsSomehow};
 
+use crate::again::led_along;
 use crate::connection::{Conn, OpenFault, close, execute, let_go, open, outline, query};
 use crate::errors::is_of_store;
 use crate::plan::looks_only;
 use crate::shows::Shows;
 use crate::texts::{has_text, note_text};
+use crate::trail::Write;
 use dq_base::{Bytes, Image, PAGE_SIZE, PageSet, apply};
 use open_files::{connected, held, log_of, main_of};
 use record_disk::changes_between;
+use same_pages::same_pages;
 use sqlite::types::ValueRef;
 use sqlite::{Error, ErrorCode, Row, Statement};
 use std::alloc::{AllocError, Global};
@@ -139,6 +145,23 @@ impl Kept {
     {
         self.base.side.as_slice() == image.side.as_slice()
             && self.base.main.as_slice() == image.main.as_slice()
+    }
+
+    /// The connection once these statements have run on it, over this image, where its files hold the same database then. They do where the
+    /// main file is the same, and the log has the same frames; salts, checksums, and what lies behind the last commit may be others.
+    /// `None` is that they differ, that a statement isn't run, or want of memory.
+    pub(crate) fn led_to(self, alloc: Global, writes: &[Write], image: &Image) -> Option<Kept>
+        ensures { IfSome result (λ kept. kept.base ≡ image.now) }
+    {
+        let Kept {
+            base,
+            conn,
+            looking: _,
+        } = self;
+        match led_along(alloc, conn, writes) {
+            Some(conn) => kept_alike(alloc, base, conn, image),
+            None => None,
+        }
     }
 
     /// The connection with this limit of steps for each later statement, or with none.
@@ -318,6 +341,67 @@ fn moved_on(alloc: Global, base: Image, conn: Conn, set: &PageSet) -> Option<Kep
         Some(kept_anew(alloc, base, conn))
     } else {
         let_go(conn);
+        None
+    }
+}
+
+/// The connection over this image, where its files hold the same database.
+fn kept_alike(alloc: Global, base: Image, conn: Conn, image: &Image) -> Option<Kept>
+    requires open { IsTrue (file_state conn).is_open }
+    requires autocommit { (file_state conn).in_transaction ≡ false }
+    ensures { IfSome result (λ kept. kept.base ≡ image.now) }
+{
+    connected(&conn);
+    held(&conn);
+    if !holds_alike(alloc, &conn, image) {
+        let_go(conn);
+        return None;
+    }
+    match brought_to(alloc, base, image) {
+        Some(base) => Some(kept_anew(alloc, base, conn)),
+        None => {
+            let_go(conn);
+            None
+        }
+    }
+}
+
+/// Whether an image holds each database that the files of a connection hold.
+fn holds_alike(alloc: Global, conn: &Conn, image: &Image) -> bool
+    ensures { IsTrue result → HoldAlike (image_in (files conn.now.store)) (files_of image.now) }
+{
+    let main = main_of(conn).bytes();
+    let side = log_of(conn).bytes();
+    if !is_same(main, image.main.as_slice()) {
+        return false;
+    }
+    same_pages(alloc, main, side, image.side.as_slice())
+}
+
+fn is_same(a: &[u8], b: &[u8]) -> bool
+    ensures { IsTrue result → a.now ≡ b.now }
+{
+    a == b
+}
+
+/// An image with the bytes of another one. It has no copy of them made but of the pages that differ.
+fn brought_to(alloc: Global, image: Image, other: &Image) -> Option<Image>
+    ensures { IfSome result (λ now. now ≡ other.now) }
+{
+    let mut image = image;
+    is_short(other);
+    let Ok(set) = changes_between(
+        alloc,
+        &image,
+        other.main.as_slice(),
+        other.side.as_slice(),
+        0,
+    ) else {
+        return None;
+    };
+    if takes_over(&mut image, &set) {
+        Some(image)
+    } else {
         None
     }
 }

@@ -3,6 +3,7 @@ ghost use Rattle.sqlite_engine.specs.Led.{IsLedTo};
 ghost use Rattle.sqlite_engine.specs.Leaving.{IsLeftOver, IsLeftBy};
 
 use crate::kept::Kept;
+use dq_base::PageSet;
 
 /// What is left of a connection after a statement.
 #[derive(Drop)]
@@ -25,12 +26,18 @@ pub(crate) fn stayed(kept: Option<Kept>) -> Left
     }
 }
 
-/// The connection, where a statement with these pages has gone on with it.
-pub(crate) fn went_on(kept: Option<Kept>) -> Left
-    ensures { (before : _) (set : _) → IfSome kept (λ it. IsLedTo before set it.base) → IsLeftOver before set result }
+/// The connection, where a statement with these pages has gone on with it; with none it is where it was.
+pub(crate) fn went_on(kept: Option<Kept>, set: &PageSet) -> Left
+    ensures { (before : _) → IfSome kept (λ it. IsLedTo before set.now it.base) → IsLeftOver before set.now result }
 {
     match kept {
-        Some(kept) => Left::WentOn(kept),
+        Some(kept) => {
+            if set.pages.is_empty() {
+                Left::Stayed(kept)
+            } else {
+                Left::WentOn(kept)
+            }
+        }
         None => Left::Gone,
     }
 }

@@ -4,6 +4,7 @@ ghost use Rattle.sql_engine.specs.Known.{Knows, MayKnowBeside};
 ghost use Rattle.sqlite_engine.specs.Keeping.{images_in, known_in, bytes_of, bytes_in, HasRoom};
 
 use crate::kept::Kept;
+use crate::trail::Past;
 use dq_base::{Image, ImageNumber};
 
 /// The most connections that an engine keeps.
@@ -18,23 +19,40 @@ const MOST_OPEN_BYTES: usize = 134_217_728;
 pub(crate) struct OpenImage {
     pub(crate) number: Option<ImageNumber>,
     pub(crate) kept: Kept,
+    pub(crate) past: Past,
 }
 
 /// Takes the connection over this image out of the list. One that has its number is taken with no look at its bytes.
-pub(crate) fn take(list: &mut Vec<OpenImage>, image: &Image, number: ImageNumber) -> Option<Kept>
+pub(crate) fn take(
+    list: &mut Vec<OpenImage>,
+    image: &Image,
+    number: ImageNumber,
+) -> Option<OpenImage>
     requires { All (Knows number image.now) (known_in list.old.items) }
-    ensures over { IfSome result (λ kept. kept.base ≡ image.now) }
+    ensures over { IfSome result (λ one. one.kept.base ≡ image.now) }
     ensures among { IfSome result (λ _. Contains (images_in list.old.items) image.now) }
     ensures none { result ≡ None → Contains (images_in list.old.items) image.now → ⊥ }
     ensures keeps { All (Contains list.old.items) list.new.items }
 {
     match place_of(list, image, number) {
-        Some(at) => {
-            let OpenImage { number: _, kept } = list.remove(at);
-            Some(kept)
-        }
+        Some(at) => Some(list.remove(at)),
         None => None,
     }
+}
+
+/// Takes a connection that has this number out of the list.
+pub(crate) fn take_numbered(list: &mut Vec<OpenImage>, number: ImageNumber) -> Option<OpenImage>
+    ensures { All (Contains list.old.items) list.new.items }
+{
+    match place_numbered(list, number) {
+        Some(at) => Some(list.remove(at)),
+        None => None,
+    }
+}
+
+/// Whether a connection of the list has this number.
+pub(crate) fn has_number(list: &[OpenImage], number: ImageNumber) -> bool {
+    place_numbered(list, number).is_some()
 }
 
 /// Gives the connection over this image its number. `false` is that there is none.
@@ -79,12 +97,22 @@ fn place_of(list: &[OpenImage], image: &Image, number: ImageNumber) -> Option<us
     }
 }
 
-/// Where in the list a connection of this number stands.
+/// Where in the list a connection of this number stands, one that follows no other where there is such a one.
 fn place_numbered(list: &[OpenImage], number: ImageNumber) -> Option<usize>
     ensures { IfSome result (λ at. (at < length list.now) × ((other : _) → (slice_index_or list.now at other).number ≡ Some number)) }
 {
+    match place_among(list, number, false) {
+        Some(at) => Some(at),
+        None => place_among(list, number, true),
+    }
+}
+
+/// Where in the list a connection of this number stands, of those that follow another one or of those that don't.
+fn place_among(list: &[OpenImage], number: ImageNumber, follows: bool) -> Option<usize>
+    ensures { IfSome result (λ at. (at < length list.now) × ((other : _) → (slice_index_or list.now at other).number ≡ Some number)) }
+{
     for (at, one) in list.iter().enumerate() {
-        if is_number(one.number, number) {
+        if one.past.follows == follows && is_number(one.number, number) {
             return Some(at);
         }
     }

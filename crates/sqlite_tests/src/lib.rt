@@ -3,6 +3,8 @@
 #![tactic(auto)]
 
 #[cfg(test)]
+mod following;
+#[cfg(test)]
 mod recorded;
 #[cfg(test)]
 mod statements;

@@ -4,7 +4,7 @@ use Rattle.sqlite_engine.proofs.open_images.take.Goals as goal
 
 pub returns-in-Some-clause-keeps : goal.returns-in-Some-clause-keeps
 returns-in-Some-clause-keeps c =
-    removed_from c.args.list.now.items c.args.list.now.items c.remove-kept.new.self.items c.in-Some.at c.remove-kept.ensures.items (All-contains_itself c.args.list.now.items)
+    removed_from c.args.list.now.items c.args.list.now.items c.remove.new.self.items c.in-Some.at c.remove.ensures.items (All-contains_itself c.args.list.now.items)
 
 pub returns-in-None-clause-keeps : goal.returns-in-None-clause-keeps
 returns-in-None-clause-keeps c = All-contains_itself c.args.list.now.items

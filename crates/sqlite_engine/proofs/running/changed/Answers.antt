@@ -3,7 +3,7 @@ use Rattle.sqlite_engine.proofs.Standing.{never_returns}
 use Rattle.sqlite_engine.proofs.running.changed.Goals as goal
 
 pub returns-in-Ok-clause-over : goal.returns-in-Ok-clause-over
-returns-in-Ok-clause-over c = c.went_on.ensures c.args.kept.base c.in-Ok.after c.in-Ok.ensures.over
+returns-in-Ok-clause-over c = c.went_on-left.ensures c.args.kept.base c.in-Ok.ensures.over
 
 pub returns-in-Ok-clause-looks : goal.returns-in-Ok-clause-looks
 returns-in-Ok-clause-looks c some nothing =

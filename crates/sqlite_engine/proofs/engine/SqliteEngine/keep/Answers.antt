@@ -15,7 +15,7 @@ returns-in-Stayed-clause-known c image result h =
     let it = c.in-Stayed.kept in
     subst (λ (o : Openings). All (MayKnow image c.args.numbers result o.known) (known_in c.add.new.list.items)) c.self.view_is
     (added_known (MayKnow image c.args.numbers result (known_in were)) were c.add.new.list.items _ c.add.ensures (still_known image c.args.numbers result (known_in were))
-    (holds_one (MayKnow image c.args.numbers result (known_in were)) c.args.numbers.before it (known_stayed image c.args.numbers result (known_in were) it (subst (IsLeftBy image result) c.in-Stayed.is h))))
+    (holds_one (MayKnow image c.args.numbers result (known_in were)) c.args.numbers.before it c.args.past (known_stayed image c.args.numbers result (known_in were) it (subst (IsLeftBy image result) c.in-Stayed.is h))))
 
 pub returns-in-WentOn-clause-known : goal.returns-in-WentOn-clause-known
 returns-in-WentOn-clause-known c image result h =
@@ -23,7 +23,7 @@ returns-in-WentOn-clause-known c image result h =
     let it = c.in-WentOn.kept in
     subst (λ (o : Openings). All (MayKnow image c.args.numbers result o.known) (known_in c.add-in-WentOn.new.list.items)) c.self.view_is
     (added_known (MayKnow image c.args.numbers result (known_in were)) were c.add-in-WentOn.new.list.items _ c.add-in-WentOn.ensures (still_known image c.args.numbers result (known_in were))
-    (holds_one (MayKnow image c.args.numbers result (known_in were)) (Working c.args.numbers.after) it (known_left image c.args.numbers result (known_in were) it (subst (IsLeftBy image result) c.in-WentOn.is h))))
+    (holds_one (MayKnow image c.args.numbers result (known_in were)) (Working c.args.numbers.after) it c.gone_on-past.result (known_left image c.args.numbers result (known_in were) it (subst (IsLeftBy image result) c.in-WentOn.is h))))
 
 pub returns-in-Gone-clause-known : goal.returns-in-Gone-clause-known
 returns-in-Gone-clause-known c image result h = still_known image c.args.numbers result c.args.self.now.known

@@ -34,7 +34,7 @@ returns-in-Ok-clause-known c =
     ap (λ (o : Openings). o.known) c.self-2.view_is ∙ c.open_anew.ensures.images.1 ∙ ap known_in (c.renumber.ensures.same c.if-renumber.false) ∙ ap (λ (o : Openings). o.known) c.self.view_is in
     added_known P c.self-2.inside.images.items c.add.new.list.items _ c.add.ensures
     (All-same P (known_in c.self-2.inside.images.items) c.args.self.now.known same (still_beside c.args.image.now c.args.number c.args.self.now.known))
-    (holds_one P c.args.number c.in-Ok.kept (handed (λ i. record { number = c.args.number; image = c.in-Ok.ensures.ok i })))
+    (holds_one P c.args.number c.in-Ok.kept c.new-past.result (handed (λ i. record { number = c.args.number; image = c.in-Ok.ensures.ok i })))
 
 pub returns-in_default-clause-known : goal.returns-in_default-clause-known
 returns-in_default-clause-known c =

@@ -1,0 +1,7 @@
+use Rattle.std.proofs.Common.{◌≡◌, false, IsTrue}
+use Rattle.sqlite.specs.Files.{file_state}
+use Rattle.sqlite_engine.proofs.again.led_along.Given as goal
+
+-- it is open, and in no transaction
+abbrev pub invariant-loop-write : goal.invariant-loop-write
+invariant-loop-write l = IsTrue (file_state l.conn).is_open × ((file_state l.conn).in_transaction ≡ false)

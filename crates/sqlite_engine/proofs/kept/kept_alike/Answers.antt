@@ -1,0 +1,13 @@
+use Rattle.std.proofs.Common.{sym, subst}
+use Rattle.std.proofs.Math.Logic.{∥∥₁_map}
+use Rattle.dq_base.specs.declared.images.Image.{Image}
+use Rattle.sqlite_engine.specs.Sql.{Stands}
+use Rattle.sqlite_engine.proofs.Standing.{goes_on}
+use Rattle.sqlite_engine.proofs.kept.kept_alike.Goals as goal
+
+pub kept_anew-requires : goal.kept_anew-requires
+kept_anew-requires c =
+    let it = c.args.conn in
+    ∥∥₁_map (c.held.ensures c.requires.open) (λ h.
+    subst (λ (i : Image). Stands i it) (sym c.in-Some.ensures)
+    (goes_on c.args.image.now it c.connected.ensures c.requires.open c.requires.autocommit (c.holds_alike.ensures c.if-not-holds_alike.false _ h)))
