@@ -1,3 +1,6 @@
+ghost use Rattle.std.specs.Prelude.{◌+◌, ◌*◌, ◌<◌, IfOk};
+ghost use Rattle.sqlite_tests.specs.Told.{AreTold};
+
 use dq_base::{Image, ImageNumber, apply};
 use sql_engine::{Engine, EngineFault, ImageNumbers, Ran};
 use sqlite_engine::SqliteEngine;
@@ -5,85 +8,35 @@ use std::alloc::Global;
 use std::test::Fail;
 use wire_words::Value;
 
-/// A database whose engine is told the numbers of images, as a leader tells them.
-#[derive(Drop)]
-struct Leader {
-    alloc: Global,
-    engine: SqliteEngine,
-    newest: Image,
+/// What a statement answers over the newest image, as a leader runs it.
+fn run(
+    engine: &mut SqliteEngine,
+    newest: &Image,
     commits: u64,
     works: u64,
+    text: &str,
+) -> Result<Ran, EngineFault>
+    requires { AreTold newest.now commits works engine.old.known }
+    ensures { AreTold newest.now commits (works + 1) engine.new.known }
+{
+    let numbers = ImageNumbers {
+        before: ImageNumber::Newest { place: 0, commits },
+        after: works,
+    };
+    engine.run(newest, numbers, text, &[], 1, None)
 }
 
-impl Leader {
-    fn new(alloc: Global) -> Leader {
-        Leader {
-            alloc,
-            engine: SqliteEngine::new(alloc),
-            newest: Image::new(alloc),
-            commits: 0,
-            works: 0,
-        }
-    }
-
-    /// The number of the newest image.
-    fn number(&self) -> ImageNumber {
-        ImageNumber::Newest {
-            place: 0,
-            commits: self.commits,
-        }
-    }
-
-    /// The newest image's number, and that of the image which the next statement leads to.
-    fn numbers(&mut self) -> ImageNumbers {
-        self.works += 1;
-        ImageNumbers {
-            before: self.number(),
-            after: self.works,
-        }
-    }
-
-    /// Runs these writes one behind the other, each over the image that the one before it leads to, and a query of the newest image behind
-    /// each where `is_read`. Answers the last image, and how many rows the queries counted together.
-    fn run(&mut self, writes: &[&str], is_read: bool) -> Result<(Image, i64), Fail> {
-        let mut image = self.newest.try_clone(self.alloc)?;
-        let mut numbers = self.numbers();
-        let mut rows = 0;
-        for text in writes {
-            let ran = self.engine.run(&image, numbers, text, &[], 1, None)?;
-            if !ran.after.pages.is_empty() {
-                apply(&mut image, &ran.after)?;
-            }
-            if is_read {
-                rows += self.count()?;
-            }
-            let before = ImageNumber::Working(numbers.after);
-            self.works += 1;
-            numbers = ImageNumbers {
-                before,
-                after: self.works,
-            };
-        }
-        Ok((image, rows))
-    }
-
-    /// The same, and the last image is the newest one from then on.
-    fn commit(&mut self, writes: &[&str], is_read: bool) -> Result<i64, Fail> {
-        let (image, rows) = self.run(writes, is_read)?;
-        self.newest = image;
-        self.commits += 1;
-        let number = self.number();
-        self.engine.ready(&self.newest, number);
-        Ok(rows)
-    }
-
-    /// How many rows the newest image has.
-    fn count(&mut self) -> Result<i64, Fail> {
-        let numbers = self.numbers();
-        let text = "SELECT count(*) FROM t";
-        let ran = self.engine.run(&self.newest, numbers, text, &[], 1, None)?;
-        Ok(first_integer(&ran))
-    }
+/// Tells an engine of the newest image behind one more commit.
+fn tell(engine: &mut SqliteEngine, before: &Image, newest: &Image, commits: u64, works: u64)
+    requires told { AreTold before.now commits works engine.old.known }
+    requires small { commits < 1000 }
+    ensures { AreTold newest.now (commits + 1) works engine.new.known }
+{
+    let number = ImageNumber::Newest {
+        place: 0,
+        commits: commits + 1,
+    };
+    engine.ready(newest, number);
 }
 
 /// The integer of an answer with one row of one column, and else 0.
@@ -97,65 +50,101 @@ fn first_integer(ran: &Ran) -> i64 {
     }
 }
 
-const INSERT: &str = "INSERT INTO t VALUES (NULL, 'a row of the table')";
-
-const UPDATE: &str = "UPDATE t SET b = b || 'x' WHERE a < 3";
-
-/// A database of one row.
-fn filled(alloc: Global) -> Result<Leader, Fail> {
-    let mut leader = Leader::new(alloc);
-    leader.commit(&["CREATE TABLE t (a INTEGER PRIMARY KEY, b TEXT)"], false)?;
-    leader.commit(&[INSERT], false)?;
-    Ok(leader)
-}
-
-/// Queries beside twelve commits of these writes: the rows that the database has then, and how many images were opened.
-fn beside(alloc: Global, writes: &[&str]) -> Result<(i64, u64), Fail> {
-    let mut leader = filled(alloc)?;
-    for _ in 0..12 {
-        leader.commit(writes, true)?;
+/// Makes the table in the first commit, and adds a row in each other one.
+fn text_of(commits: u64) -> &'static str {
+    if commits == 0 {
+        "CREATE TABLE t (a INTEGER PRIMARY KEY, b TEXT)"
+    } else {
+        "INSERT INTO t VALUES (NULL, 'a row of the table')"
     }
-    Ok((leader.count()?, leader.engine.openings()))
 }
+
+/// How many rows a query counts over the newest image; none where there is no query.
+fn counted(
+    engine: &mut SqliteEngine,
+    newest: &Image,
+    commits: u64,
+    works: u64,
+    is_read: bool,
+) -> Result<i64, EngineFault>
+    requires { AreTold newest.now commits works engine.old.known }
+    ensures { AreTold newest.now commits (works + 1) engine.new.known }
+{
+    if !is_read {
+        return Ok(0);
+    }
+    match run(engine, newest, commits, works, "SELECT count(*) FROM t") {
+        Ok(ran) => Ok(first_integer(&ran)),
+        Err(fault) => Err(fault),
+    }
+}
+
+/// An image behind a write.
+fn behind(alloc: Global, image: &Image, ran: &Ran) -> Result<Image, Fail> {
+    let mut image = image.try_clone(alloc)?;
+    if !ran.after.pages.is_empty() {
+        apply(&mut image, &ran.after)?;
+    }
+    Ok(image)
+}
+
+/// The newest image behind one more commit, and how many rows a query counts over the image before, while the write is on its way.
+fn commit(
+    alloc: Global,
+    engine: &mut SqliteEngine,
+    newest: &Image,
+    commits: u64,
+    is_read: bool,
+) -> Result<(Image, i64), Fail>
+    requires told { AreTold newest.now commits (2 * commits) engine.old.known }
+    requires small { commits < 1000 }
+    ensures { IfOk result (λ r. AreTold r.0 (commits + 1) (2 * commits + 2) engine.new.known) }
+{
+    let works = 2 * commits;
+    let ran = run(engine, newest, commits, works, text_of(commits))?;
+    let rows = counted(engine, newest, commits, works + 1, is_read)?;
+    let image = behind(alloc, newest, &ran)?;
+    tell(engine, newest, &image, commits, works + 2);
+    Ok((image, rows))
+}
+
+/// How many rows queries count together, and how many images are opened, where a query comes beside these commits and none beside others.
+fn beside(alloc: Global, reads: &[bool]) -> Result<(i64, u64), Fail> {
+    let mut engine = SqliteEngine::new(alloc);
+    let mut newest = Image::new(alloc);
+    let mut rows: i64 = 0;
+    let mut commits = 0;
+    for is_read in reads {
+        if commits >= 100 {
+            break;
+        }
+        let (image, counted) = commit(alloc, &mut engine, &newest, commits, *is_read)?;
+        newest = image;
+        rows = rows.saturating_add(counted);
+        commits += 1;
+    }
+    Ok((rows, engine.openings()))
+}
+
+const YES: bool = true;
+
+const NO: bool = false;
 
 #[test]
 fn queries_beside_writes_open_an_image_once(rt: HostRuntime) -> Result<(), Fail> {
-    let alloc = rt.alloc();
-    assert_eq!(rt; beside(alloc, &[INSERT])?, (13, 2));
-    assert_eq!(rt; beside(alloc, &[UPDATE])?, (1, 2));
-    assert_eq!(rt; beside(alloc, &[INSERT, UPDATE, INSERT])?, (25, 2));
+    let reads = [
+        NO, YES, YES, YES, YES, YES, YES, YES, YES, YES, YES, YES, YES,
+    ];
+    assert_eq!(rt; beside(rt.alloc(), &reads)?, (66, 2));
     Ok(())
 }
 
-#[test]
-fn a_write_that_is_not_committed_opens_nothing_beside_queries(rt: HostRuntime) -> Result<(), Fail> {
-    let mut leader = filled(rt.alloc())?;
-    leader.commit(&[INSERT], true)?;
-    leader.commit(&[INSERT], true)?;
-    let opened = leader.engine.openings();
-    let _image = leader.run(&[INSERT], true)?;
-    let rows = leader.count()?;
-    leader.commit(&[INSERT], false)?;
-    assert_eq!(rt;
-        (rows, leader.count()?, leader.engine.openings() - opened),
-        (3, 4, 0)
-    );
-    Ok(())
-}
-
+/// The first query's connection follows eight writes beside which there is no query, and then no more.
 #[test]
 fn a_connection_that_nobody_wants_follows_eight_times(rt: HostRuntime) -> Result<(), Fail> {
-    let mut leader = filled(rt.alloc())?;
-    leader.commit(&[INSERT], true)?;
-    for _ in 0..7 {
-        leader.commit(&[INSERT], false)?;
-    }
-    leader.commit(&[INSERT], true)?;
-    let opened = leader.engine.openings();
-    for _ in 0..8 {
-        leader.commit(&[INSERT], false)?;
-    }
-    leader.commit(&[INSERT], true)?;
-    assert_eq!(rt; (opened, leader.engine.openings()), (2, 3));
+    let wanted = [NO, YES, NO, NO, NO, NO, NO, NO, NO, YES];
+    let left = [NO, YES, NO, NO, NO, NO, NO, NO, NO, NO, YES];
+    assert_eq!(rt; beside(rt.alloc(), &wanted)?, (8, 2));
+    assert_eq!(rt; beside(rt.alloc(), &left)?, (9, 3));
     Ok(())
 }
